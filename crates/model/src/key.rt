@@ -1,0 +1,106 @@
+// The key of a row: its values in the columns of the primary key, or of a unique key.
+ghost use Rattle.std.specs.Prelude.{◌≡◌, IfOk};
+
+use crate::memory::OutOfMemory;
+use crate::value::Value;
+use std::cmp::Ordering;
+use std::marker::Model;
+
+/// Values in the order of a key's columns, none of them null. A clause sees the list of them.
+#[derive(Debug, Drop)]
+pub struct Key {
+    values: Vec<Value>,
+}
+
+impl Model for Key {
+    ghost use Rattle.std.specs.Prelude.{List};
+    ghost use Rattle.model.specs.declared.value.Value.{Value as Single};
+
+    ghost Value = { List Single };
+
+    ghost view = { λ k. k.values.items };
+}
+
+impl Key {
+    /// The key with these values. It takes no memory.
+    pub fn from_values(values: Vec<Value>) -> Key
+        ensures { result ≡ values.items }
+    {
+        Key { values }
+    }
+
+    /// Its values, in the order of the key's columns.
+    pub fn values(&self) -> &[Value]
+        ensures { result.now ≡ self.now }
+    {
+        self.values.as_slice()
+    }
+
+    /// Its values, given back. It takes no memory.
+    pub fn into_values(self) -> Vec<Value>
+        ensures { result.items ≡ self }
+    {
+        self.values
+    }
+
+    /// An equal key.
+    pub fn copy(&self) -> Result<Key, OutOfMemory>
+        ensures { IfOk result (λ k. k ≡ self.now) }
+    {
+        Ok(Key {
+            values: self.values.clone()?,
+        })
+    }
+}
+
+impl PartialEq for Key {
+    ghost use Rattle.std.specs.Ordering.{eq_by_cmp};
+    ghost use Rattle.std.specs.Cmp.{partial_equiv_from_equiv, eq_by_cmp_equiv};
+    ghost use Rattle.model.specs.Key.{key_cmp, key_cmp_total};
+
+    ghost eq = { eq_by_cmp key_cmp };
+
+    ghost laws = { partial_equiv_from_equiv (eq_by_cmp_equiv key_cmp_total) };
+
+    fn eq(&self, other: &Key) -> bool {
+        self.cmp(other).is_eq()
+    }
+}
+
+impl Eq for Key {
+    ghost use Rattle.std.specs.Cmp.{eq_by_cmp_equiv};
+    ghost use Rattle.model.specs.Key.{key_cmp_total};
+
+    ghost laws = { eq_by_cmp_equiv key_cmp_total };
+}
+
+impl PartialOrd for Key {
+    ghost use Rattle.std.specs.Prelude.{Some, refl};
+    ghost use Rattle.std.specs.Cmp.{partial_order_from_agreeing_total};
+    ghost use Rattle.model.specs.Key.{key_cmp, key_cmp_total};
+
+    ghost partial_cmp = { λ x y. Some (key_cmp x y) };
+
+    ghost laws = { partial_order_from_agreeing_total key_cmp key_cmp_total (λ x y. refl) (λ x y. refl) };
+
+    fn partial_cmp(&self, other: &Key) -> Option<Ordering> {
+        Some(self.cmp(other))
+    }
+}
+
+impl Ord for Key {
+    ghost use Rattle.std.specs.Prelude.{refl};
+    ghost use Rattle.model.specs.Key.{key_cmp, key_cmp_total};
+
+    ghost cmp = { key_cmp };
+
+    ghost total = { key_cmp_total };
+
+    ghost matches_partial_cmp = { λ x y. refl };
+
+    ghost matches_eq = { λ x y. refl };
+
+    fn cmp(&self, other: &Key) -> Ordering {
+        self.values.as_slice().cmp(other.values.as_slice())
+    }
+}
