@@ -1,3 +1,6 @@
 pub mod Value
-pub mod Definition
 pub mod Key
+pub mod Definition
+pub mod Rows
+pub mod Effect
+pub mod Cells

@@ -3,9 +3,16 @@
 // The types that the definitions speak of, and the definitions over them.
 //
 // A subscriber keeps tables of rows, and a change alters them. This crate says what these are: a
-// value, a row, a key, the definition of a table, a change, and which tables a change leaves. It has
-// no input, no clock and no thread. Each layer above cites its words, so that "the tables" means the
-// same thing in each of them.
+// value, a row, a key, the definition of a table, a change, a cell; and in `specs/` which rows a
+// change leaves, what it is refused for, and what takes it back. It has no input, no clock and no
+// thread. Each layer above cites its words, so that "the tables" means the same in each of them:
+//
+//   specs/Value, Key     the order of values and of keys
+//   specs/Definition     what a table's definition says
+//   specs/Rows           all rows of all tables as one finite map; valid rows
+//   specs/Effect         what a change does, and what takes it back
+//   specs/Cells          cells, and those that a row fills
+pub mod cell;
 pub mod change;
 pub mod key;
 pub mod memory;
@@ -13,6 +20,7 @@ pub mod row;
 pub mod table_def;
 pub mod value;
 
+pub use cell::Cell;
 pub use change::{Change, ColumnPatch, Patch, TableIds};
 pub use key::Key;
 pub use memory::OutOfMemory;
