@@ -4,4 +4,5 @@ pub mod Definition
 pub mod Rows
 pub mod Exact
 pub mod Effect
+pub mod EditLaws
 pub mod Cells
