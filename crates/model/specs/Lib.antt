@@ -5,4 +5,6 @@ pub mod Rows
 pub mod Exact
 pub mod Effect
 pub mod EditLaws
+pub mod TakenLaws
+pub mod ValidLaws
 pub mod Cells

@@ -1,0 +1,114 @@
+-- What keeps rows valid.
+--     valid_empty, valid_fewer      no rows, and some of valid rows
+--     valid_insert      with a row at its own key, whose unique values no other row of its table has
+--     is_own_key, has_unique_key      what validity says of one row, and of two
+use Rattle.std.specs.Prelude.{◌≡◌, ℕ, Bool, true, false, cond, List, Option, Some, None, refl, slice_get, ◌⊎◌}
+use Rattle.std.proofs.Common.{sym, ◌∙◌, ap, subst, true≢false, inl, inr}
+use Rattle.std.specs.FinMap as map
+use Rattle.std.specs.FinMap.{get, insert, remove, get-empty}
+use Rattle.model.specs.declared.row.Row.{Row}
+use Rattle.model.specs.declared.key.Key.{Key}
+use Rattle.model.specs.Rows.{Place, Rows, Schema, TableKeys, place_cmp, keys_at, values_in, key_of, taken, IsUnique, IsValid}
+use Rattle.model.specs.Effect.{is_taken, first_taken}
+use Rattle.model.specs.EditLaws.{is_place, place_cases, get_insert_same, get_insert_other, get_remove}
+use Rattle.model.specs.TakenLaws.{not_taken_row, first_taken_none}
+
+not_none : {X : Type 0} (x : X) → ¬ (None ≡ Some x)
+not_none x e = cc
+
+pub valid_empty : (schema : Schema) → IsValid schema map.empty
+valid_empty schema = record {
+  own_key = λ table key row at. absurd (not_none row (sym (get-empty place_cmp (table, key)) ∙ at));
+  unique = λ table i columns key other row twin values is_unique at again has same. absurd (not_none row (sym (get-empty place_cmp (table, key)) ∙ at));
+}
+
+-- each row of the one stands in the other
+abbrev pub IsPart : Rows → Rows → Type 0
+IsPart part rows = (p : Place) (row : Row) → get part p ≡ Some row → get rows p ≡ Some row
+
+pub valid_fewer : (schema : Schema) (part rows : Rows) → IsPart part rows → IsValid schema rows → IsValid schema part
+valid_fewer schema part rows stays valid = record {
+  own_key = λ table key row at. valid.own_key table key row (stays (table, key) row at);
+  unique = λ table i columns key other row twin values is_unique at again has same.
+      valid.unique table i columns key other row twin values is_unique (stays (table, key) row at) (stays (table, other) twin again) has same;
+}
+
+left_as_was : (b : Bool) (row : Row) (was : Option Row) → cond b None was ≡ Some row → was ≡ Some row
+left_as_was true row was e = cc
+left_as_was false row was e = e
+
+pub part_remove : (rows : Rows) (q : Place) → IsPart (remove rows q) rows
+part_remove rows q p row at = left_as_was (is_place p q) row (get rows p) (sym (get_remove rows q p) ∙ at)
+
+pub valid_remove : (schema : Schema) (rows : Rows) (q : Place) → IsValid schema rows → IsValid schema (remove rows q)
+valid_remove schema rows q = valid_fewer schema (remove rows q) rows (part_remove rows q)
+
+-- ---- with one more row
+
+-- the key of a place
+same_table_key : (table other : ℕ) (key twin : Key) → ◌≡◌ {A = Place} (table, key) (other, twin) → key ≡ twin
+same_table_key table other key twin e = ap (λ (p : Place). p.1) e
+
+same_table : (table other : ℕ) (key twin : Key) → ◌≡◌ {A = Place} (table, key) (other, twin) → table ≡ other
+same_table table other key twin e = ap (λ (p : Place). p.0) e
+
+module _ (schema : Schema) (rows : Rows) (table : ℕ) (key : Key) (row : Row) (valid : IsValid schema rows)
+    (own : key_of schema table row ≡ Some key) (free : first_taken rows table row 1 (keys_at schema table).uniques ≡ None) where
+  abbrev more : Rows
+  more = insert rows (table, key) row
+
+  own_key_insert : (t : ℕ) (k : Key) (r : Row) → get more (t, k) ≡ Some r → key_of schema t r ≡ Some k
+  own_key_insert t k r at =
+      elim (place_cases (t, k) (table, key)) [
+        | inl is ↦
+            let row_is : Some r ≡ Some row = sym at ∙ ap (get more) is ∙ get_insert_same rows (table, key) row in
+            let row_same : r ≡ row = cc in
+            let table_same : t ≡ table = same_table t table k key is in
+            let key_same : k ≡ key = same_table_key t table k key is in
+            ap (key_of schema t) row_same ∙ ap (λ (n : ℕ). key_of schema n row) table_same ∙ own ∙ ap Some (sym key_same)
+        | inr other ↦ valid.own_key t k r (sym (get_insert_other rows (table, key) row (t, k) other) ∙ at)
+      ]
+
+  -- no row of these has the new row's values in a unique key of its table
+  none_like_it : (i : ℕ) (columns : List ℕ) (k : Key) (twin : Row) (values : Key) → slice_get (keys_at schema table).uniques i ≡ Some columns
+      → get rows (table, k) ≡ Some twin → values_in columns row ≡ Some values → ¬ (values_in columns twin ≡ Some values)
+  none_like_it i columns k twin values is_unique at has =
+      not_taken_row rows table columns values k twin
+      (sym (ap (is_taken rows table columns) has) ∙ first_taken_none rows table row 1 (keys_at schema table).uniques free i columns is_unique)
+      at
+
+  unique_insert : IsUnique schema more
+  unique_insert t i columns k other r twin values is_unique at again has same =
+      elim (place_cases (t, k) (table, key)) [
+        | inl is ↦
+            elim (place_cases (t, other) (table, key)) [
+              | inl is_too ↦ same_table_key t table k key is ∙ sym (same_table_key t table other key is_too)
+              | inr elsewhere ↦
+                  let row_is : Some r ≡ Some row = sym at ∙ ap (get more) is ∙ get_insert_same rows (table, key) row in
+                  let row_same : r ≡ row = cc in
+                  let table_same : t ≡ table = same_table t table k key is in
+                  let stands : get rows (t, other) ≡ Some twin = sym (get_insert_other rows (table, key) row (t, other) elsewhere) ∙ again in
+                  absurd (none_like_it i columns other twin values
+                    (ap (λ (n : ℕ). slice_get (keys_at schema n).uniques i) (sym table_same) ∙ is_unique)
+                    (ap (λ (n : ℕ). get rows (n, other)) (sym table_same) ∙ stands)
+                    (ap (values_in columns) (sym row_same) ∙ has) same)
+            ]
+        | inr apart ↦
+            let stands : get rows (t, k) ≡ Some r = sym (get_insert_other rows (table, key) row (t, k) apart) ∙ at in
+            elim (place_cases (t, other) (table, key)) [
+              | inl is ↦
+                  let row_is : Some twin ≡ Some row = sym again ∙ ap (get more) is ∙ get_insert_same rows (table, key) row in
+                  let row_same : twin ≡ row = cc in
+                  let table_same : t ≡ table = same_table t table other key is in
+                  absurd (none_like_it i columns k r values
+                    (ap (λ (n : ℕ). slice_get (keys_at schema n).uniques i) (sym table_same) ∙ is_unique)
+                    (ap (λ (n : ℕ). get rows (n, k)) (sym table_same) ∙ stands)
+                    (ap (values_in columns) (sym row_same) ∙ same) has)
+              | inr elsewhere ↦
+                  valid.unique t i columns k other r twin values is_unique stands
+                  (sym (get_insert_other rows (table, key) row (t, other) elsewhere) ∙ again) has same
+            ]
+      ]
+
+  pub valid_insert : IsValid schema more
+  valid_insert = record { own_key = own_key_insert; unique = unique_insert }
