@@ -4,12 +4,12 @@
 --     restored      what stood, put back, gives the rows before the edits
 --     overlay_none, overlay_inserted, ..      edits of one place or two, as inserts and removes
 --     put_back_apart      edits that share no place may come in either order
-use Rattle.std.specs.Prelude.{◌≡◌, ℕ, Bool, true, false, cond, List, [], ◌∷◌, Option, Some, None, map, is_some, unwrap_or, refl, ◌⊎◌}
-use Rattle.std.proofs.Common.{sym, ◌∙◌, ap, inl, inr, true≢false}
+use Rattle.std.specs.Prelude.{◌≡◌, Bool, true, false, cond, List, [], ◌∷◌, Option, Some, None, map, unwrap_or, refl, ◌⊎◌}
+use Rattle.std.proofs.Common.{sym, ◌∙◌, ap, inl, inr}
 use Rattle.std.specs.Ordering.{eq_by_cmp}
-use Rattle.std.specs.Cmp.{IsTotalOrder, eq_by_cmp_equiv}
+use Rattle.std.specs.Cmp.{eq_by_cmp_equiv}
 use Rattle.std.specs.FinMap as map_of
-use Rattle.std.specs.FinMap.{FinMap, get, insert, remove, entries, from_entries, find, get-entries, get-insert, get-remove, get-from_entries, get-empty, same_map}
+use Rattle.std.specs.FinMap.{get, insert, remove, entries, find, get-entries, get-insert, get-remove, get-from_entries, get-empty, same_map}
 use Rattle.std.proofs.lemmas.Map.Views.{tells_apart}
 use Rattle.model.specs.declared.row.Row.{Row}
 use Rattle.model.specs.Rows.{Place, Rows, place_cmp, place_cmp_total}
@@ -164,3 +164,28 @@ overlay_one rows q row = overlay_more rows map_of.empty q row ∙ ap (λ r. put_
 -- two edits, the later one first seen
 pub overlay_two : (rows : Rows) (q later : Place) (row new : Option Row) → overlay rows (insert (one_edit q row) later new) ≡ put_at (put_at rows q row) later new
 overlay_two rows q later row new = overlay_more rows (one_edit q row) later new ∙ ap (λ r. put_at r later new) (overlay_one rows q row)
+
+-- ---- what stood at no place, at one and at two
+
+same_edits : (edits others : Edits) → ((p : Place) → get edits p ≡ get others p) → edits ≡ others
+same_edits = same_map place_cmp_total place_cmp_exact
+
+pub stood_empty : (rows : Rows) → stood rows map_of.empty ≡ map_of.empty
+stood_empty rows = same_edits _ _ (λ p.
+    get_stood rows map_of.empty p ∙ ap (λ e. was_at e (get rows p)) (get-empty place_cmp p) ∙ sym (get-empty place_cmp p))
+
+-- with one more edit, also what stood at its place
+pub stood_more : (rows : Rows) (edits : Edits) (q : Place) (row : Option Row) → stood rows (insert edits q row) ≡ insert (stood rows edits) q (get rows q)
+stood_more rows edits q row = same_edits _ _ (λ p.
+    get_stood rows (insert edits q row) p
+    ∙ ap (λ e. was_at e (get rows p)) (get_edit edits q row p)
+    ∙ sym (was_first rows p q row (get edits p) (is_place p q) refl)
+    ∙ ap (cond (is_place p q) (Some (get rows q))) (sym (get_stood rows edits p))
+    ∙ sym (get_edit (stood rows edits) q (get rows q) p))
+
+pub stood_one : (rows : Rows) (q : Place) (row : Option Row) → stood rows (one_edit q row) ≡ one_edit q (get rows q)
+stood_one rows q row = stood_more rows map_of.empty q row ∙ ap (λ edits. insert edits q (get rows q)) (stood_empty rows)
+
+pub stood_two : (rows : Rows) (q later : Place) (row new : Option Row)
+    → stood rows (insert (one_edit q row) later new) ≡ insert (one_edit q (get rows q)) later (get rows later)
+stood_two rows q later row new = stood_more rows (one_edit q row) later new ∙ ap (λ edits. insert edits later (get rows later)) (stood_one rows q row)

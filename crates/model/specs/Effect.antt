@@ -2,8 +2,9 @@
 --     Edits      places, and the row that is to stand at each, or none.        overlay, stood      the rows after edits; what takes them back
 --     outcome      Done with its edits, or Skip, or a conflict with its cause
 --     effect, inverse, back      the rows after a change; what stood where it edits; the rows with that put back
---     serial      the rows after changes, one after another
-use Rattle.std.specs.Prelude.{◌≡◌, ℕ, suc, ◌==◌, Bool, true, false, List, [], ◌∷◌, Option, Some, None, if◌then◌else◌, map, filter}
+--     serial, inverses      the rows after changes, one after another; what takes each of them back
+--     undone      the rows with inverses put back, the last of them first
+use Rattle.std.specs.Prelude.{ℕ, suc, ◌==◌, Bool, false, List, [], ◌∷◌, Option, Some, None, if◌then◌else◌, map, filter}
 use Rattle.std.specs.List.{list_any}
 use Rattle.std.specs.FinMap as map
 use Rattle.std.specs.FinMap.{FinMap}
@@ -141,6 +142,11 @@ back rows inverse = overlay rows inverse
 abbrev pub serial : Schema → Rows → List Change → Rows
 serial schema rows [] = rows
 serial schema rows (c ∷ cs) = serial schema (effect schema rows c) cs
+
+-- the inverses of changes, oldest first
+abbrev pub inverses : Schema → Rows → List Change → List Edits
+inverses schema rows [] = []
+inverses schema rows (c ∷ cs) = inverse schema rows c ∷ inverses schema (effect schema rows c) cs
 
 -- the rows with inverses put back, the last of them first
 abbrev pub undone : Rows → List Edits → Rows

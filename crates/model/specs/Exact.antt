@@ -1,15 +1,14 @@
 -- The orders of values, keys and places tell them apart: those that tie are equal.
-use Rattle.std.specs.Prelude.{◌≡◌, ℕ, ℤ, Bool, true, false, List, refl, cond}
+use Rattle.std.specs.Prelude.{◌≡◌, Bool, true, false, refl, cond}
 use Rattle.std.proofs.Common.{ap}
-use Rattle.std.specs.Ordering.{nat_cmp, int_cmp, on, ordering_then}
+use Rattle.std.specs.Ordering.{nat_cmp, int_cmp, ordering_then}
 use Rattle.std.specs.declared.cmp.Ordering.{Ordering}
 use Rattle.std.specs.declared.cmp.Ordering.TheVariants.{Less, Equal, Greater}
 use Rattle.std.specs.FinMap.{IsAntisymmetric, slice_cmp-IsAntisymmetric, nat_cmp-IsAntisymmetric, int_cmp-IsAntisymmetric}
 use Rattle.std.specs.Cmp.Lexicographic.{slice_cmp}
 use Rattle.std.proofs.lemmas.Map.Lookups.{exact_pairs}
-use Rattle.model.specs.declared.value.Value.{Value}
 use Rattle.model.specs.declared.value.Value.TheVariants.{Int, Text, Bool as Truth}
-use Rattle.model.specs.Value.{kind_of, value_cmp}
+use Rattle.model.specs.Value.{value_cmp}
 use Rattle.model.specs.Key.{key_cmp}
 use Rattle.model.specs.Rows.{place_cmp}
 

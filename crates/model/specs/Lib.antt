@@ -7,4 +7,6 @@ pub mod Effect
 pub mod EditLaws
 pub mod TakenLaws
 pub mod ValidLaws
+pub mod EffectLaws
+pub mod Laws
 pub mod Cells

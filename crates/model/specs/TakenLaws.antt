@@ -3,21 +3,20 @@
 --     not_taken_row      a row that has them can't stand where they are not taken
 --     untaken_at, first_taken_none, ..      what the least unique key that clashes says of each of them
 use Rattle.std.specs.Prelude.{◌≡◌, ℕ, suc, ◌==◌, Bool, true, false, cond, ◌&&◌, ◌||◌, List, [], ◌∷◌, Option, Some, None, if◌then◌else◌, refl, slice_get, T}
-use Rattle.std.proofs.Common.{zero, sym, ◌∙◌, ap, subst, true≢false, rules, eqb→eq}
+use Rattle.std.proofs.Common.{zero, sym, ◌∙◌, ap, subst, true≢false, rules}
 use Rattle.std.specs.List.{list_any}
 use Rattle.std.specs.Ordering.{eq_by_cmp, is_lt, is_eq}
 use Rattle.std.specs.declared.cmp.Ordering.{Ordering}
 use Rattle.std.specs.declared.cmp.Ordering.TheVariants.{Less, Equal, Greater}
 use Rattle.std.specs.Cmp.{eq_by_cmp_equiv}
-use Rattle.std.specs.FinMap.{FinMap, get, entries, entries_sorted, find, is_sorted, get-entries}
+use Rattle.std.specs.FinMap.{get, entries, entries_sorted, find, is_sorted, get-entries}
 use Rattle.std.specs.FinMap.Entries.{below_all}
 use Rattle.std.proofs.lemmas.Map.Views.{tells_apart}
-use Rattle.std.proofs.lemmas.Bool.{cases_Bool}
 use Rattle.model.specs.declared.row.Row.{Row}
 use Rattle.model.specs.declared.key.Key.{Key}
 use Rattle.model.specs.Key.{key_cmp, key_cmp_total}
-use Rattle.model.specs.Rows.{Place, Rows, Schema, place_cmp, place_cmp_total, values_in, is_key, taken}
-use Rattle.model.specs.Exact.{key_cmp_exact, place_cmp_exact}
+use Rattle.model.specs.Rows.{Place, Rows, place_cmp, values_in, is_key, taken}
+use Rattle.model.specs.Exact.{key_cmp_exact}
 use Rattle.model.specs.Effect.{is_taken, first_taken}
 use Rattle.model.specs.EditLaws.{is_place, same_place, place_is}
 

@@ -2,13 +2,13 @@
 --     valid_empty, valid_fewer      no rows, and some of valid rows
 --     valid_insert      with a row at its own key, whose unique values no other row of its table has
 --     is_own_key, has_unique_key      what validity says of one row, and of two
-use Rattle.std.specs.Prelude.{◌≡◌, ℕ, Bool, true, false, cond, List, Option, Some, None, refl, slice_get, ◌⊎◌}
-use Rattle.std.proofs.Common.{sym, ◌∙◌, ap, subst, true≢false, inl, inr}
+use Rattle.std.specs.Prelude.{◌≡◌, ℕ, Bool, true, false, cond, List, Option, Some, None, slice_get}
+use Rattle.std.proofs.Common.{sym, ◌∙◌, ap, inl, inr}
 use Rattle.std.specs.FinMap as map
 use Rattle.std.specs.FinMap.{get, insert, remove, get-empty}
 use Rattle.model.specs.declared.row.Row.{Row}
 use Rattle.model.specs.declared.key.Key.{Key}
-use Rattle.model.specs.Rows.{Place, Rows, Schema, TableKeys, place_cmp, keys_at, values_in, key_of, taken, IsUnique, IsValid}
+use Rattle.model.specs.Rows.{Place, Rows, Schema, place_cmp, keys_at, values_in, key_of, IsUnique, IsValid}
 use Rattle.model.specs.Effect.{is_taken, first_taken}
 use Rattle.model.specs.EditLaws.{is_place, place_cases, get_insert_same, get_insert_other, get_remove}
 use Rattle.model.specs.TakenLaws.{not_taken_row, first_taken_none}
@@ -89,9 +89,9 @@ module _ (schema : Schema) (rows : Rows) (table : ℕ) (key : Key) (row : Row) (
                   let table_same : t ≡ table = same_table t table k key is in
                   let stands : get rows (t, other) ≡ Some twin = sym (get_insert_other rows (table, key) row (t, other) elsewhere) ∙ again in
                   absurd (none_like_it i columns other twin values
-                    (ap (λ (n : ℕ). slice_get (keys_at schema n).uniques i) (sym table_same) ∙ is_unique)
-                    (ap (λ (n : ℕ). get rows (n, other)) (sym table_same) ∙ stands)
-                    (ap (values_in columns) (sym row_same) ∙ has) same)
+                  (ap (λ (n : ℕ). slice_get (keys_at schema n).uniques i) (sym table_same) ∙ is_unique)
+                  (ap (λ (n : ℕ). get rows (n, other)) (sym table_same) ∙ stands)
+                  (ap (values_in columns) (sym row_same) ∙ has) same)
             ]
         | inr apart ↦
             let stands : get rows (t, k) ≡ Some r = sym (get_insert_other rows (table, key) row (t, k) apart) ∙ at in
@@ -101,9 +101,9 @@ module _ (schema : Schema) (rows : Rows) (table : ℕ) (key : Key) (row : Row) (
                   let row_same : twin ≡ row = cc in
                   let table_same : t ≡ table = same_table t table other key is in
                   absurd (none_like_it i columns k r values
-                    (ap (λ (n : ℕ). slice_get (keys_at schema n).uniques i) (sym table_same) ∙ is_unique)
-                    (ap (λ (n : ℕ). get rows (n, k)) (sym table_same) ∙ stands)
-                    (ap (values_in columns) (sym row_same) ∙ same) has)
+                  (ap (λ (n : ℕ). slice_get (keys_at schema n).uniques i) (sym table_same) ∙ is_unique)
+                  (ap (λ (n : ℕ). get rows (n, k)) (sym table_same) ∙ stands)
+                  (ap (values_in columns) (sym row_same) ∙ same) has)
               | inr elsewhere ↦
                   valid.unique t i columns k other r twin values is_unique stands
                   (sym (get_insert_other rows (table, key) row (t, other) elsewhere) ∙ again) has same

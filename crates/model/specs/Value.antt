@@ -1,5 +1,5 @@
 -- The order of values: by kind, then an int by its number, a text by its bytes, and false before true.
-use Rattle.std.specs.Prelude.{◌≡◌, ℕ, ℤ, pos, Bool, true, false, List, [], cond}
+use Rattle.std.specs.Prelude.{ℕ, ℤ, pos, List, [], cond}
 use Rattle.std.specs.Ordering.{nat_cmp, int_cmp, on, then_cmp}
 use Rattle.std.specs.Cmp.{IsTotalOrder, on_total, nat_cmp_total, int_cmp_total}
 use Rattle.std.proofs.lemmas.Cmp.{then_total}

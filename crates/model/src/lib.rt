@@ -12,9 +12,19 @@
 //   specs/Rows           all rows of all tables as one finite map; valid rows
 //   specs/Effect         what a change does, and what takes it back
 //   specs/Cells          cells, and those that a row fills
+//
+// The laws of these words are lemmas of `specs/` too, where the layers above can cite them:
+//
+//   specs/Exact          values, keys and places that tie are equal
+//   specs/EditLaws       what stands at a place after edits; what stood, put back, restores
+//   specs/TakenLaws      values are taken exactly where a row has them
+//   specs/ValidLaws      what keeps rows valid
+//   specs/EffectLaws     the effects and inverses of the four changes
+//   specs/Laws           the main ones as statements, which `laws` promises
 pub mod cell;
 pub mod change;
 pub mod key;
+pub mod laws;
 pub mod memory;
 pub mod row;
 pub mod table_def;

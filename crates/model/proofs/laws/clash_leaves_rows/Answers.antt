@@ -1,0 +1,5 @@
+use Rattle.model.specs.EffectLaws.{effect_clashed}
+use Rattle.model.proofs.laws.clash_leaves_rows.Goals as goal
+
+pub returns : goal.returns
+returns c = effect_clashed

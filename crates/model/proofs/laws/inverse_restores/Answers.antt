@@ -1,0 +1,5 @@
+use Rattle.model.specs.EffectLaws.{back_of_inverse}
+use Rattle.model.proofs.laws.inverse_restores.Goals as goal
+
+pub returns : goal.returns
+returns c = back_of_inverse

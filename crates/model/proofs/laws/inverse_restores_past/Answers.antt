@@ -1,0 +1,5 @@
+use Rattle.model.specs.EffectLaws.{back_past}
+use Rattle.model.proofs.laws.inverse_restores_past.Goals as goal
+
+pub returns : goal.returns
+returns c = back_past

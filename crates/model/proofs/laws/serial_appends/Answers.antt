@@ -1,0 +1,5 @@
+use Rattle.model.specs.EffectLaws.{serial_append}
+use Rattle.model.proofs.laws.serial_appends.Goals as goal
+
+pub returns : goal.returns
+returns c = serial_append

@@ -1,0 +1,43 @@
+// The laws of edits, effects and inverses. Each function does nothing: its contract is a law, over
+// all rows and all changes, and the check of this crate proves it.
+ghost use Rattle.model.specs.Laws.{OverlayByPlace, SkipLeavesRows, ClashLeavesRows, EffectKeepsValid, InverseRestores, InverseRestoresPast, SerialAppends, UndoneRestores};
+
+/// What stands at a place after edits is the edit there, or else the row.
+pub fn overlay_by_place()
+    ensures { OverlayByPlace }
+{}
+
+/// A change that is skipped leaves the rows.
+pub fn skip_leaves_rows()
+    ensures { SkipLeavesRows }
+{}
+
+/// A change that clashes leaves the rows.
+pub fn clash_leaves_rows()
+    ensures { ClashLeavesRows }
+{}
+
+/// A change keeps valid rows valid.
+pub fn effect_keeps_valid()
+    ensures { EffectKeepsValid }
+{}
+
+/// A change and then its inverse restore the rows, whatever they are.
+pub fn inverse_restores()
+    ensures { InverseRestores }
+{}
+
+/// They do so past edits at other places too, and those stay.
+pub fn inverse_restores_past()
+    ensures { InverseRestoresPast }
+{}
+
+/// One list of changes after another is the two as one.
+pub fn serial_appends()
+    ensures { SerialAppends }
+{}
+
+/// The inverses of changes, put back from the newest, restore the rows before them.
+pub fn undone_restores()
+    ensures { UndoneRestores }
+{}
