@@ -1,0 +1,5 @@
+pub mod Members
+pub mod Each
+pub mod Distinct
+pub mod Named
+pub mod Validity

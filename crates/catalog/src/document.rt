@@ -1,0 +1,275 @@
+// Reads the fields of a TOML document into drafts of tables. Each reader answers none where a field
+// is unknown, missing or of another kind, and fails for memory alone.
+ghost use Rattle.std.specs.Prelude.{◌≡◌, [], IfOk, map, option_map};
+ghost use Rattle.std.specs.List.{list_any};
+ghost use Rattle.std.specs.Str.{bytes_eq};
+ghost use Rattle.toml.specs.Data.{get_member};
+ghost use Rattle.toml.specs.View.{view, table_view};
+ghost use Rattle.catalog.specs.Document.{array_of, column_of, default_of, has_only, is_name, key_of, name_of, optional, required, table_of, tables_of, fields_of, type_named, type_of};
+
+use crate::draft::{ColumnDraft, DefaultDraft, KeyDraft, TableDraft};
+use bytes::ByteStr;
+use model::{ColumnType, OutOfMemory, Value};
+use std::alloc::Global;
+use toml::{Table, Value as Data};
+
+const COLUMN_FIELDS: [&str; 3] = ["name", "type", "default"];
+
+const TABLE_FIELDS: [&str; 5] = ["namespace", "name", "primary", "unique", "column"];
+
+/// The tables of a document.
+#[tactic(auto, unfolding(crate::specs::Document::tables_of))]
+pub(crate) fn read_tables(
+    alloc: Global,
+    document: &Table,
+) -> Result<Option<Vec<TableDraft>>, OutOfMemory>
+    ensures { IfOk result (λ ts. option_map (λ v. v.items) ts ≡ tables_of (table_view document.now)) }
+{
+    if !has_only(document, &["table"]) {
+        return Ok(None);
+    }
+    match member(document, "table") {
+        None => Ok(Some(Vec::new(alloc))),
+        Some(tables) => read_table_array(alloc, tables),
+    }
+}
+
+fn read_table_array(alloc: Global, value: &Data) -> Result<Option<Vec<TableDraft>>, OutOfMemory>
+    ensures { IfOk result (λ ts. option_map (λ v. v.items) ts ≡ array_of table_of (view value.now)) }
+{
+    let Some(array) = value.as_array() else {
+        return Ok(None);
+    };
+    let mut tables = Vec::new(alloc);
+    for item in array {
+        let Some(table) = read_table(alloc, item)? else {
+            return Ok(None);
+        };
+        tables.push(table)?;
+    }
+    Ok(Some(tables))
+}
+
+#[tactic(auto, unfolding(crate::specs::Document::table_of, crate::specs::Document::table_in))]
+fn read_table(alloc: Global, value: &Data) -> Result<Option<TableDraft>, OutOfMemory>
+    ensures { IfOk result (λ t. t ≡ table_of (view value.now)) }
+{
+    let Some(fields) = fields_of(value, &TABLE_FIELDS) else {
+        return Ok(None);
+    };
+    let Some(namespace) = read_name(alloc, fields, "namespace")? else {
+        return Ok(None);
+    };
+    let Some(name) = read_name(alloc, fields, "name")? else {
+        return Ok(None);
+    };
+    let Some(columns) = read_columns(alloc, fields, "column")? else {
+        return Ok(None);
+    };
+    let Some(primary) = read_primary(alloc, fields, "primary")? else {
+        return Ok(None);
+    };
+    let Some(uniques) = read_uniques(alloc, fields, "unique")? else {
+        return Ok(None);
+    };
+    Ok(Some(TableDraft {
+        namespace,
+        name,
+        columns,
+        primary,
+        uniques,
+    }))
+}
+
+fn read_columns(
+    alloc: Global,
+    fields: &Table,
+    key: &str,
+) -> Result<Option<Vec<ColumnDraft>>, OutOfMemory>
+    ensures { IfOk result (λ cs. option_map (λ v. v.items) cs
+        ≡ required (array_of column_of) (get_member key.now (table_view fields.now))) }
+{
+    let Some(value) = member(fields, key) else {
+        return Ok(None);
+    };
+    let Some(array) = value.as_array() else {
+        return Ok(None);
+    };
+    let mut columns = Vec::new(alloc);
+    for item in array {
+        let Some(column) = read_column(alloc, item)? else {
+            return Ok(None);
+        };
+        columns.push(column)?;
+    }
+    Ok(Some(columns))
+}
+
+#[tactic(auto, unfolding(crate::specs::Document::column_of, crate::specs::Document::column_in))]
+fn read_column(alloc: Global, value: &Data) -> Result<Option<ColumnDraft>, OutOfMemory>
+    ensures { IfOk result (λ c. c ≡ column_of (view value.now)) }
+{
+    let Some(fields) = fields_of(value, &COLUMN_FIELDS) else {
+        return Ok(None);
+    };
+    let Some(name) = read_name(alloc, fields, "name")? else {
+        return Ok(None);
+    };
+    let Some(kind) = read_type(fields, "type") else {
+        return Ok(None);
+    };
+    let default = read_default(alloc, fields, "default")?;
+    Ok(Some(ColumnDraft {
+        name,
+        kind,
+        default,
+    }))
+}
+
+fn read_type(fields: &Table, key: &str) -> Option<ColumnType>
+    ensures { result ≡ required type_of (get_member key.now (table_view fields.now)) }
+{
+    type_named(member(fields, key)?.as_str()?)
+}
+
+fn type_named(text: &str) -> Option<ColumnType>
+    ensures { result ≡ type_named text.now }
+{
+    match text {
+        "int" => Some(ColumnType::Int),
+        "text" => Some(ColumnType::Text),
+        "bool" => Some(ColumnType::Bool),
+        _ => None,
+    }
+}
+
+fn read_default(alloc: Global, fields: &Table, key: &str) -> Result<DefaultDraft, OutOfMemory>
+    ensures { IfOk result (λ d. d ≡ default_of (get_member key.now (table_view fields.now))) }
+{
+    let Some(value) = member(fields, key) else {
+        return Ok(DefaultDraft::Missing);
+    };
+    match value {
+        Data::Integer(number) => Ok(DefaultDraft::Given(Value::Int(*number))),
+        Data::String(text) => Ok(DefaultDraft::Given(Value::Text(ByteStr::copy_from_str(
+            alloc,
+            text.as_str(),
+        )?))),
+        Data::Boolean(truth) => Ok(DefaultDraft::Given(Value::Bool(*truth))),
+        _ => Ok(DefaultDraft::OtherKind),
+    }
+}
+
+/// The columns of the primary key; a key that is missing is read as an empty one.
+fn read_primary(alloc: Global, fields: &Table, key: &str) -> Result<Option<KeyDraft>, OutOfMemory>
+    ensures { IfOk result (λ k. k ≡ optional [] key_of (get_member key.now (table_view fields.now))) }
+{
+    match member(fields, key) {
+        None => Ok(Some(KeyDraft {
+            names: Vec::new(alloc),
+        })),
+        Some(value) => read_key(alloc, value),
+    }
+}
+
+fn read_uniques(
+    alloc: Global,
+    fields: &Table,
+    key: &str,
+) -> Result<Option<Vec<KeyDraft>>, OutOfMemory>
+    ensures { IfOk result (λ ks. option_map (λ v. v.items) ks
+        ≡ optional [] (array_of key_of) (get_member key.now (table_view fields.now))) }
+{
+    let mut keys = Vec::new(alloc);
+    let Some(value) = member(fields, key) else {
+        return Ok(Some(keys));
+    };
+    let Some(array) = value.as_array() else {
+        return Ok(None);
+    };
+    for item in array {
+        let Some(key) = read_key(alloc, item)? else {
+            return Ok(None);
+        };
+        keys.push(key)?;
+    }
+    Ok(Some(keys))
+}
+
+fn read_key(alloc: Global, value: &Data) -> Result<Option<KeyDraft>, OutOfMemory>
+    ensures { IfOk result (λ k. k ≡ key_of (view value.now)) }
+{
+    let Some(array) = value.as_array() else {
+        return Ok(None);
+    };
+    let mut names = Vec::new(alloc);
+    for item in array {
+        let Some(name) = item.as_str() else {
+            return Ok(None);
+        };
+        names.push(ByteStr::copy_from_str(alloc, name)?)?;
+    }
+    Ok(Some(KeyDraft { names }))
+}
+
+fn read_name(alloc: Global, fields: &Table, key: &str) -> Result<Option<ByteStr>, OutOfMemory>
+    ensures { IfOk result (λ n. n ≡ required name_of (get_member key.now (table_view fields.now))) }
+{
+    let Some(value) = member(fields, key) else {
+        return Ok(None);
+    };
+    match value.as_str() {
+        Some(text) if is_name(text) => Ok(Some(ByteStr::copy_from_str(alloc, text)?)),
+        _ => Ok(None),
+    }
+}
+
+/// Whether a text may name a table or a column: it is not empty and has no zero byte.
+fn is_name(text: &str) -> bool
+    ensures { result ≡ is_name text.now }
+{
+    !text.is_empty() && !text.as_bytes().contains(&0)
+}
+
+/// The members of a table that has no other keys than these.
+fn fields_of<'a>(value: &'a Data, keys: &[&str]) -> Option<&'a Table>
+    ensures { option_map (λ t. table_view t.now) result ≡ fields_of (map (λ k. k.now) keys.now) (view value.now) }
+{
+    let table = value.as_table()?;
+    if has_only(table, keys) {
+        Some(table)
+    } else {
+        None
+    }
+}
+
+/// Whether the table has no other keys than these.
+fn has_only(table: &Table, keys: &[&str]) -> bool
+    ensures { result ≡ has_only (map (λ k. k.now) keys.now) (table_view table.now) }
+{
+    for key in table.keys() {
+        if !is_among(key.as_str(), keys) {
+            return false;
+        }
+    }
+    true
+}
+
+/// Whether a text is one of these.
+fn is_among(text: &str, texts: &[&str]) -> bool
+    ensures { result ≡ list_any (bytes_eq text.now) (map (λ t. t.now) texts.now) }
+{
+    for other in texts {
+        if text == *other {
+            return true;
+        }
+    }
+    false
+}
+
+/// The value at a key.
+fn member<'a>(table: &'a Table, key: &str) -> Option<&'a Data>
+    ensures { option_map (λ v. view v.now) result ≡ get_member key.now (table_view table.now) }
+{
+    table.get(key)
+}

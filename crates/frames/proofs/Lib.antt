@@ -1,0 +1,6 @@
+pub mod Fronts
+pub mod Streams
+pub mod Handed
+pub mod Taking
+pub mod Sent
+pub mod Spelled

@@ -1,0 +1,135 @@
+// Where the bytes come from and where they go.
+ghost use Rattle.std.specs.Prelude.{◌≡◌, ℕ, ◌<◌, ◌≤◌, List, Option, IfOk, OnOk, OnErr, take, length};
+ghost use Rattle.std.specs.Io.KnownBytes.{Consumes, Keeps, Appends, IsAtEnd};
+ghost use Rattle.frames.specs.Device.{HasFailed};
+
+use std::io::{Read, Write};
+
+/// A read or a write failed.
+#[derive(Clone, Copy, Debug, PartialEq, Eq)]
+pub struct Failed;
+
+/// Gives the bytes of a stream, some at a time.
+pub trait Source {
+    /// The bytes that it is still to give, where it tells them. A file or a socket doesn't.
+    ghost remaining: { Self → Option (List ℕ) };
+    /// A number that falls with each read that gives bytes, so a source can't give bytes for ever.
+    ghost reads_left: { Self → ℕ };
+    /// How often it has failed, up to `u64::MAX`.
+    ghost failures: { Self → ℕ };
+
+    /// Reads some bytes into the front of `buf`, and answers how many: 0 only at the end of the input, or where `buf` is empty.
+    fn read_some(&mut self, buf: &mut [u8]) -> Result<usize, Failed>
+        ensures within { IfOk result (λ n. n ≤ length buf.old) }
+        ensures bytes { IfOk result (λ n. Consumes (remaining self.old) (remaining self.new) (take n buf.new)) }
+        ensures end { IfOk result (λ n. n ≡ 0 → 0 < length buf.old → IsAtEnd (remaining self.new)) }
+        ensures falls { IfOk result (λ n. 0 < n → reads_left self.new < reads_left self.old) }
+        ensures works { OnOk result (failures self.new ≡ failures self.old) }
+        ensures failed { OnErr result (HasFailed (failures self.old) (failures self.new)) }
+        ensures kept { OnErr result (Keeps (remaining self.old) (remaining self.new)) };
+}
+
+/// Takes the bytes of a stream, some at a time.
+pub trait Sink {
+    /// The bytes that it has taken, where it tells them. A file or a socket doesn't.
+    ghost contents: { Self → Option (List ℕ) };
+    /// How often it has failed, up to `u64::MAX`.
+    ghost failures: { Self → ℕ };
+
+    /// Takes some bytes off the front of `buf`, and answers how many: at least one, unless `buf` is empty.
+    fn write_some(&mut self, buf: &[u8]) -> Result<usize, Failed>
+        ensures within { IfOk result (λ n. n ≤ length buf.now) }
+        ensures takes { IfOk result (λ n. 0 < length buf.now → 0 < n) }
+        ensures bytes { IfOk result (λ n. Appends (contents self.old) (contents self.new) (take n buf.now)) }
+        ensures works { OnOk result (failures self.new ≡ failures self.old) }
+        ensures failed { OnErr result (HasFailed (failures self.old) (failures self.new)) }
+        ensures kept { OnErr result (Keeps (contents self.old) (contents self.new)) };
+}
+
+/// A source over a reader. It counts its reads down from `u64::MAX`, and then fails.
+#[derive(Drop)]
+pub struct ReadSource<R> {
+    reader: R,
+    reads_left: u64,
+    failures: u64,
+}
+
+impl<R: Read> ReadSource<R> {
+    pub fn new(reader: R) -> ReadSource<R>
+        ensures bytes { ⟦<ReadSource<R> as Source>⟧.remaining result ≡ R.remaining reader }
+        ensures failures { ⟦<ReadSource<R> as Source>⟧.failures result ≡ 0 }
+    {
+        ReadSource {
+            reader,
+            reads_left: u64::MAX,
+            failures: 0,
+        }
+    }
+}
+
+impl<R: Read> Source for ReadSource<R> {
+    ghost remaining = { λ s. R.remaining s.reader };
+
+    ghost reads_left = { λ s. s.reads_left };
+
+    ghost failures = { λ s. s.failures };
+
+    fn read_some(&mut self, buf: &mut [u8]) -> Result<usize, Failed> {
+        if self.reads_left == 0 {
+            self.failures = self.failures.saturating_add(1);
+            return Err(Failed);
+        }
+        match self.reader.read(buf) {
+            Ok(count) => {
+                self.reads_left -= 1;
+                Ok(count)
+            }
+            Err(_) => {
+                self.failures = self.failures.saturating_add(1);
+                Err(Failed)
+            }
+        }
+    }
+}
+
+/// A sink over a writer. It counts its writes down from `u64::MAX`, and then fails; a write that takes nothing fails too.
+#[derive(Drop)]
+pub struct WriteSink<W> {
+    writer: W,
+    writes_left: u64,
+    failures: u64,
+}
+
+impl<W: Write> WriteSink<W> {
+    pub fn new(writer: W) -> WriteSink<W>
+        ensures bytes { ⟦<WriteSink<W> as Sink>⟧.contents result ≡ W.contents writer }
+        ensures failures { ⟦<WriteSink<W> as Sink>⟧.failures result ≡ 0 }
+    {
+        WriteSink {
+            writer,
+            writes_left: u64::MAX,
+            failures: 0,
+        }
+    }
+}
+
+impl<W: Write> Sink for WriteSink<W> {
+    ghost contents = { λ s. W.contents s.writer };
+
+    ghost failures = { λ s. s.failures };
+
+    fn write_some(&mut self, buf: &[u8]) -> Result<usize, Failed> {
+        if self.writes_left == 0 {
+            self.failures = self.failures.saturating_add(1);
+            return Err(Failed);
+        }
+        self.writes_left -= 1;
+        match self.writer.write(buf) {
+            Ok(count) if count > 0 || buf.is_empty() => Ok(count),
+            Ok(_) | Err(_) => {
+                self.failures = self.failures.saturating_add(1);
+                Err(Failed)
+            }
+        }
+    }
+}

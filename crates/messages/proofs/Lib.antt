@@ -1,0 +1,9 @@
+pub mod Fields
+pub mod Formats
+pub mod Texts
+pub mod Times
+pub mod Payloads
+pub mod Says
+pub mod Spellings
+pub mod Written
+pub mod Onlys

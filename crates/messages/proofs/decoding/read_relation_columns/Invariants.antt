@@ -1,0 +1,12 @@
+use Rattle.std.proofs.Common.{◌≡◌, ◌-◌, length}
+use Rattle.messages.specs.Format.{times}
+use Rattle.messages.specs.Messages.{relation_column}
+use Rattle.messages.specs.Reading.{read}
+use Rattle.messages.proofs.Times.{with_front}
+use Rattle.messages.proofs.decoding.read_relation_columns.Given as goal
+
+abbrev pub invariant-loop : goal.invariant-loop
+invariant-loop l = record {
+    so_far : with_front l.columns.items (read (times (l.count - l.counter) relation_column) l.cursor) ≡ read (times l.count relation_column) l.fn.cursor;
+    len : length l.columns.items ≡ l.counter;
+  }

@@ -1,0 +1,5 @@
+pub mod Field
+pub mod Format
+pub mod Reading
+pub mod Messages
+pub mod Writing

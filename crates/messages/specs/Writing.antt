@@ -1,0 +1,79 @@
+-- The bytes that are written for each message. They are proved to be its one spelling.
+use Rattle.std.specs.Prelude.{◌≡◌, ℕ, ℤ, ◌^◌, ◌<◌, Bool, true, false, List, [], ◌∷◌, ◌++◌, length, Option, Some, None, is_some, codes, if◌then◌else◌}
+use Rattle.std.specs.Int.{cast_unsigned}
+use Rattle.std.specs.List.{flat_map}
+use Rattle.messages.specs.declared.message.Message.{Message}
+use Rattle.messages.specs.declared.message.Message.TheVariants as messages
+use Rattle.messages.specs.declared.message.Begin.{Begin}
+use Rattle.messages.specs.declared.message.Commit.{Commit}
+use Rattle.messages.specs.declared.message.Relation.{Relation}
+use Rattle.messages.specs.declared.message.RelationColumn.{RelationColumn}
+use Rattle.messages.specs.declared.message.ReplicaIdentity.{ReplicaIdentity}
+use Rattle.messages.specs.declared.message.ReplicaIdentity.TheVariants as identities
+use Rattle.messages.specs.declared.message.Insert.{Insert}
+use Rattle.messages.specs.declared.tuple.Column.{Column}
+use Rattle.messages.specs.declared.tuple.Column.TheVariants as columns
+use Rattle.messages.specs.Format.{Format, Spells}
+use Rattle.messages.specs.Field.{Size, two, four, eight, width, number_bytes}
+
+-- The bytes are a spelling of the value, whatever follows them.
+pub record Says {A : Type 0} (p : Format A) (bytes : List ℕ) (value : A) : Type 0 where
+  pub before : (rest : List ℕ) → Spells p (bytes ++ rest) value rest
+
+-- The xid is there exactly in a block of a streamed transaction.
+abbrev pub HasXid : Bool → Message → Type 0
+HasXid in_block (messages.Begin m) = Unit {0}
+HasXid in_block (messages.Commit m) = Unit {0}
+HasXid in_block (messages.Relation xid m) = is_some xid ≡ in_block
+HasXid in_block (messages.Insert m) = is_some m.xid ≡ in_block
+
+unfoldable pub signed_bytes : Size → ℤ → List ℕ
+signed_bytes size z = number_bytes size (cast_unsigned (width size) z)
+
+abbrev pub flag_bytes : Bool → List ℕ
+flag_bytes b = (if b then 1 else 0) ∷ []
+
+unfoldable pub string_bytes : List ℕ → List ℕ
+string_bytes text = text ++ 0 ∷ []
+
+abbrev pub identity_bytes : ReplicaIdentity → List ℕ
+identity_bytes identities.Default = codes "d"
+identity_bytes identities.Nothing = codes "n"
+identity_bytes identities.Full = codes "f"
+identity_bytes identities.Index = codes "i"
+
+abbrev pub xid_bytes : Option ℕ → List ℕ
+xid_bytes None = []
+xid_bytes (Some xid) = number_bytes four xid
+
+unfoldable pub column_bytes : Column → List ℕ
+column_bytes columns.Null = codes "n"
+column_bytes columns.Unchanged = codes "u"
+column_bytes (columns.Text text) = codes "t" ++ (number_bytes four (length text) ++ text)
+
+unfoldable pub tuple_bytes : List Column → List ℕ
+tuple_bytes columns = number_bytes two (length columns) ++ flat_map column_bytes columns
+
+unfoldable pub begin_bytes : Begin → List ℕ
+begin_bytes m = number_bytes eight m.final_lsn ++ (signed_bytes eight m.commit_time ++ number_bytes four m.xid)
+
+unfoldable pub commit_bytes : Commit → List ℕ
+commit_bytes m = (0 ∷ []) ++ (number_bytes eight m.commit_lsn ++ (number_bytes eight m.end_lsn ++ signed_bytes eight m.commit_time))
+
+unfoldable pub relation_column_bytes : RelationColumn → List ℕ
+relation_column_bytes c = flag_bytes c.is_key ++ (string_bytes c.name ++ (number_bytes four c.type_oid ++ signed_bytes four c.type_modifier))
+
+unfoldable pub relation_columns_bytes : List RelationColumn → List ℕ
+relation_columns_bytes columns = number_bytes two (length columns) ++ flat_map relation_column_bytes columns
+
+unfoldable pub relation_bytes : Relation → List ℕ
+relation_bytes m = number_bytes four m.oid ++ (string_bytes m.namespace ++ (string_bytes m.name ++ (identity_bytes m.identity ++ relation_columns_bytes m.columns)))
+
+unfoldable pub insert_bytes : Insert → List ℕ
+insert_bytes m = xid_bytes m.xid ++ (number_bytes four m.oid ++ (codes "N" ++ tuple_bytes m.new))
+
+abbrev pub message_bytes : Message → List ℕ
+message_bytes (messages.Begin m) = codes "B" ++ begin_bytes m
+message_bytes (messages.Commit m) = codes "C" ++ commit_bytes m
+message_bytes (messages.Relation xid m) = codes "R" ++ (xid_bytes xid ++ relation_bytes m)
+message_bytes (messages.Insert m) = codes "I" ++ insert_bytes m

@@ -1,0 +1,282 @@
+//! Reading a payload: one function a message, named after it.
+
+ghost use Rattle.std.specs.Prelude.{◌≡◌, ◌<◌, ◌⊎◌, ℕ, length, slice_index, IfOk, IfErr};
+ghost use Rattle.messages.specs.Format.{times};
+ghost use Rattle.messages.specs.Messages.{flag, no_flags, new_tuple_follows, identity, tag, text, column, tuple, xid_in, begin, commit, relation_column, relation_columns, relation, insert, message, Spelled, Stands};
+ghost use Rattle.messages.specs.Reading.{Gives, GivesBy, IsReading, read, read_all};
+ghost use Rattle.messages.specs.declared.fault.MsgFault.{MsgFault};
+ghost use Rattle.messages.specs.declared.fault.MsgFault.TheVariants.{OutOfMemory};
+ghost use Rattle.messages.specs.declared.message.Message.{Message};
+
+use crate::cursor::Cursor;
+use crate::fault::MsgFault;
+use crate::message::{
+    Begin, Columns, Commit, Insert, Message, Relation, RelationColumn, ReplicaIdentity, Xid,
+};
+use crate::tag::Tag;
+use crate::tuple::{Column, Tuple};
+use bytes::Bytes;
+use std::alloc::Global;
+
+/// The message that the payload of an XLogData spells, in a block of a streamed transaction or outside of one.
+/// Texts and names are cuts of the payload's shared bytes: nothing of them is copied.
+///
+/// Fields are read from left to right, and the first that is missing or wrong decides; bytes after the last
+/// field come last. A refusal changes nothing.
+pub fn decode(alloc: Global, payload: &Bytes, in_block: bool) -> Result<Message, MsgFault>
+    ensures spelled { IfOk result (λ m. Spelled payload.now in_block m) }
+    // What is spelled is answered, unless memory is refused.
+    ensures only { (m : Message) → Spelled payload.now in_block m
+        → (result ≡ Ok m) ⊎ (result ≡ Err OutOfMemory) }
+    ensures fault { IfErr result (λ fault. (fault ≡ OutOfMemory) ⊎ Stands payload.now in_block fault) }
+    // The fault that stands is answered, unless memory is refused.
+    ensures refused { (fault : MsgFault) → Stands payload.now in_block fault
+        → (result ≡ Err fault) ⊎ (result ≡ Err OutOfMemory) }
+{
+    are_bytes(payload.as_slice());
+    read_payload(alloc, payload, in_block)
+}
+
+/// Tells a proof that the bytes are below 256, which it knows of slices alone.
+fn are_bytes(bytes: &[u8])
+    ensures { (i : ℕ) → slice_index bytes.now i < 256 }
+{
+}
+
+fn read_payload(alloc: Global, payload: &Bytes, in_block: bool) -> Result<Message, MsgFault>
+    ensures { IsReading result (read_all (message in_block) payload.now) }
+{
+    let mut cursor = Cursor::new(payload);
+    let message = read_message(alloc, &mut cursor, in_block)?;
+    if !cursor.unread().is_empty() {
+        return Err(MsgFault::Trailing);
+    }
+    Ok(message)
+}
+
+#[tactic(auto, unfolding(crate::specs::Messages::flag, crate::specs::Reading::byte_at))]
+fn read_flag(cursor: &mut Cursor) -> Result<bool, MsgFault>
+    ensures { Gives result cursor.new (read flag cursor.old) }
+{
+    match cursor.next_byte()? {
+        0 => Ok(false),
+        1 => Ok(true),
+        _ => Err(MsgFault::BadFlag),
+    }
+}
+
+#[tactic(auto, unfolding(crate::specs::Messages::no_flags, crate::specs::Reading::byte_at))]
+fn read_no_flags(cursor: &mut Cursor) -> Result<u8, MsgFault>
+    ensures { Gives result cursor.new (read no_flags cursor.old) }
+{
+    match cursor.next_byte()? {
+        0 => Ok(0),
+        _ => Err(MsgFault::BadFlag),
+    }
+}
+
+#[tactic(auto, unfolding(crate::specs::Messages::new_tuple_follows, crate::specs::Reading::byte_at))]
+fn read_new_tuple_follows(cursor: &mut Cursor) -> Result<u8, MsgFault>
+    ensures { Gives result cursor.new (read new_tuple_follows cursor.old) }
+{
+    match cursor.next_byte()? {
+        b'N' => Ok(b'N'),
+        _ => Err(MsgFault::BadTupleKind),
+    }
+}
+
+#[tactic(auto, unfolding(crate::specs::Messages::identity, crate::specs::Reading::byte_at))]
+fn read_identity(cursor: &mut Cursor) -> Result<ReplicaIdentity, MsgFault>
+    ensures { Gives result cursor.new (read identity cursor.old) }
+{
+    match cursor.next_byte()? {
+        b'd' => Ok(ReplicaIdentity::Default),
+        b'n' => Ok(ReplicaIdentity::Nothing),
+        b'f' => Ok(ReplicaIdentity::Full),
+        b'i' => Ok(ReplicaIdentity::Index),
+        _ => Err(MsgFault::BadFlag),
+    }
+}
+
+#[tactic(auto, unfolding(crate::specs::Messages::begin))]
+fn read_begin(cursor: &mut Cursor) -> Result<Begin, MsgFault>
+    ensures { Gives result cursor.new (read begin cursor.old) }
+{
+    let final_lsn = cursor.next_u64()?;
+    let commit_time = cursor.next_i64()?;
+    let xid = cursor.next_u32()?;
+    Ok(Begin {
+        final_lsn,
+        commit_time,
+        xid,
+    })
+}
+
+#[tactic(auto, unfolding(crate::specs::Messages::tag, crate::specs::Reading::byte_at))]
+fn read_tag(cursor: &mut Cursor) -> Result<Tag, MsgFault>
+    ensures { Gives result cursor.new (read tag cursor.old) }
+{
+    match cursor.next_byte()? {
+        b'B' => Ok(Tag::Begin),
+        b'C' => Ok(Tag::Commit),
+        b'R' => Ok(Tag::Relation),
+        b'I' => Ok(Tag::Insert),
+        _ => Err(MsgFault::UnknownTag),
+    }
+}
+
+#[tactic(auto, unfolding(crate::specs::Messages::text))]
+fn read_text(cursor: &mut Cursor) -> Result<Column, MsgFault>
+    ensures { Gives result cursor.new (read text cursor.old) }
+{
+    let len = cursor.next_long_count()?;
+    let text = cursor.next_text(len)?;
+    Ok(Column::Text(text))
+}
+
+#[tactic(auto, unfolding(crate::specs::Messages::column, crate::specs::Reading::byte_at))]
+fn read_column(cursor: &mut Cursor) -> Result<Column, MsgFault>
+    ensures { Gives result cursor.new (read column cursor.old) }
+{
+    match cursor.next_byte()? {
+        b'n' => Ok(Column::Null),
+        b'u' => Ok(Column::Unchanged),
+        b't' => read_text(cursor),
+        b'b' => Err(MsgFault::BinaryColumn),
+        _ => Err(MsgFault::BadTupleKind),
+    }
+}
+
+fn read_columns(alloc: Global, count: u16, cursor: &mut Cursor) -> Result<Vec<Column>, MsgFault>
+    ensures read { GivesBy (λ v. v.items) result cursor.new (read (times count column) cursor.old) }
+    ensures len { IfOk result (λ v. length v.items ≡ count) }
+{
+    let mut columns = Vec::new(alloc);
+    for _ in 0..count {
+        let column = read_column(cursor)?;
+        columns.push(column)?;
+    }
+    Ok(columns)
+}
+
+#[tactic(auto, unfolding(crate::specs::Messages::tuple))]
+fn read_tuple(alloc: Global, cursor: &mut Cursor) -> Result<Tuple, MsgFault>
+    ensures { Gives result cursor.new (read tuple cursor.old) }
+{
+    let count = cursor.next_count()?;
+    let columns = read_columns(alloc, count, cursor)?;
+    Ok(Tuple::new(columns))
+}
+
+#[tactic(auto, unfolding(crate::specs::Messages::xid_in))]
+fn read_xid(cursor: &mut Cursor, in_block: bool) -> Result<Option<Xid>, MsgFault>
+    ensures { Gives result cursor.new (read (xid_in in_block) cursor.old) }
+{
+    if in_block {
+        let xid = cursor.next_u32()?;
+        Ok(Some(xid))
+    } else {
+        Ok(None)
+    }
+}
+
+#[tactic(auto, unfolding(crate::specs::Messages::commit))]
+fn read_commit(cursor: &mut Cursor) -> Result<Commit, MsgFault>
+    ensures { Gives result cursor.new (read commit cursor.old) }
+{
+    read_no_flags(cursor)?;
+    let commit_lsn = cursor.next_u64()?;
+    let end_lsn = cursor.next_u64()?;
+    let commit_time = cursor.next_i64()?;
+    Ok(Commit {
+        commit_lsn,
+        end_lsn,
+        commit_time,
+    })
+}
+
+#[tactic(auto, unfolding(crate::specs::Messages::relation_column))]
+fn read_relation_column(cursor: &mut Cursor) -> Result<RelationColumn, MsgFault>
+    ensures { Gives result cursor.new (read relation_column cursor.old) }
+{
+    let is_key = read_flag(cursor)?;
+    let name = cursor.next_string()?;
+    let type_oid = cursor.next_u32()?;
+    let type_modifier = cursor.next_i32()?;
+    Ok(RelationColumn {
+        is_key,
+        name,
+        type_oid,
+        type_modifier,
+    })
+}
+
+fn read_relation_columns(
+    alloc: Global,
+    count: u16,
+    cursor: &mut Cursor,
+) -> Result<Vec<RelationColumn>, MsgFault>
+    ensures read { GivesBy (λ v. v.items) result cursor.new (read (times count relation_column) cursor.old) }
+    ensures len { IfOk result (λ v. length v.items ≡ count) }
+{
+    let mut columns = Vec::new(alloc);
+    for _ in 0..count {
+        let column = read_relation_column(cursor)?;
+        columns.push(column)?;
+    }
+    Ok(columns)
+}
+
+#[tactic(auto, unfolding(crate::specs::Messages::relation_columns))]
+fn read_published(alloc: Global, cursor: &mut Cursor) -> Result<Columns, MsgFault>
+    ensures { Gives result cursor.new (read relation_columns cursor.old) }
+{
+    let count = cursor.next_count()?;
+    let columns = read_relation_columns(alloc, count, cursor)?;
+    Ok(Columns::new(columns))
+}
+
+#[tactic(auto, unfolding(crate::specs::Messages::relation))]
+fn read_relation(alloc: Global, cursor: &mut Cursor) -> Result<Relation, MsgFault>
+    ensures { Gives result cursor.new (read relation cursor.old) }
+{
+    let oid = cursor.next_u32()?;
+    let namespace = cursor.next_string()?;
+    let name = cursor.next_string()?;
+    let identity = read_identity(cursor)?;
+    let columns = read_published(alloc, cursor)?;
+    Ok(Relation {
+        oid,
+        namespace,
+        name,
+        identity,
+        columns,
+    })
+}
+
+#[tactic(auto, unfolding(crate::specs::Messages::insert))]
+fn read_insert(alloc: Global, cursor: &mut Cursor, in_block: bool) -> Result<Insert, MsgFault>
+    ensures { Gives result cursor.new (read (insert in_block) cursor.old) }
+{
+    let xid = read_xid(cursor, in_block)?;
+    let oid = cursor.next_u32()?;
+    read_new_tuple_follows(cursor)?;
+    let new = read_tuple(alloc, cursor)?;
+    Ok(Insert { xid, oid, new })
+}
+
+#[tactic(auto, unfolding(crate::specs::Messages::message))]
+fn read_message(alloc: Global, cursor: &mut Cursor, in_block: bool) -> Result<Message, MsgFault>
+    ensures { Gives result cursor.new (read (message in_block) cursor.old) }
+{
+    match read_tag(cursor)? {
+        Tag::Begin => Ok(Message::Begin(read_begin(cursor)?)),
+        Tag::Commit => Ok(Message::Commit(read_commit(cursor)?)),
+        Tag::Relation => {
+            let xid = read_xid(cursor, in_block)?;
+            let relation = read_relation(alloc, cursor)?;
+            Ok(Message::Relation { xid, relation })
+        }
+        Tag::Insert => Ok(Message::Insert(read_insert(alloc, cursor, in_block)?)),
+    }
+}

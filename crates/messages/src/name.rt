@@ -1,0 +1,93 @@
+//! Texts that are cuts of a payload's shared bytes.
+
+ghost use Rattle.std.specs.Prelude.{◌≡◌, ◌^◌, ◌<◌, length, IsUtf8};
+ghost use Rattle.messages.specs.Field.{IsName, HasNoZero};
+
+use bytes::ByteStr;
+use std::marker::Model;
+
+/// A name or a prefix: UTF-8 without a zero byte, so that a zero byte can end it.
+#[derive(Debug, Drop)]
+pub struct Name {
+    text: ByteStr,
+}
+
+impl Model for Name {
+    ghost use Rattle.std.specs.Prelude.{ℕ, List};
+    ghost use Rattle.messages.specs.Field.{HasNoZero};
+
+    ghost Value = { List ℕ };
+
+    ghost view = { λ n. n.text };
+
+    ghost invariant = { λ n. HasNoZero n.text };
+}
+
+impl Name {
+    /// The text as a name.
+    pub fn new(text: ByteStr) -> Name
+        requires { HasNoZero text }
+        ensures { result ≡ text }
+    {
+        Name { text }
+    }
+
+    /// The name, whose bytes are shared with the payload that it was read from.
+    pub fn as_byte_str(&self) -> &ByteStr
+        ensures value { result.now ≡ self.now }
+        ensures no_zero { HasNoZero self.now }
+    {
+        &self.text
+    }
+
+    /// The name as a string slice.
+    pub fn as_str(&self) -> &str
+        ensures value { result.now ≡ self.now }
+        ensures name { IsName self.now }
+    {
+        self.text.as_str()
+    }
+}
+
+/// The text of a column, short enough for its length field: less than 2 GiB.
+#[derive(Debug, Drop)]
+pub struct Text {
+    text: ByteStr,
+}
+
+impl Model for Text {
+    ghost use Rattle.std.specs.Prelude.{ℕ, List, ◌^◌, ◌<◌, length};
+
+    ghost Value = { List ℕ };
+
+    ghost view = { λ t. t.text };
+
+    ghost invariant = { λ t. length t.text < 2 ^ 31 };
+}
+
+impl Text {
+    /// The text as a column's text.
+    pub fn new(text: ByteStr) -> Text
+        requires { length text < 2 ^ 31 }
+        ensures { result ≡ text }
+    {
+        Text { text }
+    }
+
+    /// The text, whose bytes are shared with the payload that it was read from.
+    pub fn as_byte_str(&self) -> &ByteStr
+        ensures value { result.now ≡ self.now }
+        ensures bound { length self.now < 2 ^ 31 }
+    {
+        &self.text
+    }
+
+    /// The text as a string slice.
+    pub fn as_str(&self) -> &str
+        ensures value { result.now ≡ self.now }
+        ensures bound { length self.now < 2 ^ 31 }
+        ensures utf8 { IsUtf8 self.now }
+    {
+        self.text.as_str()
+    }
+}

@@ -1,0 +1,10 @@
+//! The first byte of a payload.
+
+/// Which message a payload holds.
+#[derive(Clone, Copy)]
+pub(crate) enum Tag {
+    Begin,
+    Commit,
+    Relation,
+    Insert,
+}

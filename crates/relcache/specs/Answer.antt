@@ -1,0 +1,12 @@
+-- What a call that may be refused for memory answers.
+use Rattle.std.specs.Prelude.{◌≡◌, ◌≢◌, Result, Ok, Err, MatchResult}
+use Rattle.relcache.specs.declared.fault.RelFault.{RelFault}
+use Rattle.relcache.specs.declared.fault.RelFault.TheVariants.{OutOfMemory}
+
+-- a fault other than of memory is the one of this answer
+abbrev pub IsFaultOf : {A : Type 0} → Result A RelFault → RelFault → Type 0
+IsFaultOf answer fault = fault ≢ OutOfMemory → answer ≡ Err fault
+
+-- the result is this answer, or says that memory was refused
+abbrev pub Answers : {A : Type 0} → Result A RelFault → Result A RelFault → Type 0
+Answers result answer = MatchResult result (λ x. answer ≡ Ok x) (IsFaultOf answer)

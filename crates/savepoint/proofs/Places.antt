@@ -1,0 +1,62 @@
+-- Where a subtransaction's mark stands in the list of marks.
+use Rattle.std.proofs.Common.{◌≡◌, ℕ, zero, suc, ◌<◌, ◌==◌, true, not, List, [], ◌∷◌, length, Option, Some, None, refl, arith, is_some}
+use Rattle.std.specs.Prelude.{slice_get}
+use Rattle.std.specs.List.{prefix_len}
+use Rattle.std.specs.Option.{option_map}
+use Rattle.std.proofs.lemmas.Grind.{common_steps}
+use Rattle.savepoint.specs.Savepoints.{mark_at, subs_of}
+
+-- no mark is the subtransaction's
+abbrev pub IsUnmarked : {M : Type 0} → ℕ → List (ℕ × M) → Type 0
+IsUnmarked sub marks = (j : ℕ) → slice_get (subs_of marks) j ≡ Some sub → ⊥
+
+-- the mark at this place is the first of the subtransaction's
+pub record IsFirst {M : Type 0} (sub place : ℕ) (marks : List (ℕ × M)) : Type 0 where
+  pub here : slice_get (subs_of marks) place ≡ Some sub
+  pub before : (j : ℕ) → j < place → slice_get (subs_of marks) j ≡ Some sub → ⊥
+
+-- the mark of a place
+abbrev pub mark_in : {M : Type 0} → List (ℕ × M) → ℕ → Option M
+mark_in {M} marks place = option_map (λ (m : ℕ × M). m.1) (slice_get marks place)
+
+-- how many marks stand before the subtransaction's
+abbrev pub count_before : {M : Type 0} → ℕ → List (ℕ × M) → ℕ
+count_before {M} sub marks = prefix_len (λ (m : ℕ × M). not (m.0 == sub)) marks
+
+pub count_before-IsFirst : {M : Type 0} (sub place : ℕ) (marks : List (ℕ × M)) → IsFirst sub place marks → count_before sub marks ≡ place
+count_before-IsFirst sub place [] h = let e = h.here in cc
+count_before-IsFirst sub zero (m ∷ marks) h = let e = h.here in grind (arith, common_steps)
+count_before-IsFirst sub (suc place) (m ∷ marks) h =
+    let other = h.before 0 (omega arith) in
+    let rest = count_before-IsFirst sub place marks (record { here = h.here; before = λ j lt e. h.before (suc j) (omega arith) e }) in
+    grind (arith, common_steps)
+
+pub mark_at-IsFirst : {M : Type 0} (sub place : ℕ) (marks : List (ℕ × M)) → IsFirst sub place marks → mark_at sub marks ≡ mark_in marks place
+mark_at-IsFirst sub place [] h = let e = h.here in cc
+mark_at-IsFirst sub zero (m ∷ marks) h = let e = h.here in grind (arith, common_steps)
+mark_at-IsFirst sub (suc place) (m ∷ marks) h =
+    let other = h.before 0 (omega arith) in
+    let rest = mark_at-IsFirst sub place marks (record { here = h.here; before = λ j lt e. h.before (suc j) (omega arith) e }) in
+    grind (arith, common_steps)
+
+pub is_some-mark_at-IsFirst : {M : Type 0} (sub place : ℕ) (marks : List (ℕ × M)) → IsFirst sub place marks → is_some (mark_at sub marks) ≡ true
+is_some-mark_at-IsFirst sub place [] h = let e = h.here in cc
+is_some-mark_at-IsFirst sub zero (m ∷ marks) h = let e = h.here in grind (arith, common_steps)
+is_some-mark_at-IsFirst sub (suc place) (m ∷ marks) h =
+    let other = h.before 0 (omega arith) in
+    let rest = is_some-mark_at-IsFirst sub place marks (record { here = h.here; before = λ j lt e. h.before (suc j) (omega arith) e }) in
+    grind (arith, common_steps)
+
+pub count_before-IsUnmarked : {M : Type 0} (sub : ℕ) (marks : List (ℕ × M)) → IsUnmarked sub marks → count_before sub marks ≡ length marks
+count_before-IsUnmarked sub [] h = refl
+count_before-IsUnmarked sub (m ∷ marks) h =
+    let other = h 0 in
+    let rest = count_before-IsUnmarked sub marks (λ j e. h (suc j) e) in
+    grind (arith, common_steps)
+
+pub mark_at-IsUnmarked : {M : Type 0} (sub : ℕ) (marks : List (ℕ × M)) → IsUnmarked sub marks → mark_at sub marks ≡ None
+mark_at-IsUnmarked sub [] h = refl
+mark_at-IsUnmarked sub (m ∷ marks) h =
+    let other = h 0 in
+    let rest = mark_at-IsUnmarked sub marks (λ j e. h (suc j) e) in
+    grind (arith, common_steps)

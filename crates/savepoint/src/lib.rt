@@ -1,0 +1,27 @@
+#![tactic(auto)]
+
+// What an open transaction has done, and what a rollback to a savepoint leaves of it.
+//
+// A streamed transaction is a list of items: changes, relation and type messages that only name a
+// subtransaction, and rollbacks of subtransactions. The first item that names a subtransaction sets
+// its savepoint, and the rollback of a subtransaction drops its items and all later ones, so the
+// items that survive are a cut of the list (PostgreSQL manual: Logical Replication Message Formats,
+// Stream Abort; SAVEPOINT, ROLLBACK TO SAVEPOINT). `specs/Survivors` says which they are, by the
+// list alone.
+//
+// The code keeps a mark at each savepoint and cuts back to it. `Savepoints` is that list of marks,
+// for any kind of mark: to find one costs a look-up, and a cut the marks that it drops, so neither
+// grows with the transaction. `specs/Savepoints` says which savepoints items set, and
+// `proofs/Cutting` that they are one with the definition: the mark of a subtransaction stands where
+// its first item stands, and a cut to it leaves the items before that one and their savepoints. Its
+// lemmas are for whoever keeps items or their effects beside the marks.
+//
+// It stands on `model` alone.
+mod item;
+mod savepoints;
+
+pub use item::{CommitInfo, Item, Lsn, Mark, Xid};
+pub use savepoints::Savepoints;
+
+#[cfg(test)]
+mod tests;

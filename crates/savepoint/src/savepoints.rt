@@ -1,0 +1,86 @@
+// The savepoints of one transaction.
+ghost use Rattle.std.specs.Prelude.{◌≡◌, [], OnOk, OnErr};
+ghost use Rattle.savepoint.specs.Savepoints.{mark_at, noted, before_mark};
+
+use crate::item::Xid;
+use model::OutOfMemory;
+use std::alloc::Global;
+use std::collections::BTreeMap;
+use std::marker::Model;
+
+/// The savepoints of a transaction, in the order in which they were set: at most one for each
+/// subtransaction, with the mark that its owner gave it.
+///
+/// A clause sees the list of them. To find one takes a look-up among them, and a cut the work of
+/// the savepoints that it drops.
+#[derive(Drop)]
+pub struct Savepoints<M> {
+    marks: Vec<(Xid, M)>,
+    places: BTreeMap<Xid, usize>,
+}
+
+impl<M> Model for Savepoints<M> {
+    ghost use Rattle.std.specs.Prelude.{ℕ, List};
+    ghost use Rattle.savepoint.specs.Savepoints.{HasPlaces};
+
+    ghost Value = { List (ℕ × M) };
+
+    ghost view = { λ s. s.marks.items };
+
+    ghost invariant = { λ s. HasPlaces s.places s.marks.items };
+}
+
+impl<M: Copy> Savepoints<M> {
+    /// No savepoint. It takes no memory.
+    pub fn new(alloc: Global) -> Savepoints<M>
+        ensures { result ≡ [] }
+    {
+        Savepoints {
+            marks: Vec::new(alloc),
+            places: BTreeMap::new(alloc),
+        }
+    }
+
+    /// Sets a savepoint for a subtransaction that has none, behind all others. Refused for memory,
+    /// it changes nothing.
+    pub fn note(&mut self, sub: Xid, mark: M) -> Result<(), OutOfMemory>
+        ensures ok { OnOk result (self.new ≡ noted sub mark self.old) }
+        ensures err { OnErr result (self.new ≡ self.old) }
+    {
+        if self.places.contains_key(&sub) {
+            return Ok(());
+        }
+        let place = self.marks.len();
+        self.marks.push((sub, mark))?;
+        if self.places.insert(sub, place).is_err() {
+            self.marks.pop();
+            return Err(OutOfMemory);
+        }
+        Ok(())
+    }
+
+    /// The mark of a subtransaction's savepoint, if it has one.
+    pub fn mark_of(&self, sub: Xid) -> Option<M>
+        ensures { result ≡ mark_at sub self.now }
+    {
+        let place = *self.places.get(&sub)?;
+        let (_, mark) = self.marks[place];
+        Some(mark)
+    }
+
+    /// Drops a subtransaction's savepoint and all later ones, and answers its mark. It takes no
+    /// memory. Without such a savepoint nothing is dropped.
+    pub fn cut(&mut self, sub: Xid) -> Option<M>
+        ensures mark { result ≡ mark_at sub self.old }
+        ensures rest { self.new ≡ before_mark sub self.old }
+    {
+        let place = *self.places.get(&sub)?;
+        let (_, mark) = self.marks[place];
+        while self.marks.len() > place {
+            if let Some((dropped, _)) = self.marks.pop() {
+                self.places.remove(&dropped);
+            }
+        }
+        Some(mark)
+    }
+}
