@@ -1,6 +1,11 @@
-pub mod Draft
+pub mod Catalog
 pub mod Document
+pub mod Draft
 pub mod Faults
 pub mod Definitions
 pub mod Valid
-pub mod Catalog
+pub use Rattle.toml.specs.Data
+pub use Rattle.toml.specs.Parse
+pub use Rattle.model.specs.Definition
+pub use Rattle.model.specs.Key
+pub use Rattle.model.specs.Value

@@ -50,7 +50,7 @@ fn reads_the_accounts(rt: HostRuntime) -> Result<(), Fail> {
     Ok(())
 }
 
-// A column, a table with it, and texts that say what a document must not.
+// Texts that are a catalog, and how many tables they have.
 const TAKEN: [(&str, usize); 7] = [
     ("", 0),
     ("# no table\n", 0),
@@ -82,6 +82,7 @@ fn takes_what_is_a_catalog(rt: HostRuntime) -> Result<(), Fail> {
     Ok(())
 }
 
+// Texts that are none, and the fault that is answered.
 const REFUSED: [(&str, CatalogFault); 48] = [
     ("table", CatalogFault::NotToml),
     ("table = []\ntable = []", CatalogFault::NotToml),
@@ -303,6 +304,7 @@ fn large_text(
     Ok(text)
 }
 
+// Tables, columns and unique keys, and whether a catalog may have so many.
 const SIZES: [(usize, usize, usize, bool); 6] = [
     (1024, 1, 0, true),
     (1025, 1, 0, false),

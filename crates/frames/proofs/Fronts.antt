@@ -1,6 +1,6 @@
 -- The front of a stream, and what stays of it when more bytes come.
-use Rattle.std.proofs.Common.{◌≡◌, ◌≢◌, ℕ, ◌+◌, ◌<◌, ◌≤◌, Bool, true, false, cond, ltb, eqb, List, [], ◌∷◌, ◌++◌, length, get_or, take, drop, Option, Some, None, Result, Ok, Err, refl, sym, ap, ◌∙◌, subst, arith, rules}
-use Rattle.std.proofs.lemmas.List.{take-append-le, drop-append-le, length-append, length-drop, length-take, get_or_append_left}
+use Rattle.std.proofs.Common.{◌≡◌, ◌≢◌, ℕ, ◌+◌, ◌<◌, ◌≤◌, Bool, true, false, cond, ltb, eqb, List, ◌++◌, length, take, drop, Option, Some, None, Result, Ok, Err, refl, ap, ◌∙◌, arith}
+use Rattle.std.proofs.lemmas.List.{take-append-le, drop-append-le, length-append, length-drop, get_or_append_left}
 use Rattle.std.proofs.lemmas.Bool.{ltb-true, lt-ltb, le-ltb, ltb-false}
 use Rattle.frames.specs.declared.fault.FrameFault.TheVariants.{ServerError}
 use Rattle.frames.specs.declared.fault.FrameFault.{FrameFault}
@@ -101,6 +101,7 @@ pub front-append : (a b : List ℕ) → front a ≢ Part → front (a ++ b) ≡ 
 unfolding front
 front-append a b apart =
     further-unless (ltb (length (a ++ b)) 5) (ltb (length a) 5) (checked (header_fault (tag_of (a ++ b)) (length_of (a ++ b))) (length_of (a ++ b)) (a ++ b)) (checked (header_fault (tag_of a) (length_of a)) (length_of a) a) b apart
-    (λ t. let l = ltb-false (length a) 5 t in
-    (le-ltb (length (a ++ b)) 5 (rw length-append (omega arith)),
-    λ there. checked-same _ _ _ _ (a ++ b) (get_or_append_left a b 0 0 (omega arith)) (length_of-append a b l) ∙ checked-append _ _ a b there))
+    (λ t. let l = ltb-false (length a) 5 t in (
+      le-ltb (length (a ++ b)) 5 (rw length-append (omega arith)),
+      λ there. checked-same _ _ _ _ (a ++ b) (get_or_append_left a b 0 0 (omega arith)) (length_of-append a b l) ∙ checked-append _ _ a b there,
+    ))

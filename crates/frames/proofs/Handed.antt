@@ -1,10 +1,9 @@
 -- What is known of the items read, as more bytes come.
 use Rattle.std.specs.Prelude.{IfSome, option_to_list}
-use Rattle.std.proofs.Common.{◌≡◌, ◌≢◌, ℕ, Bool, true, false, ◌+◌, ◌<◌, ◌≤◌, List, [], ◌∷◌, ◌++◌, length, Option, Some, None, Result, Ok, Err, refl, sym, ap, ◌∙◌, subst, arith, append_assoc, append-nil}
-use Rattle.frames.specs.declared.fault.FrameFault.{FrameFault}
+use Rattle.std.proofs.Common.{◌≡◌, ℕ, List, [], ◌∷◌, ◌++◌, Option, Some, None, refl, sym, ap, ◌∙◌, subst, append_assoc, append-nil}
 use Rattle.frames.specs.declared.fault.FrameFault.TheVariants.{Device, OutOfMemory}
 use Rattle.frames.specs.declared.item.CopyItem.{CopyItem}
-use Rattle.frames.specs.Stream.{Ending, Waits, Closed, Broken, Reading, behind, reading, reading_within, copy_items, ending_of, resumed}
+use Rattle.frames.specs.Stream.{Ending, Waits, Closed, Broken, Reading, behind, reading, reading_within, copy_items, resumed}
 use Rattle.frames.specs.Reads.{Reads, HasRead}
 use Rattle.frames.proofs.Streams.{reading-append}
 

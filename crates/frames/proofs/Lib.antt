@@ -4,3 +4,4 @@ pub mod Handed
 pub mod Taking
 pub mod Sent
 pub mod Spelled
+pub mod Endings

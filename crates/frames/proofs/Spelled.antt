@@ -1,17 +1,15 @@
 -- Frames as they are spelled are read.
-use Rattle.std.proofs.Common.{◌≡◌, ℕ, suc, ◌+◌, ◌<◌, ◌≤◌, ◌^◌, Bool, true, false, cond, ltb, leb, eqb, List, [], ◌∷◌, ◌++◌, length, get_or, take, drop, Option, Some, None, Result, Ok, Err, refl, sym, ap, ◌∙◌, subst, arith, rules, append_assoc}
-use Rattle.std.specs.Int.{w32, w64, to_be_bytes, from_be_bytes}
+use Rattle.std.proofs.Common.{◌≡◌, ℕ, ◌+◌, ◌<◌, ◌≤◌, ◌^◌, true, ltb, leb, eqb, List, [], ◌∷◌, ◌++◌, length, take, drop, None, Ok, refl, ap, ◌∙◌, arith, append_assoc}
 use Rattle.std.proofs.lemmas.Nat.{from_be_bytes-to_be_bytes_4, from_be_bytes-to_be_bytes_8}
 use Rattle.std.proofs.lemmas.List.{take_at, drop_at, length-append, get_or_at}
-use Rattle.std.proofs.lemmas.Bool.{ltb-true, lt-ltb, le-ltb, cond-true, cond-false}
+use Rattle.std.proofs.lemmas.Bool.{lt-ltb, le-ltb, cond-true, cond-false}
 use Rattle.std.proofs.lemmas.Bool.Decides.{nat_tests}
-use Rattle.frames.specs.declared.fault.FrameFault.{FrameFault}
 use Rattle.frames.specs.declared.item.CopyItem.{CopyItem}
 use Rattle.frames.specs.declared.item.CopyItem.TheVariants.{Wal, Keepalive, Done}
 use Rattle.frames.specs.declared.fault.FrameFault.TheVariants.{ServerError}
 use Rattle.std.specs.Prelude.{not, slice_index}
 use Rattle.frames.specs.Wire.{tag_of, length_of, content_of, header_fault, copy_item, copy_data, copy_done, error_response, notice_response, parameter_status, int32, int64, bytes_at, wal_of, keepalive_of, spelled32, spelled64, spelled_frame, spelled_wal, spelled_keepalive}
-use Rattle.frames.specs.Stream.{Front, Part, Refused, Skipped, Given, Closing, front, whole, given, checked, Waits, Closed, Broken, Reading, reading, reading_from, behind}
+use Rattle.frames.specs.Stream.{Front, Part, Refused, Skipped, Given, Closing, front, whole, given, checked, Closed, Broken, reading, reading_from, behind}
 use Rattle.frames.proofs.Streams.{reading_by_front}
 
 length-spelled32 : (n : ℕ) → length (spelled32 n) ≡ 4

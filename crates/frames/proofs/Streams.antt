@@ -1,10 +1,7 @@
 -- What a stream gives: frame by frame, and in pieces.
 use Rattle.std.proofs.lemmas.Bool.{cond-true, lt-ltb}
-use Rattle.std.proofs.Common.{◌≡◌, ◌≢◌, ℕ, zero, suc, ltb, ◌+◌, ◌<◌, ◌≤◌, List, [], ◌∷◌, ◌++◌, length, refl, sym, ap, ◌∙◌, subst, arith, append_assoc, append-nil}
+use Rattle.std.proofs.Common.{◌≡◌, ◌≢◌, ℕ, zero, suc, ltb, ◌+◌, ◌<◌, ◌≤◌, List, [], ◌∷◌, ◌++◌, length, refl, sym, ap, ◌∙◌, subst, arith, append-nil}
 use Rattle.frames.specs.declared.fault.FrameFault.{FrameFault}
-use Rattle.frames.specs.declared.fault.FrameFault.TheVariants as fault
-use Rattle.frames.specs.declared.item.CopyItem.{CopyItem}
-use Rattle.frames.specs.declared.item.CopyItem.TheVariants.{Done}
 use Rattle.frames.specs.Stream.{Front, Part, Refused, Skipped, Given, Closing, front, Ending, Waits, Closed, Broken, Reading, behind, reading_from, reading_within, reading, copy_items, ending_of, resumed}
 use Rattle.frames.proofs.Fronts.{further, front-append, Shrinks, Shrinks-front}
 

@@ -1,5 +1,5 @@
 -- Frames taken off one after another.
-use Rattle.std.proofs.Common.{◌≡◌, ℕ, ◌+◌, ◌<◌, List, [], ◌∷◌, ◌++◌, length, refl, sym, ap, ◌∙◌, subst, arith, append_assoc, append-nil}
+use Rattle.std.proofs.Common.{◌≡◌, ℕ, ◌<◌, List, [], ◌∷◌, ◌++◌, length, refl, sym, ap, ◌∙◌, subst, append_assoc, append-nil}
 use Rattle.frames.specs.declared.fault.FrameFault.{FrameFault}
 use Rattle.frames.specs.declared.fault.FrameFault.TheVariants.{Device, OutOfMemory}
 use Rattle.frames.specs.declared.item.CopyItem.{CopyItem}
@@ -35,9 +35,11 @@ pub Progress-skipped : (before items : List CopyItem) (all old new : List ℕ) �
 Progress-skipped before items all old new h p = (h.0, h.1, h.2 ∙ ap (behind h.0) (by_front old _ p))
 
 pub Progress-given : (before items more : List CopyItem) (all old new : List ℕ) (item : CopyItem) → Progress before items all old → front old ≡ Given item new → more ≡ items ++ item ∷ [] → Progress before more all new
-Progress-given before items more all old new item h p q =
-    (h.0 ++ item ∷ [], q ∙ ap (λ x. x ++ item ∷ []) h.1 ∙ append_assoc before h.0 (item ∷ []),
-    h.2 ∙ ap (behind h.0) (by_front old _ p) ∙ ap (λ x. record { items = x; ending = ending_of new }) (sym (append_assoc h.0 (item ∷ []) (copy_items new))))
+Progress-given before items more all old new item h p q = (
+  h.0 ++ item ∷ [],
+  q ∙ ap (λ x. x ++ item ∷ []) h.1 ∙ append_assoc before h.0 (item ∷ []),
+  h.2 ∙ ap (behind h.0) (by_front old _ p) ∙ ap (λ x. record { items = x; ending = ending_of new }) (sym (append_assoc h.0 (item ∷ []) (copy_items new))),
+)
 
 finish : (before items kept more : List CopyItem) (all old : List ℕ) (e : Ending) → Progress before items all old → kept ≡ items ++ more → Reads old more e → Finished before kept all e
 finish before items kept more all old e h q r =

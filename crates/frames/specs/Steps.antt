@@ -6,7 +6,7 @@ use Rattle.frames.specs.declared.reader.State.{State}
 use Rattle.frames.specs.declared.reader.State.TheVariants as state
 use Rattle.frames.specs.declared.wire.Taken.{Taken}
 use Rattle.frames.specs.declared.wire.Taken.TheVariants as taken
-use Rattle.frames.specs.Stream.{Front, Part, Refused, Skipped, Given, Closing, front, Ending, Waits, Closed, Broken}
+use Rattle.frames.specs.Stream.{Part, Refused, Skipped, Given, Closing, front, Ending, Waits, Closed, Broken}
 use Rattle.frames.specs.Reads.{IsStreamFault}
 
 -- a fact that want of memory takes the place of

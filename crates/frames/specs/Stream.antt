@@ -1,5 +1,5 @@
 -- The copy items of a stream of frames.
-use Rattle.std.specs.Prelude.{◌≡◌, ℕ, suc, zero, ◌+◌, ◌==◌, nat_lt, nat_le, if◌then◌else◌, List, [], ◌∷◌, ◌++◌, length, take, drop, Option, Some, None, Result, Ok, Err, MatchResult}
+use Rattle.std.specs.Prelude.{ℕ, suc, zero, ◌+◌, ◌==◌, nat_lt, if◌then◌else◌, List, [], ◌∷◌, ◌++◌, length, take, drop, Option, Some, None, Result, Ok, Err}
 use Rattle.frames.specs.declared.fault.FrameFault.{FrameFault}
 use Rattle.frames.specs.declared.fault.FrameFault.TheVariants.{Truncated, ServerError, Device, OutOfMemory}
 use Rattle.frames.specs.declared.item.CopyItem.{CopyItem}
@@ -81,3 +81,10 @@ abbrev pub resumed : Ending → List ℕ → Reading
 resumed (Waits rest) more = reading (rest ++ more)
 resumed Closed more = record { items = []; ending = Closed }
 resumed (Broken fault) more = record { items = []; ending = Broken fault }
+
+-- the faults of frames: UnknownFrame, BadLength, TooLarge, UnknownCopyTag and ServerError
+abbrev pub IsFrameFault : FrameFault → Type 0
+IsFrameFault Truncated = ⊥
+IsFrameFault Device = ⊥
+IsFrameFault OutOfMemory = ⊥
+IsFrameFault fault = Unit {0}

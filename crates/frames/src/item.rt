@@ -15,7 +15,10 @@ pub enum CopyItem {
         payload: Bytes,
     },
     /// A keepalive: where the server's log ends, and whether an answer is wanted at once.
-    Keepalive { end: Lsn, reply: bool },
+    Keepalive {
+        end: Lsn,
+        reply: bool,
+    },
     /// CopyDone: the server sends no more.
     Done,
 }

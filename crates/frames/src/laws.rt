@@ -2,14 +2,13 @@
 ghost use Rattle.std.specs.Prelude.{◌≡◌, ◌+◌, ◌<◌, ◌≤◌, ◌^◌, ◌⊎◌, ◌==◌, not, ℕ, List, [], ◌∷◌, ◌++◌, length};
 ghost use Rattle.frames.specs.declared.fault.FrameFault.{FrameFault};
 ghost use Rattle.frames.specs.declared.item.CopyItem.{CopyItem};
-ghost use Rattle.frames.specs.Stream.{Waits, Closed, Broken, reading, behind, resumed, copy_items, ending_of};
+ghost use Rattle.frames.specs.Stream.{Waits, Closed, Broken, reading, behind, resumed, copy_items, ending_of, IsFrameFault};
 ghost use Rattle.frames.specs.Wire.{copy_data, copy_done, error_response, notice_response, parameter_status, spelled_frame, spelled_wal, spelled_keepalive};
 
 /// It doesn't matter where a stream is cut: the second piece is read from where the first one ends.
 pub fn any_pieces()
     ensures { (a b : List ℕ) → reading (a ++ b) ≡ behind (copy_items a) (resumed (ending_of a) b) }
-{
-}
+{}
 
 /// A longer input keeps the items of a shorter one, and a stream that was closed or refused stays so.
 pub fn longer_input()
@@ -19,8 +18,7 @@ pub fn longer_input()
         reading (a ++ b) ≡ reading a }
     ensures refused { (a b : List ℕ) (fault : FrameFault) → ending_of a ≡ Broken fault →
         reading (a ++ b) ≡ reading a }
-{
-}
+{}
 
 /// At a frame's edge the rest is read as a stream of its own.
 pub fn at_an_edge()
@@ -28,8 +26,15 @@ pub fn at_an_edge()
         reading (a ++ b) ≡ behind (copy_items a) (reading b) }
     ensures header { (bytes : List ℕ) → length bytes < 5 →
         reading bytes ≡ record { items = []; ending = Waits bytes } }
-{
-}
+{}
+
+/// What a stream waits with is less than a frame, and what refuses it is a fault of a frame.
+pub fn endings()
+    ensures waits { (bytes rest : List ℕ) → ending_of bytes ≡ Waits rest →
+        reading rest ≡ record { items = []; ending = Waits rest } }
+    ensures refused { (bytes : List ℕ) (fault : FrameFault) → ending_of bytes ≡ Broken fault →
+        IsFrameFault fault }
+{}
 
 /// A frame that is spelled as the manual says is read, and then what follows it. The numbers are those of 64 bits, and
 /// the clocks are left out.
@@ -50,5 +55,4 @@ pub fn spelled_frames()
     ensures error { (content rest : List ℕ) → length content + 4 ≤ 67108864 →
         reading (spelled_frame error_response content ++ rest)
         ≡ record { items = []; ending = Broken FrameFault.ServerError } }
-{
-}
+{}

@@ -46,10 +46,7 @@ impl Model for Frames {
 }
 
 // Takes all whole frames off the unread bytes, and adds their items. It answers whether CopyDone was among them.
-fn take_frames(
-    unread: &mut BytesMut,
-    items: &mut VecDeque<CopyItem>,
-) -> Result<bool, FrameFault>
+fn take_frames(unread: &mut BytesMut, items: &mut VecDeque<CopyItem>) -> Result<bool, FrameFault>
     ensures read { (given : List CopyItem) × (items.new.items ≡ items.old.items ++ given)
         × Reads unread.old.items given (stands result unread.new.items) }
     ensures kind { IfErr result IsStreamFault }
@@ -127,6 +124,8 @@ impl Frames {
             (λ more. more ≡ false → AtEndOf self.new.ending (R.remaining r.new))
             (λ _. AtEndOf self.new.ending (R.remaining r.new)) }
         ensures unchanged { result ≡ Ok false → self.new ≡ self.old }
+        ensures kind { IfErr result (λ fault. (self.old.ending ≡ Broken fault)
+            ⊎ (IsStreamFault fault ⊎ (fault ≡ FrameFault.Device))) }
         ensures falls { result ≡ Ok true → R.reads_left r.new < R.reads_left r.old }
         ensures device { result ≡ Err FrameFault.Device → (self.old.ending ≡ Broken FrameFault.Device)
             ⊎ HasFailed (R.failures r.old) (R.failures r.new) }

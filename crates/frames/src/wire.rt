@@ -8,11 +8,17 @@ use crate::{CopyItem, FrameFault, MAX_LENGTH};
 use bytes::{Bytes, BytesMut};
 
 const COPY_DATA: u8 = b'd';
+
 const COPY_DONE: u8 = b'c';
+
 const NOTICE_RESPONSE: u8 = b'N';
+
 const PARAMETER_STATUS: u8 = b'S';
+
 const ERROR_RESPONSE: u8 = b'E';
+
 const XLOG_DATA: u8 = b'w';
+
 const KEEPALIVE: u8 = b'k';
 
 #[tactic(auto, unfolding(crate::specs::Wire::int32))]

@@ -10,15 +10,16 @@ use Rattle.messages.specs.declared.message.Message.{Message}
 use Rattle.messages.specs.declared.message.Message.TheVariants as messages
 use Rattle.messages.specs.declared.message.Begin.{Begin}
 use Rattle.messages.specs.declared.message.Commit.{Commit}
-use Rattle.messages.specs.declared.message.Relation.{Relation}
-use Rattle.messages.specs.declared.message.RelationColumn.{RelationColumn}
-use Rattle.messages.specs.declared.message.ReplicaIdentity.{ReplicaIdentity}
-use Rattle.messages.specs.declared.message.Insert.{Insert}
+use Rattle.messages.specs.declared.relation.Relation.{Relation}
+use Rattle.messages.specs.declared.relation.RelationColumn.{RelationColumn}
+use Rattle.messages.specs.declared.relation.ReplicaIdentity.{ReplicaIdentity}
+use Rattle.messages.specs.declared.row.Insert.{Insert}
 use Rattle.messages.specs.declared.tuple.Column.{Column}
 use Rattle.messages.specs.declared.tuple.Column.TheVariants as columns
 use Rattle.messages.specs.Field.{number_bytes, two, four, eight, Field, Value, String, Begins, spelling}
 use Rattle.messages.specs.Format.{Format, one, times, Spells}
-use Rattle.messages.specs.Messages.{none_or, one_of, is_in, flag, no_flags, new_tuple_follows, identity, identity_of, text, column_table, column_of, column, tuple, xid_in, begin, commit, relation_column, relation_columns, relation, insert}
+use Rattle.messages.specs.Letters.{none_or, one_of, is_in, flag, no_flags, new_tuple_follows, identity, identity_of, column_table}
+use Rattle.messages.specs.Messages.{text, column_of, column, tuple, xid_in, begin, commit, relation_column, relation_columns, relation, insert}
 use Rattle.messages.specs.Writing.{signed_bytes, flag_bytes, string_bytes, identity_bytes, xid_bytes, column_bytes, tuple_bytes, begin_bytes, commit_bytes, relation_column_bytes, relation_columns_bytes, relation_bytes, insert_bytes}
 
 -- The bytes are the front and then the rest.

@@ -5,7 +5,7 @@ use Rattle.std.proofs.lemmas.List.{append-nil}
 use Rattle.std.proofs.lemmas.List.Concat.{flat_map-cons}
 use Rattle.std.specs.Prelude.{FitsSigned, IsUtf8}
 use Rattle.messages.specs.declared.fault.MsgFault.{MsgFault}
-use Rattle.messages.specs.Field.{Size, width, limit, count_limit, number_bytes, Field, Unsigned, Signed, Count, Byte, String, Text, Value, IsName, Begins, Fits, spelling}
+use Rattle.messages.specs.Field.{Size, width, limit, count_limit, number_bytes, Field, Unsigned, Signed, Count, Byte, String, Text, Content, Value, IsName, Begins, Fits, spelling}
 use Rattle.messages.specs.Writing.{Says, signed_bytes, string_bytes}
 use Rattle.messages.specs.Format.{Format, done, one, followed_by, times, Spells}
 
@@ -33,6 +33,9 @@ say_string {text = text} fits = say String text fits
 pub say_text : {text : List ℕ} → IsUtf8 text → Says (one (Text (length text))) text text
 say_text {text = text} utf8 = say (Text (length text)) text (refl, utf8)
 
+pub say_content : {bytes : List ℕ} → Says (one (Content (length bytes))) bytes bytes
+say_content {bytes = bytes} = say (Content (length bytes)) bytes refl
+
 -- a field or a format, and what follows it
 pub next_to : {A B : Type 0} {p : Format A} {next : A → Format B} {x y : List ℕ} {b : B} (a : A) → Says p x a → Says (next a) y b → Says (followed_by p next) (x ++ y) b
 next_to {p = p} {next = next} {x = x} {y = y} {b = b} a s t = record { before = λ rest. (a, y ++ rest, subst (λ (bytes : List ℕ). Spells p bytes a (y ++ rest)) (sym (append_assoc x y rest)) (s.before (y ++ rest)), t.before rest) }
@@ -40,6 +43,20 @@ next_to {p = p} {next = next} {x = x} {y = y} {b = b} a s t = record { before = 
 -- the last one
 pub at_last : {A B : Type 0} {p : Format A} {make : A → B} {x : List ℕ} {b : B} (a : A) → Says p x a → b ≡ make a → Says (followed_by p (λ v. done (make v))) x b
 at_last a s e = record { before = λ rest. (a, rest, s.before rest, (e, refl)) }
+
+same_head : (b c : ℕ) (x y : List ℕ) → b ∷ x ≡ c ∷ y → c ≡ b
+same_head b c x y e = cc
+
+same_tail : (b c : ℕ) (x y : List ℕ) → b ∷ x ≡ c ∷ y → y ≡ x
+same_tail b c x y e = cc
+
+-- what stands behind a byte
+pub behind : {A : Type 0} {table : ℕ → Option MsgFault} {next : ℕ → Format A} (b : ℕ) (x : List ℕ) (value : A) → Says (followed_by (one (Byte table)) next) (b ∷ x) value → Says (next b) x value
+behind {next = next} b x value said = record { before = λ rest.
+    let s = said.before rest in
+    let head = same_head b s.0 (x ++ rest) s.1 s.2.parts in
+    let tail = same_tail b s.0 (x ++ rest) s.1 s.2.parts in
+    subst (λ (c : ℕ). Spells (next c) (x ++ rest) value rest) head (subst (λ (y : List ℕ). Spells (next s.0) y value rest) tail s.3) }
 
 pub nothing : {A : Type 0} {a : A} → Says (done a) [] a
 nothing = record { before = λ rest. (refl, refl) }

@@ -1,5 +1,5 @@
 -- What is written for a message is a spelling of it.
-use Rattle.std.proofs.Common.{◌≡◌, ℕ, ◌<◌, ◌^◌, Bool, true, false, List, [], ◌∷◌, ◌++◌, length, Option, Some, None, refl, arith}
+use Rattle.std.proofs.Common.{◌≡◌, ℕ, ◌<◌, ◌^◌, Bool, true, false, List, [], ◌∷◌, ◌++◌, length, Option, Some, None, refl, sym, subst, append_assoc}
 use Rattle.std.specs.Prelude.{FitsSigned, IsUtf8, IfSome, is_some}
 use Rattle.std.specs.Int.{w32, w64}
 use Rattle.std.specs.List.{All}
@@ -7,19 +7,32 @@ use Rattle.messages.specs.declared.message.Message.{Message}
 use Rattle.messages.specs.declared.message.Message.TheVariants as messages
 use Rattle.messages.specs.declared.message.Begin.{Begin}
 use Rattle.messages.specs.declared.message.Commit.{Commit}
-use Rattle.messages.specs.declared.message.Relation.{Relation}
-use Rattle.messages.specs.declared.message.RelationColumn.{RelationColumn}
-use Rattle.messages.specs.declared.message.ReplicaIdentity.{ReplicaIdentity}
-use Rattle.messages.specs.declared.message.ReplicaIdentity.TheVariants as identities
-use Rattle.messages.specs.declared.message.Insert.{Insert}
+use Rattle.messages.specs.declared.relation.Relation.{Relation}
+use Rattle.messages.specs.declared.relation.RelationColumn.{RelationColumn}
+use Rattle.messages.specs.declared.relation.ReplicaIdentity.{ReplicaIdentity}
+use Rattle.messages.specs.declared.relation.ReplicaIdentity.TheVariants as identities
+use Rattle.messages.specs.declared.row.Insert.{Insert}
 use Rattle.messages.specs.declared.tag.Tag.TheVariants as tags
 use Rattle.messages.specs.declared.tuple.Column.{Column}
 use Rattle.messages.specs.declared.tuple.Column.TheVariants as columns
-use Rattle.messages.specs.Field.{IsName, number_bytes, two, four, eight, String}
-use Rattle.messages.specs.Format.{done, one, times}
-use Rattle.messages.specs.Messages.{flag, no_flags, new_tuple_follows, identity, tag, text, column_of, column, tuple, xid_in, begin, commit, relation_column, relation_columns, relation, insert, message, body, Spelled}
-use Rattle.messages.specs.Writing.{Says, signed_bytes, flag_bytes, string_bytes, identity_bytes, xid_bytes, column_bytes, tuple_bytes, begin_bytes, commit_bytes, relation_column_bytes, relation_columns_bytes, relation_bytes, insert_bytes, message_bytes}
-use Rattle.messages.proofs.Says.{say_unsigned, say_signed, say_count, say_byte, say_string, say_text, next_to, at_last, nothing, each}
+use Rattle.messages.specs.declared.message.Origin.{Origin}
+use Rattle.messages.specs.declared.message.LogicalMessage.{LogicalMessage}
+use Rattle.messages.specs.declared.message.StreamStart.{StreamStart}
+use Rattle.messages.specs.declared.message.StreamCommit.{StreamCommit}
+use Rattle.messages.specs.declared.message.StreamAbort.{StreamAbort}
+use Rattle.messages.specs.declared.relation.TypeName.{TypeName}
+use Rattle.messages.specs.declared.relation.Truncate.{Truncate}
+use Rattle.messages.specs.declared.relation.TruncateOptions.{TruncateOptions}
+use Rattle.messages.specs.declared.row.Update.{Update}
+use Rattle.messages.specs.declared.row.Delete.{Delete}
+use Rattle.messages.specs.declared.tuple.OldTuple.{OldTuple}
+use Rattle.messages.specs.declared.tuple.OldTuple.TheVariants as olds
+use Rattle.messages.specs.Field.{IsName, number_bytes, four, Unsigned}
+use Rattle.messages.specs.Format.{one, times}
+use Rattle.messages.specs.Letters.{flag, no_flags, truncate_options, identity, new_tuple_follows, tag}
+use Rattle.messages.specs.Messages.{text, column_of, column, tuple, xid_in, begin, commit, relation_column, relation_columns, relation, old_tuple, optional_old_tuple, origin, type_name, insert, update, delete, truncate, content, logical_message, stream_start, stream_commit, stream_abort, message}
+use Rattle.messages.specs.Writing.{Says, signed_bytes, flag_bytes, string_bytes, identity_bytes, xid_bytes, column_bytes, tuple_bytes, begin_bytes, commit_bytes, relation_column_bytes, relation_columns_bytes, relation_bytes, options_bytes, old_tuple_bytes, optional_old_tuple_bytes, origin_bytes, type_name_bytes, insert_bytes, update_bytes, delete_bytes, relations_bytes, truncate_bytes, content_bytes, logical_message_bytes, stream_start_bytes, stream_commit_bytes, stream_abort_bytes, message_bytes}
+use Rattle.messages.proofs.Says.{say_unsigned, say_signed, say_count, say_byte, say_string, say_text, say_content, next_to, at_last, behind, nothing, each}
 
 flag_says : (b : Bool) → Says flag (flag_bytes b) b
 unfolding flag
@@ -96,6 +109,94 @@ unfolding insert insert_bytes
 insert_says in_block m e xid oid new =
     next_to m.xid (xid_says in_block m.xid e xid) (next_to m.oid (say_unsigned oid) (next_to 78 new_tuple_says (at_last m.new new refl)))
 
+made : (cascade restart : Bool) → TruncateOptions
+made cascade restart = record { cascade = cascade; restart_identity = restart }
+
+options_made_say : (cascade restart : Bool) → Says truncate_options (options_bytes (made cascade restart)) (made cascade restart)
+unfolding truncate_options made
+options_made_say true true = at_last 3 (say_byte 3 refl) refl
+options_made_say true false = at_last 1 (say_byte 1 refl) refl
+options_made_say false true = at_last 2 (say_byte 2 refl) refl
+options_made_say false false = at_last 0 (say_byte 0 refl) refl
+
+options_says : (o : TruncateOptions) → Says truncate_options (options_bytes o) o
+unfolding made
+options_says o = options_made_say o.cascade o.restart_identity
+
+pub key_says : (values : List Column) → Says tuple (tuple_bytes values) values → Says old_tuple (old_tuple_bytes (olds.Key values)) (olds.Key values)
+unfolding old_tuple old_tuple_bytes
+key_says values said = next_to 75 (say_byte 75 refl) (at_last values said refl)
+
+pub full_says : (values : List Column) → Says tuple (tuple_bytes values) values → Says old_tuple (old_tuple_bytes (olds.Full values)) (olds.Full values)
+unfolding old_tuple old_tuple_bytes
+full_says values said = next_to 79 (say_byte 79 refl) (at_last values said refl)
+
+pub no_old_says : Says optional_old_tuple (optional_old_tuple_bytes None) None
+unfolding optional_old_tuple
+no_old_says = next_to 78 (say_byte 78 refl) nothing
+
+pub some_old_says : (old : OldTuple) → Says old_tuple (old_tuple_bytes old) old → Says optional_old_tuple (optional_old_tuple_bytes (Some old)) (Some old)
+unfolding optional_old_tuple old_tuple old_tuple_bytes
+some_old_says (olds.Key values) said =
+    subst (λ (x : List ℕ). Says optional_old_tuple x (Some (olds.Key values))) (sym (append_assoc (75 ∷ []) (tuple_bytes values) (78 ∷ [])))
+      (next_to 75 (say_byte 75 refl) (next_to (olds.Key values) (behind 75 (tuple_bytes values) (olds.Key values) said) (at_last 78 new_tuple_says refl)))
+some_old_says (olds.Full values) said =
+    subst (λ (x : List ℕ). Says optional_old_tuple x (Some (olds.Full values))) (sym (append_assoc (79 ∷ []) (tuple_bytes values) (78 ∷ [])))
+      (next_to 79 (say_byte 79 refl) (next_to (olds.Full values) (behind 79 (tuple_bytes values) (olds.Full values) said) (at_last 78 new_tuple_says refl)))
+
+pub origin_says : (m : Origin) → m.lsn < 2 ^ 64 → IsName m.name → Says origin (origin_bytes m) m
+unfolding origin origin_bytes
+origin_says m lsn name = next_to m.lsn (say_unsigned lsn) (at_last m.name (say_string name) refl)
+
+pub type_name_says : (in_block : Bool) (m : TypeName) → is_some m.xid ≡ in_block → IfSome m.xid (λ x. x < 2 ^ 32) → m.oid < 2 ^ 32 → IsName m.namespace → IsName m.name → Says (type_name in_block) (type_name_bytes m) m
+unfolding type_name type_name_bytes
+type_name_says in_block m e xid oid namespace name =
+    next_to m.xid (xid_says in_block m.xid e xid) (next_to m.oid (say_unsigned oid) (next_to m.namespace (say_string namespace) (at_last m.name (say_string name) refl)))
+
+pub update_says : (in_block : Bool) (m : Update) → is_some m.xid ≡ in_block → IfSome m.xid (λ x. x < 2 ^ 32) → m.oid < 2 ^ 32 → Says optional_old_tuple (optional_old_tuple_bytes m.old) m.old
+    → Says tuple (tuple_bytes m.new) m.new → Says (update in_block) (update_bytes m) m
+unfolding update update_bytes
+update_says in_block m e xid oid old new =
+    next_to m.xid (xid_says in_block m.xid e xid) (next_to m.oid (say_unsigned oid) (next_to m.old old (at_last m.new new refl)))
+
+pub delete_says : (in_block : Bool) (m : Delete) → is_some m.xid ≡ in_block → IfSome m.xid (λ x. x < 2 ^ 32) → m.oid < 2 ^ 32 → Says old_tuple (old_tuple_bytes m.old) m.old → Says (delete in_block) (delete_bytes m) m
+unfolding delete delete_bytes
+delete_says in_block m e xid oid old = next_to m.xid (xid_says in_block m.xid e xid) (next_to m.oid (say_unsigned oid) (at_last m.old old refl))
+
+relations_say : (oids : List ℕ) → All (λ n. n < 2 ^ 32) oids → Says (times (length oids) (one (Unsigned four))) (relations_bytes oids) oids
+unfolding relations_bytes
+relations_say oids fit = each (one (Unsigned four)) (number_bytes four) oids (λ k d lt. say_unsigned (fit k d lt))
+
+pub truncate_says : (in_block : Bool) (m : Truncate) → is_some m.xid ≡ in_block → IfSome m.xid (λ x. x < 2 ^ 32) → length m.relations < 2 ^ 31 → All (λ n. n < 2 ^ 32) m.relations → Says (truncate in_block) (truncate_bytes m) m
+unfolding truncate truncate_bytes
+truncate_says in_block m e xid few fit =
+    next_to m.xid (xid_says in_block m.xid e xid) (next_to (length m.relations) (say_count few) (next_to m.options (options_says m.options) (at_last m.relations (relations_say m.relations fit) refl)))
+
+content_says : (bytes : List ℕ) → length bytes < 2 ^ 31 → Says content (content_bytes bytes) bytes
+unfolding content content_bytes
+content_says bytes short = next_to (length bytes) (say_count short) say_content
+
+pub logical_message_says : (in_block : Bool) (m : LogicalMessage) → is_some m.xid ≡ in_block → IfSome m.xid (λ x. x < 2 ^ 32) → m.lsn < 2 ^ 64 → IsName m.prefix → length m.content < 2 ^ 31
+    → Says (logical_message in_block) (logical_message_bytes m) m
+unfolding logical_message logical_message_bytes
+logical_message_says in_block m e xid lsn prefix short =
+    next_to m.xid (xid_says in_block m.xid e xid) (next_to m.transactional (flag_says m.transactional) (next_to m.lsn (say_unsigned lsn)
+      (next_to m.prefix (say_string prefix) (at_last m.content (content_says m.content short) refl))))
+
+pub stream_start_says : (m : StreamStart) → m.xid < 2 ^ 32 → Says stream_start (stream_start_bytes m) m
+unfolding stream_start stream_start_bytes
+stream_start_says m xid = next_to m.xid (say_unsigned xid) (at_last m.is_first (flag_says m.is_first) refl)
+
+pub stream_commit_says : (m : StreamCommit) → m.xid < 2 ^ 32 → m.commit_lsn < 2 ^ 64 → m.end_lsn < 2 ^ 64 → FitsSigned w64 m.commit_time → Says stream_commit (stream_commit_bytes m) m
+unfolding stream_commit stream_commit_bytes
+stream_commit_says m xid lsn end time =
+    next_to m.xid (say_unsigned xid) (next_to 0 no_flags_says (next_to m.commit_lsn (say_unsigned lsn) (next_to m.end_lsn (say_unsigned end) (at_last m.commit_time (say_signed time) refl))))
+
+pub stream_abort_says : (m : StreamAbort) → m.xid < 2 ^ 32 → m.subtransaction < 2 ^ 32 → m.lsn < 2 ^ 64 → FitsSigned w64 m.abort_time → Says stream_abort (stream_abort_bytes m) m
+unfolding stream_abort stream_abort_bytes
+stream_abort_says m xid subtransaction lsn time =
+    next_to m.xid (say_unsigned xid) (next_to m.subtransaction (say_unsigned subtransaction) (next_to m.lsn (say_unsigned lsn) (at_last m.abort_time (say_signed time) refl)))
+
 -- ---- behind the tag
 
 pub begin_message : (in_block : Bool) (m : Begin) → Says begin (begin_bytes m) m → Says (message in_block) (message_bytes (messages.Begin m)) (messages.Begin m)
@@ -106,13 +207,53 @@ pub commit_message : (in_block : Bool) (m : Commit) → Says commit (commit_byte
 unfolding message tag
 commit_message in_block m said = next_to tags.Commit (at_last 67 (say_byte 67 refl) refl) (at_last m said refl)
 
-pub relation_message : (in_block : Bool) (xid : Option ℕ) (m : Relation) → is_some xid ≡ in_block → IfSome xid (λ x. x < 2 ^ 32) → Says relation (relation_bytes m) m
-    → Says (message in_block) (message_bytes (messages.Relation xid m)) (messages.Relation xid m)
+pub origin_message : (in_block : Bool) (m : Origin) → Says origin (origin_bytes m) m → Says (message in_block) (message_bytes (messages.Origin m)) (messages.Origin m)
 unfolding message tag
-relation_message in_block xid m e fits said = next_to tags.Relation (at_last 82 (say_byte 82 refl) refl) (next_to xid (xid_says in_block xid e fits) (at_last m said refl))
+origin_message in_block m said = next_to tags.Origin (at_last 79 (say_byte 79 refl) refl) (at_last m said refl)
+
+pub type_name_message : (in_block : Bool) (m : TypeName) → Says (type_name in_block) (type_name_bytes m) m → Says (message in_block) (message_bytes (messages.TypeName m)) (messages.TypeName m)
+unfolding message tag
+type_name_message in_block m said = next_to tags.TypeName (at_last 89 (say_byte 89 refl) refl) (at_last m said refl)
 
 pub insert_message : (in_block : Bool) (m : Insert) → Says (insert in_block) (insert_bytes m) m → Says (message in_block) (message_bytes (messages.Insert m)) (messages.Insert m)
 unfolding message tag
 insert_message in_block m said = next_to tags.Insert (at_last 73 (say_byte 73 refl) refl) (at_last m said refl)
 
-pub ruleset message_says = (begin_message, commit_message, relation_message, insert_message)
+pub update_message : (in_block : Bool) (m : Update) → Says (update in_block) (update_bytes m) m → Says (message in_block) (message_bytes (messages.Update m)) (messages.Update m)
+unfolding message tag
+update_message in_block m said = next_to tags.Update (at_last 85 (say_byte 85 refl) refl) (at_last m said refl)
+
+pub delete_message : (in_block : Bool) (m : Delete) → Says (delete in_block) (delete_bytes m) m → Says (message in_block) (message_bytes (messages.Delete m)) (messages.Delete m)
+unfolding message tag
+delete_message in_block m said = next_to tags.Delete (at_last 68 (say_byte 68 refl) refl) (at_last m said refl)
+
+pub truncate_message : (in_block : Bool) (m : Truncate) → Says (truncate in_block) (truncate_bytes m) m → Says (message in_block) (message_bytes (messages.Truncate m)) (messages.Truncate m)
+unfolding message tag
+truncate_message in_block m said = next_to tags.Truncate (at_last 84 (say_byte 84 refl) refl) (at_last m said refl)
+
+pub logical_message_message : (in_block : Bool) (m : LogicalMessage) → Says (logical_message in_block) (logical_message_bytes m) m → Says (message in_block) (message_bytes (messages.Message m)) (messages.Message m)
+unfolding message tag
+logical_message_message in_block m said = next_to tags.Message (at_last 77 (say_byte 77 refl) refl) (at_last m said refl)
+
+pub stream_start_message : (in_block : Bool) (m : StreamStart) → Says stream_start (stream_start_bytes m) m → Says (message in_block) (message_bytes (messages.StreamStart m)) (messages.StreamStart m)
+unfolding message tag
+stream_start_message in_block m said = next_to tags.StreamStart (at_last 83 (say_byte 83 refl) refl) (at_last m said refl)
+
+pub stream_commit_message : (in_block : Bool) (m : StreamCommit) → Says stream_commit (stream_commit_bytes m) m → Says (message in_block) (message_bytes (messages.StreamCommit m)) (messages.StreamCommit m)
+unfolding message tag
+stream_commit_message in_block m said = next_to tags.StreamCommit (at_last 99 (say_byte 99 refl) refl) (at_last m said refl)
+
+pub stream_abort_message : (in_block : Bool) (m : StreamAbort) → Says stream_abort (stream_abort_bytes m) m → Says (message in_block) (message_bytes (messages.StreamAbort m)) (messages.StreamAbort m)
+unfolding message tag
+stream_abort_message in_block m said = next_to tags.StreamAbort (at_last 65 (say_byte 65 refl) refl) (at_last m said refl)
+
+pub relation_message : (in_block : Bool) (xid : Option ℕ) (m : Relation) → is_some xid ≡ in_block → IfSome xid (λ x. x < 2 ^ 32) → Says relation (relation_bytes m) m
+    → Says (message in_block) (message_bytes (messages.Relation xid m)) (messages.Relation xid m)
+unfolding message tag
+relation_message in_block xid m e fits said = next_to tags.Relation (at_last 82 (say_byte 82 refl) refl) (next_to xid (xid_says in_block xid e fits) (at_last m said refl))
+
+pub stream_stop_message : (in_block : Bool) → Says (message in_block) (message_bytes messages.StreamStop) messages.StreamStop
+unfolding message tag
+stream_stop_message in_block = next_to tags.StreamStop (at_last 69 (say_byte 69 refl) refl) nothing
+
+pub ruleset message_says = (begin_message, commit_message, origin_message, type_name_message, insert_message, update_message, delete_message, truncate_message, logical_message_message, stream_start_message, stream_commit_message, stream_abort_message, relation_message, stream_stop_message)

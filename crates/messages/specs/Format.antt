@@ -1,5 +1,5 @@
 -- A format is a list of fields: what a payload's bytes say, and what is wrong with them.
-use Rattle.std.specs.Prelude.{◌≡◌, ◌≢◌, ℕ, zero, suc, List, [], ◌∷◌, ◌⊎◌}
+use Rattle.std.specs.Prelude.{◌≡◌, ℕ, zero, suc, Bool, true, false, List, [], ◌∷◌, ◌⊎◌}
 use Rattle.messages.specs.declared.fault.MsgFault.{MsgFault}
 use Rattle.messages.specs.Field.{Field, Value, Begins, wrong}
 
@@ -12,6 +12,10 @@ pub data Format : Type 0 → Type 1 where
 infixl 10 ◌>>=◌
 abbrev pub ◌>>=◌ : {A B : Type 0} → Format A → (A → Format B) → Format B
 p >>= next = followed_by p next
+
+abbrev pub choose : {A : Type 0} → Bool → Format A → Format A → Format A
+choose true p q = p
+choose false p q = q
 
 -- n values, one after the other
 abbrev pub times : {A : Type 0} → ℕ → Format A → Format (List A)

@@ -1,5 +1,6 @@
 pub mod Field
 pub mod Format
-pub mod Reading
+pub mod Letters
 pub mod Messages
+pub mod Reading
 pub mod Writing

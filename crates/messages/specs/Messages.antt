@@ -1,112 +1,33 @@
 -- The messages of protocol version 4, each as the list of its fields, as they stand in the tables of
 -- 'Logical Replication Message Formats' in the PostgreSQL manual.
-use Rattle.std.specs.Prelude.{◌≡◌, ◌≢◌, ℕ, Bool, true, false, List, [], ◌∷◌, Option, Some, None, codes, ◌==◌, if◌then◌else◌, ◌⊎◌}
-use Rattle.std.specs.List.{list_any}
+use Rattle.std.specs.Prelude.{◌≡◌, ◌≢◌, ℕ, Bool, true, false, List, [], Option, Some, None, codes, ◌⊎◌}
 use Rattle.messages.specs.declared.fault.MsgFault.{MsgFault}
-use Rattle.messages.specs.declared.fault.MsgFault.TheVariants.{UnknownTag, TwoPhase, BadTupleKind, BinaryColumn, BadFlag, Trailing}
+use Rattle.messages.specs.declared.fault.MsgFault.TheVariants.{BadTupleKind, Trailing}
 use Rattle.messages.specs.declared.message.Message.{Message}
 use Rattle.messages.specs.declared.message.Message.TheVariants as messages
 use Rattle.messages.specs.declared.message.Begin.{Begin}
 use Rattle.messages.specs.declared.message.Commit.{Commit}
-use Rattle.messages.specs.declared.message.Relation.{Relation}
-use Rattle.messages.specs.declared.message.RelationColumn.{RelationColumn}
-use Rattle.messages.specs.declared.message.ReplicaIdentity.{ReplicaIdentity}
-use Rattle.messages.specs.declared.message.ReplicaIdentity.TheVariants as identities
-use Rattle.messages.specs.declared.message.Insert.{Insert}
+use Rattle.messages.specs.declared.message.Origin.{Origin}
+use Rattle.messages.specs.declared.message.LogicalMessage.{LogicalMessage}
+use Rattle.messages.specs.declared.message.StreamStart.{StreamStart}
+use Rattle.messages.specs.declared.message.StreamCommit.{StreamCommit}
+use Rattle.messages.specs.declared.message.StreamAbort.{StreamAbort}
+use Rattle.messages.specs.declared.relation.Relation.{Relation}
+use Rattle.messages.specs.declared.relation.RelationColumn.{RelationColumn}
+use Rattle.messages.specs.declared.relation.TypeName.{TypeName}
+use Rattle.messages.specs.declared.relation.Truncate.{Truncate}
+use Rattle.messages.specs.declared.row.Insert.{Insert}
+use Rattle.messages.specs.declared.row.Update.{Update}
+use Rattle.messages.specs.declared.row.Delete.{Delete}
+use Rattle.messages.specs.declared.tuple.Column.{Column}
+use Rattle.messages.specs.declared.tuple.OldTuple.{OldTuple}
+use Rattle.messages.specs.declared.tuple.Column.TheVariants as columns
+use Rattle.messages.specs.declared.tuple.OldTuple.TheVariants as olds
 use Rattle.messages.specs.declared.tag.Tag.{Tag}
 use Rattle.messages.specs.declared.tag.Tag.TheVariants as tags
-use Rattle.messages.specs.declared.tuple.Column.{Column}
-use Rattle.messages.specs.declared.tuple.Column.TheVariants as columns
-use Rattle.messages.specs.Field.{two, four, eight, Size, Unsigned, Signed, Count, Byte, String, Text, Content}
-use Rattle.messages.specs.Format.{Format, done, one, ◌>>=◌, times, Spells, Fails}
-
--- ---- single bytes
-
-abbrev pub is_in : List ℕ → ℕ → Bool
-is_in bytes b = list_any (λ c. c == b) bytes
-
--- One of these bytes stands here, or else it is this fault.
-abbrev pub none_or : Bool → MsgFault → Option MsgFault
-none_or true fault = None
-none_or false fault = Some fault
-
-abbrev pub one_of : List ℕ → MsgFault → ℕ → Option MsgFault
-one_of bytes fault b = none_or (is_in bytes b) fault
-
--- the code of an ASCII letter
-abbrev pub is : List ℕ → ℕ → Bool
-is letter b = is_in letter b
-
--- a flag is 0 or 1
-unfoldable pub flag : Format Bool
-flag = do
-  b ← one (Byte (one_of (0 ∷ 1 ∷ []) BadFlag))
-  done (b == 1)
-
--- flags of which none is defined
-unfoldable pub no_flags : Format ℕ
-no_flags = one (Byte (one_of (0 ∷ []) BadFlag))
-
--- the letter that announces a new tuple
-unfoldable pub new_tuple_follows : Format ℕ
-new_tuple_follows = one (Byte (one_of (codes "N") BadTupleKind))
-
-abbrev pub identity_of : ℕ → ReplicaIdentity
-identity_of b =
-    if is (codes "d") b then identities.Default
-    else (if is (codes "n") b then identities.Nothing
-    else (if is (codes "f") b then identities.Full
-    else identities.Index))
-
-unfoldable pub identity : Format ReplicaIdentity
-identity = do
-  b ← one (Byte (one_of (codes "dnfi") BadFlag))
-  done (identity_of b)
-
--- the tags of messages that are read, and of those of two-phase transactions
-abbrev pub tag_table : ℕ → Option MsgFault
-tag_table b = if is_in (codes "BCRI") b then None else Some UnknownTag
-
-abbrev pub tag_of : ℕ → Tag
-tag_of b =
-    if is (codes "B") b then tags.Begin
-    else (if is (codes "C") b then tags.Commit
-    else (if is (codes "R") b then tags.Relation
-    else tags.Insert))
-
-unfoldable pub tag : Format Tag
-tag = do
-  b ← one (Byte tag_table)
-  done (tag_of b)
-
--- ---- tuples
-
--- null, an unchanged TOASTed value, or a text; binary values are refused by name
-abbrev pub column_table : ℕ → Option MsgFault
-column_table b =
-    if is_in (codes "nut") b then None
-    else (if is (codes "b") b then Some BinaryColumn else Some BadTupleKind)
-
-unfoldable pub text : Format Column
-text = do
-  n ← one (Count four)
-  t ← one (Text n)
-  done (columns.Text t)
-
-abbrev pub column_of : ℕ → Format Column
-column_of b = elim (is (codes "n") b) [ true ↦ done columns.Null | false ↦ elim (is (codes "u") b) [ true ↦ done columns.Unchanged | false ↦ text ] ]
-
-unfoldable pub column : Format Column
-column = do
-  b ← one (Byte column_table)
-  column_of b
-
-unfoldable pub tuple : Format (List Column)
-tuple = do
-  n ← one (Count two)
-  times n column
-
--- ---- messages, without their tag
+use Rattle.messages.specs.Field.{two, four, eight, Unsigned, Signed, Count, Byte, String, Text, Content}
+use Rattle.messages.specs.Format.{Format, done, one, ◌>>=◌, choose, times, Spells, Fails}
+use Rattle.messages.specs.Letters.{is_in, one_of, flag, no_flags, truncate_options, identity, new_tuple_follows, column_table, tag}
 
 -- The transaction or subtransaction stands there exactly in a block of a streamed transaction.
 unfoldable pub xid_in : Bool → Format (Option ℕ)
@@ -114,6 +35,61 @@ xid_in false = done None
 xid_in true = do
   xid ← one (Unsigned four)
   done (Some xid)
+
+-- ---- tuples
+
+unfoldable pub text : Format Column
+text = do
+  length ← one (Count four)
+  t ← one (Text length)
+  done (columns.Text t)
+
+abbrev pub column_of : ℕ → Format Column
+column_of b =
+    choose (is_in (codes "n") b) (done columns.Null)
+      (choose (is_in (codes "u") b) (done columns.Unchanged) text)
+
+unfoldable pub column : Format Column
+column = do
+  kind ← one (Byte column_table)
+  column_of kind
+
+unfoldable pub tuple : Format (List Column)
+tuple = do
+  count ← one (Count two)
+  times count column
+
+-- 'K': the old key; 'O': the old row
+abbrev pub old_tuple_of : ℕ → Format OldTuple
+old_tuple_of b =
+    choose (is_in (codes "K") b)
+      (do
+        key ← tuple
+        done (olds.Key key))
+      (do
+        row ← tuple
+        done (olds.Full row))
+
+unfoldable pub old_tuple : Format OldTuple
+old_tuple = do
+  kind ← one (Byte (one_of (codes "KO") BadTupleKind))
+  old_tuple_of kind
+
+abbrev pub old_before_new : ℕ → Format (Option OldTuple)
+old_before_new b =
+    choose (is_in (codes "N") b) (done None)
+      (do
+        old ← old_tuple_of b
+        announced ← new_tuple_follows
+        done (Some old))
+
+-- an old tuple, if there is one, and the letter of the new one
+unfoldable pub optional_old_tuple : Format (Option OldTuple)
+optional_old_tuple = do
+  kind ← one (Byte (one_of (codes "NKO") BadTupleKind))
+  old_before_new kind
+
+-- ---- messages, without their tag
 
 unfoldable pub begin : Format Begin
 begin = do
@@ -130,6 +106,13 @@ commit = do
   commit_time ← one (Signed eight)
   done (record { commit_lsn = commit_lsn; end_lsn = end_lsn; commit_time = commit_time })
 
+-- never an xid, not in a block either
+unfoldable pub origin : Format Origin
+origin = do
+  lsn ← one (Unsigned eight)
+  name ← one String
+  done (record { lsn = lsn; name = name })
+
 unfoldable pub relation_column : Format RelationColumn
 relation_column = do
   is_key ← flag
@@ -140,8 +123,8 @@ relation_column = do
 
 unfoldable pub relation_columns : Format (List RelationColumn)
 relation_columns = do
-  n ← one (Count two)
-  times n relation_column
+  count ← one (Count two)
+  times count relation_column
 
 unfoldable pub relation : Format Relation
 relation = do
@@ -152,6 +135,14 @@ relation = do
   published ← relation_columns
   done (record { oid = oid; namespace = namespace; name = name; identity = replica_identity; columns = published })
 
+unfoldable pub type_name : Bool → Format TypeName
+type_name in_block = do
+  xid ← xid_in in_block
+  oid ← one (Unsigned four)
+  namespace ← one String
+  name ← one String
+  done (record { xid = xid; oid = oid; namespace = namespace; name = name })
+
 unfoldable pub insert : Bool → Format Insert
 insert in_block = do
   xid ← xid_in in_block
@@ -159,6 +150,66 @@ insert in_block = do
   announced ← new_tuple_follows
   new ← tuple
   done (record { xid = xid; oid = oid; new = new })
+
+unfoldable pub update : Bool → Format Update
+update in_block = do
+  xid ← xid_in in_block
+  oid ← one (Unsigned four)
+  old ← optional_old_tuple
+  new ← tuple
+  done (record { xid = xid; oid = oid; old = old; new = new })
+
+unfoldable pub delete : Bool → Format Delete
+delete in_block = do
+  xid ← xid_in in_block
+  oid ← one (Unsigned four)
+  old ← old_tuple
+  done (record { xid = xid; oid = oid; old = old })
+
+unfoldable pub truncate : Bool → Format Truncate
+truncate in_block = do
+  xid ← xid_in in_block
+  count ← one (Count four)
+  options ← truncate_options
+  relations ← times count (one (Unsigned four))
+  done (record { xid = xid; options = options; relations = relations })
+
+unfoldable pub content : Format (List ℕ)
+content = do
+  length ← one (Count four)
+  one (Content length)
+
+unfoldable pub logical_message : Bool → Format LogicalMessage
+logical_message in_block = do
+  xid ← xid_in in_block
+  transactional ← flag
+  lsn ← one (Unsigned eight)
+  prefix ← one String
+  written ← content
+  done (record { xid = xid; transactional = transactional; lsn = lsn; prefix = prefix; content = written })
+
+unfoldable pub stream_start : Format StreamStart
+stream_start = do
+  xid ← one (Unsigned four)
+  is_first ← flag
+  done (record { xid = xid; is_first = is_first })
+
+unfoldable pub stream_commit : Format StreamCommit
+stream_commit = do
+  xid ← one (Unsigned four)
+  flags ← no_flags
+  commit_lsn ← one (Unsigned eight)
+  end_lsn ← one (Unsigned eight)
+  commit_time ← one (Signed eight)
+  done (record { xid = xid; commit_lsn = commit_lsn; end_lsn = end_lsn; commit_time = commit_time })
+
+unfoldable pub stream_abort : Format StreamAbort
+stream_abort = do
+  xid ← one (Unsigned four)
+  subtransaction ← one (Unsigned four)
+  lsn ← one (Unsigned eight)
+  abort_time ← one (Signed eight)
+  done (record { xid = xid; subtransaction = subtransaction; lsn = lsn; abort_time = abort_time })
 
 -- ---- the table of tags
 
@@ -169,13 +220,41 @@ body in_block tags.Begin = do
 body in_block tags.Commit = do
   m ← commit
   done (messages.Commit m)
+body in_block tags.Origin = do
+  m ← origin
+  done (messages.Origin m)
 body in_block tags.Relation = do
   xid ← xid_in in_block
   m ← relation
   done (messages.Relation xid m)
+body in_block tags.TypeName = do
+  m ← type_name in_block
+  done (messages.TypeName m)
 body in_block tags.Insert = do
   m ← insert in_block
   done (messages.Insert m)
+body in_block tags.Update = do
+  m ← update in_block
+  done (messages.Update m)
+body in_block tags.Delete = do
+  m ← delete in_block
+  done (messages.Delete m)
+body in_block tags.Truncate = do
+  m ← truncate in_block
+  done (messages.Truncate m)
+body in_block tags.Message = do
+  m ← logical_message in_block
+  done (messages.Message m)
+body in_block tags.StreamStart = do
+  m ← stream_start
+  done (messages.StreamStart m)
+body in_block tags.StreamStop = done messages.StreamStop
+body in_block tags.StreamCommit = do
+  m ← stream_commit
+  done (messages.StreamCommit m)
+body in_block tags.StreamAbort = do
+  m ← stream_abort
+  done (messages.StreamAbort m)
 
 unfoldable pub message : Bool → Format Message
 message in_block = do

@@ -1,18 +1,30 @@
 -- The bytes that are written for each message. They are proved to be its one spelling.
-use Rattle.std.specs.Prelude.{◌≡◌, ℕ, ℤ, ◌^◌, ◌<◌, Bool, true, false, List, [], ◌∷◌, ◌++◌, length, Option, Some, None, is_some, codes, if◌then◌else◌}
+use Rattle.std.specs.Prelude.{◌≡◌, ℕ, ℤ, Bool, true, false, List, [], ◌∷◌, ◌++◌, length, Option, Some, None, is_some, codes, if◌then◌else◌}
 use Rattle.std.specs.Int.{cast_unsigned}
 use Rattle.std.specs.List.{flat_map}
 use Rattle.messages.specs.declared.message.Message.{Message}
 use Rattle.messages.specs.declared.message.Message.TheVariants as messages
 use Rattle.messages.specs.declared.message.Begin.{Begin}
 use Rattle.messages.specs.declared.message.Commit.{Commit}
-use Rattle.messages.specs.declared.message.Relation.{Relation}
-use Rattle.messages.specs.declared.message.RelationColumn.{RelationColumn}
-use Rattle.messages.specs.declared.message.ReplicaIdentity.{ReplicaIdentity}
-use Rattle.messages.specs.declared.message.ReplicaIdentity.TheVariants as identities
-use Rattle.messages.specs.declared.message.Insert.{Insert}
+use Rattle.messages.specs.declared.message.Origin.{Origin}
+use Rattle.messages.specs.declared.message.LogicalMessage.{LogicalMessage}
+use Rattle.messages.specs.declared.message.StreamStart.{StreamStart}
+use Rattle.messages.specs.declared.message.StreamCommit.{StreamCommit}
+use Rattle.messages.specs.declared.message.StreamAbort.{StreamAbort}
+use Rattle.messages.specs.declared.relation.Relation.{Relation}
+use Rattle.messages.specs.declared.relation.RelationColumn.{RelationColumn}
+use Rattle.messages.specs.declared.relation.TypeName.{TypeName}
+use Rattle.messages.specs.declared.relation.Truncate.{Truncate}
+use Rattle.messages.specs.declared.row.Insert.{Insert}
+use Rattle.messages.specs.declared.row.Update.{Update}
+use Rattle.messages.specs.declared.row.Delete.{Delete}
 use Rattle.messages.specs.declared.tuple.Column.{Column}
+use Rattle.messages.specs.declared.tuple.OldTuple.{OldTuple}
 use Rattle.messages.specs.declared.tuple.Column.TheVariants as columns
+use Rattle.messages.specs.declared.tuple.OldTuple.TheVariants as olds
+use Rattle.messages.specs.declared.relation.ReplicaIdentity.{ReplicaIdentity}
+use Rattle.messages.specs.declared.relation.ReplicaIdentity.TheVariants as identities
+use Rattle.messages.specs.declared.relation.TruncateOptions.{TruncateOptions}
 use Rattle.messages.specs.Format.{Format, Spells}
 use Rattle.messages.specs.Field.{Size, two, four, eight, width, number_bytes}
 
@@ -22,10 +34,14 @@ pub record Says {A : Type 0} (p : Format A) (bytes : List ℕ) (value : A) : Typ
 
 -- The xid is there exactly in a block of a streamed transaction.
 abbrev pub HasXid : Bool → Message → Type 0
-HasXid in_block (messages.Begin m) = Unit {0}
-HasXid in_block (messages.Commit m) = Unit {0}
 HasXid in_block (messages.Relation xid m) = is_some xid ≡ in_block
+HasXid in_block (messages.TypeName m) = is_some m.xid ≡ in_block
 HasXid in_block (messages.Insert m) = is_some m.xid ≡ in_block
+HasXid in_block (messages.Update m) = is_some m.xid ≡ in_block
+HasXid in_block (messages.Delete m) = is_some m.xid ≡ in_block
+HasXid in_block (messages.Truncate m) = is_some m.xid ≡ in_block
+HasXid in_block (messages.Message m) = is_some m.xid ≡ in_block
+HasXid in_block _ = Unit {0}
 
 unfoldable pub signed_bytes : Size → ℤ → List ℕ
 signed_bytes size z = number_bytes size (cast_unsigned (width size) z)
@@ -54,6 +70,17 @@ column_bytes (columns.Text text) = codes "t" ++ (number_bytes four (length text)
 unfoldable pub tuple_bytes : List Column → List ℕ
 tuple_bytes columns = number_bytes two (length columns) ++ flat_map column_bytes columns
 
+unfoldable pub old_tuple_bytes : OldTuple → List ℕ
+old_tuple_bytes (olds.Key values) = codes "K" ++ tuple_bytes values
+old_tuple_bytes (olds.Full values) = codes "O" ++ tuple_bytes values
+
+abbrev pub optional_old_tuple_bytes : Option OldTuple → List ℕ
+optional_old_tuple_bytes None = codes "N"
+optional_old_tuple_bytes (Some old) = old_tuple_bytes old ++ codes "N"
+
+abbrev pub options_bytes : TruncateOptions → List ℕ
+options_bytes o = (if o.cascade then (if o.restart_identity then 3 else 1) else (if o.restart_identity then 2 else 0)) ∷ []
+
 unfoldable pub begin_bytes : Begin → List ℕ
 begin_bytes m = number_bytes eight m.final_lsn ++ (signed_bytes eight m.commit_time ++ number_bytes four m.xid)
 
@@ -72,8 +99,51 @@ relation_bytes m = number_bytes four m.oid ++ (string_bytes m.namespace ++ (stri
 unfoldable pub insert_bytes : Insert → List ℕ
 insert_bytes m = xid_bytes m.xid ++ (number_bytes four m.oid ++ (codes "N" ++ tuple_bytes m.new))
 
+unfoldable pub origin_bytes : Origin → List ℕ
+origin_bytes m = number_bytes eight m.lsn ++ string_bytes m.name
+
+unfoldable pub type_name_bytes : TypeName → List ℕ
+type_name_bytes m = xid_bytes m.xid ++ (number_bytes four m.oid ++ (string_bytes m.namespace ++ string_bytes m.name))
+
+unfoldable pub update_bytes : Update → List ℕ
+update_bytes m = xid_bytes m.xid ++ (number_bytes four m.oid ++ (optional_old_tuple_bytes m.old ++ tuple_bytes m.new))
+
+unfoldable pub delete_bytes : Delete → List ℕ
+delete_bytes m = xid_bytes m.xid ++ (number_bytes four m.oid ++ old_tuple_bytes m.old)
+
+unfoldable pub relations_bytes : List ℕ → List ℕ
+relations_bytes oids = flat_map (number_bytes four) oids
+
+unfoldable pub truncate_bytes : Truncate → List ℕ
+truncate_bytes m = xid_bytes m.xid ++ (number_bytes four (length m.relations) ++ (options_bytes m.options ++ relations_bytes m.relations))
+
+unfoldable pub content_bytes : List ℕ → List ℕ
+content_bytes bytes = number_bytes four (length bytes) ++ bytes
+
+unfoldable pub logical_message_bytes : LogicalMessage → List ℕ
+logical_message_bytes m = xid_bytes m.xid ++ (flag_bytes m.transactional ++ (number_bytes eight m.lsn ++ (string_bytes m.prefix ++ content_bytes m.content)))
+
+unfoldable pub stream_start_bytes : StreamStart → List ℕ
+stream_start_bytes m = number_bytes four m.xid ++ flag_bytes m.is_first
+
+unfoldable pub stream_commit_bytes : StreamCommit → List ℕ
+stream_commit_bytes m = number_bytes four m.xid ++ ((0 ∷ []) ++ (number_bytes eight m.commit_lsn ++ (number_bytes eight m.end_lsn ++ signed_bytes eight m.commit_time)))
+
+unfoldable pub stream_abort_bytes : StreamAbort → List ℕ
+stream_abort_bytes m = number_bytes four m.xid ++ (number_bytes four m.subtransaction ++ (number_bytes eight m.lsn ++ signed_bytes eight m.abort_time))
+
 abbrev pub message_bytes : Message → List ℕ
 message_bytes (messages.Begin m) = codes "B" ++ begin_bytes m
 message_bytes (messages.Commit m) = codes "C" ++ commit_bytes m
+message_bytes (messages.Origin m) = codes "O" ++ origin_bytes m
 message_bytes (messages.Relation xid m) = codes "R" ++ (xid_bytes xid ++ relation_bytes m)
+message_bytes (messages.TypeName m) = codes "Y" ++ type_name_bytes m
 message_bytes (messages.Insert m) = codes "I" ++ insert_bytes m
+message_bytes (messages.Update m) = codes "U" ++ update_bytes m
+message_bytes (messages.Delete m) = codes "D" ++ delete_bytes m
+message_bytes (messages.Truncate m) = codes "T" ++ truncate_bytes m
+message_bytes (messages.Message m) = codes "M" ++ logical_message_bytes m
+message_bytes (messages.StreamStart m) = codes "S" ++ stream_start_bytes m
+message_bytes messages.StreamStop = codes "E"
+message_bytes (messages.StreamCommit m) = codes "c" ++ stream_commit_bytes m
+message_bytes (messages.StreamAbort m) = codes "A" ++ stream_abort_bytes m

@@ -5,11 +5,11 @@ ghost use Rattle.std.specs.Bool.{OnTrue};
 ghost use Rattle.std.specs.Str.{is_utf8};
 ghost use Rattle.std.specs.List.{position_or_len};
 ghost use Rattle.messages.specs.Field.{two, four, eight, is_zero};
-ghost use Rattle.messages.specs.Reading.{Gives, unsigned_at, signed_at, count_at, string_at, text_at};
+ghost use Rattle.messages.specs.Reading.{Gives, unsigned_at, signed_at, count_at, string_at, text_at, content_at};
 ghost use Rattle.messages.specs.declared.fault.MsgFault.TheVariants.{Short};
 
 use crate::fault::MsgFault;
-use crate::name::{Name, Text};
+use crate::text::{Content, Name, Text};
 use bytes::{ByteStr, Bytes};
 use std::alloc::AllocError;
 use std::marker::Model;
@@ -193,6 +193,20 @@ impl<'a> Cursor<'a> {
         }
         let text = ByteStr::from_known_utf8(self.cut(len)?);
         Ok(Text::new(text))
+    }
+
+    /// So many bytes.
+    #[tactic(auto, unfolding(crate::specs::Reading::content_at))]
+    pub(crate) fn next_content(&mut self, len: u32) -> Result<Content, MsgFault>
+        requires { len < 2 ^ 31 }
+        ensures { Gives result self.new (content_at len self.old) }
+    {
+        let len = len as usize;
+        if self.unread().len() < len {
+            return Err(MsgFault::Short);
+        }
+        let bytes = self.cut(len)?;
+        Ok(Content::new(bytes))
     }
 }
 

@@ -1,8 +1,10 @@
 //! Reading a payload: one function a message, named after it.
 
 ghost use Rattle.std.specs.Prelude.{◌≡◌, ◌<◌, ◌⊎◌, ℕ, length, slice_index, IfOk, IfErr};
-ghost use Rattle.messages.specs.Format.{times};
-ghost use Rattle.messages.specs.Messages.{flag, no_flags, new_tuple_follows, identity, tag, text, column, tuple, xid_in, begin, commit, relation_column, relation_columns, relation, insert, message, Spelled, Stands};
+ghost use Rattle.messages.specs.Field.{four, Unsigned};
+ghost use Rattle.messages.specs.Format.{one, times};
+ghost use Rattle.messages.specs.Letters.{flag, no_flags, truncate_options, identity, new_tuple_follows, tag};
+ghost use Rattle.messages.specs.Messages.{xid_in, text, column, tuple, old_tuple, optional_old_tuple, begin, commit, origin, relation_column, relation_columns, relation, type_name, insert, update, delete, truncate, content, logical_message, stream_start, stream_commit, stream_abort, message, Spelled, Stands};
 ghost use Rattle.messages.specs.Reading.{Gives, GivesBy, IsReading, read, read_all};
 ghost use Rattle.messages.specs.declared.fault.MsgFault.{MsgFault};
 ghost use Rattle.messages.specs.declared.fault.MsgFault.TheVariants.{OutOfMemory};
@@ -11,10 +13,17 @@ ghost use Rattle.messages.specs.declared.message.Message.{Message};
 use crate::cursor::Cursor;
 use crate::fault::MsgFault;
 use crate::message::{
-    Begin, Columns, Commit, Insert, Message, Relation, RelationColumn, ReplicaIdentity, Xid,
+    Begin, Commit, LogicalMessage, Message, Oid, Origin, StreamAbort, StreamCommit, StreamStart,
+    Xid,
 };
+use crate::relation::{
+    Columns, Relation, RelationColumn, Relations, ReplicaIdentity, Truncate, TruncateOptions,
+    TypeName,
+};
+use crate::row::{Delete, Insert, Update};
 use crate::tag::Tag;
-use crate::tuple::{Column, Tuple};
+use crate::text::Content;
+use crate::tuple::{Column, OldTuple, Tuple};
 use bytes::Bytes;
 use std::alloc::Global;
 
@@ -54,7 +63,7 @@ fn read_payload(alloc: Global, payload: &Bytes, in_block: bool) -> Result<Messag
     Ok(message)
 }
 
-#[tactic(auto, unfolding(crate::specs::Messages::flag, crate::specs::Reading::byte_at))]
+#[tactic(auto, unfolding(crate::specs::Letters::flag, crate::specs::Reading::byte_at))]
 fn read_flag(cursor: &mut Cursor) -> Result<bool, MsgFault>
     ensures { Gives result cursor.new (read flag cursor.old) }
 {
@@ -65,7 +74,7 @@ fn read_flag(cursor: &mut Cursor) -> Result<bool, MsgFault>
     }
 }
 
-#[tactic(auto, unfolding(crate::specs::Messages::no_flags, crate::specs::Reading::byte_at))]
+#[tactic(auto, unfolding(crate::specs::Letters::no_flags, crate::specs::Reading::byte_at))]
 fn read_no_flags(cursor: &mut Cursor) -> Result<u8, MsgFault>
     ensures { Gives result cursor.new (read no_flags cursor.old) }
 {
@@ -75,7 +84,7 @@ fn read_no_flags(cursor: &mut Cursor) -> Result<u8, MsgFault>
     }
 }
 
-#[tactic(auto, unfolding(crate::specs::Messages::new_tuple_follows, crate::specs::Reading::byte_at))]
+#[tactic(auto, unfolding(crate::specs::Letters::new_tuple_follows, crate::specs::Reading::byte_at))]
 fn read_new_tuple_follows(cursor: &mut Cursor) -> Result<u8, MsgFault>
     ensures { Gives result cursor.new (read new_tuple_follows cursor.old) }
 {
@@ -85,7 +94,7 @@ fn read_new_tuple_follows(cursor: &mut Cursor) -> Result<u8, MsgFault>
     }
 }
 
-#[tactic(auto, unfolding(crate::specs::Messages::identity, crate::specs::Reading::byte_at))]
+#[tactic(auto, unfolding(crate::specs::Letters::identity, crate::specs::Reading::byte_at))]
 fn read_identity(cursor: &mut Cursor) -> Result<ReplicaIdentity, MsgFault>
     ensures { Gives result cursor.new (read identity cursor.old) }
 {
@@ -112,15 +121,43 @@ fn read_begin(cursor: &mut Cursor) -> Result<Begin, MsgFault>
     })
 }
 
-#[tactic(auto, unfolding(crate::specs::Messages::tag, crate::specs::Reading::byte_at))]
+#[tactic(auto, unfolding(crate::specs::Letters::truncate_options, crate::specs::Reading::byte_at))]
+fn read_truncate_options(cursor: &mut Cursor) -> Result<TruncateOptions, MsgFault>
+    ensures { Gives result cursor.new (read truncate_options cursor.old) }
+{
+    let (cascade, restart_identity) = match cursor.next_byte()? {
+        0 => (false, false),
+        1 => (true, false),
+        2 => (false, true),
+        3 => (true, true),
+        _ => return Err(MsgFault::BadFlag),
+    };
+    Ok(TruncateOptions {
+        cascade,
+        restart_identity,
+    })
+}
+
+#[tactic(auto, unfolding(crate::specs::Letters::tag, crate::specs::Reading::byte_at))]
 fn read_tag(cursor: &mut Cursor) -> Result<Tag, MsgFault>
     ensures { Gives result cursor.new (read tag cursor.old) }
 {
     match cursor.next_byte()? {
         b'B' => Ok(Tag::Begin),
         b'C' => Ok(Tag::Commit),
+        b'O' => Ok(Tag::Origin),
         b'R' => Ok(Tag::Relation),
+        b'Y' => Ok(Tag::TypeName),
         b'I' => Ok(Tag::Insert),
+        b'U' => Ok(Tag::Update),
+        b'D' => Ok(Tag::Delete),
+        b'T' => Ok(Tag::Truncate),
+        b'M' => Ok(Tag::Message),
+        b'S' => Ok(Tag::StreamStart),
+        b'E' => Ok(Tag::StreamStop),
+        b'c' => Ok(Tag::StreamCommit),
+        b'A' => Ok(Tag::StreamAbort),
+        b'b' | b'P' | b'K' | b'r' | b'p' => Err(MsgFault::TwoPhase),
         _ => Err(MsgFault::UnknownTag),
     }
 }
@@ -166,6 +203,40 @@ fn read_tuple(alloc: Global, cursor: &mut Cursor) -> Result<Tuple, MsgFault>
     let count = cursor.next_count()?;
     let columns = read_columns(alloc, count, cursor)?;
     Ok(Tuple::new(columns))
+}
+
+#[tactic(auto, unfolding(crate::specs::Messages::old_tuple, crate::specs::Reading::byte_at))]
+fn read_old_tuple(alloc: Global, cursor: &mut Cursor) -> Result<OldTuple, MsgFault>
+    ensures { Gives result cursor.new (read old_tuple cursor.old) }
+{
+    match cursor.next_byte()? {
+        b'K' => Ok(OldTuple::Key(read_tuple(alloc, cursor)?)),
+        b'O' => Ok(OldTuple::Full(read_tuple(alloc, cursor)?)),
+        _ => Err(MsgFault::BadTupleKind),
+    }
+}
+
+#[tactic(auto, unfolding(crate::specs::Messages::optional_old_tuple, crate::specs::Reading::byte_at))]
+fn read_optional_old_tuple(
+    alloc: Global,
+    cursor: &mut Cursor,
+) -> Result<Option<OldTuple>, MsgFault>
+    ensures { Gives result cursor.new (read optional_old_tuple cursor.old) }
+{
+    match cursor.next_byte()? {
+        b'N' => Ok(None),
+        b'K' => {
+            let key = read_tuple(alloc, cursor)?;
+            read_new_tuple_follows(cursor)?;
+            Ok(Some(OldTuple::Key(key)))
+        }
+        b'O' => {
+            let row = read_tuple(alloc, cursor)?;
+            read_new_tuple_follows(cursor)?;
+            Ok(Some(OldTuple::Full(row)))
+        }
+        _ => Err(MsgFault::BadTupleKind),
+    }
 }
 
 #[tactic(auto, unfolding(crate::specs::Messages::xid_in))]
@@ -265,6 +336,148 @@ fn read_insert(alloc: Global, cursor: &mut Cursor, in_block: bool) -> Result<Ins
     Ok(Insert { xid, oid, new })
 }
 
+#[tactic(auto, unfolding(crate::specs::Messages::origin))]
+fn read_origin(cursor: &mut Cursor) -> Result<Origin, MsgFault>
+    ensures { Gives result cursor.new (read origin cursor.old) }
+{
+    let lsn = cursor.next_u64()?;
+    let name = cursor.next_string()?;
+    Ok(Origin { lsn, name })
+}
+
+#[tactic(auto, unfolding(crate::specs::Messages::type_name))]
+fn read_type_name(cursor: &mut Cursor, in_block: bool) -> Result<TypeName, MsgFault>
+    ensures { Gives result cursor.new (read (type_name in_block) cursor.old) }
+{
+    let xid = read_xid(cursor, in_block)?;
+    let oid = cursor.next_u32()?;
+    let namespace = cursor.next_string()?;
+    let name = cursor.next_string()?;
+    Ok(TypeName {
+        xid,
+        oid,
+        namespace,
+        name,
+    })
+}
+
+#[tactic(auto, unfolding(crate::specs::Messages::update))]
+fn read_update(alloc: Global, cursor: &mut Cursor, in_block: bool) -> Result<Update, MsgFault>
+    ensures { Gives result cursor.new (read (update in_block) cursor.old) }
+{
+    let xid = read_xid(cursor, in_block)?;
+    let oid = cursor.next_u32()?;
+    let old = read_optional_old_tuple(alloc, cursor)?;
+    let new = read_tuple(alloc, cursor)?;
+    Ok(Update { xid, oid, old, new })
+}
+
+#[tactic(auto, unfolding(crate::specs::Messages::delete))]
+fn read_delete(alloc: Global, cursor: &mut Cursor, in_block: bool) -> Result<Delete, MsgFault>
+    ensures { Gives result cursor.new (read (delete in_block) cursor.old) }
+{
+    let xid = read_xid(cursor, in_block)?;
+    let oid = cursor.next_u32()?;
+    let old = read_old_tuple(alloc, cursor)?;
+    Ok(Delete { xid, oid, old })
+}
+
+fn read_oids(alloc: Global, count: u32, cursor: &mut Cursor) -> Result<Vec<Oid>, MsgFault>
+    ensures read { GivesBy (λ v. v.items) result cursor.new
+        (read (times count (one (Unsigned four))) cursor.old) }
+    ensures len { IfOk result (λ v. length v.items ≡ count) }
+{
+    let mut oids = Vec::new(alloc);
+    for _ in 0..count {
+        let oid = cursor.next_u32()?;
+        oids.push(oid)?;
+    }
+    Ok(oids)
+}
+
+#[tactic(auto, unfolding(crate::specs::Messages::truncate))]
+fn read_truncate(alloc: Global, cursor: &mut Cursor, in_block: bool) -> Result<Truncate, MsgFault>
+    ensures { Gives result cursor.new (read (truncate in_block) cursor.old) }
+{
+    let xid = read_xid(cursor, in_block)?;
+    let count = cursor.next_long_count()?;
+    let options = read_truncate_options(cursor)?;
+    let oids = read_oids(alloc, count, cursor)?;
+    Ok(Truncate {
+        xid,
+        options,
+        relations: Relations::new(oids),
+    })
+}
+
+#[tactic(auto, unfolding(crate::specs::Messages::content))]
+fn read_content(cursor: &mut Cursor) -> Result<Content, MsgFault>
+    ensures { Gives result cursor.new (read content cursor.old) }
+{
+    let len = cursor.next_long_count()?;
+    cursor.next_content(len)
+}
+
+#[tactic(auto, unfolding(crate::specs::Messages::logical_message))]
+fn read_logical_message(cursor: &mut Cursor, in_block: bool) -> Result<LogicalMessage, MsgFault>
+    ensures { Gives result cursor.new (read (logical_message in_block) cursor.old) }
+{
+    let xid = read_xid(cursor, in_block)?;
+    let transactional = read_flag(cursor)?;
+    let lsn = cursor.next_u64()?;
+    let prefix = cursor.next_string()?;
+    let content = read_content(cursor)?;
+    Ok(LogicalMessage {
+        xid,
+        transactional,
+        lsn,
+        prefix,
+        content,
+    })
+}
+
+#[tactic(auto, unfolding(crate::specs::Messages::stream_start))]
+fn read_stream_start(cursor: &mut Cursor) -> Result<StreamStart, MsgFault>
+    ensures { Gives result cursor.new (read stream_start cursor.old) }
+{
+    let xid = cursor.next_u32()?;
+    let is_first = read_flag(cursor)?;
+    Ok(StreamStart { xid, is_first })
+}
+
+#[tactic(auto, unfolding(crate::specs::Messages::stream_commit))]
+fn read_stream_commit(cursor: &mut Cursor) -> Result<StreamCommit, MsgFault>
+    ensures { Gives result cursor.new (read stream_commit cursor.old) }
+{
+    let xid = cursor.next_u32()?;
+    read_no_flags(cursor)?;
+    let commit_lsn = cursor.next_u64()?;
+    let end_lsn = cursor.next_u64()?;
+    let commit_time = cursor.next_i64()?;
+    Ok(StreamCommit {
+        xid,
+        commit_lsn,
+        end_lsn,
+        commit_time,
+    })
+}
+
+#[tactic(auto, unfolding(crate::specs::Messages::stream_abort))]
+fn read_stream_abort(cursor: &mut Cursor) -> Result<StreamAbort, MsgFault>
+    ensures { Gives result cursor.new (read stream_abort cursor.old) }
+{
+    let xid = cursor.next_u32()?;
+    let subtransaction = cursor.next_u32()?;
+    let lsn = cursor.next_u64()?;
+    let abort_time = cursor.next_i64()?;
+    Ok(StreamAbort {
+        xid,
+        subtransaction,
+        lsn,
+        abort_time,
+    })
+}
+
 #[tactic(auto, unfolding(crate::specs::Messages::message))]
 fn read_message(alloc: Global, cursor: &mut Cursor, in_block: bool) -> Result<Message, MsgFault>
     ensures { Gives result cursor.new (read (message in_block) cursor.old) }
@@ -272,11 +485,21 @@ fn read_message(alloc: Global, cursor: &mut Cursor, in_block: bool) -> Result<Me
     match read_tag(cursor)? {
         Tag::Begin => Ok(Message::Begin(read_begin(cursor)?)),
         Tag::Commit => Ok(Message::Commit(read_commit(cursor)?)),
+        Tag::Origin => Ok(Message::Origin(read_origin(cursor)?)),
         Tag::Relation => {
             let xid = read_xid(cursor, in_block)?;
             let relation = read_relation(alloc, cursor)?;
             Ok(Message::Relation { xid, relation })
         }
+        Tag::TypeName => Ok(Message::TypeName(read_type_name(cursor, in_block)?)),
         Tag::Insert => Ok(Message::Insert(read_insert(alloc, cursor, in_block)?)),
+        Tag::Update => Ok(Message::Update(read_update(alloc, cursor, in_block)?)),
+        Tag::Delete => Ok(Message::Delete(read_delete(alloc, cursor, in_block)?)),
+        Tag::Truncate => Ok(Message::Truncate(read_truncate(alloc, cursor, in_block)?)),
+        Tag::Message => Ok(Message::Message(read_logical_message(cursor, in_block)?)),
+        Tag::StreamStart => Ok(Message::StreamStart(read_stream_start(cursor)?)),
+        Tag::StreamStop => Ok(Message::StreamStop),
+        Tag::StreamCommit => Ok(Message::StreamCommit(read_stream_commit(cursor)?)),
+        Tag::StreamAbort => Ok(Message::StreamAbort(read_stream_abort(cursor)?)),
     }
 }

@@ -1,18 +1,23 @@
 //! Writing messages: one function a message, named after it.
 
-ghost use Rattle.std.specs.Prelude.{◌≡◌, ◌<◌, ◌^◌, ◌++◌, ◌∷◌, [], ℕ, List, IfSome, is_some, OnOk, OnErr, IfErr};
+ghost use Rattle.std.specs.Prelude.{◌≡◌, ◌<◌, ◌^◌, ◌++◌, ℕ, List, length, IfSome, is_some, OnOk, OnErr, IfErr};
 ghost use Rattle.std.specs.List.{All, flat_map};
 ghost use Rattle.messages.specs.Field.{two, four, eight, IsName, number_bytes};
-ghost use Rattle.messages.specs.Messages.{xid_in, begin, commit, relation_column, relation_columns, relation, column, tuple, insert, message, Spelled};
-ghost use Rattle.messages.specs.Writing.{Says, HasXid, signed_bytes, flag_bytes, string_bytes, identity_bytes, xid_bytes, column_bytes, tuple_bytes, begin_bytes, commit_bytes, relation_column_bytes, relation_columns_bytes, relation_bytes, insert_bytes, message_bytes};
+ghost use Rattle.messages.specs.Messages.{begin, commit, origin, relation_column, relation_columns, relation, type_name, column, tuple, old_tuple, optional_old_tuple, insert, update, delete, truncate, logical_message, stream_start, stream_commit, stream_abort, message, Spelled};
+ghost use Rattle.messages.specs.Writing.{Says, HasXid, signed_bytes, flag_bytes, string_bytes, identity_bytes, options_bytes, xid_bytes, column_bytes, tuple_bytes, old_tuple_bytes, optional_old_tuple_bytes, begin_bytes, commit_bytes, origin_bytes, relation_column_bytes, relation_columns_bytes, relation_bytes, type_name_bytes, insert_bytes, update_bytes, delete_bytes, relations_bytes, truncate_bytes, content_bytes, logical_message_bytes, stream_start_bytes, stream_commit_bytes, stream_abort_bytes, message_bytes};
 ghost use Rattle.messages.specs.declared.fault.MsgFault.TheVariants.{OutOfMemory};
 
 use crate::fault::MsgFault;
 use crate::message::{
-    Begin, Columns, Commit, Insert, Message, Relation, RelationColumn, ReplicaIdentity, Xid,
+    Begin, Commit, LogicalMessage, Message, Origin, StreamAbort, StreamCommit, StreamStart, Xid,
 };
-use crate::name::Name;
-use crate::tuple::{Column, Tuple};
+use crate::relation::{
+    Columns, Relation, RelationColumn, Relations, ReplicaIdentity, Truncate, TruncateOptions,
+    TypeName,
+};
+use crate::row::{Delete, Insert, Update};
+use crate::text::{Content, Name};
+use crate::tuple::{Column, OldTuple, Tuple};
 use std::alloc::{AllocError, Global};
 
 #[tactic(auto, unfolding(crate::specs::Field::number_bytes))]
@@ -207,6 +212,175 @@ fn put_insert(out: &mut Vec<u8>, m: &Insert, in_block: bool) -> Result<(), Alloc
     put_tuple(out, &m.new)
 }
 
+#[tactic(auto, using(crate::proofs::Spellings::origin_says), unfolding(crate::specs::Writing::origin_bytes))]
+fn put_origin(out: &mut Vec<u8>, m: &Origin) -> Result<(), AllocError>
+    ensures written { OnOk result (out.new.items ≡ out.old.items ++ origin_bytes m.now) }
+    ensures says { OnOk result (Says origin (origin_bytes m.now) m.now) }
+{
+    put_u64(out, m.lsn)?;
+    put_name(out, &m.name)
+}
+
+#[tactic(auto, using(crate::proofs::Spellings::type_name_says), unfolding(crate::specs::Writing::type_name_bytes))]
+fn put_type_name(out: &mut Vec<u8>, m: &TypeName, in_block: bool) -> Result<(), AllocError>
+    requires { is_some m.now.xid ≡ in_block }
+    ensures written { OnOk result (out.new.items ≡ out.old.items ++ type_name_bytes m.now) }
+    ensures says { OnOk result (Says (type_name in_block) (type_name_bytes m.now) m.now) }
+{
+    put_xid(out, m.xid)?;
+    put_u32(out, m.oid)?;
+    put_name(out, &m.namespace)?;
+    put_name(out, &m.name)
+}
+
+#[tactic(auto, using(crate::proofs::Spellings::key_says, crate::proofs::Spellings::full_says), unfolding(crate::specs::Writing::old_tuple_bytes))]
+fn put_old_tuple(out: &mut Vec<u8>, old: &OldTuple) -> Result<(), AllocError>
+    ensures written { OnOk result (out.new.items ≡ out.old.items ++ old_tuple_bytes old.now) }
+    ensures says { OnOk result (Says old_tuple (old_tuple_bytes old.now) old.now) }
+{
+    match old {
+        OldTuple::Key(key) => {
+            out.push(b'K')?;
+            put_tuple(out, key)
+        }
+        OldTuple::Full(row) => {
+            out.push(b'O')?;
+            put_tuple(out, row)
+        }
+    }
+}
+
+#[tactic(auto, using(crate::proofs::Spellings::no_old_says, crate::proofs::Spellings::some_old_says))]
+fn put_optional_old_tuple(out: &mut Vec<u8>, old: &Option<OldTuple>) -> Result<(), AllocError>
+    ensures written { OnOk result (out.new.items ≡ out.old.items ++ optional_old_tuple_bytes old.now) }
+    ensures says { OnOk result (Says optional_old_tuple (optional_old_tuple_bytes old.now) old.now) }
+{
+    if let Some(old) = old {
+        put_old_tuple(out, old)?;
+    }
+    out.push(b'N')?;
+    Ok(())
+}
+
+#[tactic(auto, using(crate::proofs::Spellings::update_says), unfolding(crate::specs::Writing::update_bytes))]
+fn put_update(out: &mut Vec<u8>, m: &Update, in_block: bool) -> Result<(), AllocError>
+    requires { is_some m.now.xid ≡ in_block }
+    ensures written { OnOk result (out.new.items ≡ out.old.items ++ update_bytes m.now) }
+    ensures says { OnOk result (Says (update in_block) (update_bytes m.now) m.now) }
+{
+    put_xid(out, m.xid)?;
+    put_u32(out, m.oid)?;
+    put_optional_old_tuple(out, &m.old)?;
+    put_tuple(out, &m.new)
+}
+
+#[tactic(auto, using(crate::proofs::Spellings::delete_says), unfolding(crate::specs::Writing::delete_bytes))]
+fn put_delete(out: &mut Vec<u8>, m: &Delete, in_block: bool) -> Result<(), AllocError>
+    requires { is_some m.now.xid ≡ in_block }
+    ensures written { OnOk result (out.new.items ≡ out.old.items ++ delete_bytes m.now) }
+    ensures says { OnOk result (Says (delete in_block) (delete_bytes m.now) m.now) }
+{
+    put_xid(out, m.xid)?;
+    put_u32(out, m.oid)?;
+    put_old_tuple(out, &m.old)
+}
+
+fn put_options(out: &mut Vec<u8>, options: TruncateOptions) -> Result<(), AllocError>
+    ensures { OnOk result (out.new.items ≡ out.old.items ++ options_bytes options) }
+{
+    let bits = match (options.cascade, options.restart_identity) {
+        (false, false) => 0,
+        (true, false) => 1,
+        (false, true) => 2,
+        (true, true) => 3,
+    };
+    out.push(bits)?;
+    Ok(())
+}
+
+#[tactic(auto, unfolding(crate::specs::Writing::relations_bytes))]
+fn put_oids(out: &mut Vec<u8>, oids: &[u32]) -> Result<(), AllocError>
+    ensures written { OnOk result (out.new.items ≡ out.old.items ++ relations_bytes oids.now) }
+    ensures fits { All (λ n. n < 2 ^ 32) oids.now }
+{
+    for oid in oids {
+        put_u32(out, *oid)?;
+    }
+    Ok(())
+}
+
+#[tactic(auto, using(crate::proofs::Spellings::truncate_says), unfolding(crate::specs::Writing::truncate_bytes))]
+fn put_truncate(out: &mut Vec<u8>, m: &Truncate, in_block: bool) -> Result<(), AllocError>
+    requires { is_some m.now.xid ≡ in_block }
+    ensures written { OnOk result (out.new.items ≡ out.old.items ++ truncate_bytes m.now) }
+    ensures says { OnOk result (Says (truncate in_block) (truncate_bytes m.now) m.now) }
+{
+    let oids = m.relations.as_slice();
+    put_xid(out, m.xid)?;
+    put_u32(out, oids.len() as u32)?;
+    put_options(out, m.options)?;
+    put_oids(out, oids)
+}
+
+#[tactic(auto, unfolding(crate::specs::Writing::content_bytes))]
+fn put_content(out: &mut Vec<u8>, content: &Content) -> Result<(), AllocError>
+    ensures written { OnOk result (out.new.items ≡ out.old.items ++ content_bytes content.now) }
+    ensures bound { OnOk result (length content.now < 2 ^ 31) }
+{
+    let bytes = content.as_bytes().as_slice();
+    put_u32(out, bytes.len() as u32)?;
+    out.extend_from_slice(bytes)
+}
+
+#[tactic(auto, using(crate::proofs::Spellings::logical_message_says), unfolding(crate::specs::Writing::logical_message_bytes))]
+fn put_logical_message(
+    out: &mut Vec<u8>,
+    m: &LogicalMessage,
+    in_block: bool,
+) -> Result<(), AllocError>
+    requires { is_some m.now.xid ≡ in_block }
+    ensures written { OnOk result (out.new.items ≡ out.old.items ++ logical_message_bytes m.now) }
+    ensures says { OnOk result (Says (logical_message in_block) (logical_message_bytes m.now) m.now) }
+{
+    put_xid(out, m.xid)?;
+    put_flag(out, m.transactional)?;
+    put_u64(out, m.lsn)?;
+    put_name(out, &m.prefix)?;
+    put_content(out, &m.content)
+}
+
+#[tactic(auto, using(crate::proofs::Spellings::stream_start_says), unfolding(crate::specs::Writing::stream_start_bytes))]
+fn put_stream_start(out: &mut Vec<u8>, m: &StreamStart) -> Result<(), AllocError>
+    ensures written { OnOk result (out.new.items ≡ out.old.items ++ stream_start_bytes m.now) }
+    ensures says { OnOk result (Says stream_start (stream_start_bytes m.now) m.now) }
+{
+    put_u32(out, m.xid)?;
+    put_flag(out, m.is_first)
+}
+
+#[tactic(auto, using(crate::proofs::Spellings::stream_commit_says), unfolding(crate::specs::Writing::stream_commit_bytes))]
+fn put_stream_commit(out: &mut Vec<u8>, m: &StreamCommit) -> Result<(), AllocError>
+    ensures written { OnOk result (out.new.items ≡ out.old.items ++ stream_commit_bytes m.now) }
+    ensures says { OnOk result (Says stream_commit (stream_commit_bytes m.now) m.now) }
+{
+    put_u32(out, m.xid)?;
+    out.push(0)?;
+    put_u64(out, m.commit_lsn)?;
+    put_u64(out, m.end_lsn)?;
+    put_i64(out, m.commit_time)
+}
+
+#[tactic(auto, using(crate::proofs::Spellings::stream_abort_says), unfolding(crate::specs::Writing::stream_abort_bytes))]
+fn put_stream_abort(out: &mut Vec<u8>, m: &StreamAbort) -> Result<(), AllocError>
+    ensures written { OnOk result (out.new.items ≡ out.old.items ++ stream_abort_bytes m.now) }
+    ensures says { OnOk result (Says stream_abort (stream_abort_bytes m.now) m.now) }
+{
+    put_u32(out, m.xid)?;
+    put_u32(out, m.subtransaction)?;
+    put_u64(out, m.lsn)?;
+    put_i64(out, m.abort_time)
+}
+
 #[tactic(auto, using(crate::proofs::Spellings::message_says))]
 fn put_message(out: &mut Vec<u8>, m: &Message, in_block: bool) -> Result<(), AllocError>
     requires { HasXid in_block m.now }
@@ -222,14 +396,54 @@ fn put_message(out: &mut Vec<u8>, m: &Message, in_block: bool) -> Result<(), All
             out.push(b'C')?;
             put_commit(out, m)
         }
+        Message::Origin(m) => {
+            out.push(b'O')?;
+            put_origin(out, m)
+        }
         Message::Relation { xid, relation } => {
             out.push(b'R')?;
             put_xid(out, *xid)?;
             put_relation(out, relation)
         }
+        Message::TypeName(m) => {
+            out.push(b'Y')?;
+            put_type_name(out, m, in_block)
+        }
         Message::Insert(m) => {
             out.push(b'I')?;
             put_insert(out, m, in_block)
+        }
+        Message::Update(m) => {
+            out.push(b'U')?;
+            put_update(out, m, in_block)
+        }
+        Message::Delete(m) => {
+            out.push(b'D')?;
+            put_delete(out, m, in_block)
+        }
+        Message::Truncate(m) => {
+            out.push(b'T')?;
+            put_truncate(out, m, in_block)
+        }
+        Message::Message(m) => {
+            out.push(b'M')?;
+            put_logical_message(out, m, in_block)
+        }
+        Message::StreamStart(m) => {
+            out.push(b'S')?;
+            put_stream_start(out, m)
+        }
+        Message::StreamStop => {
+            out.push(b'E')?;
+            Ok(())
+        }
+        Message::StreamCommit(m) => {
+            out.push(b'c')?;
+            put_stream_commit(out, m)
+        }
+        Message::StreamAbort(m) => {
+            out.push(b'A')?;
+            put_stream_abort(out, m)
         }
     }
 }

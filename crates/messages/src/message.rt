@@ -1,10 +1,9 @@
-//! The messages, one variant a tag (the manual's Logical Replication Message Formats, protocol version 4).
+//! The messages of protocol version 4: one variant a tag ('Logical Replication Message Formats' in the
+//! PostgreSQL manual). Times are microseconds since 2000-01-01.
 
-ghost use Rattle.std.specs.Prelude.{◌≡◌, ◌^◌, ◌<◌, length};
-
-use crate::name::Name;
-use crate::tuple::{RowMessage, Tuple};
-use std::marker::Model;
+use crate::relation::{Relation, Truncate, TypeName};
+use crate::row::{Delete, Insert, Update};
+use crate::text::{Content, Name};
 
 /// A position in the publisher's log.
 pub type Lsn = u64;
@@ -15,17 +14,30 @@ pub type Xid = u32;
 /// An object of the publisher, as a relation or a type.
 pub type Oid = u32;
 
-/// One message. Times are microseconds since 2000-01-01.
+/// One message. Where a message names a transaction or subtransaction only in a block of a streamed
+/// transaction, its xid is there exactly then.
 #[derive(Debug, Drop)]
 pub enum Message {
     Begin(Begin),
     Commit(Commit),
-    /// The transaction or subtransaction, in a block of a streamed transaction, and the relation.
-    Relation { xid: Option<Xid>, relation: Relation },
+    Origin(Origin),
+    Relation {
+        xid: Option<Xid>,
+        relation: Relation,
+    },
+    TypeName(TypeName),
     Insert(Insert),
+    Update(Update),
+    Delete(Delete),
+    Truncate(Truncate),
+    Message(LogicalMessage),
+    StreamStart(StreamStart),
+    StreamStop,
+    StreamCommit(StreamCommit),
+    StreamAbort(StreamAbort),
 }
 
-/// 'B': a transaction begins, which comes whole after its commit.
+/// 'B': a transaction begins that comes whole, since it is committed already.
 #[derive(Debug, Drop)]
 pub struct Begin {
     pub final_lsn: Lsn,
@@ -41,89 +53,46 @@ pub struct Commit {
     pub commit_time: i64,
 }
 
-/// 'R': how the publisher's relation looks from here on.
+/// 'O': the transaction came to the publisher from elsewhere.
 #[derive(Debug, Drop)]
-pub struct Relation {
-    pub oid: Oid,
-    /// Empty for `pg_catalog`.
-    pub namespace: Name,
+pub struct Origin {
+    pub lsn: Lsn,
     pub name: Name,
-    pub identity: ReplicaIdentity,
-    pub columns: Columns,
 }
 
-/// Which old rows updates and deletes send.
-#[derive(Clone, Copy, Debug, PartialEq, Eq)]
-pub enum ReplicaIdentity {
-    /// 'd': the primary key.
-    Default,
-    /// 'n': none.
-    Nothing,
-    /// 'f': all columns.
-    Full,
-    /// 'i': the columns of an index.
-    Index,
-}
-
-/// A published column.
+/// 'M': bytes that a program wrote into the publisher's log by `pg_logical_emit_message`.
 #[derive(Debug, Drop)]
-pub struct RelationColumn {
-    pub is_key: bool,
-    pub name: Name,
-    pub type_oid: Oid,
-    pub type_modifier: i32,
-}
-
-/// The published columns of a relation, few enough for their signed 16 bit count. A clause sees the list of them.
-#[derive(Debug, Drop)]
-pub struct Columns {
-    columns: Vec<RelationColumn>,
-}
-
-impl Model for Columns {
-    ghost use Rattle.std.specs.Prelude.{List, ◌^◌, ◌<◌, length};
-    ghost use Rattle.messages.specs.declared.message.RelationColumn.{RelationColumn};
-
-    ghost Value = { List RelationColumn };
-
-    ghost view = { λ c. c.columns.items };
-
-    ghost invariant = { λ c. length c.columns.items < 2 ^ 15 };
-}
-
-impl Columns {
-    /// The columns of one relation.
-    pub fn new(columns: Vec<RelationColumn>) -> Columns
-        requires { length columns.items < 2 ^ 15 }
-        ensures { result ≡ columns.items }
-    {
-        Columns { columns }
-    }
-
-    /// The columns, in the publisher's order.
-    pub fn as_slice(&self) -> &[RelationColumn]
-        ensures value { result.now ≡ self.now }
-        ensures bound { length self.now < 2 ^ 15 }
-    {
-        self.columns.as_slice()
-    }
-}
-
-/// 'I': a row is inserted. The xid is there exactly in a block of a streamed transaction.
-#[derive(Debug, Drop)]
-pub struct Insert {
+pub struct LogicalMessage {
     pub xid: Option<Xid>,
-    pub oid: Oid,
-    pub new: Tuple,
+    pub transactional: bool,
+    pub lsn: Lsn,
+    pub prefix: Name,
+    pub content: Content,
 }
 
-impl Insert {
-    ghost use Rattle.messages.specs.declared.tuple.RowMessage.TheVariants as row;
+/// 'S': a block of a transaction begins that is still open at the publisher.
+#[derive(Debug, Drop)]
+pub struct StreamStart {
+    pub xid: Xid,
+    /// The transaction has had no block before.
+    pub is_first: bool,
+}
 
-    /// The row, without the transaction and the relation.
-    pub fn into_row(self) -> RowMessage
-        ensures { result ≡ row.Insert self.new }
-    {
-        RowMessage::Insert { new: self.new }
-    }
+/// 'c': a streamed transaction is committed.
+#[derive(Debug, Drop)]
+pub struct StreamCommit {
+    pub xid: Xid,
+    pub commit_lsn: Lsn,
+    pub end_lsn: Lsn,
+    pub commit_time: i64,
+}
+
+/// 'A': a streamed transaction is aborted, or a subtransaction of it.
+#[derive(Debug, Drop)]
+pub struct StreamAbort {
+    pub xid: Xid,
+    /// Equal to `xid` where the whole transaction is aborted.
+    pub subtransaction: Xid,
+    pub lsn: Lsn,
+    pub abort_time: i64,
 }

@@ -5,6 +5,16 @@
 pub(crate) enum Tag {
     Begin,
     Commit,
+    Origin,
     Relation,
+    TypeName,
     Insert,
+    Update,
+    Delete,
+    Truncate,
+    Message,
+    StreamStart,
+    StreamStop,
+    StreamCommit,
+    StreamAbort,
 }

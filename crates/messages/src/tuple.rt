@@ -1,8 +1,9 @@
-//! Tuples, and the rows that change messages carry ('TupleData' of the manual's Logical Replication Message Formats).
+//! Tuples: the columns of a row as they are sent ('TupleData' in the PostgreSQL manual's Logical Replication
+//! Message Formats).
 
 ghost use Rattle.std.specs.Prelude.{◌≡◌, ◌^◌, ◌<◌, length};
 
-use crate::name::Text;
+use crate::text::Text;
 use std::marker::Model;
 
 /// One column of a tuple.
@@ -58,12 +59,4 @@ pub enum OldTuple {
     Key(Tuple),
     /// 'O': the whole old row, sent under `REPLICA IDENTITY FULL`.
     Full(Tuple),
-}
-
-/// What a change message says of its row.
-#[derive(Debug, Drop)]
-pub enum RowMessage {
-    Insert { new: Tuple },
-    Update { old: Option<OldTuple>, new: Tuple },
-    Delete { old: OldTuple },
 }

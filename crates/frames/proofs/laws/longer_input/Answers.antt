@@ -1,5 +1,5 @@
-use Rattle.std.proofs.Common.{ap, ◌∙◌, append-nil}
-use Rattle.frames.specs.Stream.{Reading, behind, resumed, reading, copy_items, ending_of}
+use Rattle.std.proofs.Common.{ap}
+use Rattle.frames.specs.Stream.{Reading, resumed, ending_of}
 use Rattle.frames.proofs.Streams.{reading-append, reading-closed, reading-refused}
 use Rattle.frames.proofs.laws.longer_input.Goals as goal
 

@@ -1,4 +1,4 @@
-use Rattle.std.proofs.Common.{◌++◌, take, drop, length, ◌∙◌, sym}
+use Rattle.std.proofs.Common.{◌++◌, take, ◌∙◌}
 use Rattle.std.proofs.KnownBytes.{Appends-trans}
 use Rattle.frames.proofs.Sent.{sent_more}
 use Rattle.frames.proofs.update.send_status.Goals as goal

@@ -1,9 +1,9 @@
-//! Texts that are cuts of a payload's shared bytes.
+//! Names, texts and other bytes: cuts of a payload's shared bytes, short enough for their length fields.
 
 ghost use Rattle.std.specs.Prelude.{◌≡◌, ◌^◌, ◌<◌, length, IsUtf8};
 ghost use Rattle.messages.specs.Field.{IsName, HasNoZero};
 
-use bytes::ByteStr;
+use bytes::{ByteStr, Bytes};
 use std::marker::Model;
 
 /// A name or a prefix: UTF-8 without a zero byte, so that a zero byte can end it.
@@ -89,5 +89,39 @@ impl Text {
         ensures utf8 { IsUtf8 self.now }
     {
         self.text.as_str()
+    }
+}
+
+/// The content of a logical message, any bytes, short enough for its length field: less than 2 GiB.
+#[derive(Debug, Drop)]
+pub struct Content {
+    bytes: Bytes,
+}
+
+impl Model for Content {
+    ghost use Rattle.std.specs.Prelude.{ℕ, List, ◌^◌, ◌<◌, length};
+
+    ghost Value = { List ℕ };
+
+    ghost view = { λ c. c.bytes };
+
+    ghost invariant = { λ c. length c.bytes < 2 ^ 31 };
+}
+
+impl Content {
+    /// The bytes as a message's content.
+    pub fn new(bytes: Bytes) -> Content
+        requires { length bytes < 2 ^ 31 }
+        ensures { result ≡ bytes }
+    {
+        Content { bytes }
+    }
+
+    /// The bytes, which are shared with the payload that they were read from.
+    pub fn as_bytes(&self) -> &Bytes
+        ensures value { result.now ≡ self.now }
+        ensures bound { length self.now < 2 ^ 31 }
+    {
+        &self.bytes
     }
 }

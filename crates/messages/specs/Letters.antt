@@ -1,0 +1,92 @@
+-- The single bytes of messages: tags, flags, and the letters that say what follows.
+use Rattle.std.specs.Prelude.{◌≡◌, ℕ, Bool, true, false, List, [], ◌∷◌, Option, Some, None, codes, ◌==◌, if◌then◌else◌}
+use Rattle.std.specs.List.{list_any}
+use Rattle.messages.specs.declared.fault.MsgFault.{MsgFault}
+use Rattle.messages.specs.declared.fault.MsgFault.TheVariants.{UnknownTag, TwoPhase, BadTupleKind, BinaryColumn, BadFlag}
+use Rattle.messages.specs.declared.relation.ReplicaIdentity.{ReplicaIdentity}
+use Rattle.messages.specs.declared.relation.ReplicaIdentity.TheVariants as identities
+use Rattle.messages.specs.declared.relation.TruncateOptions.{TruncateOptions}
+use Rattle.messages.specs.declared.tag.Tag.{Tag}
+use Rattle.messages.specs.declared.tag.Tag.TheVariants as tags
+use Rattle.messages.specs.Field.{Byte}
+use Rattle.messages.specs.Format.{Format, done, one, ◌>>=◌}
+
+abbrev pub is_in : List ℕ → ℕ → Bool
+is_in letters b = list_any (λ c. c == b) letters
+
+abbrev pub none_or : Bool → MsgFault → Option MsgFault
+none_or true fault = None
+none_or false fault = Some fault
+
+-- One of these bytes stands here, or else it is this fault.
+abbrev pub one_of : List ℕ → MsgFault → ℕ → Option MsgFault
+one_of letters fault b = none_or (is_in letters b) fault
+
+-- a flag is 0 or 1
+unfoldable pub flag : Format Bool
+flag = do
+  b ← one (Byte (one_of (0 ∷ 1 ∷ []) BadFlag))
+  done (b == 1)
+
+-- flags of which none is defined
+unfoldable pub no_flags : Format ℕ
+no_flags = one (Byte (one_of (0 ∷ []) BadFlag))
+
+-- 1 for CASCADE, 2 for RESTART IDENTITY
+abbrev pub options_of : ℕ → TruncateOptions
+options_of b = record { cascade = is_in (1 ∷ 3 ∷ []) b; restart_identity = is_in (2 ∷ 3 ∷ []) b }
+
+unfoldable pub truncate_options : Format TruncateOptions
+truncate_options = do
+  b ← one (Byte (one_of (0 ∷ 1 ∷ 2 ∷ 3 ∷ []) BadFlag))
+  done (options_of b)
+
+abbrev pub identity_of : ℕ → ReplicaIdentity
+identity_of b =
+    if is_in (codes "d") b then identities.Default
+    else (if is_in (codes "n") b then identities.Nothing
+    else (if is_in (codes "f") b then identities.Full
+    else identities.Index))
+
+unfoldable pub identity : Format ReplicaIdentity
+identity = do
+  b ← one (Byte (one_of (codes "dnfi") BadFlag))
+  done (identity_of b)
+
+-- the letter that announces a new tuple
+unfoldable pub new_tuple_follows : Format ℕ
+new_tuple_follows = one (Byte (one_of (codes "N") BadTupleKind))
+
+-- null, an unchanged TOASTed value, or a text; binary values are refused by name
+abbrev pub column_table : ℕ → Option MsgFault
+column_table b =
+    if is_in (codes "nut") b then None
+    else (if is_in (codes "b") b then Some BinaryColumn else Some BadTupleKind)
+
+-- The tags of messages that are read. Those of two-phase transactions are refused by name.
+abbrev pub tag_table : ℕ → Option MsgFault
+tag_table b =
+    if is_in (codes "BCORYIUDTMSEcA") b then None
+    else (if is_in (codes "bPKrp") b then Some TwoPhase else Some UnknownTag)
+
+abbrev pub tag_of : ℕ → Tag
+tag_of b =
+    if is_in (codes "B") b then tags.Begin
+    else (if is_in (codes "C") b then tags.Commit
+    else (if is_in (codes "O") b then tags.Origin
+    else (if is_in (codes "R") b then tags.Relation
+    else (if is_in (codes "Y") b then tags.TypeName
+    else (if is_in (codes "I") b then tags.Insert
+    else (if is_in (codes "U") b then tags.Update
+    else (if is_in (codes "D") b then tags.Delete
+    else (if is_in (codes "T") b then tags.Truncate
+    else (if is_in (codes "M") b then tags.Message
+    else (if is_in (codes "S") b then tags.StreamStart
+    else (if is_in (codes "E") b then tags.StreamStop
+    else (if is_in (codes "c") b then tags.StreamCommit
+    else tags.StreamAbort))))))))))))
+
+unfoldable pub tag : Format Tag
+tag = do
+  b ← one (Byte tag_table)
+  done (tag_of b)
