@@ -8,7 +8,7 @@ use Rattle.model.specs.declared.table_def.ColumnType.{ColumnType}
 use Rattle.catalog.specs.declared.draft.DefaultDraft.{DefaultDraft}
 use Rattle.catalog.specs.declared.draft.ColumnDraft.{ColumnDraft}
 use Rattle.catalog.specs.Draft.{Draft}
-use Rattle.catalog.specs.Document.{each, array_of, required, optional, provided, has_only, is_name, name_of, type_of, column_of, column_in, key_of, default_of, table_in, fields_of, table_of, tables_of}
+use Rattle.catalog.specs.Document.{each, array_of, required, optional, provided, has_only, is_name, name_of, type_of, column_of, column_in, column_keys, key_of, default_of, table_in, table_keys, fields_of, table_of, tables_of}
 
 -- what holds of each that f reads holds of all that are read
 each_keeps : {A : Type 0} (f : Data → Option A) (P : A → Type 0) → ((d : Data) (x : A) → f d ≡ Some x → P x) → (ds : Items) (xs : List A) → each f ds ≡ Some xs → All P xs
@@ -49,7 +49,7 @@ column_is_named (Some n) (Some k) default c h named =
 pub column_of_is_named : (d : Data) (c : ColumnDraft) → column_of d ≡ Some c → is_name c.name ≡ true
 unfolding column_of column_in
 column_of_is_named d c h =
-    option_and_then_some column_in (fields_of (codes "name" ∷ codes "type" ∷ codes "default" ∷ []) d) c h (λ ms _ is.
+    option_and_then_some column_in (fields_of column_keys d) c h (λ ms _ is.
     column_is_named (required name_of (get_member (codes "name") ms)) (required type_of (get_member (codes "type") ms)) (default_of (get_member (codes "default") ms)) c is (required_name (get_member (codes "name") ms)))
 
 -- the names of a table and of its columns are names
@@ -81,7 +81,7 @@ columns_are_named (Some d) cs h = array_keeps column_of (λ c. is_name c.name �
 pub table_of_is_named : (d : Data) (t : Draft) → table_of d ≡ Some t → IsNamed t
 unfolding table_of table_in
 table_of_is_named d t h =
-    option_and_then_some table_in (fields_of (codes "namespace" ∷ codes "name" ∷ codes "primary" ∷ codes "unique" ∷ codes "column" ∷ []) d) t h (λ ms _ is.
+    option_and_then_some table_in (fields_of table_keys d) t h (λ ms _ is.
     table_is_named (required name_of (get_member (codes "namespace") ms)) (required name_of (get_member (codes "name") ms)) (required (array_of column_of) (get_member (codes "column") ms))
     (optional [] key_of (get_member (codes "primary") ms)) (optional [] (array_of key_of) (get_member (codes "unique") ms)) t is
     (required_name (get_member (codes "namespace") ms)) (required_name (get_member (codes "name") ms)) (columns_are_named (get_member (codes "column") ms)))

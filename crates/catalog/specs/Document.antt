@@ -58,7 +58,11 @@ abbrev pub name_of : Data → Option (List ℕ)
 name_of d = as_str d >>= (λ text. provided (is_name text) (Some text))
 
 abbrev pub type_named : List ℕ → Option ColumnType
-type_named text = if bytes_eq text (codes "int") then Some Int else (if bytes_eq text (codes "text") then Some Text else (if bytes_eq text (codes "bool") then Some Truth else None))
+type_named text =
+    if bytes_eq text (codes "int") then Some Int
+    else (if bytes_eq text (codes "text") then Some Text
+    else (if bytes_eq text (codes "bool") then Some Truth
+    else None))
 
 abbrev pub type_of : Data → Option ColumnType
 type_of d = as_str d >>= type_named
@@ -81,8 +85,11 @@ column_in ms = do
   kind ← required type_of (get_member (codes "type") ms)
   Some (record { name = name; kind = kind; default = default_of (get_member (codes "default") ms) })
 
+abbrev pub column_keys : List (List ℕ)
+column_keys = codes "name" ∷ codes "type" ∷ codes "default" ∷ []
+
 unfoldable pub column_of : Data → Option ColumnDraft
-column_of d = fields_of (codes "name" ∷ codes "type" ∷ codes "default" ∷ []) d >>= column_in
+column_of d = fields_of column_keys d >>= column_in
 
 -- a key: the names of its columns
 abbrev pub key_of : Data → Option (List (List ℕ))
@@ -96,11 +103,22 @@ table_in ms = do
   columns ← required (array_of column_of) (get_member (codes "column") ms)
   primary ← optional [] key_of (get_member (codes "primary") ms)
   uniques ← optional [] (array_of key_of) (get_member (codes "unique") ms)
-  Some (record { namespace = namespace; name = name; columns = columns; primary = primary; uniques = uniques })
+  Some (record {
+    namespace = namespace;
+    name = name;
+    columns = columns;
+    primary = primary;
+    uniques = uniques;
+  })
+
+abbrev pub table_keys : List (List ℕ)
+table_keys = codes "namespace" ∷ codes "name" ∷ codes "primary" ∷ codes "unique" ∷ codes "column" ∷ []
 
 unfoldable pub table_of : Data → Option Draft
-table_of d = fields_of (codes "namespace" ∷ codes "name" ∷ codes "primary" ∷ codes "unique" ∷ codes "column" ∷ []) d >>= table_in
+table_of d = fields_of table_keys d >>= table_in
 
 -- a document: the array `table`, and nothing else; without it there are no tables
 unfoldable pub tables_of : Members → Option (List Draft)
-tables_of doc = provided (has_only (codes "table" ∷ []) doc) (optional [] (array_of table_of) (get_member (codes "table") doc))
+tables_of doc =
+    provided (has_only (codes "table" ∷ []) doc)
+    (optional [] (array_of table_of) (get_member (codes "table") doc))

@@ -233,7 +233,8 @@ fn is_name(text: &str) -> bool
 
 /// The members of a table that has no other keys than these.
 fn fields_of<'a>(value: &'a Data, keys: &[&str]) -> Option<&'a Table>
-    ensures { option_map (λ t. table_view t.now) result ≡ fields_of (map (λ k. k.now) keys.now) (view value.now) }
+    ensures { option_map (λ t. table_view t.now) result
+        ≡ fields_of (map (λ k. k.now) keys.now) (view value.now) }
 {
     let table = value.as_table()?;
     if has_only(table, keys) {

@@ -51,5 +51,11 @@ impl Model for TableDraft {
 
     ghost Value = { Draft };
 
-    ghost view = { λ t. record { namespace = t.namespace; name = t.name; columns = t.columns.items; primary = t.primary; uniques = t.uniques.items } };
+    ghost view = { λ t. record {
+      namespace = t.namespace;
+      name = t.name;
+      columns = t.columns.items;
+      primary = t.primary;
+      uniques = t.uniques.items;
+    } };
 }

@@ -1,6 +1,6 @@
 -- How a stream may end.
 use Rattle.std.proofs.Common.{◌≡◌, ℕ, zero, suc, ◌+◌, ◌<◌, Bool, true, false, cond, ltb, leb, eqb, List, [], length, take, drop, Option, Some, None, Result, Ok, Err, sym, subst, arith}
-use Rattle.std.specs.Prelude.{IfSome, IfErr, nat_le, slice_index}
+use Rattle.std.specs.Prelude.{IfSome, IfErr, not, slice_index}
 use Rattle.frames.specs.declared.fault.FrameFault.{FrameFault}
 use Rattle.frames.specs.declared.fault.FrameFault.TheVariants.{ServerError, UnknownFrame, BadLength, TooLarge, UnknownCopyTag}
 use Rattle.frames.specs.declared.item.CopyItem.{CopyItem}
@@ -17,11 +17,11 @@ IsSound (Skipped rest) = Unit {0}
 IsSound (Given item rest) = Unit {0}
 IsSound Closing = Unit {0}
 
-header_sound : (a b c : Bool) → IfSome (cond a (cond b (cond c None (Some TooLarge)) (Some BadLength)) (Some UnknownFrame)) IsFrameFault
-header_sound true true true = tt
-header_sound true true false = tt
-header_sound true false c = tt
-header_sound false b c = tt
+header_sound : (a b c : Bool) → IfSome (cond a (Some UnknownFrame) (cond b (Some BadLength) (cond c (Some TooLarge) None))) IsFrameFault
+header_sound true b c = tt
+header_sound false true c = tt
+header_sound false false true = tt
+header_sound false false false = tt
 
 item_sound : (a b c d : Bool) (x y : CopyItem) → IfErr (cond a (cond b (Ok x) (Err BadLength)) (cond c (cond d (Ok y) (Err BadLength)) (Err UnknownCopyTag))) IsFrameFault
 item_sound true true c d x y = tt
@@ -32,7 +32,7 @@ item_sound false b false d x y = tt
 
 header_fault-sound : (tag len : ℕ) → IfSome (header_fault tag len) IsFrameFault
 unfolding header_fault
-header_fault-sound tag len = header_sound (is_tag tag) (is_length tag len) (nat_le len 67108864)
+header_fault-sound tag len = header_sound (not (is_tag tag)) (not (is_length tag len)) (ltb 67108864 len)
 
 copy_item-sound : (content : List ℕ) → IfErr (copy_item content) IsFrameFault
 unfolding copy_item

@@ -67,10 +67,11 @@ abbrev pub is_length : ℕ → ℕ → Bool
 is_length tag len =
     nat_le 4 len && nat_lt len 2147483648 && not (tag == copy_data && nat_lt len 5) && not (tag == copy_done && not (len == 4))
 
--- what is wrong with a header
+-- what is wrong with a header, the first of these
 unfoldable pub header_fault : ℕ → ℕ → Option FrameFault
 header_fault tag len =
-    if is_tag tag then (if is_length tag len then (if nat_le len 67108864 then None else Some TooLarge) else Some BadLength) else Some UnknownFrame
+    if not (is_tag tag) then Some UnknownFrame
+    else (if not (is_length tag len) then Some BadLength else (if nat_lt 67108864 len then Some TooLarge else None))
 
 -- XLogData: Byte1 'w', Int64 start, Int64 end, Int64 clock, the data
 abbrev pub wal_of : List ℕ → CopyItem

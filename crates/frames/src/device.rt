@@ -18,7 +18,8 @@ pub trait Source {
     /// How often it has failed, up to `u64::MAX`.
     ghost failures: { Self → ℕ };
 
-    /// Reads some bytes into the front of `buf`, and answers how many: 0 only at the end of the input, or where `buf` is empty.
+    /// Reads some bytes into the front of `buf`, and answers how many: 0 only at the end of the input, or where `buf`
+    /// is empty.
     fn read_some(&mut self, buf: &mut [u8]) -> Result<usize, Failed>
         ensures within { IfOk result (λ n. n ≤ length buf.old) }
         ensures bytes { IfOk result (λ n. Consumes (remaining self.old) (remaining self.new) (take n buf.new)) }
@@ -92,7 +93,8 @@ impl<R: Read> Source for ReadSource<R> {
     }
 }
 
-/// A sink over a writer. It counts its writes down from `u64::MAX`, and then fails; a write that takes nothing fails too.
+/// A sink over a writer. It counts its writes down from `u64::MAX`, and then fails; a write that takes nothing fails
+/// too.
 #[derive(Drop)]
 pub struct WriteSink<W> {
     writer: W,

@@ -18,7 +18,8 @@ use std::marker::Model;
 // How much is read from a source at once.
 const READ_SIZE: usize = 64 * 1024;
 
-/// Reads the frames of a replication stream, in whatever pieces its bytes come.
+/// Reads the frames of a replication stream, in whatever pieces its bytes come, and keeps their items until they are
+/// handed out.
 #[derive(Drop)]
 pub struct Frames {
     // The bytes of a frame that isn't whole.
@@ -81,6 +82,7 @@ fn take_piece(unread: &mut BytesMut, items: &mut VecDeque<CopyItem>, piece: &[u8
 }
 
 impl Frames {
+    /// A reader at the start of a stream. It takes no memory.
     pub fn new(alloc: Global) -> Frames
         ensures empty { result ≡ record { items = []; ending = Waits [] } }
         ensures read { HasRead [] [] result }
@@ -92,11 +94,17 @@ impl Frames {
         }
     }
 
-    /// Takes the next bytes of the stream, a piece of any length.
+    /// Takes the next bytes of the stream, a piece of any length. After CopyDone they are dropped. A fault is that
+    /// of the first faulty frame, or `OutOfMemory`; the items before it stand, and every later `feed`, `pull` and
+    /// `finish` answers it again.
     pub fn feed(&mut self, piece: &[u8]) -> Result<(), FrameFault>
         ensures fault { Answers result (fault_of self.new.ending) }
+
+        // What was known of all bytes before is known of them with the piece.
         ensures read { (fault_of self.old.ending ≡ None) → (fed : List ℕ) (out : List CopyItem) →
             HasRead fed out self.old → HasRead (fed ++ piece.now) out self.new }
+
+        // A new fault is one of the stream, or want of memory; an old one comes again, and nothing changes.
         ensures kind { IfErr result (λ fault. (self.old.ending ≡ Broken fault) ⊎ IsStreamFault fault) }
         ensures again { (fault : FrameFault) → self.old.ending ≡ Broken fault →
             (result ≡ Err fault) × (self.new ≡ self.old) }
@@ -114,9 +122,12 @@ impl Frames {
         }
     }
 
-    /// Reads once from the source, and takes what it gives: false at the end of the input, and after CopyDone, where nothing is read.
+    /// Reads once from the source, and takes what it gives as `feed` does. It answers false at the end of the input,
+    /// and after CopyDone, where nothing is read; and the fault `Device` where the source failed in this call.
     pub fn pull<R: Source>(&mut self, r: &mut R) -> Result<bool, FrameFault>
         ensures fault { Answers result (fault_of self.new.ending) }
+
+        // The source gave a piece, and the reader took it.
         ensures read { (piece : List ℕ) × Consumes (R.remaining r.old) (R.remaining r.new) piece
             × ((fed : List ℕ) (out : List CopyItem) →
             HasRead fed out self.old → HasRead (fed ++ piece) out self.new) }
@@ -124,12 +135,16 @@ impl Frames {
             (λ more. more ≡ false → AtEndOf self.new.ending (R.remaining r.new))
             (λ _. AtEndOf self.new.ending (R.remaining r.new)) }
         ensures unchanged { result ≡ Ok false → self.new ≡ self.old }
+
+        // Device comes where the source failed in this call, or again.
         ensures kind { IfErr result (λ fault. (self.old.ending ≡ Broken fault)
             ⊎ (IsStreamFault fault ⊎ (fault ≡ FrameFault.Device))) }
         ensures falls { result ≡ Ok true → R.reads_left r.new < R.reads_left r.old }
         ensures device { result ≡ Err FrameFault.Device → (self.old.ending ≡ Broken FrameFault.Device)
             ⊎ HasFailed (R.failures r.old) (R.failures r.new) }
         ensures works { result ≢ Err FrameFault.Device → R.failures r.new ≡ R.failures r.old }
+
+        // A reader that was refused or closed asks for nothing.
         ensures again { (fault : FrameFault) → self.old.ending ≡ Broken fault →
             (result ≡ Err fault) × (self.new ≡ self.old) × (r.new ≡ r.old) }
         ensures closed { self.old.ending ≡ Closed → (result ≡ Ok false) × (r.new ≡ r.old) }
@@ -164,9 +179,12 @@ impl Frames {
         self.items.pop_front()
     }
 
-    /// Says whether the input may end here.
+    /// Says whether the input may end here: at a frame's edge or after CopyDone. Inside a frame the fault is
+    /// `Truncated`, and after a refusal the same fault again.
     pub fn finish(&self) -> Result<(), FrameFault>
         ensures fault { Answers result (fault_at_end self.now.ending) }
+
+        // Once nothing is kept, what was handed out is all of the bytes fed.
         ensures read { self.now.items ≡ [] → (fed : List ℕ) (out : List CopyItem) →
             HasRead fed out self.now → HasEnded result fed out }
         ensures stands { OnOk result ((fed : List ℕ) (out : List CopyItem) →

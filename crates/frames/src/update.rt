@@ -8,7 +8,8 @@ ghost use Rattle.frames.specs.Device.{HasFailed};
 use crate::{FrameFault, Lsn, Sink};
 use std::alloc::{AllocError, Global};
 
-/// How far the server's log has come here. The clock is in microseconds since 2000-01-01.
+/// How far the server's log has come here (PostgreSQL manual: Streaming Replication Protocol, Standby status update).
+/// The clock is in microseconds since 2000-01-01.
 #[derive(Clone, Copy, Debug, PartialEq, Eq)]
 pub struct Status {
     pub written: Lsn,
@@ -57,7 +58,8 @@ pub fn write_status(s: &Status, out: &mut Vec<u8>) -> Result<(), FrameFault>
     Ok(())
 }
 
-/// Sends the frame of a status update, in as many writes as the sink needs. After a failure how much went out is not said.
+/// Sends the frame of a status update, in as many writes as the sink needs. It is refused where the sink fails, or
+/// memory; how much went out then is not said.
 pub fn send_status<W: Sink>(alloc: Global, s: &Status, w: &mut W) -> Result<(), FrameFault>
     ensures ok { OnOk result
         (Appends (W.contents w.old) (W.contents w.new) (status_frame s.now)) }

@@ -218,7 +218,7 @@ string_again text rest name =
     let parts : bytes ≡ text ++ 0 ∷ rest = append_assoc text (0 ∷ []) rest in
     let len : length bytes ≡ length text + suc (length rest) = ap length parts ∙ length-append text (0 ∷ rest) in
     let before : (k : ℕ) → k < length text → is_zero (get_or bytes k 0) ≡ false = λ k lt.
-        rw (parts, get_or_append_left text (0 ∷ rest) 0 k lt) (ne_eqb _ _ (λ zero_here. name.no_zero (k, lt, zero_here))) in
+    rw (parts, get_or_append_left text (0 ∷ rest) 0 k lt) (ne_eqb _ _ (λ zero_here. name.no_zero (k, lt, zero_here))) in
     let here : is_zero (get_or bytes (length text) 0) ≡ true = rw (parts, get_or-append_right text (0 ∷ rest) (length text) (length text) 0 refl (omega arith)) (let same : length text - length text ≡ 0 = omega arith in rw same refl) in
     let at : position_or_len is_zero bytes ≡ length text = position_or_len_is is_zero bytes (length text) 0 (omega (arith, len)) before (λ _. here) in
     let inside : ltb (length text) (length bytes) ≡ true = lt-ltb _ _ (omega (arith, len)) in

@@ -57,8 +57,8 @@ read-fails (followed_by p next) bytes fault fits e =
     elim (if_read-err (read p bytes) (λ y. read (next y.0) y.1) fault e) [
       | inl first ↦ inl (read-fails p bytes fault fits first)
       | inr r ↦
-        let first = read-spells p bytes r.0 fits r.1 in
-        inr (r.0.0, r.0.1, first.spells, read-fails (next r.0.0) r.0.1 fault first.rest_fits r.2)
+          let first = read-spells p bytes r.0 fits r.1 in
+          inr (r.0.0, r.0.1, first.spells, read-fails (next r.0.0) r.0.1 fault first.rest_fits r.2)
     ]
 
 -- a spelling goes on to be one whatever follows it
@@ -88,6 +88,6 @@ Fails-read (followed_by p next) bytes fault fits f =
     elim f [
       | inl first ↦ rw (Fails-read p bytes fault fits first) refl
       | inr r ↦
-        let first = spells-read p bytes r.0 r.1 r.2 in
-        rw first (Fails-read (next r.0) r.1 fault (read-spells p bytes (r.0, r.1) fits first).rest_fits r.3)
+          let first = spells-read p bytes r.0 r.1 r.2 in
+          rw first (Fails-read (next r.0) r.1 fault (read-spells p bytes (r.0, r.1) fits first).rest_fits r.3)
     ]

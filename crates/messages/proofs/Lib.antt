@@ -7,3 +7,4 @@ pub mod Says
 pub mod Spellings
 pub mod Written
 pub mod Onlys
+pub mod Xids

@@ -5,9 +5,10 @@ use Rattle.messages.specs.declared.fault.MsgFault.{MsgFault}
 use Rattle.messages.specs.declared.fault.MsgFault.TheVariants.{UnknownTag, Short, Trailing, BadTupleKind, BadText, BinaryColumn, BadFlag, NegativeCount, TwoPhase, OutOfMemory}
 use Rattle.messages.specs.declared.message.Message.{Message}
 use Rattle.messages.specs.Format.{Format, Spells, Fails}
-use Rattle.messages.specs.Messages.{message, Spelled, Stands}
+use Rattle.messages.specs.Messages.{message, Spelled, Stands, HasXid}
 use Rattle.messages.specs.Reading.{Read, if_read, read, ended, read_all, IsFault, IsReading}
 use Rattle.messages.proofs.Fields.{IsBytes}
+use Rattle.messages.proofs.Xids.{spelled_has_xid}
 use Rattle.messages.proofs.Formats.{if_read-ok, if_read-err, read-spells, spells-read, read-fails, Spells-more, Spells-one, Fails-read}
 
 abbrev whole : {A : Type 0} → A → Result A MsgFault
@@ -70,6 +71,10 @@ pub answer-spelled : (payload : List ℕ) (in_block : Bool) (r : Result Message 
 answer-spelled payload in_block (Ok m) fits e = read_all-spelled payload in_block m fits e
 answer-spelled payload in_block (Err fault) fits e = tt
 
+pub answer-xid : (payload : List ℕ) (in_block : Bool) (r : Result Message MsgFault) → IsBytes payload → IsReading r (read_all (message in_block) payload) → IfOk r (λ m. HasXid in_block m)
+answer-xid payload in_block (Ok m) fits e = spelled_has_xid payload in_block m (read_all-spelled payload in_block m fits e)
+answer-xid payload in_block (Err fault) fits e = tt
+
 pub answer-fault : (payload : List ℕ) (in_block : Bool) (r : Result Message MsgFault) → IsBytes payload → IsReading r (read_all (message in_block) payload)
     → IfErr r (λ fault. (fault ≡ OutOfMemory) ⊎ Stands payload in_block fault)
 answer-fault payload in_block (Ok m) fits e = tt
@@ -115,3 +120,13 @@ spelled-or-stands payload in_block m fault fits s t =
     let read_it = spelled-read_all payload in_block m s in
     let refused = stands-read_all payload in_block fault fits t in
     absurd cc
+
+pub one_message-law : (payload : List ℕ) (in_block : Bool) (m n : Message) → Spelled payload in_block m → Spelled payload in_block n → m ≡ n
+unfolding Spelled
+one_message-law payload in_block m n s t = (Spells-one (message in_block) payload m n [] [] s t).0
+
+same_fault : {A : Type 0} (r : Result A MsgFault) (f g : MsgFault) → r ≡ Err f → r ≡ Err g → f ≡ g
+same_fault r f g p q = cc
+
+pub one_fault-law : (payload : List ℕ) (in_block : Bool) (f g : MsgFault) → IsBytes payload → Stands payload in_block f → Stands payload in_block g → f ≡ g
+one_fault-law payload in_block f g fits s t = same_fault (read_all (message in_block) payload) f g (stands-read_all payload in_block f fits s) (stands-read_all payload in_block g fits t)

@@ -52,11 +52,13 @@ same_tail b c x y e = cc
 
 -- what stands behind a byte
 pub behind : {A : Type 0} {table : ℕ → Option MsgFault} {next : ℕ → Format A} (b : ℕ) (x : List ℕ) (value : A) → Says (followed_by (one (Byte table)) next) (b ∷ x) value → Says (next b) x value
-behind {next = next} b x value said = record { before = λ rest.
-    let s = said.before rest in
-    let head = same_head b s.0 (x ++ rest) s.1 s.2.parts in
-    let tail = same_tail b s.0 (x ++ rest) s.1 s.2.parts in
-    subst (λ (c : ℕ). Spells (next c) (x ++ rest) value rest) head (subst (λ (y : List ℕ). Spells (next s.0) y value rest) tail s.3) }
+behind {next = next} b x value said = record {
+  before = λ rest.
+      let s = said.before rest in
+      let head = same_head b s.0 (x ++ rest) s.1 s.2.parts in
+      let tail = same_tail b s.0 (x ++ rest) s.1 s.2.parts in
+      subst (λ (c : ℕ). Spells (next c) (x ++ rest) value rest) head (subst (λ (y : List ℕ). Spells (next s.0) y value rest) tail s.3);
+}
 
 pub nothing : {A : Type 0} {a : A} → Says (done a) [] a
 nothing = record { before = λ rest. (refl, refl) }
@@ -64,6 +66,8 @@ nothing = record { before = λ rest. (refl, refl) }
 -- each of a list, one after the other
 pub each : {A : Type 0} (p : Format A) (bytes : A → List ℕ) (values : List A) → All (λ a. Says p (bytes a) a) values → Says (times (length values) p) (flat_map bytes values) values
 each p bytes [] said = record { before = λ rest. (refl, refl) }
-each p bytes (a ∷ values) said = record { before = λ rest.
-    (subst (λ (x : List ℕ). Says (times (suc (length values)) p) x (a ∷ values)) (sym (flat_map-cons bytes a values))
-      (next_to a (said 0 a (omega arith)) (at_last values (each p bytes values (λ k d lt. said (suc k) d (omega arith))) refl))).before rest }
+each p bytes (a ∷ values) said = record {
+  before = λ rest.
+      (subst (λ (x : List ℕ). Says (times (suc (length values)) p) x (a ∷ values)) (sym (flat_map-cons bytes a values))
+      (next_to a (said 0 a (omega arith)) (at_last values (each p bytes values (λ k d lt. said (suc k) d (omega arith))) refl))).before rest;
+}

@@ -84,7 +84,7 @@ pub relation_says : (m : Relation) → m.oid < 2 ^ 32 → IsName m.namespace →
 unfolding relation relation_bytes
 relation_says m oid namespace name columns =
     next_to m.oid (say_unsigned oid) (next_to m.namespace (say_string namespace) (next_to m.name (say_string name)
-      (next_to m.identity (identity_says m.identity) (at_last m.columns columns refl))))
+    (next_to m.identity (identity_says m.identity) (at_last m.columns columns refl))))
 
 -- ---- tuples
 
@@ -139,10 +139,10 @@ pub some_old_says : (old : OldTuple) → Says old_tuple (old_tuple_bytes old) ol
 unfolding optional_old_tuple old_tuple old_tuple_bytes
 some_old_says (olds.Key values) said =
     subst (λ (x : List ℕ). Says optional_old_tuple x (Some (olds.Key values))) (sym (append_assoc (75 ∷ []) (tuple_bytes values) (78 ∷ [])))
-      (next_to 75 (say_byte 75 refl) (next_to (olds.Key values) (behind 75 (tuple_bytes values) (olds.Key values) said) (at_last 78 new_tuple_says refl)))
+    (next_to 75 (say_byte 75 refl) (next_to (olds.Key values) (behind 75 (tuple_bytes values) (olds.Key values) said) (at_last 78 new_tuple_says refl)))
 some_old_says (olds.Full values) said =
     subst (λ (x : List ℕ). Says optional_old_tuple x (Some (olds.Full values))) (sym (append_assoc (79 ∷ []) (tuple_bytes values) (78 ∷ [])))
-      (next_to 79 (say_byte 79 refl) (next_to (olds.Full values) (behind 79 (tuple_bytes values) (olds.Full values) said) (at_last 78 new_tuple_says refl)))
+    (next_to 79 (say_byte 79 refl) (next_to (olds.Full values) (behind 79 (tuple_bytes values) (olds.Full values) said) (at_last 78 new_tuple_says refl)))
 
 pub origin_says : (m : Origin) → m.lsn < 2 ^ 64 → IsName m.name → Says origin (origin_bytes m) m
 unfolding origin origin_bytes
@@ -181,7 +181,7 @@ pub logical_message_says : (in_block : Bool) (m : LogicalMessage) → is_some m.
 unfolding logical_message logical_message_bytes
 logical_message_says in_block m e xid lsn prefix short =
     next_to m.xid (xid_says in_block m.xid e xid) (next_to m.transactional (flag_says m.transactional) (next_to m.lsn (say_unsigned lsn)
-      (next_to m.prefix (say_string prefix) (at_last m.content (content_says m.content short) refl))))
+    (next_to m.prefix (say_string prefix) (at_last m.content (content_says m.content short) refl))))
 
 pub stream_start_says : (m : StreamStart) → m.xid < 2 ^ 32 → Says stream_start (stream_start_bytes m) m
 unfolding stream_start stream_start_bytes

@@ -32,8 +32,8 @@ pub ends : {A : Type 0} (p : Format A) (front : List A) (count i : ℕ) (bytes :
     → with_front front (read (times (count - i) p) bytes) ≡ total → IsFault fault total
 ends p front count i bytes fault total lt met so_far =
     IsFault-map fault (read p bytes) total (λ h.
-        let one : with_front front (read (times (count - i) p) bytes) ≡ Err fault = rw (one_more count i lt, h) refl in
-        sym so_far ∙ one) met
+    let one : with_front front (read (times (count - i) p) bytes) ≡ Err fault = rw (one_more count i lt, h) refl in
+    sym so_far ∙ one) met
 
 pub is_done : {A : Type 0} (p : Format A) (front : List A) (count i : ℕ) (bytes : List ℕ) (total : Read (List A)) → count ≤ i → with_front front (read (times (count - i) p) bytes) ≡ total → total ≡ Ok (front, bytes)
 is_done p front count i bytes total le so_far =

@@ -1,6 +1,6 @@
 -- The messages of protocol version 4, each as the list of its fields, as they stand in the tables of
 -- 'Logical Replication Message Formats' in the PostgreSQL manual.
-use Rattle.std.specs.Prelude.{◌≡◌, ◌≢◌, ℕ, Bool, true, false, List, [], Option, Some, None, codes, ◌⊎◌}
+use Rattle.std.specs.Prelude.{◌≡◌, ◌≢◌, ℕ, Bool, true, false, List, [], Option, Some, None, is_some, codes, ◌⊎◌}
 use Rattle.messages.specs.declared.fault.MsgFault.{MsgFault}
 use Rattle.messages.specs.declared.fault.MsgFault.TheVariants.{BadTupleKind, Trailing}
 use Rattle.messages.specs.declared.message.Message.{Message}
@@ -47,7 +47,7 @@ text = do
 abbrev pub column_of : ℕ → Format Column
 column_of b =
     choose (is_in (codes "n") b) (done columns.Null)
-      (choose (is_in (codes "u") b) (done columns.Unchanged) text)
+    (choose (is_in (codes "u") b) (done columns.Unchanged) text)
 
 unfoldable pub column : Format Column
 column = do
@@ -63,12 +63,12 @@ tuple = do
 abbrev pub old_tuple_of : ℕ → Format OldTuple
 old_tuple_of b =
     choose (is_in (codes "K") b)
-      (do
-        key ← tuple
-        done (olds.Key key))
-      (do
-        row ← tuple
-        done (olds.Full row))
+    (do
+      key ← tuple
+      done (olds.Key key))
+    (do
+      row ← tuple
+      done (olds.Full row))
 
 unfoldable pub old_tuple : Format OldTuple
 old_tuple = do
@@ -78,10 +78,10 @@ old_tuple = do
 abbrev pub old_before_new : ℕ → Format (Option OldTuple)
 old_before_new b =
     choose (is_in (codes "N") b) (done None)
-      (do
-        old ← old_tuple_of b
-        announced ← new_tuple_follows
-        done (Some old))
+    (do
+      old ← old_tuple_of b
+      announced ← new_tuple_follows
+      done (Some old))
 
 -- an old tuple, if there is one, and the letter of the new one
 unfoldable pub optional_old_tuple : Format (Option OldTuple)
@@ -273,3 +273,14 @@ unfoldable pub Stands : List ℕ → Bool → MsgFault → Type 0
 Stands payload in_block fault =
     Fails (message in_block) payload fault
     ⊎ ((m : Message) × (rest : List ℕ) × Spells (message in_block) payload m rest × (rest ≢ []) × (fault ≡ Trailing))
+
+-- The xid is there exactly in a block of a streamed transaction.
+abbrev pub HasXid : Bool → Message → Type 0
+HasXid in_block (messages.Relation xid m) = is_some xid ≡ in_block
+HasXid in_block (messages.TypeName m) = is_some m.xid ≡ in_block
+HasXid in_block (messages.Insert m) = is_some m.xid ≡ in_block
+HasXid in_block (messages.Update m) = is_some m.xid ≡ in_block
+HasXid in_block (messages.Delete m) = is_some m.xid ≡ in_block
+HasXid in_block (messages.Truncate m) = is_some m.xid ≡ in_block
+HasXid in_block (messages.Message m) = is_some m.xid ≡ in_block
+HasXid in_block _ = Unit {0}

@@ -1,5 +1,5 @@
 -- The bytes that are written for each message. They are proved to be its one spelling.
-use Rattle.std.specs.Prelude.{◌≡◌, ℕ, ℤ, Bool, true, false, List, [], ◌∷◌, ◌++◌, length, Option, Some, None, is_some, codes, if◌then◌else◌}
+use Rattle.std.specs.Prelude.{◌≡◌, ℕ, ℤ, Bool, true, false, List, [], ◌∷◌, ◌++◌, length, Option, Some, None, codes, if◌then◌else◌}
 use Rattle.std.specs.Int.{cast_unsigned}
 use Rattle.std.specs.List.{flat_map}
 use Rattle.messages.specs.declared.message.Message.{Message}
@@ -31,17 +31,6 @@ use Rattle.messages.specs.Field.{Size, two, four, eight, width, number_bytes}
 -- The bytes are a spelling of the value, whatever follows them.
 pub record Says {A : Type 0} (p : Format A) (bytes : List ℕ) (value : A) : Type 0 where
   pub before : (rest : List ℕ) → Spells p (bytes ++ rest) value rest
-
--- The xid is there exactly in a block of a streamed transaction.
-abbrev pub HasXid : Bool → Message → Type 0
-HasXid in_block (messages.Relation xid m) = is_some xid ≡ in_block
-HasXid in_block (messages.TypeName m) = is_some m.xid ≡ in_block
-HasXid in_block (messages.Insert m) = is_some m.xid ≡ in_block
-HasXid in_block (messages.Update m) = is_some m.xid ≡ in_block
-HasXid in_block (messages.Delete m) = is_some m.xid ≡ in_block
-HasXid in_block (messages.Truncate m) = is_some m.xid ≡ in_block
-HasXid in_block (messages.Message m) = is_some m.xid ≡ in_block
-HasXid in_block _ = Unit {0}
 
 unfoldable pub signed_bytes : Size → ℤ → List ℕ
 signed_bytes size z = number_bytes size (cast_unsigned (width size) z)

@@ -4,7 +4,7 @@ ghost use Rattle.std.specs.Prelude.{◌≡◌, ◌<◌, ◌⊎◌, ℕ, length, 
 ghost use Rattle.messages.specs.Field.{four, Unsigned};
 ghost use Rattle.messages.specs.Format.{one, times};
 ghost use Rattle.messages.specs.Letters.{flag, no_flags, truncate_options, identity, new_tuple_follows, tag};
-ghost use Rattle.messages.specs.Messages.{xid_in, text, column, tuple, old_tuple, optional_old_tuple, begin, commit, origin, relation_column, relation_columns, relation, type_name, insert, update, delete, truncate, content, logical_message, stream_start, stream_commit, stream_abort, message, Spelled, Stands};
+ghost use Rattle.messages.specs.Messages.{xid_in, text, column, tuple, old_tuple, optional_old_tuple, begin, commit, origin, relation_column, relation_columns, relation, type_name, insert, update, delete, truncate, content, logical_message, stream_start, stream_commit, stream_abort, message, Spelled, Stands, HasXid};
 ghost use Rattle.messages.specs.Reading.{Gives, GivesBy, IsReading, read, read_all};
 ghost use Rattle.messages.specs.declared.fault.MsgFault.{MsgFault};
 ghost use Rattle.messages.specs.declared.fault.MsgFault.TheVariants.{OutOfMemory};
@@ -34,6 +34,8 @@ use std::alloc::Global;
 /// field come last. A refusal changes nothing.
 pub fn decode(alloc: Global, payload: &Bytes, in_block: bool) -> Result<Message, MsgFault>
     ensures spelled { IfOk result (λ m. Spelled payload.now in_block m) }
+    // A message that names its transaction only in a block names it exactly there.
+    ensures xid { IfOk result (λ m. HasXid in_block m) }
     // What is spelled is answered, unless memory is refused.
     ensures only { (m : Message) → Spelled payload.now in_block m
         → (result ≡ Ok m) ⊎ (result ≡ Err OutOfMemory) }
@@ -49,8 +51,7 @@ pub fn decode(alloc: Global, payload: &Bytes, in_block: bool) -> Result<Message,
 /// Tells a proof that the bytes are below 256, which it knows of slices alone.
 fn are_bytes(bytes: &[u8])
     ensures { (i : ℕ) → slice_index bytes.now i < 256 }
-{
-}
+{}
 
 fn read_payload(alloc: Global, payload: &Bytes, in_block: bool) -> Result<Message, MsgFault>
     ensures { IsReading result (read_all (message in_block) payload.now) }
@@ -188,7 +189,9 @@ fn read_columns(alloc: Global, count: u16, cursor: &mut Cursor) -> Result<Vec<Co
     ensures read { GivesBy (λ v. v.items) result cursor.new (read (times count column) cursor.old) }
     ensures len { IfOk result (λ v. length v.items ≡ count) }
 {
-    let mut columns = Vec::new(alloc);
+    // Each column takes a byte at least.
+    let room = cursor.unread().len().min(count as usize);
+    let mut columns = Vec::with_capacity(alloc, room)?;
     for _ in 0..count {
         let column = read_column(cursor)?;
         columns.push(column)?;
@@ -217,10 +220,7 @@ fn read_old_tuple(alloc: Global, cursor: &mut Cursor) -> Result<OldTuple, MsgFau
 }
 
 #[tactic(auto, unfolding(crate::specs::Messages::optional_old_tuple, crate::specs::Reading::byte_at))]
-fn read_optional_old_tuple(
-    alloc: Global,
-    cursor: &mut Cursor,
-) -> Result<Option<OldTuple>, MsgFault>
+fn read_optional_old_tuple(alloc: Global, cursor: &mut Cursor) -> Result<Option<OldTuple>, MsgFault>
     ensures { Gives result cursor.new (read optional_old_tuple cursor.old) }
 {
     match cursor.next_byte()? {

@@ -3,8 +3,8 @@
 ghost use Rattle.std.specs.Prelude.{◌≡◌, ◌<◌, ◌^◌, ◌++◌, ℕ, List, length, IfSome, is_some, OnOk, OnErr, IfErr};
 ghost use Rattle.std.specs.List.{All, flat_map};
 ghost use Rattle.messages.specs.Field.{two, four, eight, IsName, number_bytes};
-ghost use Rattle.messages.specs.Messages.{begin, commit, origin, relation_column, relation_columns, relation, type_name, column, tuple, old_tuple, optional_old_tuple, insert, update, delete, truncate, logical_message, stream_start, stream_commit, stream_abort, message, Spelled};
-ghost use Rattle.messages.specs.Writing.{Says, HasXid, signed_bytes, flag_bytes, string_bytes, identity_bytes, options_bytes, xid_bytes, column_bytes, tuple_bytes, old_tuple_bytes, optional_old_tuple_bytes, begin_bytes, commit_bytes, origin_bytes, relation_column_bytes, relation_columns_bytes, relation_bytes, type_name_bytes, insert_bytes, update_bytes, delete_bytes, relations_bytes, truncate_bytes, content_bytes, logical_message_bytes, stream_start_bytes, stream_commit_bytes, stream_abort_bytes, message_bytes};
+ghost use Rattle.messages.specs.Messages.{begin, commit, origin, relation_column, relation_columns, relation, type_name, column, tuple, old_tuple, optional_old_tuple, insert, update, delete, truncate, logical_message, stream_start, stream_commit, stream_abort, message, Spelled, HasXid};
+ghost use Rattle.messages.specs.Writing.{Says, signed_bytes, flag_bytes, string_bytes, identity_bytes, options_bytes, xid_bytes, column_bytes, tuple_bytes, old_tuple_bytes, optional_old_tuple_bytes, begin_bytes, commit_bytes, origin_bytes, relation_column_bytes, relation_columns_bytes, relation_bytes, type_name_bytes, insert_bytes, update_bytes, delete_bytes, relations_bytes, truncate_bytes, content_bytes, logical_message_bytes, stream_start_bytes, stream_commit_bytes, stream_abort_bytes, message_bytes};
 ghost use Rattle.messages.specs.declared.fault.MsgFault.TheVariants.{OutOfMemory};
 
 use crate::fault::MsgFault;
@@ -452,12 +452,7 @@ fn put_message(out: &mut Vec<u8>, m: &Message, in_block: bool) -> Result<(), All
 /// owes that the xid of a change is there exactly in a block.
 ///
 /// Memory alone is refused, and then `out` stays as it was.
-pub fn encode(
-    alloc: Global,
-    m: &Message,
-    in_block: bool,
-    out: &mut Vec<u8>,
-) -> Result<(), MsgFault>
+pub fn encode(alloc: Global, m: &Message, in_block: bool, out: &mut Vec<u8>) -> Result<(), MsgFault>
     requires { HasXid in_block m.now }
     ensures ok { OnOk result ((payload : List ℕ)
         × Spelled payload in_block m.now × (out.new.items ≡ out.old.items ++ payload)) }

@@ -35,16 +35,9 @@ pub struct Delete {
 /// What a change says of its row, without the transaction and the relation.
 #[derive(Debug, Drop)]
 pub enum RowMessage {
-    Insert {
-        new: Tuple,
-    },
-    Update {
-        old: Option<OldTuple>,
-        new: Tuple,
-    },
-    Delete {
-        old: OldTuple,
-    },
+    Insert { new: Tuple },
+    Update { old: Option<OldTuple>, new: Tuple },
+    Delete { old: OldTuple },
 }
 
 impl Insert {

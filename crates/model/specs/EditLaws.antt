@@ -167,7 +167,7 @@ overlay_two rows q later row new = overlay_more rows (one_edit q row) later new 
 
 -- ---- what stood at no place, at one and at two
 
-same_edits : (edits others : Edits) → ((p : Place) → get edits p ≡ get others p) → edits ≡ others
+pub same_edits : (edits others : Edits) → ((p : Place) → get edits p ≡ get others p) → edits ≡ others
 same_edits = same_map place_cmp_total place_cmp_exact
 
 pub stood_empty : (rows : Rows) → stood rows map_of.empty ≡ map_of.empty

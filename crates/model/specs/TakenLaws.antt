@@ -156,3 +156,12 @@ first_taken_none rows table row number (first ∷ rest) none zero columns at =
     subst (λ (c : List ℕ). is_taken rows table c (values_in c row) ≡ false) same (no_first _ _ _ none)
 first_taken_none rows table row number (first ∷ rest) none (suc i) columns at =
     first_taken_none rows table row (suc number) rest (no_rest _ _ _ none) i columns at
+
+-- none of them is taken, so none clashes
+pub first_taken_free : (rows : Rows) (table : ℕ) (row : Row) (number : ℕ) (uniques : List (List ℕ))
+    → ((i : ℕ) (columns : List ℕ) → slice_get uniques i ≡ Some columns → is_taken rows table columns (values_in columns row) ≡ false)
+    → first_taken rows table row number uniques ≡ None
+first_taken_free rows table row number [] free = refl
+first_taken_free rows table row number (first ∷ rest) free =
+    ap (λ b. if b then Some number else first_taken rows table row (suc number) rest) (free 0 first refl)
+    ∙ first_taken_free rows table row (suc number) rest (λ i columns at. free (suc i) columns at)

@@ -1,17 +1,18 @@
 -- What keeps rows valid.
 --     valid_empty, valid_fewer      no rows, and some of valid rows
 --     valid_insert      with a row at its own key, whose unique values no other row of its table has
---     is_own_key, has_unique_key      what validity says of one row, and of two
-use Rattle.std.specs.Prelude.{◌≡◌, ℕ, Bool, true, false, cond, List, Option, Some, None, slice_get}
+--     own_key_of_valid, free_of_valid      what a row needs that is put back into rows that are valid with it
+use Rattle.std.specs.Prelude.{refl, ◌≡◌, ℕ, Bool, true, false, cond, List, Option, Some, None, slice_get}
 use Rattle.std.proofs.Common.{sym, ◌∙◌, ap, inl, inr}
 use Rattle.std.specs.FinMap as map
 use Rattle.std.specs.FinMap.{get, insert, remove, get-empty}
 use Rattle.model.specs.declared.row.Row.{Row}
 use Rattle.model.specs.declared.key.Key.{Key}
-use Rattle.model.specs.Rows.{Place, Rows, Schema, place_cmp, keys_at, values_in, key_of, IsUnique, IsValid}
+use Rattle.model.specs.Rows.{Place, Rows, Schema, place_cmp, keys_at, values_in, key_of, taken, IsUnique, IsValid}
 use Rattle.model.specs.Effect.{is_taken, first_taken}
 use Rattle.model.specs.EditLaws.{is_place, place_cases, get_insert_same, get_insert_other, get_remove}
-use Rattle.model.specs.TakenLaws.{not_taken_row, first_taken_none}
+use Rattle.std.proofs.lemmas.Bool.{cases_Bool}
+use Rattle.model.specs.TakenLaws.{TakenBy, not_taken_row, row_of_taken, first_taken_none, first_taken_free}
 
 not_none : {X : Type 0} (x : X) → ¬ (None ≡ Some x)
 not_none x e = cc
@@ -112,3 +113,36 @@ module _ (schema : Schema) (rows : Rows) (table : ℕ) (key : Key) (row : Row) (
 
   pub valid_insert : IsValid schema more
   valid_insert = record { own_key = own_key_insert; unique = unique_insert }
+
+-- ---- with a row put back
+
+module _ (schema : Schema) (rows : Rows) (table : ℕ) (key : Key) (row : Row) (valid : IsValid schema (insert rows (table, key) row)) where
+  pub own_key_of_valid : key_of schema table row ≡ Some key
+  own_key_of_valid = valid.own_key table key row (get_insert_same rows (table, key) row)
+
+  -- at the row's own key no row stands without it, so a row with its values stands elsewhere, and there is none
+  no_twin : get rows (table, key) ≡ None → (i : ℕ) (columns : List ℕ) (values : Key) → slice_get (keys_at schema table).uniques i ≡ Some columns
+      → values_in columns row ≡ Some values → ¬ (taken rows table columns values ≡ true)
+  no_twin free i columns values is_unique has is_taken =
+      let twin = row_of_taken rows table columns values is_taken in
+      elim (place_cases (table, twin.key) (table, key)) [
+        | inl is ↦ absurd (not_none twin.row (sym free ∙ ap (get rows) (sym is) ∙ twin.at))
+        | inr other ↦
+            let same : key ≡ twin.key = valid.unique table i columns key twin.key row twin.row values is_unique
+              (get_insert_same rows (table, key) row) (get_insert_other rows (table, key) row (table, twin.key) other ∙ twin.at) has twin.has in
+            absurd (not_none twin.row (sym free ∙ ap (λ (k : Key). get rows (table, k)) same ∙ twin.at))
+      ]
+
+  free_in_each : get rows (table, key) ≡ None → (i : ℕ) (columns : List ℕ) → slice_get (keys_at schema table).uniques i ≡ Some columns
+      → (values : Option Key) → values_in columns row ≡ values → is_taken rows table columns values ≡ false
+  free_in_each free i columns is_unique None has = refl
+  free_in_each free i columns is_unique (Some values) has =
+      elim (cases_Bool (taken rows table columns values)) [
+        | inl is ↦ absurd (no_twin free i columns values is_unique has is)
+        | inr is ↦ is
+      ]
+
+  pub free_of_valid : get rows (table, key) ≡ None → first_taken rows table row 1 (keys_at schema table).uniques ≡ None
+  free_of_valid free =
+      first_taken_free rows table row 1 (keys_at schema table).uniques
+      (λ i columns at. free_in_each free i columns at (values_in columns row) refl)

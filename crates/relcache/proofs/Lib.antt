@@ -1,4 +1,5 @@
 pub mod Each
+pub mod Fitting
 pub mod Lookup
 pub mod Numbers
 pub mod Planned

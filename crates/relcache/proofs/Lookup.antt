@@ -51,30 +51,30 @@ module _ (fields : List Field) (tuple : List Column) where
   -- the next field, opened
   next : (i : ℕ) (before : List Value) (has_null : Bool) (d : Field) → i < length fields → KeySoFar fields tuple i before has_null → lookup_key fields tuple ≡ key_from before has_null (with_next (field_value tuple (get_or fields i d)) (each (field_value tuple) (drop (i + 1) fields)))
   next i before has_null d within so_far =
-    so_far
-    ∙ ap (key_from before has_null) (at_drop_more (each (field_value tuple)) fields i d within)
+      so_far
+      ∙ ap (key_from before has_null) (at_drop_more (each (field_value tuple)) fields i d within)
 
   pub KeySoFar-value : (i : ℕ) (before : List Value) (has_null : Bool) (d : Field) (v : Value) → i < length fields → ok_or (field_value tuple (get_or fields i d)) BadValue ≡ Ok (Some v) → KeySoFar fields tuple i before has_null → KeySoFar fields tuple (i + 1) (before ++ v ∷ []) has_null
   KeySoFar-value i before has_null d v within gives so_far =
-    next i before has_null d within so_far
-    ∙ ap (λ o. key_from before has_null (with_next o (each (field_value tuple) (drop (i + 1) fields)))) (some_from_ok (field_value tuple (get_or fields i d)) BadValue (Some v) gives)
-    ∙ value_next before has_null v (each (field_value tuple) (drop (i + 1) fields))
+      next i before has_null d within so_far
+      ∙ ap (λ o. key_from before has_null (with_next o (each (field_value tuple) (drop (i + 1) fields)))) (some_from_ok (field_value tuple (get_or fields i d)) BadValue (Some v) gives)
+      ∙ value_next before has_null v (each (field_value tuple) (drop (i + 1) fields))
 
   pub KeySoFar-null : (i : ℕ) (before : List Value) (has_null : Bool) (d : Field) → i < length fields → ok_or (field_value tuple (get_or fields i d)) BadValue ≡ Ok None → KeySoFar fields tuple i before has_null → KeySoFar fields tuple (i + 1) before true
   KeySoFar-null i before has_null d within gives so_far =
-    next i before has_null d within so_far
-    ∙ ap (λ o. key_from before has_null (with_next o (each (field_value tuple) (drop (i + 1) fields)))) (some_from_ok (field_value tuple (get_or fields i d)) BadValue None gives)
-    ∙ null_next before has_null (each (field_value tuple) (drop (i + 1) fields))
+      next i before has_null d within so_far
+      ∙ ap (λ o. key_from before has_null (with_next o (each (field_value tuple) (drop (i + 1) fields)))) (some_from_ok (field_value tuple (get_or fields i d)) BadValue None gives)
+      ∙ null_next before has_null (each (field_value tuple) (drop (i + 1) fields))
 
   pub KeySoFar-fault : (i : ℕ) (before : List Value) (has_null : Bool) (d : Field) (e : RelFault) → i < length fields → IsFaultOf (ok_or (field_value tuple (get_or fields i d)) BadValue) e → KeySoFar fields tuple i before has_null → IsFaultOf (lookup_key fields tuple) e
   KeySoFar-fault i before has_null d e within refused so_far = λ other.
-    let none = none_from_err (field_value tuple (get_or fields i d)) BadValue e (refused other) in
-    next i before has_null d within so_far
-    ∙ ap (λ o. key_from before has_null (with_next o (each (field_value tuple) (drop (i + 1) fields)))) none.0
-    ∙ ap Err none.1
+      let none = none_from_err (field_value tuple (get_or fields i d)) BadValue e (refused other) in
+      next i before has_null d within so_far
+      ∙ ap (λ o. key_from before has_null (with_next o (each (field_value tuple) (drop (i + 1) fields)))) none.0
+      ∙ ap Err none.1
 
   pub KeySoFar-all : (i : ℕ) (before : List Value) → length fields ≤ i → KeySoFar fields tuple i before false → lookup_key fields tuple ≡ Ok before
   KeySoFar-all i before past so_far =
-    so_far
-    ∙ ap (key_from before false) (at_drop_all (each (field_value tuple)) fields i past)
-    ∙ ap Ok (append-nil before)
+      so_far
+      ∙ ap (key_from before false) (at_drop_all (each (field_value tuple)) fields i past)
+      ∙ ap Ok (append-nil before)

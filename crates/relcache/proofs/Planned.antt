@@ -32,8 +32,8 @@ module _ (m : Mapped) (new : List Column) (count : counted m new ≡ Ok tt) wher
 module _ (m : Mapped) (lookup new : List Column) (fields : List Field) (key_sent : ok_or m.key KeyNotSent ≡ Ok fields) (lookup_count : counted m lookup ≡ Ok tt) (count : counted m new ≡ Ok tt) where
   pub planned_update-patch_fault : (e : RelFault) → IsFaultOf (ok_or (each (column_patch new) m.columns) BadValue) e → IsFaultOf (planned_update m lookup new) e
   planned_update-patch_fault e read = λ other.
-    after _ fields _ key_sent ∙ after _ tt _ lookup_count ∙ after _ tt _ count ∙ refused _ e _ (read other)
+      after _ fields _ key_sent ∙ after _ tt _ lookup_count ∙ after _ tt _ count ∙ refused _ e _ (read other)
 
   pub planned_update-key_fault : (patch : List ColumnPatch) (e : RelFault) → ok_or (each (column_patch new) m.columns) BadValue ≡ Ok patch → IsFaultOf (lookup_key fields lookup) e → IsFaultOf (planned_update m lookup new) e
   planned_update-key_fault patch e read looked_up = λ other.
-    after _ fields _ key_sent ∙ after _ tt _ lookup_count ∙ after _ tt _ count ∙ after _ patch _ read ∙ refused _ e _ (looked_up other)
+      after _ fields _ key_sent ∙ after _ tt _ lookup_count ∙ after _ tt _ count ∙ after _ patch _ read ∙ refused _ e _ (looked_up other)

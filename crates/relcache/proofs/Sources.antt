@@ -16,13 +16,13 @@ module _ (sent : List PublishedColumn) where
   opened (c ∷ cs) [] zero x within at = ap (λ y. source_of sent y None ∷ sources_of sent cs []) (sym at)
   opened (c ∷ cs) (d ∷ ds) zero x within at = ap (λ y. source_of sent y d ∷ sources_of sent cs ds) (sym at)
   opened (c ∷ cs) [] (suc i) x within at =
-    let rest = opened cs [] i x (omega arith) at in
-    rw drop-nil at rest
+      let rest = opened cs [] i x (omega arith) at in
+      rw drop-nil at rest
   opened (c ∷ cs) (d ∷ ds) (suc i) x within at = opened cs ds i x (omega arith) at
 
   pub sources_of-next : (columns : List Column) (defaults : List (Option Value)) (i : ℕ) (x : Column) (before all : List ColumnSource) → i < length columns → x ≡ get_or columns i x → all ≡ before ++ sources_of sent (drop i columns) (drop i defaults) → all ≡ (before ++ source_of sent x (option_flatten (slice_get defaults i)) ∷ []) ++ sources_of sent (drop (i + 1) columns) (drop (i + 1) defaults)
   sources_of-next columns defaults i x before all within at so_far =
-    rw add-one
-    (so_far
-    ∙ ap (λ rest. before ++ rest) (opened columns defaults i x within at)
-    ∙ sym (append_assoc before (source_of sent x (option_flatten (slice_get defaults i)) ∷ []) (sources_of sent (drop (suc i) columns) (drop (suc i) defaults))))
+      rw add-one
+      (so_far
+      ∙ ap (λ rest. before ++ rest) (opened columns defaults i x within at)
+      ∙ sym (append_assoc before (source_of sent x (option_flatten (slice_get defaults i)) ∷ []) (sources_of sent (drop (suc i) columns) (drop (suc i) defaults))))

@@ -1,6 +1,7 @@
 pub mod Published
 pub mod Steps
 pub mod Mapping
-pub mod Answer
 pub mod Values
 pub mod Planning
+pub mod Fits
+pub mod Answer

@@ -13,7 +13,7 @@ use Rattle.relcache.specs.declared.mapping.Field.{Field}
 use Rattle.relcache.specs.declared.mapping.ColumnSource.{ColumnSource}
 use Rattle.relcache.specs.declared.mapping.ColumnSource.TheVariants.{Sent, Default}
 use Rattle.relcache.specs.Published.{Published, Relations, relation_of}
-use Rattle.relcache.specs.Steps.{◌>>=◌, unless, each}
+use Rattle.relcache.specs.Steps.{◌>>=◌, require, each}
 
 -- What planning a row needs of a table: its place in the catalog; how many columns are published; for
 -- each column of the table, in its order, where its value comes from; and the fields of the primary
@@ -98,14 +98,15 @@ mapped r t = record {
   table = t.0;
   published = length r.columns;
   columns = sources_of r.columns t.1.columns t.1.defaults;
-  key = key_of r.columns t.1 }
+  key = key_of r.columns t.1;
+}
 
 -- the mapping of a relation: there is its table, which has all published columns, and none is named twice
 abbrev pub map_relation : List Definition → Published → Result Mapped RelFault
 map_relation definitions r = do
   t ← ok_or (table_of r definitions) TableMissing
-  found ← unless (not (list_all (has_column t.1.columns) r.columns)) ColumnMissing
-  once ← unless (has_twice r.columns) ColumnCount
+  found ← require (list_all (has_column t.1.columns) r.columns) ColumnMissing
+  once ← require (not (has_twice r.columns)) ColumnCount
   Ok (mapped r t)
 
 -- The mapping of an OID's relation, or the first of these faults: no relation was learnt for it, there is

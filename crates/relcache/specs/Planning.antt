@@ -4,8 +4,8 @@ use Rattle.messages.specs.declared.tuple.Column.{Column}
 use Rattle.messages.specs.declared.tuple.Column.TheVariants.{Null, Unchanged, Text}
 use Rattle.messages.specs.declared.tuple.OldTuple.{OldTuple}
 use Rattle.messages.specs.declared.tuple.OldTuple.TheVariants.{Key as OldKey, Full as OldRow}
-use Rattle.messages.specs.declared.tuple.RowMessage.{RowMessage}
-use Rattle.messages.specs.declared.tuple.RowMessage.TheVariants.{Insert, Update, Delete}
+use Rattle.messages.specs.declared.row.RowMessage.{RowMessage}
+use Rattle.messages.specs.declared.row.RowMessage.TheVariants.{Insert, Update, Delete}
 use Rattle.model.specs.declared.table_def.ColumnType.{ColumnType}
 use Rattle.model.specs.declared.value.Value.{Value}
 use Rattle.model.specs.declared.change.Change.{Change}
@@ -18,7 +18,7 @@ use Rattle.relcache.specs.declared.mapping.Field.{Field}
 use Rattle.relcache.specs.declared.mapping.ColumnSource.{ColumnSource}
 use Rattle.relcache.specs.declared.mapping.ColumnSource.TheVariants.{Sent, Default}
 use Rattle.relcache.specs.Mapping.{Mapped}
-use Rattle.relcache.specs.Steps.{◌>>=◌, unless, each}
+use Rattle.relcache.specs.Steps.{◌>>=◌, require, each}
 use Rattle.relcache.specs.Values.{value_of}
 
 -- ---- what a tuple says
@@ -81,7 +81,7 @@ lookup_tuple (Some old) new = old_columns old
 
 -- refused where a tuple has another number of columns than the relation
 abbrev pub counted : Mapped → List Column → Result (Unit {0}) RelFault
-counted m tuple = unless (not (length tuple == m.published)) ColumnCount
+counted m tuple = require (length tuple == m.published) ColumnCount
 
 abbrev pub planned_insert : Mapped → List Column → Result Change RelFault
 planned_insert m new = do

@@ -2,8 +2,8 @@
 use Rattle.std.specs.Prelude.{ℕ, List, map, Option, nat_eq}
 use Rattle.std.specs.Map.{lookup}
 use Rattle.indexmap.specs.IndexMap.{insert_entry}
-use Rattle.messages.specs.declared.message.Relation.{Relation}
-use Rattle.messages.specs.declared.message.RelationColumn.{RelationColumn}
+use Rattle.messages.specs.declared.relation.Relation.{Relation}
+use Rattle.messages.specs.declared.relation.RelationColumn.{RelationColumn}
 use Rattle.relcache.specs.declared.published.PublishedColumn.{PublishedColumn}
 
 -- The names of a relation, and its columns in the publisher's order, each with its name and whether

@@ -8,10 +8,10 @@ abbrev pub ◌>>=◌ : {A B : Type 0} → Result A RelFault → (A → Result B 
 (Ok x) >>= next = next x
 (Err fault) >>= next = Err fault
 
--- refused with the fault where the test passes
-abbrev pub unless : Bool → RelFault → Result (Unit {0}) RelFault
-unless false fault = Ok tt
-unless true fault = Err fault
+-- refused with the fault where the test fails
+abbrev pub require : Bool → RelFault → Result (Unit {0}) RelFault
+require true fault = Ok tt
+require false fault = Err fault
 
 -- what f gives for each element, in order, if it gives something for all of them
 abbrev pub each : {A B : Type 0} → (A → Option B) → List A → Option (List B)

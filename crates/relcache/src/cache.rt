@@ -35,6 +35,7 @@ impl Model for RelCache {
 
 impl RelCache {
     ghost use Rattle.relcache.specs.Answer.{Answers, IsFaultOf};
+    ghost use Rattle.relcache.specs.Fits.{FitsCatalog};
     ghost use Rattle.relcache.specs.Mapping.{resolved};
     ghost use Rattle.relcache.specs.Published.{learnt};
 
@@ -71,25 +72,16 @@ impl RelCache {
     /// table; ColumnMissing, where a published column is not in it; ColumnCount, where the relation
     /// names a column twice. OutOfMemory may stand in place of any answer. (PostgreSQL manual: Logical
     /// Replication, Subscription.)
-    pub fn resolve(
-        &self,
-        alloc: Global,
-        cat: &Catalog,
-        oid: Oid,
-    ) -> Result<Arc<Mapping>, RelFault>
+    pub fn resolve(&self, alloc: Global, cat: &Catalog, oid: Oid) -> Result<Arc<Mapping>, RelFault>
         ensures mapping { IfOk result (λ m. resolved cat.now self.now oid ≡ Ok (arc_value m)) }
         ensures fault { IfErr result (IsFaultOf (resolved cat.now self.now oid)) }
+        ensures fits { IfOk result (λ m. FitsCatalog cat.now (arc_value m)) }
     {
         let mapping = self.mapping_of(alloc, cat.tables(), oid)?;
         Ok(Arc::new(alloc, mapping)?)
     }
 
-    fn mapping_of(
-        &self,
-        alloc: Global,
-        tables: &[TableDef],
-        oid: Oid,
-    ) -> Result<Mapping, RelFault>
+    fn mapping_of(&self, alloc: Global, tables: &[TableDef], oid: Oid) -> Result<Mapping, RelFault>
         ensures { Answers result (resolved tables.now self.now oid) }
     {
         match self.relations.get(&oid) {

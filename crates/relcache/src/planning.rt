@@ -1,10 +1,11 @@
 // The change that a row message asks for.
 
-ghost use Rattle.std.specs.Prelude.{◌≡◌, ok_or, List};
+ghost use Rattle.std.specs.Prelude.{◌≡◌, ok_or, List, IfOk, IfErr};
 ghost use Rattle.std.specs.Borrow.{Bor};
 ghost use Rattle.std.specs.Result.{result_map_both};
 ghost use Rattle.relcache.specs.declared.mapping.Field.{Field};
-ghost use Rattle.relcache.specs.Answer.{Answers};
+ghost use Rattle.relcache.specs.Answer.{Answers, IsFaultOf};
+ghost use Rattle.relcache.specs.Fits.{FitsMapping};
 ghost use Rattle.relcache.specs.Planning as spec;
 ghost use Rattle.relcache.specs.declared.fault.RelFault.TheVariants.{KeyNotSent};
 
@@ -29,13 +30,22 @@ use std::alloc::Global;
 /// column of an insert or of the looked-up key is sent as unchanged; NullKey, where the looked-up key
 /// holds a null. OutOfMemory may stand in place of any answer. Texts are shared, not copied.
 pub fn plan(alloc: Global, m: &Mapping, row: &RowMessage) -> Result<Change, RelFault>
+    ensures change { IfOk result (λ change. spec.planned m.now row.now ≡ Ok change) }
+    ensures fault { IfErr result (IsFaultOf (spec.planned m.now row.now)) }
+    ensures fits { IfOk result (FitsMapping m.now) }
+{
+    plan_row(alloc, m, row)
+}
+
+fn plan_row(alloc: Global, m: &Mapping, row: &RowMessage) -> Result<Change, RelFault>
     ensures { Answers result (spec.planned m.now row.now) }
 {
     match row {
         RowMessage::Insert { new } => plan_insert(alloc, m, new),
-        RowMessage::Update { old: Some(old), new } => {
-            plan_update(alloc, m, old_tuple(old), new)
-        }
+        RowMessage::Update {
+            old: Some(old),
+            new,
+        } => { plan_update(alloc, m, old_tuple(old), new) }
         RowMessage::Update { old: None, new } => plan_update(alloc, m, new, new),
         RowMessage::Delete { old } => plan_delete(alloc, m, old_tuple(old)),
     }
@@ -62,12 +72,7 @@ fn plan_insert(alloc: Global, m: &Mapping, new: &Tuple) -> Result<Change, RelFau
     })
 }
 
-fn plan_update(
-    alloc: Global,
-    m: &Mapping,
-    lookup: &Tuple,
-    new: &Tuple,
-) -> Result<Change, RelFault>
+fn plan_update(alloc: Global, m: &Mapping, lookup: &Tuple, new: &Tuple) -> Result<Change, RelFault>
     ensures { Answers result (spec.planned_update m.now lookup.now new.now) }
 {
     let fields = key_fields(m)?;

@@ -66,10 +66,10 @@ before_mark-unmarked sub (m ∷ marks) e =
 -- ---- one more item
 
 -- noting a mark of the subtransaction itself
-mark_at-noted_same : {M : Type 0} (sub : ℕ) (mark : M) (marks : List (ℕ × M)) → is_some (mark_at sub marks) ≡ false → mark_at sub (noted sub mark marks) ≡ Some mark
+pub mark_at-noted_same : {M : Type 0} (sub : ℕ) (mark : M) (marks : List (ℕ × M)) → is_some (mark_at sub marks) ≡ false → mark_at sub (noted sub mark marks) ≡ Some mark
 mark_at-noted_same {M} sub mark marks e = rw e (mark_at-append_unmarked sub marks ((sub, mark) ∷ []) e ∙ rw (eq-eqb sub sub refl))
 
-before_mark-noted_same : {M : Type 0} (sub : ℕ) (mark : M) (marks : List (ℕ × M)) → is_some (mark_at sub marks) ≡ false → before_mark sub (noted sub mark marks) ≡ marks
+pub before_mark-noted_same : {M : Type 0} (sub : ℕ) (mark : M) (marks : List (ℕ × M)) → is_some (mark_at sub marks) ≡ false → before_mark sub (noted sub mark marks) ≡ marks
 before_mark-noted_same {M} sub mark marks e = rw e (before_mark-append_unmarked sub marks ((sub, mark) ∷ []) e ∙ rw (before_mark-named sub (sub, mark) [] (eq-eqb sub sub refl)) (append-nil marks))
 
 -- a mark that is there stays, whatever is noted
@@ -191,7 +191,7 @@ IsNumbered place n (i ∷ items) = (place i.1 ≡ n) × IsNumbered place (suc n)
 abbrev pub count_before_first : {M : Type 0} → ℕ → List (Item × M) → ℕ
 count_before_first {M} sub items = prefix_len (λ (i : Item × M). not (is_of sub i.0)) items
 
-first_mark-place : {M : Type 0} (place : M → ℕ) (n sub : ℕ) (items : List (Item × M)) (mark : M) → IsNumbered place n items → first_mark sub items ≡ Some mark → place mark ≡ n + count_before_first sub items
+pub first_mark-place : {M : Type 0} (place : M → ℕ) (n sub : ℕ) (items : List (Item × M)) (mark : M) → IsNumbered place n items → first_mark sub items ≡ Some mark → place mark ≡ n + count_before_first sub items
 first_mark-place place n sub [] mark h e = cc
 first_mark-place {M} place n sub (i ∷ items) mark h e =
     ⊎_elim

@@ -8,11 +8,11 @@ use Rattle.messages.proofs.decoding.read_columns.Goals as goal
 
 pub returns-in_err-column-clause-read : goal.returns-in_err-column-clause-read
 returns-in_err-column-clause-read c =
-    let p = err_from_is_err_and c.from_residual.result c.from_residual.ensures.1 in
+    let p = err_from_is_err_and c.from_residual-in_err-column.result c.from_residual-in_err-column.ensures.1 in
     rw (p.1, p.2) (ends column c.loop.columns.items c.args.count c.loop.counter c.loop.cursor c.in_err-column.field-0.0 (read (times c.args.count column) c.args.cursor.now) c.loop-test.true c.in_err-column.ensures c.loop.invariant.so_far)
 
 pub loop-preserved : goal.loop-preserved
 loop-preserved c = record {
-    so_far = rw c.in_ok-push.ensures.items (goes_on column c.loop.columns.items c.args.count c.loop.counter c.loop.cursor c.in_ok-column.column c.read_column.new.cursor (read (times c.args.count column) c.args.cursor.now) c.loop-test.true c.in_ok-column.ensures c.loop.invariant.so_far);
-    len = rw c.in_ok-push.ensures.items (omega (arith, length-append c.loop.columns.items (c.in_ok-column.column ∷ []), c.loop.invariant.len));
-  }
+  so_far = rw c.in_ok-push.ensures.items (goes_on column c.loop.columns.items c.args.count c.loop.counter c.loop.cursor c.in_ok-column.column c.read_column.new.cursor (read (times c.args.count column) c.args.cursor.now) c.loop-test.true c.in_ok-column.ensures c.loop.invariant.so_far);
+  len = rw c.in_ok-push.ensures.items (omega (arith, length-append c.loop.columns.items (c.in_ok-column.column ∷ []), c.loop.invariant.len));
+}

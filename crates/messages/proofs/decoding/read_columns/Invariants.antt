@@ -7,6 +7,6 @@ use Rattle.messages.proofs.decoding.read_columns.Given as goal
 
 abbrev pub invariant-loop : goal.invariant-loop
 invariant-loop l = record {
-    so_far : with_front l.columns.items (read (times (l.count - l.counter) column) l.cursor) ≡ read (times l.count column) l.fn.cursor;
-    len : length l.columns.items ≡ l.counter;
-  }
+  so_far : with_front l.columns.items (read (times (l.count - l.counter) column) l.cursor) ≡ read (times l.count column) l.fn.cursor;
+  len : length l.columns.items ≡ l.counter;
+}

@@ -13,6 +13,6 @@ returns-in_err-oid-clause-read c =
 
 pub loop-preserved : goal.loop-preserved
 loop-preserved c = record {
-    so_far = rw c.in_ok-push.ensures.items (goes_on (one (Unsigned four)) c.loop.oids.items c.args.count c.loop.counter c.loop.cursor c.in_ok-oid.oid c.next_u32.new.self (read (times c.args.count (one (Unsigned four))) c.args.cursor.now) c.loop-test.true c.in_ok-oid.ensures c.loop.invariant.so_far);
-    len = rw c.in_ok-push.ensures.items (omega (arith, length-append c.loop.oids.items (c.in_ok-oid.oid ∷ []), c.loop.invariant.len));
-  }
+  so_far = rw c.in_ok-push.ensures.items (goes_on (one (Unsigned four)) c.loop.oids.items c.args.count c.loop.counter c.loop.cursor c.in_ok-oid.oid c.next_u32.new.self (read (times c.args.count (one (Unsigned four))) c.args.cursor.now) c.loop-test.true c.in_ok-oid.ensures c.loop.invariant.so_far);
+  len = rw c.in_ok-push.ensures.items (omega (arith, length-append c.loop.oids.items (c.in_ok-oid.oid ∷ []), c.loop.invariant.len));
+}

@@ -7,6 +7,6 @@ use Rattle.messages.proofs.decoding.read_oids.Given as goal
 
 abbrev pub invariant-loop : goal.invariant-loop
 invariant-loop l = record {
-    so_far : with_front l.oids.items (read (times (l.count - l.counter) (one (Unsigned four))) l.cursor) ≡ read (times l.count (one (Unsigned four))) l.fn.cursor;
-    len : length l.oids.items ≡ l.counter;
-  }
+  so_far : with_front l.oids.items (read (times (l.count - l.counter) (one (Unsigned four))) l.cursor) ≡ read (times l.count (one (Unsigned four))) l.fn.cursor;
+  len : length l.oids.items ≡ l.counter;
+}

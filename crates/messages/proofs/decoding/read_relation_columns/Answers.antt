@@ -13,6 +13,6 @@ returns-in_err-column-clause-read c =
 
 pub loop-preserved : goal.loop-preserved
 loop-preserved c = record {
-    so_far = rw c.in_ok-push.ensures.items (goes_on relation_column c.loop.columns.items c.args.count c.loop.counter c.loop.cursor c.in_ok-column.column c.read_relation_column.new.cursor (read (times c.args.count relation_column) c.args.cursor.now) c.loop-test.true c.in_ok-column.ensures c.loop.invariant.so_far);
-    len = rw c.in_ok-push.ensures.items (omega (arith, length-append c.loop.columns.items (c.in_ok-column.column ∷ []), c.loop.invariant.len));
-  }
+  so_far = rw c.in_ok-push.ensures.items (goes_on relation_column c.loop.columns.items c.args.count c.loop.counter c.loop.cursor c.in_ok-column.column c.read_relation_column.new.cursor (read (times c.args.count relation_column) c.args.cursor.now) c.loop-test.true c.in_ok-column.ensures c.loop.invariant.so_far);
+  len = rw c.in_ok-push.ensures.items (omega (arith, length-append c.loop.columns.items (c.in_ok-column.column ∷ []), c.loop.invariant.len));
+}

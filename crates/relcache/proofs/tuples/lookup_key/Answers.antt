@@ -11,9 +11,10 @@ returns-in_err-value c =
 pub loop-field-preserved : goal.loop-field-preserved
 loop-field-preserved c =
     elim c.match-branch-3.branch [
-      in-Some+in_ok-push-in-Some w ↦
-        let gives = rw w.in-Some.is at c.in_ok-value.ensures in
-        rw (w.values-is, w.has_null-is, w.in_ok-push-in-Some.ensures.items) (KeySoFar-value c.args.fields.now c.args.tuple.now c.loop-field.field-index c.loop-field.values.items c.loop-field.has_null _ _ c.loop-field-test.true gives c.loop-field.invariant)
-    | in-None w ↦
-        let gives = rw w.in-None.is at c.in_ok-value.ensures in
-        rw (w.values-is, w.has_null-is) (KeySoFar-null c.args.fields.now c.args.tuple.now c.loop-field.field-index c.loop-field.values.items c.loop-field.has_null _ c.loop-field-test.true gives c.loop-field.invariant) ]
+      | in-Some+in_ok-push-in-Some w ↦
+          let gives = rw w.in-Some.is at c.in_ok-value.ensures in
+          rw (w.values-is, w.has_null-is, w.in_ok-push-in-Some.ensures.items) (KeySoFar-value c.args.fields.now c.args.tuple.now c.loop-field.field-index c.loop-field.values.items c.loop-field.has_null _ _ c.loop-field-test.true gives c.loop-field.invariant)
+      | in-None w ↦
+          let gives = rw w.in-None.is at c.in_ok-value.ensures in
+          rw (w.values-is, w.has_null-is) (KeySoFar-null c.args.fields.now c.args.tuple.now c.loop-field.field-index c.loop-field.values.items c.loop-field.has_null _ c.loop-field-test.true gives c.loop-field.invariant)
+    ]

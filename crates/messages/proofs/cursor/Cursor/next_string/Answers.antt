@@ -19,6 +19,6 @@ returns c =
     let at : c.zero_at-len.result ≡ position_or_len is_zero bytes = cc in
     let inside : c.zero_at-len.result < length bytes = omega (arith, ap length c.unread-unread.ensures) in
     let front : text ≡ before_first is_zero bytes = cc (c.in_ok-cut.ensures.ok.0) in
-    let utf8 : is_utf8 text ≡ true = cc (c.in_ok-cut.ensures.ok.0) in
+    let utf8 : is_utf8 text ≡ true = cc in
     let found = string_found bytes text c.zero_at-len.result at inside front utf8 in
     cc (found, c.in_ok-cut.ensures.ok.1)

@@ -1,0 +1,9 @@
+pub mod Entries
+pub mod Elements
+pub mod Room
+pub mod Indexing
+pub mod Steps
+pub mod Tabling
+pub mod Gather
+pub mod Cells
+pub mod Seen

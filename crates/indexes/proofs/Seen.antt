@@ -1,0 +1,193 @@
+-- One table among all as callers see them: what it needs of a requirement, and what its change does.
+use Rattle.std.specs.Prelude.{◌≡◌, ◌≢◌, ℕ, suc, ◌+◌, ◌<◌, ◌≤◌, ◌-◌, Bool, true, false, List, [], ◌∷◌, ◌++◌, length, map, Option, Some, None, refl, ◌⊎◌, slice_get, slice_set, slice_index_or, unwrap_or, IsSome, is_some, IfSome, IfNone}
+use Rattle.std.proofs.Common.{zero, sym, ◌∙◌, ap, subst, inl, inr, arith}
+use Rattle.std.specs.List.{Contains, AllByRecursion}
+use Rattle.std.specs.Borrow.{Bor}
+use Rattle.std.specs.FinMap.{FinMap, get, insert, remove, empty, from_entries, entries, empty_of_len, len-empty, len-entries, get-empty}
+use Rattle.std.proofs.lemmas.Option.{slice_get-get_or}
+use Rattle.model.specs.declared.key.Key.{Key}
+use Rattle.model.specs.declared.row.Row.{Row as Record}
+use Rattle.model.specs.declared.cell.Cell.{Cell}
+use Rattle.model.specs.declared.cell.Cell.TheVariants.{Row}
+use Rattle.model.specs.Key.{key_cmp}
+use Rattle.model.specs.Rows.{Rows, Schema, TableKeys, place_cmp, values_in, key_of, keys_at, taken, IsValid}
+use Rattle.model.specs.Cells.{cells_of}
+use Rattle.model.specs.Effect.{first_taken}
+use Rattle.model.specs.TakenLaws.{taken_by_row, row_of_taken}
+use Rattle.indexes.specs.Table.{Spot, TableContent, spots_of, KeepsSpots, NoClash, HasValues, IsSound, unique_at, cell_at, cells_in}
+use Rattle.indexes.specs.Content.{Content, Keeps, HasRoom, unique_columns, IsTable, SameElsewhere, SameRoomElsewhere, table_of}
+use Rattle.indexes.specs.Gathered.{placed, rows_of, cells_from, schema_of, gathered, AllSound, IsNew}
+use Rattle.indexes.proofs.Elements.{Elem, contains_elem, elem_contains, elem_map, elem_of_map}
+use Rattle.indexes.proofs.Gather.{get_is, keys_is, get_without, set_there, rows_inserted, rows_removed, rows_replaced, rows_same, get_there, get_elsewhere, no_clash, schema_after, table_at, valid, TableAt}
+use Rattle.indexes.proofs.Cells.{cells_are, has_room, room_has, room_after, room_elsewhere, room_of_table, room_of_new, spot_in, cell_in}
+
+schema_length : (ts : List TableContent) → length (schema_of ts) ≡ length ts
+schema_length [] = refl
+schema_length (t ∷ ts) = ap suc (schema_length ts)
+
+within_tables : (ts : List TableContent) (seen : Content) → gathered ts ≡ seen → (i : ℕ) → i < length seen.schema → i < length ts
+within_tables ts seen v i l =
+    let e : length seen.schema ≡ length ts = ap (λ (s : Content). length s.schema) (sym v) ∙ schema_length ts in
+    omega arith
+
+pub table_there : (ts : List TableContent) (seen : Content) → gathered ts ≡ seen → (i : ℕ) → i < length seen.schema → (t : TableContent) → t ≡ slice_index_or ts i t → slice_get ts i ≡ Some t
+table_there ts seen v i l t is = slice_get-get_or ts i t (within_tables ts seen v i l) ∙ ap Some (sym is)
+
+module _ (ts : List TableContent) (seen : Content) (v : gathered ts ≡ seen) (i : ℕ) (t : TableContent) (at : slice_get ts i ≡ Some t) where
+  pub seen_keys : keys_at seen.schema i ≡ t.keys
+  seen_keys = ap (λ (s : Content). keys_at s.schema i) (sym v) ∙ keys_is ts i t at
+
+  pub seen_get : (key : Key) → get seen.rows (i, key) ≡ get t.rows key
+  seen_get key = ap (λ (s : Content). get s.rows (i, key)) (sym v) ∙ get_is ts i t at key
+
+  pub seen_without : (old key : Key) → get (remove seen.rows (i, old)) (i, key) ≡ get (remove t.rows old) key
+  seen_without old key = ap (λ (s : Content). get (remove s.rows (i, old)) (i, key)) (sym v) ∙ get_without ts i t at old key
+
+  pub own_key : (row : Record) (key : Key) → key_of seen.schema i row ≡ Some key → values_in t.keys.primary row ≡ Some key
+  own_key row key e = ap (λ (k : TableKeys). values_in k.primary row) (sym seen_keys) ∙ e
+
+  pub free : (key : Key) → get seen.rows (i, key) ≡ None → get t.rows key ≡ None
+  free key e = sym (seen_get key) ∙ e
+
+  pub free_without : (old key : Key) → get (remove seen.rows (i, old)) (i, key) ≡ None → get (remove t.rows old) key ≡ None
+  free_without old key e = sym (seen_without old key) ∙ e
+
+  pub there : (key : Key) → IsSome (get seen.rows (i, key)) → IsSome (get t.rows key)
+  there key e = ap is_some (sym (seen_get key)) ∙ e
+
+  pub clash : (row : Record) → first_taken seen.rows i row 1 (keys_at seen.schema i).uniques ≡ None → NoClash t.keys t.rows row
+  clash row e = no_clash t.keys seen.rows t.rows i row seen_get (ap (λ (k : TableKeys). first_taken seen.rows i row 1 k.uniques) (sym seen_keys) ∙ e)
+
+  pub clash_without : (old : Key) (row : Record) → first_taken (remove seen.rows (i, old)) i row 1 (keys_at seen.schema i).uniques ≡ None → NoClash t.keys (remove t.rows old) row
+  clash_without old row e =
+      no_clash t.keys (remove seen.rows (i, old)) (remove t.rows old) i row (seen_without old) (ap (λ (k : TableKeys). first_taken (remove seen.rows (i, old)) i row 1 k.uniques) (sym seen_keys) ∙ e)
+
+  pub own_room : (row : Record) → HasRoom seen.room seen.schema i row → KeepsSpots (spots_of t.keys row) t.room
+  own_room row e = has_room ts i t row at (subst (λ (s : Content). HasRoom s.room s.schema i row) (sym v) e)
+
+  pub unique_is : (number : ℕ) → unique_at t.keys number ≡ unique_columns seen.schema i number
+  unique_is number = ap (λ (k : TableKeys). unique_at k number) (sym seen_keys)
+
+  pub taken_found : (number : ℕ) (values : Key) (r : Option (Bor Key)) → IfSome r (λ key. HasValues t.rows (unique_at t.keys number) key.now values)
+      → IfNone r ((key : Key) → ¬ HasValues t.rows (unique_at t.keys number) key values) → is_some r ≡ taken seen.rows i (unique_columns seen.schema i number) values
+  taken_found number values None found missed =
+      elim (taken seen.rows i (unique_columns seen.schema i number) values) as (λ b. taken seen.rows i (unique_columns seen.schema i number) values ≡ b → false ≡ b) [
+        | true ↦ λ e.
+            let r = row_of_taken seen.rows i (unique_columns seen.schema i number) values e in
+            absurd (missed r.key (r.row, sym (seen_get r.key) ∙ r.at, ap (λ cs. values_in cs r.row) (unique_is number) ∙ r.has))
+        | false ↦ λ e. refl
+      ] refl
+  taken_found number values (Some key) found missed =
+      sym (taken_by_row seen.rows i (unique_columns seen.schema i number) values key.now found.0 (seen_get key.now ∙ found.1) (ap (λ cs. values_in cs found.0) (sym (unique_is number)) ∙ found.2))
+
+  pub key_found : (number : ℕ) (values : Key) (r : Option (Bor Key)) → IfSome r (λ key. HasValues t.rows (unique_at t.keys number) key.now values)
+      → IfSome r (λ key. (row : Record) × (get seen.rows (i, key.now) ≡ Some row) × (values_in (unique_columns seen.schema i number) row ≡ Some values))
+  key_found number values None found = tt
+  key_found number values (Some key) found = (found.0, seen_get key.now ∙ found.1, ap (λ cs. values_in cs found.0) (sym (unique_is number)) ∙ found.2)
+
+  pub is_table : IsTable seen.rows i t.rows
+  is_table key = seen_get key
+
+  pub out_room : (c : Cell) → table_of c ≡ i → Contains seen.room c → Contains (cells_in i t) c
+  out_room c e h = room_of_table ts i t at c e (subst (λ (s : Content). Contains s.room c) (sym v) h)
+
+  module _ (new : TableContent) where
+    pub schema_stays : new.keys ≡ t.keys → schema_of (slice_set ts i new) ≡ seen.schema
+    schema_stays e = schema_after ts i t new at e ∙ ap (λ (s : Content). s.schema) v
+
+    pub inserted : (key : Key) (row : Record) → new.rows ≡ insert t.rows key row → rows_of (slice_set ts i new) ≡ insert seen.rows (i, key) row
+    inserted key row e = rows_inserted ts i t at new key row e ∙ ap (λ (s : Content). insert s.rows (i, key) row) v
+
+    pub removed : (key : Key) → new.rows ≡ remove t.rows key → rows_of (slice_set ts i new) ≡ remove seen.rows (i, key)
+    removed key e = rows_removed ts i t at new key e ∙ ap (λ (s : Content). remove s.rows (i, key)) v
+
+    pub replaced : (old key : Key) (row : Record) → new.rows ≡ insert (remove t.rows old) key row → rows_of (slice_set ts i new) ≡ insert (remove seen.rows (i, old)) (i, key) row
+    replaced old key row e = rows_replaced ts i t at new old key row e ∙ ap (λ (s : Content). insert (remove s.rows (i, old)) (i, key) row) v
+
+    pub unchanged : new.rows ≡ t.rows → rows_of (slice_set ts i new) ≡ seen.rows
+    unchanged e = rows_same ts i t at new e ∙ ap (λ (s : Content). s.rows) v
+
+    pub kept : KeepsSpots t.room new.room → Keeps seen.room (cells_from 0 (slice_set ts i new))
+    kept e c h = room_after ts i t new at e c (subst (λ (s : Content). Contains s.room c) (sym v) h)
+
+    pub made : (row : Record) → KeepsSpots (spots_of new.keys row) new.room → HasRoom (cells_from 0 (slice_set ts i new)) (schema_of (slice_set ts i new)) i row
+    made row e = room_has (slice_set ts i new) i new row (set_there ts i t new at) e
+
+    pub new_get : (key : Key) → get (rows_of (slice_set ts i new)) (i, key) ≡ get new.rows key
+    new_get key = get_there ts i t at new key
+
+    pub elsewhere : SameElsewhere seen.rows (rows_of (slice_set ts i new)) i
+    elsewhere other key differs = get_elsewhere ts i t at new other key differs ∙ ap (λ (s : Content). get s.rows (other, key)) v
+
+    pub same_room_elsewhere : SameRoomElsewhere seen.room (cells_from 0 (slice_set ts i new)) i
+    same_room_elsewhere c differs h = room_elsewhere ts i new c differs (subst (λ (s : Content). Contains s.room c) (sym v) h)
+
+    pub new_room : Keeps (cells_in i new) (cells_from 0 (slice_set ts i new))
+    new_room = room_of_new ts i t new at
+
+    pub settled : (row : Record) (key : Key) → ((s : Spot) → ¬ Contains (spots_of t.keys row) s → s ≢ (0, key) → Contains t.room s → Contains new.room s)
+        → (c : Cell) → ¬ Contains (cells_of seen.schema i row) c → c ≢ Row i key → Contains seen.room c → Contains (cells_from 0 (slice_set ts i new)) c
+    settled row key stays c not_row not_key h = elim (this_or_other (table_of c) i) [
+        | inr differs ↦ same_room_elsewhere c differs h
+        | inl same ↦
+            let p = elem_of_map (cell_at i) t.room c (elem_contains _ _ (out_room c same h)) in
+            let stayed = stays p.0
+                (λ there. not_row (subst (λ (cs : List Cell). Contains cs c) (sym (cells_are seen.schema i row))
+                  (subst (λ (k : TableKeys). Contains (map (cell_at i) (spots_of k row)) c) (sym seen_keys)
+                    (subst (Contains (map (cell_at i) (spots_of t.keys row))) p.2 (contains_elem _ _ (elem_map (cell_at i) (spots_of t.keys row) p.0 (elem_contains _ _ there)))))))
+                (λ e. not_key (sym p.2 ∙ ap (cell_at i) e))
+                (contains_elem _ _ p.1) in
+            new_room c (subst (Contains (cells_in i new)) p.2 (contains_elem _ _ (elem_map (cell_at i) new.room p.0 (elem_contains _ _ stayed))))
+      ]
+      where
+        this_or_other : (n m : ℕ) → (n ≡ m) ⊎ (n ≢ m)
+        this_or_other n m = grind arith
+
+-- ---- all tables
+
+module _ (ts : List TableContent) (seen : Content) (v : gathered ts ≡ seen) (all : AllSound ts) where
+  pub seen_valid : IsValid seen.schema seen.rows
+  seen_valid = subst (λ (s : Content). IsValid s.schema s.rows) v (valid ts all)
+
+  seen_at : (i : ℕ) (key : Key) (row : Record) → get seen.rows (i, key) ≡ Some row → TableAt ts i key row
+  seen_at i key row e = table_at ts i key row (ap (λ (s : Content). get s.rows (i, key)) v ∙ e)
+
+  within : (us : List TableContent) (i : ℕ) (t : TableContent) → slice_get us i ≡ Some t → i < length (schema_of us)
+  within [] i t e = absurd cc
+  within (u ∷ us) zero t e = omega arith
+  within (u ∷ us) (suc i) t e = let l = within us i t e in omega arith
+
+  pub seen_known : (i : ℕ) (key : Key) (row : Record) → get seen.rows (i, key) ≡ Some row → i < length seen.schema
+  seen_known i key row e =
+      let a = seen_at i key row e in
+      let l = within ts i a.0 a.1 in
+      let same : length (schema_of ts) ≡ length seen.schema = ap (λ (s : Content). length s.schema) v in
+      omega arith
+
+  pub seen_room : (i : ℕ) (key : Key) (row : Record) → get seen.rows (i, key) ≡ Some row → HasRoom seen.room seen.schema i row
+  seen_room i key row e =
+      let a = seen_at i key row e in
+      subst (λ (s : Content). HasRoom s.room s.schema i row) v (room_has ts i a.0 row a.1 ((all i a.0 a.1).room key row a.2))
+
+-- ---- new tables
+
+pub new_sound : (ts : List TableContent) → AllByRecursion IsNew ts → AllSound ts
+new_sound [] all i t at = absurd cc
+new_sound (u ∷ ts) all zero t at = let same : u ≡ t = cc in subst IsSound same all.0.sound
+new_sound (u ∷ ts) all (suc i) t at = new_sound ts all.1 i t at
+
+no_length : {X : Type 0} (xs : List X) → length xs ≡ 0 → xs ≡ []
+no_length [] e = refl
+no_length (x ∷ xs) e = absurd (omega arith)
+
+no_entries : entries (empty {X = Record} {R = key_cmp}) ≡ []
+no_entries = no_length _ (sym (len-entries empty) ∙ len-empty key_cmp Record)
+
+placed_none : (n : ℕ) (ts : List TableContent) → AllByRecursion IsNew ts → placed n ts ≡ []
+placed_none n [] all = refl
+placed_none n (t ∷ ts) all =
+    ap (λ (m : FinMap key_cmp Record). map (λ e. ((n, e.0), e.1)) (entries m) ++ placed (suc n) ts) all.0.no_rows
+    ∙ ap (λ es. map (λ e. ((n, e.0), e.1)) es ++ placed (suc n) ts) no_entries ∙ placed_none (suc n) ts all.1
+
+pub new_rows : (ts : List TableContent) → AllByRecursion IsNew ts → rows_of ts ≡ empty
+new_rows ts all = ap (from_entries {R = place_cmp}) (placed_none 0 ts all)

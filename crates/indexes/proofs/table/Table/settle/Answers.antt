@@ -1,0 +1,30 @@
+use Rattle.std.specs.Prelude.{◌≡◌, ◌≢◌, ℕ, List, refl}
+use Rattle.std.proofs.Common.{sym, ◌∙◌, ap, subst}
+use Rattle.std.specs.List.{Contains}
+use Rattle.model.specs.Rows.{TableKeys}
+use Rattle.indexes.specs.Table.{TableContent, spots_of}
+use Rattle.indexes.specs.Indexed.{columns_of}
+use Rattle.indexes.proofs.Tabling.{same_columns, indexed_settled, room_settled, sound}
+use Rattle.indexes.proofs.table.Table.settle.Goals as goal
+
+pub invariant_of-self : goal.invariant_of-self
+invariant_of-self c =
+    indexed_settled c.self.inside.rows c.settle.new.self c.args.key.now c.settle.ensures.rows c.settle.ensures.slots
+    c.self.inside.primary.items c.self.inside.uniques.items c.settle_each.new.uniques.items c.args.row.now c.self.invariant c.settle_each.ensures
+
+pub returns-clause-keys : goal.returns-clause-keys
+returns-clause-keys c =
+    let steps = c.settle_each.ensures in
+    let same = same_columns c.self.inside.uniques.items c.settle_each.new.uniques.items steps.long (λ k d l. (steps.each k d l).columns) in
+    ap (λ (cs : List (List ℕ)). let keys : TableKeys = record { primary = c.self.inside.primary.items; uniques = cs } in keys) same ∙ ap (λ (t : TableContent). t.keys) c.self.view_is
+
+pub returns-clause-others : goal.returns-clause-others
+returns-clause-others c = λ s not_row not_key has.
+    room_settled c.self.inside.rows c.settle.new.self c.args.key.now c.settle.ensures.rows c.settle.ensures.slots
+    (record { primary = c.self.inside.primary.items; uniques = columns_of c.self.inside.uniques.items }) c.self.inside.uniques.items c.settle_each.new.uniques.items c.args.row.now refl c.settle_each.ensures s
+    (λ there. not_row (subst (λ (t : TableContent). Contains (spots_of t.keys c.args.row.now) s) c.self.view_is there)) not_key
+    (subst (λ (t : TableContent). Contains t.room s) (sym c.self.view_is) has)
+
+pub returns-clause-sound : goal.returns-clause-sound
+returns-clause-sound c =
+    sound (record { primary = c.self.inside.primary.items; uniques = columns_of c.settle_each.new.uniques.items }) c.settle.new.self c.settle_each.new.uniques.items refl (invariant_of-self c)

@@ -1,0 +1,24 @@
+use Rattle.std.specs.Prelude.{◌≡◌, ℕ, Some, None}
+use Rattle.std.proofs.Common.{sym, ◌∙◌, ap, subst}
+use Rattle.std.proofs.lemmas.Result.{on_ok_weaker, on_err_weaker, IfOk-weaker}
+use Rattle.indexes.proofs.Seen as seen
+use Rattle.indexes.proofs.Gather.{sound_after}
+use Rattle.indexes.proofs.tables.Tables.find_unique.Goals as goal
+
+pub returns-clause-taken : goal.returns-clause-taken
+returns-clause-taken c =
+    let ts = c.self.inside.tables.items in
+    let v = c.self.view_is in
+    let i = c.args.table in
+    let t = c.index.result.now in
+    let at = seen.table_there ts c.args.self.now v i c.requires.known t c.index.ensures in
+    seen.taken_found ts c.args.self.now v i t at c.args.number c.args.values.now c.find_unique.result c.find_unique.ensures.found c.find_unique.ensures.missed
+
+pub returns-clause-key : goal.returns-clause-key
+returns-clause-key c =
+    let ts = c.self.inside.tables.items in
+    let v = c.self.view_is in
+    let i = c.args.table in
+    let t = c.index.result.now in
+    let at = seen.table_there ts c.args.self.now v i c.requires.known t c.index.ensures in
+    seen.key_found ts c.args.self.now v i t at c.args.number c.args.values.now c.find_unique.result c.find_unique.ensures.found

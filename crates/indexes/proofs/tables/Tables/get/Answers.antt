@@ -1,0 +1,15 @@
+use Rattle.std.specs.Prelude.{◌≡◌, ℕ, Some, None}
+use Rattle.std.proofs.Common.{sym, ◌∙◌, ap, subst}
+use Rattle.std.proofs.lemmas.Result.{on_ok_weaker, on_err_weaker, IfOk-weaker}
+use Rattle.indexes.proofs.Seen as seen
+use Rattle.indexes.proofs.Gather.{sound_after}
+use Rattle.indexes.proofs.tables.Tables.get.Goals as goal
+
+pub returns : goal.returns
+returns c =
+    let ts = c.self.inside.tables.items in
+    let v = c.self.view_is in
+    let i = c.args.table in
+    let t = c.index.result.now in
+    let at = seen.table_there ts c.args.self.now v i c.requires t c.index.ensures in
+    c.get.ensures ∙ sym (seen.seen_get ts c.args.self.now v i t at c.args.key.now)

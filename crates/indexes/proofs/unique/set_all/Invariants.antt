@@ -1,0 +1,11 @@
+use Rattle.std.proofs.Common.{◌≡◌, ℕ, ◌<◌, ◌≤◌, length, get_or}
+use Rattle.indexes.specs.declared.unique.Unique.{Unique}
+use Rattle.indexes.specs.Unique.{Sets}
+use Rattle.indexes.proofs.unique.set_all.Given as goal
+
+abbrev pub invariant-loop-unique : goal.invariant-loop-unique
+invariant-loop-unique l =
+    record {
+      done : (k : ℕ) (d : Unique) → k < l.unique-index → Sets l.row l.number (get_or l.fn.uniques k d) (get_or l.uniques k d);
+      left : (k : ℕ) (d : Unique) → l.unique-index ≤ k → get_or l.uniques k d ≡ get_or l.fn.uniques k d;
+    }

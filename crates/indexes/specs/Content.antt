@@ -1,0 +1,48 @@
+-- All tables as their callers see them: the keys' columns, the rows, and the room.
+--     Keeps, HasRoom      no cell goes; there is room for a row
+--     unique_columns      the columns of a unique key, by its number from 1
+--     IsTable, SameElsewhere, SameRoomElsewhere      a table's rows by themselves; the other tables stay as they were
+use Rattle.std.specs.Prelude.{◌≡◌, ◌≢◌, ℕ, ◌-◌, List, [], Option, Some, None, unwrap_or, slice_get}
+use Rattle.std.specs.List.{Contains}
+use Rattle.std.specs.FinMap.{FinMap, get}
+use Rattle.model.specs.declared.key.Key.{Key}
+use Rattle.model.specs.declared.row.Row.{Row as Record}
+use Rattle.model.specs.declared.cell.Cell.{Cell}
+use Rattle.model.specs.declared.cell.Cell.TheVariants.{Row, Uniq, Whole}
+use Rattle.model.specs.Key.{key_cmp}
+use Rattle.model.specs.Rows.{Rows, Schema, TableKeys, keys_at}
+use Rattle.model.specs.Cells.{cells_of}
+
+pub record Content : Type 0 where
+  pub schema : Schema     -- the keys of each table, in the catalog's order
+  pub rows : Rows         -- all rows of all tables
+  pub room : List Cell    -- the cells that can be filled again without memory
+
+-- each cell of the one is in the other
+abbrev pub Keeps : List Cell → List Cell → Type 0
+Keeps old new = (c : Cell) → Contains old c → Contains new c
+
+-- each cell that the row fills is in the room
+abbrev pub HasRoom : List Cell → Schema → ℕ → Record → Type 0
+HasRoom room schema table row = Keeps (cells_of schema table row) room
+
+-- the columns of a table's unique key, by its number from 1
+abbrev pub unique_columns : Schema → ℕ → ℕ → List ℕ
+unique_columns schema table number = unwrap_or (slice_get (keys_at schema table).uniques (number - 1)) []
+
+-- these are the table's rows, by their keys
+abbrev pub IsTable : Rows → ℕ → FinMap key_cmp Record → Type 0
+IsTable rows table own = (key : Key) → get rows (table, key) ≡ get own key
+
+-- no row of another table changes
+abbrev pub SameElsewhere : Rows → Rows → ℕ → Type 0
+SameElsewhere old new table = (other : ℕ) (key : Key) → other ≢ table → get new (other, key) ≡ get old (other, key)
+
+abbrev pub table_of : Cell → ℕ
+table_of (Row table key) = table
+table_of (Uniq table number values) = table
+table_of (Whole table) = table
+
+-- no cell of another table goes
+abbrev pub SameRoomElsewhere : List Cell → List Cell → ℕ → Type 0
+SameRoomElsewhere old new table = (c : Cell) → table_of c ≢ table → Contains old c → Contains new c

@@ -1,0 +1,76 @@
+-- One table: its keys' columns, its rows, and its room.
+--     Spot      a key's number, 0 for the primary key, and values of it.        spots_of      those that a row fills
+--     cell_at, cells_in      a spot as a cell of a table with a number; all of a table's
+--     IsSound      rows stand at their own keys, no two agree in a unique key, and the room has what they fill
+use Rattle.std.specs.Prelude.{◌≡◌, ◌≢◌, ℕ, suc, ◌+◌, List, [], ◌∷◌, ◌++◌, ◌-◌, Option, Some, None, map, slice_get, unwrap_or}
+use Rattle.std.specs.List.{Contains}
+use Rattle.std.proofs.Common.{zero}
+use Rattle.std.specs.FinMap as finite
+use Rattle.std.specs.FinMap.{FinMap}
+use Rattle.std.specs.BTreeMap as tree
+use Rattle.model.specs.declared.key.Key.{Key}
+use Rattle.model.specs.declared.row.Row.{Row as Record}
+use Rattle.model.specs.declared.cell.Cell.{Cell}
+use Rattle.model.specs.declared.cell.Cell.TheVariants.{Row, Uniq}
+use Rattle.model.specs.Key.{key_cmp}
+use Rattle.model.specs.Rows.{TableKeys, values_in}
+
+-- a key's number, 0 for the primary key and 1 upwards for the unique keys, and values of it
+abbrev pub Spot : Type 0
+Spot = ℕ × Key
+
+pub record TableContent : Type 0 where
+  pub keys : TableKeys
+  pub rows : FinMap key_cmp Record
+  pub room : List Spot
+
+abbrev pub spot : ℕ → Option Key → List Spot
+spot number None = []
+spot number (Some values) = (number, values) ∷ []
+
+-- of the unique keys, numbered from `number`
+abbrev pub unique_spots : Record → ℕ → List (List ℕ) → List Spot
+unique_spots row number [] = []
+unique_spots row number (columns ∷ uniques) = spot number (values_in columns row) ++ unique_spots row (suc number) uniques
+
+-- the spots that a row fills
+abbrev pub spots_of : TableKeys → Record → List Spot
+spots_of keys row = spot 0 (values_in keys.primary row) ++ unique_spots row 1 keys.uniques
+
+-- a spot, in the table with this number
+abbrev pub cell_of_key : ℕ → ℕ → Key → Cell
+cell_of_key table zero values = Row table values
+cell_of_key table (suc number) values = Uniq table (suc number) values
+
+abbrev pub cell_at : ℕ → Spot → Cell
+cell_at table s = cell_of_key table s.0 s.1
+
+abbrev pub cells_in : ℕ → TableContent → List Cell
+cells_in table t = map (cell_at table) t.room
+
+abbrev pub KeepsSpots : List Spot → List Spot → Type 0
+KeepsSpots old new = (s : Spot) → Contains old s → Contains new s
+
+-- the columns of a unique key, by its number from 1
+abbrev pub unique_at : TableKeys → ℕ → List ℕ
+unique_at keys number = unwrap_or (slice_get keys.uniques (number - 1)) []
+
+-- the row at a key has these values in these columns
+abbrev pub HasValues : FinMap key_cmp Record → List ℕ → Key → Key → Type 0
+HasValues rows columns key values = (row : Record) × (finite.get rows key ≡ Some row) × (values_in columns row ≡ Some values)
+
+-- no row has the values that this one has in some unique key
+abbrev pub NoClash : TableKeys → FinMap key_cmp Record → Record → Type 0
+NoClash keys rows row =
+    (i : ℕ) (columns : List ℕ) (key values : Key) (twin : Record)
+    → slice_get keys.uniques i ≡ Some columns → finite.get rows key ≡ Some twin
+    → values_in columns twin ≡ Some values → values_in columns row ≢ Some values
+
+pub record IsSound (t : TableContent) : Type 0 where
+  pub own_key : (key : Key) (row : Record) → finite.get t.rows key ≡ Some row → values_in t.keys.primary row ≡ Some key
+  pub unique : (i : ℕ) (columns : List ℕ) (key other : Key) (row twin : Record) (values : Key)
+    → slice_get t.keys.uniques i ≡ Some columns
+    → finite.get t.rows key ≡ Some row → finite.get t.rows other ≡ Some twin
+    → values_in columns row ≡ Some values → values_in columns twin ≡ Some values
+    → key ≡ other
+  pub room : (key : Key) (row : Record) → finite.get t.rows key ≡ Some row → KeepsSpots (spots_of t.keys row) t.room

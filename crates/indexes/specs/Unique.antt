@@ -1,0 +1,83 @@
+-- The index of a unique key: what it holds, and what each of its calls changes.
+--     held      the number at some values, if there is an entry with one
+--     KeepsSlots, HasSlot      no number changes and no entry goes; there is an entry for the row's values
+--     Sets, Settles      the number at the row's values is set; their entry is dropped if it has none
+use Rattle.std.specs.Prelude.{◌≡◌, ◌≢◌, ℕ, ◌<◌, List, [], ◌∷◌, length, Option, Some, None, IsSome, slice_index_or, map}
+use Rattle.std.specs.BTreeMap as tree
+use Rattle.std.specs.BTreeMap.{BTreeMap}
+use Rattle.model.specs.declared.key.Key.{Key}
+use Rattle.model.specs.declared.row.Row.{Row}
+use Rattle.model.specs.Key.{key_cmp}
+use Rattle.model.specs.Rows.{values_in}
+use Rattle.indexes.specs.declared.unique.Unique.{Unique}
+
+abbrev pub Entries : Type 0
+Entries = BTreeMap Key (Option ℕ)
+
+abbrev pub number_in : Option (Option ℕ) → Option ℕ
+number_in None = None
+number_in (Some number) = number
+
+abbrev pub entry_at : Entries → Key → Option (Option ℕ)
+entry_at entries values = tree.get key_cmp entries values
+
+abbrev pub held : Entries → Key → Option ℕ
+held entries values = number_in (entry_at entries values)
+
+-- an entry with another number in it, or none
+abbrev pub with_number : Option ℕ → Option (Option ℕ) → Option (Option ℕ)
+with_number number None = None
+with_number number (Some before) = Some number
+
+-- no number changes, and no entry goes
+pub record KeepsEntries (old new : Entries) : Type 0 where
+  pub numbers : (values : Key) → held new values ≡ held old values
+  pub entries : (values : Key) → IsSome (entry_at old values) → IsSome (entry_at new values)
+
+-- there is an entry for the row's values, if it has them all
+abbrev pub HasEntry : List ℕ → Row → Entries → Type 0
+HasEntry columns row entries = (values : Key) → values_in columns row ≡ Some values → IsSome (entry_at entries values)
+
+-- the number at the row's values is set, and no other
+pub record SetsEntry (columns : List ℕ) (row : Row) (number : Option ℕ) (old new : Entries) : Type 0 where
+  pub here : (values : Key) → values_in columns row ≡ Some values → entry_at new values ≡ with_number number (entry_at old values)
+  pub beside : (values : Key) → values_in columns row ≢ Some values → entry_at new values ≡ entry_at old values
+
+-- no number changes, and no entry goes that has one, or for other values
+pub record SettlesEntry (columns : List ℕ) (row : Row) (old new : Entries) : Type 0 where
+  pub numbers : (values : Key) → held new values ≡ held old values
+  pub beside : (values : Key) → values_in columns row ≢ Some values → entry_at new values ≡ entry_at old values
+
+-- ---- of an index
+
+pub record KeepsSlots (old new : Unique) : Type 0 where
+  pub columns : new.columns.items ≡ old.columns.items
+  pub entries : KeepsEntries old.entries new.entries
+
+abbrev pub HasSlot : Row → Unique → Type 0
+HasSlot row unique = HasEntry unique.columns.items row unique.entries
+
+pub record Sets (row : Row) (number : Option ℕ) (old new : Unique) : Type 0 where
+  pub columns : new.columns.items ≡ old.columns.items
+  pub entries : SetsEntry old.columns.items row number old.entries new.entries
+
+pub record Settles (row : Row) (old new : Unique) : Type 0 where
+  pub columns : new.columns.items ≡ old.columns.items
+  pub entries : SettlesEntry old.columns.items row old.entries new.entries
+
+-- ---- of each index of a table
+
+pub record EachStep (Step : Unique → Unique → Type 0) (old new : List Unique) : Type 0 where
+  pub long : length new ≡ length old
+  pub each : (k : ℕ) (d : Unique) → k < length old → Step (slice_index_or old k d) (slice_index_or new k d)
+
+abbrev pub EachHasSlot : Row → List Unique → Type 0
+EachHasSlot row uniques = (k : ℕ) (d : Unique) → k < length uniques → HasSlot row (slice_index_or uniques k d)
+
+-- no values have an entry
+abbrev pub HasNone : Unique → Type 0
+HasNone unique = unique.entries.entries ≡ []
+
+-- the columns of each
+abbrev pub columns_of : List Unique → List (List ℕ)
+columns_of uniques = map (λ u. u.columns.items) uniques

@@ -1,0 +1,26 @@
+#![tactic(auto)]
+
+// Tables: rows with a primary key and unique keys.
+//
+// All tables are seen as one finite map from (table, primary key) to row, with the columns of each
+// table's keys. The type keeps it valid: each row stands at its own key, which holds no null, and
+// no two rows of a table have the same values in a unique key, nulls aside.
+//
+// Inside, each table is a store of rows and one ordered map for each unique key, from its values
+// to the number of the row's slot. So a unique value is looked up, and never searched for, and an
+// entry is written without memory. A slot and an entry outlive their row, empty, until `settle`:
+// the tables have `room` for what was there, and each change has a restoring form that needs room
+// alone, takes no memory and succeeds. `wipe` moves a table's whole content out, and `unwipe`
+// moves it back; no row is copied.
+//
+//   tables     `Tables`, all of a catalog
+//   table      `Table`, one of them
+//   unique     the index of a unique key
+//   columns    a row's values in the columns of a key
+mod columns;
+pub mod table;
+pub mod tables;
+mod unique;
+
+pub use table::Table;
+pub use tables::{Contents, Tables};

@@ -1,0 +1,247 @@
+// One table: its rows, and an index for each unique key.
+ghost use Rattle.std.specs.Prelude.{◌≡◌, ◌≢◌, ◌+◌, ◌-◌, ◌<◌, ◌≤◌, IfOk, OnOk, OnErr, IfSome, IfNone, IsSome, Some, None, length};
+ghost use Rattle.std.specs.FinMap as finite;
+ghost use Rattle.std.specs.List.{AllByRecursion, Contains};
+ghost use Rattle.model.specs.Rows.{values_in, keys_of};
+ghost use Rattle.indexes.specs.Unique.{HasNone, columns_of};
+ghost use Rattle.model.specs.declared.key.Key.{Key as AnyKey};
+ghost use Rattle.indexes.specs.Table.{Spot, IsSound, HasValues, NoClash, KeepsSpots, spots_of, unique_at};
+
+use crate::columns::values_of;
+use crate::unique::{Unique, copy_numbers, reserve_each, set_each, settle_each};
+use model::{Key, OutOfMemory, Row, TableDef};
+use rows::{OrderedRows, RowView};
+use std::alloc::Global;
+use std::marker::Model;
+
+/// One table: rows with a primary key and unique keys. A clause sees its keys' columns, its rows by
+/// their keys, and its room.
+#[derive(Drop)]
+pub struct Table {
+    primary: Vec<usize>,
+    uniques: Vec<Unique>,
+    rows: OrderedRows,
+    alloc: Global,
+}
+
+impl Model for Table {
+    ghost use Rattle.indexes.specs.Table.{TableContent};
+
+    ghost Value = { TableContent };
+
+    ghost use Rattle.indexes.specs.Codes.{table_code};
+
+    ghost coded = { table_code };
+
+    ghost use Rattle.indexes.specs.Indexed.{content_of, IsIndexed};
+
+    ghost view = { content_of };
+
+    ghost invariant = { λ a. IsIndexed a.primary.items a.rows a.uniques.items };
+}
+
+impl Table {
+    /// The empty table of a definition.
+    pub fn of_definition(alloc: Global, definition: &TableDef) -> Result<Table, OutOfMemory>
+        ensures keys { IfOk result (λ table. table.keys ≡ keys_of definition.now) }
+        ensures empty { IfOk result (λ table. table.rows ≡ finite.empty) }
+        ensures sound { IfOk result IsSound }
+    {
+        let mut uniques = Vec::new(alloc);
+        for columns in definition.uniques() {
+            uniques.push(Unique::new(alloc, columns.numbers())?)?;
+        }
+        let primary = copy_numbers(alloc, definition.primary().numbers())?;
+        Ok(Table::empty(alloc, primary, uniques))
+    }
+
+    /// An empty table with the same keys.
+    pub fn emptied(&self) -> Result<Table, OutOfMemory>
+        ensures keys { IfOk result (λ table. table.keys ≡ self.now.keys) }
+        ensures empty { IfOk result (λ table. table.rows ≡ finite.empty) }
+        ensures sound { IfOk result IsSound }
+    {
+        let alloc = self.alloc;
+        let mut uniques = Vec::new(alloc);
+        for unique in &self.uniques {
+            uniques.push(Unique::new(alloc, unique.columns.as_slice())?)?;
+        }
+        let primary = copy_numbers(alloc, self.primary.as_slice())?;
+        Ok(Table::empty(alloc, primary, uniques))
+    }
+
+    fn empty(alloc: Global, primary: Vec<usize>, uniques: Vec<Unique>) -> Table
+        requires { AllByRecursion HasNone uniques.items }
+        ensures keys { result.keys ≡ record { primary = primary.items; uniques = columns_of uniques.items } }
+        ensures empty { result.rows ≡ finite.empty }
+        ensures sound { IsSound result }
+    {
+        Table {
+            primary,
+            uniques,
+            rows: OrderedRows::new(alloc),
+            alloc,
+        }
+    }
+
+    /// How many unique keys it has.
+    pub fn unique_count(&self) -> usize
+        ensures { result ≡ length self.now.keys.uniques }
+    {
+        self.uniques.len()
+    }
+
+    /// The row at a key.
+    pub fn get(&self, key: &Key) -> Option<RowView<'_>>
+        ensures { result ≡ finite.get self.now.rows key.now }
+    {
+        self.rows.get(key)
+    }
+
+    /// The rows, in key order.
+    pub fn walk(&self) -> Result<Vec<RowView<'_>>, OutOfMemory> {
+        self.rows.walk()
+    }
+
+    /// A row's primary key; none if a value of it is null.
+    pub fn key_of(&self, row: &Row) -> Result<Option<Key>, OutOfMemory>
+        ensures { IfOk result (λ key. key ≡ values_in self.now.keys.primary row.now) }
+    {
+        values_of(self.alloc, self.primary.as_slice(), row)
+    }
+
+    /// A row's values in a unique key, by the key's number from 1; none if one of them is null.
+    pub fn unique_values(&self, number: usize, row: &Row) -> Result<Option<Key>, OutOfMemory>
+        requires { (1 ≤ number) × (number ≤ length self.now.keys.uniques) }
+        ensures { IfOk result (λ values. values ≡ values_in (unique_at self.now.keys number) row.now) }
+    {
+        values_of(self.alloc, self.uniques[number - 1].columns.as_slice(), row)
+    }
+
+    /// The key of the row that has these values in a unique key, by the key's number from 1. It
+    /// takes no memory.
+    pub fn find_unique(&self, number: usize, values: &Key) -> Option<&Key>
+        requires { (1 ≤ number) × (number ≤ length self.now.keys.uniques) }
+        ensures found { IfSome result (λ key. HasValues self.now.rows (unique_at self.now.keys number) key.now values.now) }
+        ensures missed { IfNone result ((key : AnyKey) → ¬ HasValues self.now.rows (unique_at self.now.keys number) key values.now) }
+    {
+        match self.uniques[number - 1].find(values) {
+            Some(slot) => self.rows.key_at(slot),
+            None => None,
+        }
+    }
+
+    // Makes the slot of a key, and the entries of a row's unique values.
+    fn reserve(&mut self, key: &Key, row: &Row) -> Result<(), OutOfMemory>
+        requires { values_in self.old.keys.primary row.now ≡ Some key.now }
+        ensures keys { self.new.keys ≡ self.old.keys }
+        ensures rows { self.new.rows ≡ self.old.rows }
+        ensures kept { KeepsSpots self.old.room self.new.room }
+        ensures ok { OnOk result (KeepsSpots (spots_of self.new.keys row.now) self.new.room) }
+        ensures sound { IsSound self.new }
+    {
+        self.rows.reserve(key)?;
+        reserve_each(self.alloc, &mut self.uniques, row)
+    }
+
+    /// Puts a row back at its key, where there is room for it. It takes no memory.
+    pub fn put_back(&mut self, key: &Key, row: Row)
+        requires own_key { values_in self.old.keys.primary row ≡ Some key.now }
+        requires free { finite.get self.old.rows key.now ≡ None }
+        requires unique { NoClash self.old.keys self.old.rows row }
+        requires room { KeepsSpots (spots_of self.old.keys row) self.old.room }
+        ensures keys { self.new.keys ≡ self.old.keys }
+        ensures rows { self.new.rows ≡ finite.insert self.old.rows key.now row }
+        ensures kept { KeepsSpots self.old.room self.new.room }
+        ensures sound { IsSound self.new }
+    {
+        let number = self.rows.slot(key);
+        set_each(&mut self.uniques, &row, number);
+        self.rows.restore(key, row);
+    }
+
+    /// The row at a key goes. It takes no memory.
+    pub fn remove(&mut self, key: &Key) -> Row
+        requires { IsSome (finite.get self.old.rows key.now) }
+        ensures keys { self.new.keys ≡ self.old.keys }
+        ensures rows { self.new.rows ≡ finite.remove self.old.rows key.now }
+        ensures stood { finite.get self.old.rows key.now ≡ Some result }
+        ensures kept { KeepsSpots self.old.room self.new.room }
+        ensures sound { IsSound self.new }
+    {
+        match self.rows.take(key) {
+            Some(row) => {
+                set_each(&mut self.uniques, &row, None);
+                row
+            }
+            None => unreachable!(),
+        }
+    }
+
+    /// A row comes into the table. A refusal changes no row.
+    pub fn put(&mut self, key: &Key, row: Row) -> Result<(), OutOfMemory>
+        requires own_key { values_in self.old.keys.primary row ≡ Some key.now }
+        requires free { finite.get self.old.rows key.now ≡ None }
+        requires unique { NoClash self.old.keys self.old.rows row }
+        ensures keys { self.new.keys ≡ self.old.keys }
+        ensures ok { OnOk result (self.new.rows ≡ finite.insert self.old.rows key.now row) }
+        ensures err { OnErr result (self.new.rows ≡ self.old.rows) }
+        ensures kept { KeepsSpots self.old.room self.new.room }
+        ensures room { OnOk result (KeepsSpots (spots_of self.new.keys row) self.new.room) }
+        ensures sound { IsSound self.new }
+    {
+        self.reserve(key, &row)?;
+        self.put_back(key, row);
+        Ok(())
+    }
+
+    /// Takes a `replace` back: the row at `new_key` goes, and this one comes to `key` again, where
+    /// there is room for it. It takes no memory.
+    pub fn replace_back(&mut self, new_key: &Key, key: &Key, row: Row) -> Row
+        requires there { IsSome (finite.get self.old.rows new_key.now) }
+        requires own_key { values_in self.old.keys.primary row ≡ Some key.now }
+        requires free { finite.get (finite.remove self.old.rows new_key.now) key.now ≡ None }
+        requires unique { NoClash self.old.keys (finite.remove self.old.rows new_key.now) row }
+        requires room { KeepsSpots (spots_of self.old.keys row) self.old.room }
+        ensures keys { self.new.keys ≡ self.old.keys }
+        ensures rows { self.new.rows ≡ finite.insert (finite.remove self.old.rows new_key.now) key.now row }
+        ensures stood { finite.get self.old.rows new_key.now ≡ Some result }
+        ensures kept { KeepsSpots self.old.room self.new.room }
+        ensures sound { IsSound self.new }
+    {
+        let stood = self.remove(new_key);
+        self.put_back(key, row);
+        stood
+    }
+
+    /// A row takes the place of the one at a key, and may have another key. The answer is the row
+    /// that stood there. A refusal changes no row.
+    pub fn replace(&mut self, key: &Key, new_key: &Key, row: Row) -> Result<Row, OutOfMemory>
+        requires there { IsSome (finite.get self.old.rows key.now) }
+        requires own_key { values_in self.old.keys.primary row ≡ Some new_key.now }
+        requires free { finite.get (finite.remove self.old.rows key.now) new_key.now ≡ None }
+        requires unique { NoClash self.old.keys (finite.remove self.old.rows key.now) row }
+        ensures keys { self.new.keys ≡ self.old.keys }
+        ensures ok { OnOk result (self.new.rows ≡ finite.insert (finite.remove self.old.rows key.now) new_key.now row) }
+        ensures stood { IfOk result (λ stood. finite.get self.old.rows key.now ≡ Some stood) }
+        ensures err { OnErr result (self.new.rows ≡ self.old.rows) }
+        ensures kept { KeepsSpots self.old.room self.new.room }
+        ensures room { OnOk result (KeepsSpots (spots_of self.new.keys row) self.new.room) }
+        ensures sound { IsSound self.new }
+    {
+        self.reserve(new_key, &row)?;
+        Ok(self.replace_back(key, new_key, row))
+    }
+
+    /// Drops the slot of a key and the entries of a row's unique values, where they are empty. It
+    /// takes no memory.
+    pub fn settle(&mut self, key: &Key, row: &Row)
+        ensures keys { self.new.keys ≡ self.old.keys }
+        ensures rows { self.new.rows ≡ self.old.rows }
+        ensures others { (s : Spot) → ¬ Contains (spots_of self.old.keys row.now) s → s ≢ (0, key.now) → Contains self.old.room s → Contains self.new.room s }
+        ensures sound { IsSound self.new }
+    {
+        self.rows.settle(key);
+        settle_each(&mut self.uniques, row);
+    }
+}

@@ -1,0 +1,300 @@
+// All tables of a catalog.
+ghost use Rattle.std.specs.Prelude.{◌≡◌, ◌≢◌, ℕ, ◌<◌, ◌≤◌, IfOk, OnOk, OnErr, IfSome, IsSome, Some, None, length, map, is_some};
+ghost use Rattle.std.specs.List.{Contains};
+ghost use Rattle.std.specs.FinMap as finite;
+ghost use Rattle.model.specs.declared.key.Key.{Key as AnyKey};
+ghost use Rattle.model.specs.declared.row.Row.{Row as AnyRow};
+ghost use Rattle.model.specs.declared.cell.Cell.{Cell};
+ghost use Rattle.model.specs.declared.cell.Cell.TheVariants.{Row as RowCell};
+ghost use Rattle.model.specs.Cells.{cells_of};
+ghost use Rattle.model.specs.Rows.{IsValid, keys_at, keys_of, key_of, values_in, taken};
+ghost use Rattle.model.specs.Effect.{first_taken};
+ghost use Rattle.indexes.specs.Table.{cells_in};
+ghost use Rattle.indexes.specs.Content.{Keeps, HasRoom, unique_columns, table_of, IsTable, SameElsewhere, SameRoomElsewhere};
+
+use crate::table::Table;
+use model::{Key, OutOfMemory, Row, TableDef};
+use rows::RowView;
+use std::alloc::Global;
+use std::marker::Model;
+use std::mem;
+
+/// The tables of a catalog, in its order. A clause sees their keys' columns, all rows by table and
+/// key, and the cells that there is room for.
+#[derive(Drop)]
+pub struct Tables {
+    tables: Vec<Table>,
+}
+
+impl Model for Tables {
+    ghost use Rattle.indexes.specs.Content.{Content};
+
+    ghost Value = { Content };
+
+    ghost use Rattle.indexes.specs.Codes.{content_code};
+
+    ghost coded = { content_code };
+
+    ghost use Rattle.indexes.specs.Gathered.{gathered, AllSound};
+
+    ghost view = { λ a. gathered a.tables.items };
+
+    ghost invariant = { λ a. AllSound a.tables.items };
+}
+
+/// A table's whole content, moved out of it. A clause sees it as a table by itself.
+#[derive(Drop)]
+pub struct Contents {
+    table: Table,
+}
+
+impl Model for Contents {
+    ghost use Rattle.indexes.specs.Table.{TableContent, IsSound};
+    ghost use Rattle.indexes.specs.Codes.{table_code};
+
+    ghost Value = { TableContent };
+
+    ghost coded = { table_code };
+
+    ghost view = { λ a. a.table };
+
+    ghost invariant = { λ a. IsSound a.table };
+}
+
+impl Tables {
+    /// Empty tables of these definitions.
+    pub fn of_definitions(
+        alloc: Global,
+        definitions: &[TableDef],
+    ) -> Result<Tables, OutOfMemory>
+        ensures schema { IfOk result (λ tables. tables.schema ≡ map keys_of definitions.now) }
+        ensures empty { IfOk result (λ tables. tables.rows ≡ finite.empty) }
+    {
+        let mut tables = Vec::new(alloc);
+        for definition in definitions {
+            tables.push(Table::of_definition(alloc, definition)?)?;
+        }
+        Ok(Tables { tables })
+    }
+
+    /// How many tables there are.
+    pub fn len(&self) -> usize
+        ensures len { result ≡ length self.now.schema }
+
+        // The rows are valid, each is of a table, and there is room for what it fills.
+        ensures valid { IsValid self.now.schema self.now.rows }
+        ensures known { (table : ℕ) (key : AnyKey) (row : AnyRow) → finite.get self.now.rows (table, key) ≡ Some row → table < length self.now.schema }
+        ensures room { (table : ℕ) (key : AnyKey) (row : AnyRow) → finite.get self.now.rows (table, key) ≡ Some row → HasRoom self.now.room self.now.schema table row }
+    {
+        self.tables.len()
+    }
+
+    /// How many unique keys a table has.
+    pub fn unique_count(&self, table: usize) -> usize
+        requires { table < length self.now.schema }
+        ensures { result ≡ length (keys_at self.now.schema table).uniques }
+    {
+        self.tables[table].unique_count()
+    }
+
+    /// The rows of a table, in key order.
+    pub fn walk(&self, table: usize) -> Result<Vec<RowView<'_>>, OutOfMemory>
+        requires { table < length self.now.schema }
+    {
+        let own = &self.tables[table];
+        own.walk()
+    }
+
+    /// A row's primary key; none if a value of it is null.
+    pub fn key_of(&self, table: usize, row: &Row) -> Result<Option<Key>, OutOfMemory>
+        requires { table < length self.now.schema }
+        ensures { IfOk result (λ key. key ≡ key_of self.now.schema table row.now) }
+    {
+        self.tables[table].key_of(row)
+    }
+
+    /// A row's values in a unique key, by the key's number from 1; none if one of them is null.
+    pub fn unique_values(
+        &self,
+        table: usize,
+        number: usize,
+        row: &Row,
+    ) -> Result<Option<Key>, OutOfMemory>
+        requires known { table < length self.now.schema }
+        requires number { (1 ≤ number) × (number ≤ length (keys_at self.now.schema table).uniques) }
+        ensures { IfOk result (λ values. values ≡ values_in (unique_columns self.now.schema table number) row.now) }
+    {
+        self.tables[table].unique_values(number, row)
+    }
+
+    /// The row at a key. It takes no memory.
+    pub fn get(&self, table: usize, key: &Key) -> Option<RowView<'_>>
+        requires { table < length self.now.schema }
+        ensures { result ≡ finite.get self.now.rows (table, key.now) }
+    {
+        self.tables[table].get(key)
+    }
+
+    /// The key of the row that has these values in a unique key, by the key's number from 1: what a
+    /// search of all rows finds. It takes no memory.
+    pub fn find_unique(&self, table: usize, number: usize, values: &Key) -> Option<&Key>
+        requires known { table < length self.now.schema }
+        requires number { (1 ≤ number) × (number ≤ length (keys_at self.now.schema table).uniques) }
+        ensures taken { is_some result ≡ taken self.now.rows table (unique_columns self.now.schema table number) values.now }
+        ensures key { IfSome result (λ key. (row : AnyRow) × (finite.get self.now.rows (table, key.now) ≡ Some row)
+            × (values_in (unique_columns self.now.schema table number) row ≡ Some values.now)) }
+    {
+        self.tables[table].find_unique(number, values)
+    }
+
+    /// A row comes into its table. A refusal changes no row.
+    pub fn put(&mut self, table: usize, key: Key, row: Row) -> Result<(), OutOfMemory>
+        requires known { table < length self.old.schema }
+        requires own_key { key_of self.old.schema table row ≡ Some key }
+        requires free { finite.get self.old.rows (table, key) ≡ None }
+        requires unique { first_taken self.old.rows table row 1 (keys_at self.old.schema table).uniques ≡ None }
+        ensures schema { self.new.schema ≡ self.old.schema }
+        ensures ok { OnOk result (self.new.rows ≡ finite.insert self.old.rows (table, key) row) }
+        ensures err { OnErr result (self.new.rows ≡ self.old.rows) }
+
+        // No cell goes from the room, and those of the row are in it.
+        ensures kept { Keeps self.old.room self.new.room }
+        ensures room { OnOk result (HasRoom self.new.room self.new.schema table row) }
+    {
+        let table = &mut self.tables[table];
+        table.put(&key, row)
+    }
+
+    /// A row takes the place of the one at a key, and may have another key. The answer is the row
+    /// that stood there. A refusal changes no row.
+    pub fn replace(
+        &mut self,
+        table: usize,
+        key: &Key,
+        new_key: Key,
+        row: Row,
+    ) -> Result<Row, OutOfMemory>
+        requires known { table < length self.old.schema }
+        requires there { IsSome (finite.get self.old.rows (table, key.now)) }
+        requires own_key { key_of self.old.schema table row ≡ Some new_key }
+        requires free { finite.get (finite.remove self.old.rows (table, key.now)) (table, new_key) ≡ None }
+        requires unique { first_taken (finite.remove self.old.rows (table, key.now)) table row 1 (keys_at self.old.schema table).uniques ≡ None }
+        ensures schema { self.new.schema ≡ self.old.schema }
+        ensures ok { OnOk result (self.new.rows ≡ finite.insert (finite.remove self.old.rows (table, key.now)) (table, new_key) row) }
+        ensures stood { IfOk result (λ stood. finite.get self.old.rows (table, key.now) ≡ Some stood) }
+        ensures err { OnErr result (self.new.rows ≡ self.old.rows) }
+
+        // No cell goes from the room, and those of the row are in it.
+        ensures kept { Keeps self.old.room self.new.room }
+        ensures room { OnOk result (HasRoom self.new.room self.new.schema table row) }
+    {
+        let table = &mut self.tables[table];
+        table.replace(key, &new_key, row)
+    }
+
+    /// The row at a key goes. It takes no memory.
+    pub fn remove(&mut self, table: usize, key: &Key) -> Row
+        requires known { table < length self.old.schema }
+        requires there { IsSome (finite.get self.old.rows (table, key.now)) }
+        ensures schema { self.new.schema ≡ self.old.schema }
+        ensures rows { self.new.rows ≡ finite.remove self.old.rows (table, key.now) }
+        ensures stood { finite.get self.old.rows (table, key.now) ≡ Some result }
+        ensures kept { Keeps self.old.room self.new.room }
+    {
+        let table = &mut self.tables[table];
+        table.remove(key)
+    }
+
+    /// All rows of a table go, moved out with its room: none is copied. A refusal changes nothing.
+    pub fn wipe(&mut self, table: usize) -> Result<Contents, OutOfMemory>
+        requires { table < length self.old.schema }
+        ensures schema { self.new.schema ≡ self.old.schema }
+        ensures empty { OnOk result ((key : AnyKey) → finite.get self.new.rows (table, key) ≡ None) }
+        ensures elsewhere { SameElsewhere self.old.rows self.new.rows table }
+        ensures room_elsewhere { SameRoomElsewhere self.old.room self.new.room table }
+
+        // The content is what was there.
+        ensures keys { IfOk result (λ contents. contents.keys ≡ keys_at self.old.schema table) }
+        ensures out { IfOk result (λ contents. IsTable self.old.rows table contents.rows) }
+        ensures room_out { IfOk result (λ contents. (c : Cell) → table_of c ≡ table → Contains self.old.room c → Contains (cells_in table contents) c) }
+        ensures err { OnErr result (self.new ≡ self.old) }
+    {
+        let table = &mut self.tables[table];
+        let emptied = table.emptied()?;
+        Ok(Contents {
+            table: mem::replace(table, emptied),
+        })
+    }
+
+    /// Takes a `put` back. It takes no memory.
+    pub fn take_back(&mut self, table: usize, key: &Key)
+        requires known { table < length self.old.schema }
+        requires there { IsSome (finite.get self.old.rows (table, key.now)) }
+        ensures schema { self.new.schema ≡ self.old.schema }
+        ensures rows { self.new.rows ≡ finite.remove self.old.rows (table, key.now) }
+        ensures kept { Keeps self.old.room self.new.room }
+    {
+        self.remove(table, key);
+    }
+
+    /// Takes a `remove` back, where there is room for the row. It takes no memory.
+    pub fn put_back(&mut self, table: usize, key: Key, row: Row)
+        requires known { table < length self.old.schema }
+        requires own_key { key_of self.old.schema table row ≡ Some key }
+        requires free { finite.get self.old.rows (table, key) ≡ None }
+        requires unique { first_taken self.old.rows table row 1 (keys_at self.old.schema table).uniques ≡ None }
+        requires room { HasRoom self.old.room self.old.schema table row }
+        ensures schema { self.new.schema ≡ self.old.schema }
+        ensures rows { self.new.rows ≡ finite.insert self.old.rows (table, key) row }
+        ensures kept { Keeps self.old.room self.new.room }
+    {
+        let table = &mut self.tables[table];
+        table.put_back(&key, row);
+    }
+
+    /// Takes a `replace` back, where there is room for the row: the row at `new_key` goes, and this
+    /// one comes to `key` again. It takes no memory.
+    pub fn replace_back(&mut self, table: usize, new_key: &Key, key: Key, row: Row)
+        requires known { table < length self.old.schema }
+        requires there { IsSome (finite.get self.old.rows (table, new_key.now)) }
+        requires own_key { key_of self.old.schema table row ≡ Some key }
+        requires free { finite.get (finite.remove self.old.rows (table, new_key.now)) (table, key) ≡ None }
+        requires unique { first_taken (finite.remove self.old.rows (table, new_key.now)) table row 1 (keys_at self.old.schema table).uniques ≡ None }
+        requires room { HasRoom self.old.room self.old.schema table row }
+        ensures schema { self.new.schema ≡ self.old.schema }
+        ensures rows { self.new.rows ≡ finite.insert (finite.remove self.old.rows (table, new_key.now)) (table, key) row }
+        ensures kept { Keeps self.old.room self.new.room }
+    {
+        let table = &mut self.tables[table];
+        table.replace_back(new_key, &key, row);
+    }
+
+    /// Takes a `wipe` back: moves the content in again. It takes no memory.
+    pub fn unwipe(&mut self, table: usize, contents: Contents)
+        requires known { table < length self.old.schema }
+        requires keys { contents.keys ≡ keys_at self.old.schema table }
+        requires empty { (key : AnyKey) → finite.get self.old.rows (table, key) ≡ None }
+        ensures schema { self.new.schema ≡ self.old.schema }
+        ensures rows { IsTable self.new.rows table contents.rows }
+        ensures elsewhere { SameElsewhere self.old.rows self.new.rows table }
+        ensures room { Keeps (cells_in table contents) self.new.room }
+        ensures room_elsewhere { SameRoomElsewhere self.old.room self.new.room table }
+    {
+        let table = &mut self.tables[table];
+        *table = contents.table;
+    }
+
+    /// Drops the slot of a key and the entries of a row's unique values, where they are empty. It
+    /// takes no memory.
+    pub fn settle(&mut self, table: usize, key: &Key, row: &Row)
+        requires { table < length self.old.schema }
+        ensures schema { self.new.schema ≡ self.old.schema }
+        ensures rows { self.new.rows ≡ self.old.rows }
+
+        // No other cell goes from the room.
+        ensures others { (c : Cell) → ¬ Contains (cells_of self.old.schema table row.now) c → c ≢ RowCell table key.now → Contains self.old.room c → Contains self.new.room c }
+    {
+        let table = &mut self.tables[table];
+        table.settle(key, row);
+    }
+}

@@ -1,0 +1,196 @@
+// The index of a unique key.
+ghost use Rattle.std.specs.Prelude.{◌≡◌, IfOk, OnOk, IsSome, None, false};
+ghost use Rattle.std.specs.Ordering.{eq_by_cmp};
+ghost use Rattle.model.specs.Key.{key_cmp};
+ghost use Rattle.model.specs.declared.key.Key.{Key as AnyKey};
+ghost use Rattle.indexes.specs.Columns.{present};
+ghost use Rattle.indexes.specs.Unique.{HasNone, held, entry_at, with_number, KeepsEntries, HasEntry, SetsEntry, SettlesEntry, KeepsSlots, HasSlot, Sets, Settles, EachStep, EachHasSlot};
+
+use crate::columns::{Values, has_values, values_of};
+use model::{Key, OutOfMemory, Row};
+use std::alloc::Global;
+use std::collections::BTreeMap;
+
+// A unique key's columns, and from its values to the number of the slot that the row with these
+// values lies in. An entry whose row went stays, with no number, until it is settled.
+#[derive(Drop)]
+pub(crate) struct Unique {
+    pub(crate) columns: Vec<usize>,
+    pub(crate) entries: BTreeMap<Key, Option<u64>>,
+}
+
+impl Unique {
+    // The index of a unique key over these columns, with no entries.
+    pub(crate) fn new(alloc: Global, columns: &[usize]) -> Result<Unique, OutOfMemory>
+        ensures columns { IfOk result (λ unique. unique.columns.items ≡ columns.now) }
+        ensures none { IfOk result HasNone }
+    {
+        Ok(Unique {
+            columns: copy_numbers(alloc, columns)?,
+            entries: BTreeMap::new(alloc),
+        })
+    }
+
+    // The number of the slot that the row with these values lies in.
+    pub(crate) fn find(&self, values: &Key) -> Option<u64>
+        ensures { result ≡ held self.now.entries values.now }
+    {
+        match self.entries.get(values) {
+            Some(number) => *number,
+            None => None,
+        }
+    }
+
+    // Makes an entry for a row's values, if it has them all and there is none.
+    fn reserve(&mut self, alloc: Global, row: &Row) -> Result<(), OutOfMemory>
+        ensures kept { KeepsSlots self.old self.new }
+        ensures ok { OnOk result (HasSlot row.now self.new) }
+    {
+        reserve_entry(alloc, self.columns.as_slice(), &mut self.entries, row)
+    }
+
+    // Writes a number, or none, at a row's values, if there is an entry for them.
+    fn set(&mut self, row: &Row, number: Option<u64>)
+        ensures { Sets row.now number self.old self.new }
+    {
+        set_entry(self.columns.as_slice(), &mut self.entries, row, number);
+    }
+
+    // Drops the entry for a row's values if it has no number.
+    fn settle(&mut self, row: &Row)
+        ensures { Settles row.now self.old self.new }
+    {
+        settle_entry(self.columns.as_slice(), &mut self.entries, row);
+    }
+}
+
+pub(crate) fn copy_numbers(alloc: Global, numbers: &[usize]) -> Result<Vec<usize>, OutOfMemory>
+    ensures { IfOk result (λ copy. copy.items ≡ numbers.now) }
+{
+    let mut copy = Vec::new(alloc);
+    for number in numbers {
+        copy.push(*number)?;
+    }
+    Ok(copy)
+}
+
+// An entry in each index for a row's values there.
+pub(crate) fn reserve_each(
+    alloc: Global,
+    uniques: &mut Vec<Unique>,
+    row: &Row,
+) -> Result<(), OutOfMemory>
+    ensures kept { EachStep KeepsSlots uniques.old.items uniques.new.items }
+    ensures ok { OnOk result (EachHasSlot row.now uniques.new.items) }
+{
+    reserve_all(alloc, uniques.as_mut_slice(), row)
+}
+
+fn reserve_all(alloc: Global, uniques: &mut [Unique], row: &Row) -> Result<(), OutOfMemory>
+    ensures kept { EachStep KeepsSlots uniques.old uniques.new }
+    ensures ok { OnOk result (EachHasSlot row.now uniques.new) }
+{
+    for unique in uniques.iter_mut() {
+        unique.reserve(alloc, row)?;
+    }
+    Ok(())
+}
+
+// A number, or none, at a row's values in each index.
+pub(crate) fn set_each(uniques: &mut Vec<Unique>, row: &Row, number: Option<u64>)
+    ensures { EachStep (Sets row.now number) uniques.old.items uniques.new.items }
+{
+    set_all(uniques.as_mut_slice(), row, number);
+}
+
+fn set_all(uniques: &mut [Unique], row: &Row, number: Option<u64>)
+    ensures { EachStep (Sets row.now number) uniques.old uniques.new }
+{
+    for unique in uniques.iter_mut() {
+        unique.set(row, number);
+    }
+}
+
+// In each index, drops the entry for a row's values if it has no number.
+pub(crate) fn settle_each(uniques: &mut Vec<Unique>, row: &Row)
+    ensures { EachStep (Settles row.now) uniques.old.items uniques.new.items }
+{
+    settle_all(uniques.as_mut_slice(), row);
+}
+
+fn settle_all(uniques: &mut [Unique], row: &Row)
+    ensures { EachStep (Settles row.now) uniques.old uniques.new }
+{
+    for unique in uniques.iter_mut() {
+        unique.settle(row);
+    }
+}
+
+fn reserve_entry(
+    alloc: Global,
+    columns: &[usize],
+    entries: &mut BTreeMap<Key, Option<u64>>,
+    row: &Row,
+) -> Result<(), OutOfMemory>
+    ensures kept { KeepsEntries entries.old entries.new }
+    ensures ok { OnOk result (HasEntry columns.now row.now entries.new) }
+{
+    if entries.contains_key(Values { columns, row }) {
+        return Ok(());
+    }
+    if let Some(values) = values_of(alloc, columns, row)? {
+        add_entry(entries, values)?;
+    }
+    Ok(())
+}
+
+// An entry with no number, for values that have none.
+fn add_entry(entries: &mut BTreeMap<Key, Option<u64>>, values: Key) -> Result<(), OutOfMemory>
+    requires { entry_at entries.old values ≡ None }
+    ensures kept { KeepsEntries entries.old entries.new }
+    ensures ok { OnOk result (IsSome (entry_at entries.new values)) }
+{
+    entries.insert(values, None)?;
+    Ok(())
+}
+
+fn set_entry(
+    columns: &[usize],
+    entries: &mut BTreeMap<Key, Option<u64>>,
+    row: &Row,
+    number: Option<u64>,
+)
+    ensures { SetsEntry columns.now row.now number entries.old entries.new }
+{
+    if has_values(columns, row) {
+        write_entry(entries, Values { columns, row }, number);
+    }
+}
+
+// Writes a number, or none, at some values, if there is an entry for them.
+fn write_entry(entries: &mut BTreeMap<Key, Option<u64>>, values: Values<'_>, number: Option<u64>)
+    ensures here { entry_at entries.new (present values.entry.columns.now values.entry.row.now) ≡ with_number number (entry_at entries.old (present values.entry.columns.now values.entry.row.now)) }
+    ensures beside { (other : AnyKey) → eq_by_cmp key_cmp (present values.entry.columns.now values.entry.row.now) other ≡ false → entry_at entries.new other ≡ entry_at entries.old other }
+{
+    if let Some(entry) = entries.get_mut(values) {
+        *entry = number;
+    }
+}
+
+fn settle_entry(columns: &[usize], entries: &mut BTreeMap<Key, Option<u64>>, row: &Row)
+    ensures { SettlesEntry columns.now row.now entries.old entries.new }
+{
+    if has_values(columns, row) {
+        drop_entry(entries, Values { columns, row });
+    }
+}
+
+// Drops the entry for some values if it has no number.
+fn drop_entry(entries: &mut BTreeMap<Key, Option<u64>>, values: Values<'_>)
+    ensures numbers { (other : AnyKey) → held entries.new other ≡ held entries.old other }
+    ensures beside { (other : AnyKey) → eq_by_cmp key_cmp (present values.entry.columns.now values.entry.row.now) other ≡ false → entry_at entries.new other ≡ entry_at entries.old other }
+{
+    if let Some(None) = entries.get(values) {
+        entries.remove(values);
+    }
+}

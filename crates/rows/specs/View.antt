@@ -1,0 +1,10 @@
+-- A value as it is read is the value that is kept.
+use Rattle.model.specs.declared.value.Value.{Value}
+use Rattle.model.specs.declared.value.Value.TheVariants.{Int, Text, Bool}
+use Rattle.rows.specs.declared.view.ValueRef.{ValueRef}
+use Rattle.rows.specs.declared.view.ValueRef.TheVariants.{Int as IntRef, Text as TextRef, Bool as BoolRef}
+
+abbrev pub read_value : ValueRef → Value
+read_value (IntRef n) = Int n
+read_value (TextRef t) = Text t.now
+read_value (BoolRef b) = Bool b

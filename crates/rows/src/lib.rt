@@ -1,0 +1,23 @@
+#![tactic(auto)]
+
+// The rows of one table, by primary key.
+//
+// A row lies in a slot. Taking the row leaves the slot, empty, until `settle` of its key, so what
+// was taken can be put back without memory: the step that may be refused, making the slot, was
+// done before. That is what lets a rollback always succeed.
+//
+// A store is seen as two finite maps: `rows`, from keys to the rows that stand there, and `slots`,
+// from each key that has a slot, filled or empty, to the slot's number. A slot keeps its number
+// for as long as it is there, and no two have the same, so an index can name a row by a plain
+// number, and needs no memory to do so.
+//
+//   store      the trait `RowStore`: what an index asks of a store, whichever way rows are kept
+//   ordered    `OrderedRows`, the first form: an ordered map of lists of values
+//   view       a row as it is read: column by column
+pub mod ordered;
+
+pub mod view;
+
+pub use ordered::OrderedRows;
+
+pub use view::{RowView, ValueRef};

@@ -1,0 +1,258 @@
+// Rows in an ordered map of slots.
+ghost use Rattle.std.specs.Prelude.{◌≡◌, ◌≢◌, ℕ, OnOk, OnErr, IfOk, IfSome, IfNone, IsSome, Some, None, false, is_some, if◌then◌else◌};
+ghost use Rattle.std.specs.Ordering.{nat_cmp};
+ghost use Rattle.std.specs.FinMap as map;
+ghost use Rattle.std.specs.BTreeMap as tree;
+ghost use Rattle.model.specs.declared.key.Key.{Key as Values};
+ghost use Rattle.rows.specs.Kept.{KeepsSlots, IsNumbered, IsSlotted};
+ghost use Rattle.rows.specs.Slots.{found, with_row_at, row_at, number_at, SameBeside, without_empty, number_of_empty};
+
+use crate::view::RowView;
+use model::{Key, OutOfMemory, Row};
+use std::alloc::Global;
+use std::collections::BTreeMap;
+use std::marker::Model;
+use std::mem;
+
+/// A place for a row. It keeps its number while it is there, filled or empty.
+#[derive(Drop)]
+struct Slot {
+    number: u64,
+    row: Option<Row>,
+}
+
+/// The rows of one table by primary key, each in a slot of an ordered map.
+#[derive(Drop)]
+pub struct OrderedRows {
+    slots: BTreeMap<Key, Slot>,
+    // The key of each slot, by the slot's number.
+    keys: BTreeMap<u64, Key>,
+    next: u64,
+    alloc: Global,
+}
+
+impl Slot {
+    // The row in it, as it is read.
+    fn view(&self) -> Option<RowView<'_>>
+        ensures { result ≡ self.now.row }
+    {
+        match &self.row {
+            Some(row) => Some(RowView::of_row(row)),
+            None => None,
+        }
+    }
+}
+
+impl Model for OrderedRows {
+    ghost use Rattle.rows.specs.Kept.{Kept};
+
+    ghost Value = { Kept };
+
+    ghost use Rattle.rows.specs.KeptCode.{kept_code};
+
+    ghost coded = { kept_code };
+
+    ghost use Rattle.rows.specs.Slots.{numbers_in};
+    ghost use Rattle.rows.specs.Ordered.{kept_in, IsNamed};
+
+    ghost view = { kept_in };
+
+    ghost invariant = { λ a. IsNamed (numbers_in a.slots.entries) a.keys a.next };
+}
+
+impl OrderedRows {
+    /// No rows, and no slots.
+    pub fn new(alloc: Global) -> OrderedRows
+        ensures { result ≡ record { rows = map.empty; slots = map.empty } }
+    {
+        OrderedRows {
+            slots: BTreeMap::new(alloc),
+            keys: BTreeMap::new(alloc),
+            next: 0,
+            alloc,
+        }
+    }
+
+    /// The row at a key.
+    #[tactic(auto, using(crate::proofs::Slots::found_row))]
+    pub fn get(&self, key: &Key) -> Option<RowView<'_>>
+        ensures { result ≡ map.get self.now.rows key.now }
+    {
+        match self.slots.get(key) {
+            Some(slot) => slot.view(),
+            None => None,
+        }
+    }
+
+    /// The number of a key's slot, if it has one.
+    pub fn slot(&self, key: &Key) -> Option<u64>
+        ensures number { result ≡ map.get self.now.slots key.now }
+
+        // No two slots have one number, and each row lies in a slot.
+        ensures numbered { IsNumbered self.now.slots }
+        ensures slotted { IsSlotted self.now }
+    {
+        number_of(&self.slots, key)
+    }
+
+    /// The key whose slot has this number.
+    pub fn key_at(&self, number: u64) -> Option<&Key>
+        ensures found { IfSome result (λ key. map.get self.now.slots key.now ≡ Some number) }
+        ensures missed { IfNone result ((key : Values) → map.get self.now.slots key ≢ Some number) }
+    {
+        self.keys.get(&number)
+    }
+
+    /// Makes a slot for a key that has none. A refusal changes no row and no slot.
+    pub fn reserve(&mut self, key: &Key) -> Result<u64, OutOfMemory>
+        ensures rows { self.new.rows ≡ self.old.rows }
+        ensures slots { KeepsSlots self.old.slots self.new.slots }
+        ensures ok { IfOk result (λ number. map.get self.new.slots key.now ≡ Some number) }
+        ensures numbered { IsNumbered self.new.slots }
+    {
+        match self.slot(key) {
+            Some(number) => Ok(number),
+            None => self.make_slot(key),
+        }
+    }
+
+    // The slot of a key that has none.
+    fn make_slot(&mut self, key: &Key) -> Result<u64, OutOfMemory>
+        requires { map.get self.old.slots key.now ≡ None }
+        ensures rows { self.new.rows ≡ self.old.rows }
+        ensures slots { KeepsSlots self.old.slots self.new.slots }
+        ensures ok { IfOk result (λ number. map.get self.new.slots key.now ≡ Some number) }
+        ensures numbered { IsNumbered self.new.slots }
+    {
+        let number = self.next;
+        if number == u64::MAX {
+            return Err(OutOfMemory);
+        }
+        add_slot(&mut self.slots, &mut self.keys, number, key)?;
+        self.next = number + 1;
+        Ok(number)
+    }
+
+    /// Puts a row into its key's slot. It takes no memory.
+    pub fn restore(&mut self, key: &Key, row: Row)
+        requires { IsSome (map.get self.old.slots key.now) }
+        ensures rows { self.new.rows ≡ map.insert self.old.rows key.now row }
+        ensures slots { self.new.slots ≡ self.old.slots }
+    {
+        set_row(&mut self.slots, key, Some(row));
+    }
+
+    /// Puts a row at a key. A refusal changes no row and no slot.
+    pub fn put(&mut self, key: &Key, row: Row) -> Result<(), OutOfMemory>
+        ensures ok { OnOk result (self.new.rows ≡ map.insert self.old.rows key.now row) }
+        ensures slots { KeepsSlots self.old.slots self.new.slots }
+        ensures slot { OnOk result (IsSome (map.get self.new.slots key.now)) }
+        ensures err { OnErr result (self.new.rows ≡ self.old.rows) }
+    {
+        self.reserve(key)?;
+        self.restore(key, row);
+        Ok(())
+    }
+
+    /// Takes the row out of its slot. The slot stays, and it takes no memory.
+    pub fn take(&mut self, key: &Key) -> Option<Row>
+        ensures row { result ≡ map.get self.old.rows key.now }
+        ensures rows { self.new.rows ≡ map.remove self.old.rows key.now }
+        ensures slots { self.new.slots ≡ self.old.slots }
+    {
+        set_row(&mut self.slots, key, None)
+    }
+
+    /// Drops the slot of a key where no row is in it. It takes no memory.
+    pub fn settle(&mut self, key: &Key)
+        ensures rows { self.new.rows ≡ self.old.rows }
+        ensures slots { self.new.slots ≡ (if is_some (map.get self.old.rows key.now) then self.old.slots else map.remove self.old.slots key.now) }
+    {
+        drop_slot(&mut self.slots, &mut self.keys, key);
+    }
+
+    /// The rows, in key order.
+    pub fn walk(&self) -> Result<Vec<RowView<'_>>, OutOfMemory> {
+        let mut rows = Vec::new(self.alloc);
+        for slot in self.slots.values() {
+            if let Some(row) = slot.view() {
+                rows.push(row)?;
+            }
+        }
+        Ok(rows)
+    }
+
+    /// Moves all rows and slots out. No row is copied, and it takes no memory.
+    pub fn wipe(&mut self) -> OrderedRows
+        ensures out { result ≡ self.old }
+        ensures left { self.new ≡ record { rows = map.empty; slots = map.empty } }
+    {
+        let alloc = self.alloc;
+        mem::replace(self, OrderedRows::new(alloc))
+    }
+}
+
+// The number of a key's slot, if it has one.
+fn number_of(slots: &BTreeMap<Key, Slot>, key: &Key) -> Option<u64>
+    ensures { result ≡ number_at (found slots.now.entries key.now) }
+{
+    match slots.get(key) {
+        Some(slot) => Some(slot.number),
+        None => None,
+    }
+}
+
+// A row or none into the slot at a key, if it has one. The answer is what was in it.
+fn set_row(slots: &mut BTreeMap<Key, Slot>, key: &Key, row: Option<Row>) -> Option<Row>
+    ensures row { result ≡ row_at (found slots.old.entries key.now) }
+    ensures here { found slots.new.entries key.now ≡ with_row_at row (found slots.old.entries key.now) }
+    ensures beside { SameBeside slots.old.entries slots.new.entries key.now }
+{
+    match slots.get_mut(key) {
+        Some(slot) => mem::replace(&mut slot.row, row),
+        None => None,
+    }
+}
+
+// An empty slot for a key that has none, with a number that no slot has.
+fn add_slot(
+    slots: &mut BTreeMap<Key, Slot>,
+    keys: &mut BTreeMap<u64, Key>,
+    number: u64,
+    key: &Key,
+) -> Result<(), OutOfMemory>
+    requires absent { found slots.old.entries key.now ≡ None }
+    requires free { tree.get nat_cmp keys.old number ≡ None }
+    ensures here { OnOk result (found slots.new.entries key.now ≡ Some (record { number = number; row = None })) }
+    ensures beside { SameBeside slots.old.entries slots.new.entries key.now }
+    ensures name { OnOk result (tree.get nat_cmp keys.new number ≡ Some key.now) }
+    ensures names { (other : ℕ) → other ≢ number → tree.get nat_cmp keys.new other ≡ tree.get nat_cmp keys.old other }
+    ensures err { OnErr result ((found slots.new.entries key.now ≡ None) × (tree.get nat_cmp keys.new number ≡ None)) }
+{
+    let own = key.copy()?;
+    keys.insert(number, key.copy()?)?;
+    let slot = Slot { number, row: None };
+    if slots.insert(own, slot).is_err() {
+        keys.remove(&number);
+        return Err(OutOfMemory);
+    }
+    Ok(())
+}
+
+// No slot at a key, and no key for its number, where no row is in it.
+fn drop_slot(slots: &mut BTreeMap<Key, Slot>, keys: &mut BTreeMap<u64, Key>, key: &Key)
+    ensures beside { SameBeside slots.old.entries slots.new.entries key.now }
+    ensures here { found slots.new.entries key.now ≡ without_empty (found slots.old.entries key.now) }
+    ensures names { (other : ℕ) → number_of_empty (found slots.old.entries key.now) ≢ Some other → tree.get nat_cmp keys.new other ≡ tree.get nat_cmp keys.old other }
+    ensures name { (other : ℕ) → number_of_empty (found slots.old.entries key.now) ≡ Some other → tree.get nat_cmp keys.new other ≡ None }
+{
+    let Some(slot) = slots.get(key) else {
+        return;
+    };
+    if slot.row.is_some() {
+        return;
+    }
+    let number = slot.number;
+    slots.remove(key);
+    keys.remove(&number);
+}

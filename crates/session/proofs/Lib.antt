@@ -1,0 +1,3 @@
+pub mod Spools
+pub mod Totals
+pub mod Kept

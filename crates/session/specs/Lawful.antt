@@ -1,0 +1,35 @@
+-- Lawful streams: each payload is a message that the session table admits, given those before it.
+use Rattle.std.specs.Prelude.{◌≡◌, ℕ, List, [], ◌∷◌, length, Result, Ok, Err}
+use Rattle.messages.specs.declared.message.Message.{Message}
+use Rattle.messages.specs.declared.fault.MsgFault.{MsgFault}
+use Rattle.messages.specs.Messages.{Spelled, Stands}
+use Rattle.session.specs.declared.fault.Refused.{Refused}
+use Rattle.session.specs.declared.fault.Refused.TheVariants.{Msg, Session, Rel, OutOfMemory}
+use Rattle.session.specs.State.{State, Setting, start, in_block}
+use Rattle.session.specs.Table.{Next, step}
+
+-- The payload spells a message that the table admits, and that leaves the state.
+pub record Admits (g : Setting) (s : State) (payload : List ℕ) (m : Message) (t : State) : Type 0 where
+  pub spelled : Spelled payload (in_block s.place) m
+  pub stepped : step g s (length payload) m ≡ Ok t
+
+-- The payloads, one after another, lead from the state to this one.
+abbrev pub Leads : Setting → State → List (List ℕ) → State → Type 0
+Leads g s [] t = s ≡ t
+Leads g s (payload ∷ payloads) t = (m : Message) × (u : State) × Admits g s payload m u × Leads g u payloads t
+
+-- They are lawful, and leave this state.
+abbrev pub IsLawful : Setting → List (List ℕ) → State → Type 0
+IsLawful g payloads t = Leads g start payloads t
+
+-- The payload spells a message that the table refuses.
+abbrev pub IsRefusedBy : Setting → State → List ℕ → Refused → Type 0
+IsRefusedBy g s payload refused = (m : Message) × Spelled payload (in_block s.place) m × (step g s (length payload) m ≡ Err refused)
+
+-- Why the payload is refused in this state: a fault stands in it, or it spells a message that may not come
+-- here, or that does not fit its relation. Memory may be refused at any time.
+abbrev pub IsRefusal : Setting → State → List ℕ → Refused → Type 0
+IsRefusal g s payload (Msg fault) = Stands payload (in_block s.place) fault
+IsRefusal g s payload (Session fault) = IsRefusedBy g s payload (Session fault)
+IsRefusal g s payload (Rel fault) = IsRefusedBy g s payload (Rel fault)
+IsRefusal g s payload OutOfMemory = Unit {0}

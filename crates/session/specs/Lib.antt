@@ -1,0 +1,12 @@
+pub mod Sized
+pub mod State
+pub mod Table
+pub mod Lawful
+pub mod Told
+pub mod Stands
+pub use Rattle.messages.specs.Messages
+pub use Rattle.relcache.specs.Mapping
+pub use Rattle.relcache.specs.Planning
+pub use Rattle.relcache.specs.Published
+pub use Rattle.savepoint.specs.Savepoints
+pub use Rattle.savepoint.specs.Survivors

@@ -1,0 +1,193 @@
+-- The session table: what each message does in each place, a line a message, and a column each for
+-- outside of transactions, between Begin and Commit, and in a block of a streamed transaction.
+use Rattle.std.specs.Prelude.{◌≡◌, ℕ, ◌+◌, ◌==◌, Bool, true, false, not, List, [], ◌∷◌, ◌++◌, Option, Some, None, unwrap_or, Result, Ok, Err, nat_lt, nat_le, if◌then◌else◌}
+use Rattle.std.specs.FinMap as map
+use Rattle.model.specs.Definition.{Definition}
+use Rattle.model.specs.declared.change.Change.{Change as Alteration}
+use Rattle.model.specs.declared.change.Change.TheVariants.{Wipe}
+use Rattle.savepoint.specs.declared.item.Item.{Item}
+use Rattle.savepoint.specs.declared.item.Item.TheVariants.{Change, Touch, BackTo}
+use Rattle.savepoint.specs.declared.item.CommitInfo.{CommitInfo}
+use Rattle.messages.specs.declared.message.Message.{Message}
+use Rattle.messages.specs.declared.message.Message.TheVariants as messages
+use Rattle.messages.specs.declared.message.Begin.{Begin}
+use Rattle.messages.specs.declared.message.Commit.{Commit}
+use Rattle.messages.specs.declared.message.StreamStart.{StreamStart}
+use Rattle.messages.specs.declared.message.StreamAbort.{StreamAbort}
+use Rattle.messages.specs.declared.relation.Relation.{Relation}
+use Rattle.messages.specs.declared.row.RowMessage.{RowMessage}
+use Rattle.messages.specs.declared.row.RowMessage.TheVariants as rows
+use Rattle.relcache.specs.declared.fault.RelFault.{RelFault}
+use Rattle.relcache.specs.Published.{Relations, learnt}
+use Rattle.relcache.specs.Mapping.{Mapped, resolved}
+use Rattle.relcache.specs.Planning.{planned}
+use Rattle.relcache.specs.Steps.{◌>>=◌}
+use Rattle.session.specs.declared.place.Place.{Place}
+use Rattle.session.specs.declared.place.Place.TheVariants.{Outside, Begun, Block}
+use Rattle.session.specs.declared.fault.SessionFault.{SessionFault}
+use Rattle.session.specs.declared.fault.SessionFault.TheVariants.{NotInTransaction, NestedBegin, BlockOpen, NoBlock, UnknownTransaction, AlreadyOpen, OldCommit, CommitMismatch, SpoolFull, TooManyOpen}
+use Rattle.session.specs.declared.fault.Refused.{Refused}
+use Rattle.session.specs.declared.fault.Refused.TheVariants.{Session, Rel}
+use Rattle.session.specs.State.{Way, Direct, Worker, Spooled, Open, Committed, Transactions, State, Setting, working, spooled}
+
+-- the next state, or why the message is refused
+abbrev pub Next : Type 0
+Next = Result State Refused
+
+abbrev pub refuse : SessionFault → Next
+refuse fault = Err (Session fault)
+
+-- ---- opening
+
+abbrev pub is_open : State → ℕ → Bool
+is_open s xid = map.contains_key s.transactions xid
+
+abbrev pub opened : Way → Open
+opened way = record { way = way; items = [] }
+
+-- how many transactions may be open at once
+abbrev pub most_open : ℕ
+most_open = 4096
+
+-- why the transaction can't be opened: it is open already, or there is no room for it
+abbrev pub room_fault : Transactions → ℕ → Option SessionFault
+room_fault transactions xid =
+    if map.contains_key transactions xid then Some AlreadyOpen
+    else (if nat_le most_open (map.len transactions) then Some TooManyOpen else None)
+
+abbrev pub unless_fault : Option SessionFault → State → Next
+unless_fault None t = Ok t
+unless_fault (Some fault) t = refuse fault
+
+abbrev pub opens : State → ℕ → Way → Place → Next
+opens s xid way place = unless_fault (room_fault s.transactions xid) (record s { place = place; transactions = map.insert s.transactions xid (opened way) })
+
+-- a streamed transaction gets a worker as long as there are any, and is spooled otherwise
+abbrev pub next_way : Setting → State → Way
+next_way g s = if nat_lt (working s.transactions) g.workers then Worker else Spooled
+
+abbrev pub begins : State → Begin → Next
+begins s m = opens s m.xid Direct (Begun m.xid m.final_lsn)
+
+abbrev pub streams : Setting → State → StreamStart → Next
+streams g s m =
+    if m.is_first then opens s m.xid (next_way g s) (Block m.xid)
+    else (if is_open s m.xid then Ok (record s { place = Block m.xid }) else refuse UnknownTransaction)
+
+-- ---- items
+
+-- what an open transaction does, or that it is unknown
+abbrev pub of_open : Option Open → (Open → Next) → Next
+of_open None next = refuse UnknownTransaction
+of_open (Some o) next = next o
+
+abbrev pub transaction : State → ℕ → Option Open
+transaction s xid = map.get s.transactions xid
+
+-- the transaction gets an item
+abbrev pub gives : State → ℕ → Item → ℕ → Open → State
+gives s xid item size o = record s { transactions = map.insert s.transactions xid (record o { items = o.items ++ (item, size) ∷ [] }) }
+
+-- there is room for the payload, if the transaction is spooled
+abbrev pub has_room : Setting → State → ℕ → Way → Bool
+has_room g s size Direct = true
+has_room g s size Worker = true
+has_room g s size Spooled = nat_le (spooled s.transactions + size) g.spool
+
+-- a relation or type message in a block is an item that changes no row
+abbrev pub touches : Setting → State → ℕ → ℕ → ℕ → Next
+touches g s xid sub size = of_open (transaction s xid) (λ o. if has_room g s size o.way then Ok (gives s xid (Touch sub) size o) else refuse SpoolFull)
+
+abbrev pub plans : Result Alteration RelFault → (Alteration → State) → Next
+plans (Ok c) next = Ok (next c)
+plans (Err fault) next = Err (Rel fault)
+
+-- a change that the relations allow
+abbrev pub changes : Setting → State → ℕ → ℕ → ℕ → Result Alteration RelFault → Next
+changes g s xid sub size planned =
+    of_open (transaction s xid) (λ o. if has_room g s size o.way then plans planned (λ c. gives s xid (Change sub c) size o) else refuse SpoolFull)
+
+-- the subtransaction that a message in a block names
+abbrev pub named : Option ℕ → ℕ → ℕ
+named sub xid = unwrap_or sub xid
+
+-- ---- closing
+
+abbrev pub closes : State → ℕ → CommitInfo → Open → Next
+closes s xid info o =
+    if nat_le info.end s.position then refuse OldCommit
+    else Ok (record s {
+      place = Outside;
+      transactions = map.remove s.transactions xid;
+      position = info.end;
+      past = s.past ++ (record { xid = xid; way = o.way; items = o.items; info = info }) ∷ [];
+    })
+
+abbrev pub commits : State → ℕ → ℕ → ℕ → Next
+commits s xid commit end = of_open (transaction s xid) (λ o. closes s xid (record { commit = commit; end = end }) o)
+
+-- a Commit has to be the one that its Begin foretold
+abbrev pub commits_begun : State → ℕ → ℕ → Commit → Next
+commits_begun s xid final m = if m.commit_lsn == final then commits s xid m.commit_lsn m.end_lsn else refuse CommitMismatch
+
+abbrev pub aborts_open : State → StreamAbort → Option Open → State
+aborts_open s m None = s
+aborts_open s m (Some o) =
+    if m.subtransaction == m.xid then record s { transactions = map.remove s.transactions m.xid }
+    else gives s m.xid (BackTo m.subtransaction) 0 o
+
+-- the abort of an unknown transaction has no effect
+abbrev pub aborts : State → StreamAbort → State
+aborts s m = aborts_open s m (transaction s m.xid)
+
+-- ---- relations
+
+abbrev pub learns : State → Relation → State
+learns s r = record s { relations = learnt s.relations r }
+
+abbrev pub row_change : Setting → State → ℕ → RowMessage → Result Alteration RelFault
+row_change g s oid row = do
+  m ← resolved g.catalog s.relations oid
+  planned m row
+
+-- the tables of relations, in the order named
+abbrev pub tables_of : List Definition → Relations → List ℕ → Result (List ℕ) RelFault
+tables_of catalog relations [] = Ok []
+tables_of catalog relations (oid ∷ oids) = do
+  m ← resolved catalog relations oid
+  tables ← tables_of catalog relations oids
+  Ok (m.table ∷ tables)
+
+abbrev pub truncate_change : Setting → State → List ℕ → Result Alteration RelFault
+truncate_change g s oids = do
+  tables ← tables_of g.catalog s.relations oids
+  Ok (Wipe tables)
+
+-- ---- the table
+
+abbrev pub at : Place → Next → (ℕ → ℕ → Next) → (ℕ → Next) → Next
+at Outside outside begun block = outside
+at (Begun xid final) outside begun block = begun xid final
+at (Block xid) outside begun block = block xid
+
+-- a change needs a transaction; between Begin and Commit it names that one
+abbrev pub change_line : Setting → State → ℕ → Option ℕ → Result Alteration RelFault → Next
+change_line g s size sub planned =
+    at s.place (refuse NotInTransaction) (λ xid final. changes g s xid xid size planned) (λ xid. changes g s xid (named sub xid) size planned)
+
+-- What a message does whose payload has this length.
+abbrev pub step : Setting → State → ℕ → Message → Next
+step g s size (messages.Begin m) = at s.place (begins s m) (λ xid final. refuse NestedBegin) (λ xid. refuse BlockOpen)
+step g s size (messages.Commit m) = at s.place (refuse NotInTransaction) (λ xid final. commits_begun s xid final m) (λ xid. refuse BlockOpen)
+step g s size (messages.Origin m) = at s.place (refuse NotInTransaction) (λ xid final. Ok s) (λ xid. Ok s)
+step g s size (messages.Message m) = at s.place (Ok s) (λ xid final. Ok s) (λ xid. Ok s)
+step g s size (messages.Relation sub r) = at s.place (Ok (learns s r)) (λ xid final. Ok (learns s r)) (λ xid. touches g (learns s r) xid (named sub xid) size)
+step g s size (messages.TypeName m) = at s.place (Ok s) (λ xid final. Ok s) (λ xid. touches g s xid (named m.xid xid) size)
+step g s size (messages.Insert m) = change_line g s size m.xid (row_change g s m.oid (rows.Insert m.new))
+step g s size (messages.Update m) = change_line g s size m.xid (row_change g s m.oid (rows.Update m.old m.new))
+step g s size (messages.Delete m) = change_line g s size m.xid (row_change g s m.oid (rows.Delete m.old))
+step g s size (messages.Truncate m) = change_line g s size m.xid (truncate_change g s m.relations)
+step g s size (messages.StreamStart m) = at s.place (streams g s m) (λ xid final. refuse NestedBegin) (λ xid. refuse BlockOpen)
+step g s size messages.StreamStop = at s.place (refuse NoBlock) (λ xid final. refuse NoBlock) (λ xid. Ok (record s { place = Outside }))
+step g s size (messages.StreamCommit m) = at s.place (commits s m.xid m.commit_lsn m.end_lsn) (λ xid final. refuse NestedBegin) (λ xid. refuse BlockOpen)
+step g s size (messages.StreamAbort m) = at s.place (Ok (aborts s m)) (λ xid final. refuse NestedBegin) (λ xid. refuse BlockOpen)

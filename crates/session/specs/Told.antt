@@ -1,0 +1,64 @@
+-- What an admitted message tells: five cases, whatever the message.
+use Rattle.std.specs.Prelude.{◌≡◌, ℕ, ◌<◌, List, [], ◌∷◌, ◌++◌, map, Option, Some, None}
+use Rattle.std.specs.FinMap as map
+use Rattle.savepoint.specs.declared.item.Item.{Item}
+use Rattle.savepoint.specs.declared.item.CommitInfo.{CommitInfo}
+use Rattle.session.specs.Sized.{item_of}
+use Rattle.session.specs.State.{Way, Direct, Worker, Spooled, Open, Committed, State, kept}
+use Rattle.session.specs.Table.{opened}
+
+pub data Told : Type 0 where
+  Nothing : Told
+  Opens : (xid : ℕ) (way : Way) → Told
+  Gives : (xid : ℕ) (way : Way) (item : Item) (size : ℕ) → Told
+  Commits : (committed : Committed) → Told
+  Aborts : (xid : ℕ) (way : Way) → Told
+
+-- The open transactions, the position and the past of two states.
+pub record Same (s t : State) : Type 0 where
+  pub transactions : t.transactions ≡ s.transactions
+  pub position : t.position ≡ s.position
+  pub past : t.past ≡ s.past
+
+-- The transaction opens.
+pub record IsOpening (s t : State) (xid : ℕ) (way : Way) : Type 0 where
+  pub absent : map.get s.transactions xid ≡ None
+  pub transactions : t.transactions ≡ map.insert s.transactions xid (opened way)
+  pub position : t.position ≡ s.position
+  pub past : t.past ≡ s.past
+
+-- The open transaction o gets an item.
+pub record IsGiving (s t : State) (xid : ℕ) (item : Item) (size : ℕ) (o : Open) : Type 0 where
+  pub present : map.get s.transactions xid ≡ Some o
+  pub transactions : t.transactions ≡ map.insert s.transactions xid (record o { items = o.items ++ (item, size) ∷ [] })
+  pub position : t.position ≡ s.position
+  pub past : t.past ≡ s.past
+
+-- The transaction commits, past the last commit.
+pub record IsCommitting (s t : State) (c : Committed) : Type 0 where
+  pub present : map.get s.transactions c.xid ≡ Some (record { way = c.way; items = c.items })
+  pub later : s.position < c.info.end
+  pub transactions : t.transactions ≡ map.remove s.transactions c.xid
+  pub position : t.position ≡ c.info.end
+  pub past : t.past ≡ s.past ++ c ∷ []
+
+-- The open transaction o is dropped.
+pub record IsAborting (s t : State) (xid : ℕ) (o : Open) : Type 0 where
+  pub present : map.get s.transactions xid ≡ Some o
+  pub transactions : t.transactions ≡ map.remove s.transactions xid
+  pub position : t.position ≡ s.position
+  pub past : t.past ≡ s.past
+
+-- A step from one state to the next tells this.
+abbrev pub Tells : State → State → Told → Type 0
+Tells s t Nothing = Same s t
+Tells s t (Opens xid way) = IsOpening s t xid way
+Tells s t (Gives xid way item size) = (o : Open) × (o.way ≡ way) × IsGiving s t xid item size o
+Tells s t (Commits c) = IsCommitting s t c
+Tells s t (Aborts xid way) = (o : Open) × (o.way ≡ way) × IsAborting s t xid o
+
+-- what a commit hands out: of a spooled transaction the items that survive
+abbrev pub handed_out : ℕ → Way → List (Item × ℕ) → List Item
+handed_out xid Direct items = []
+handed_out xid Worker items = []
+handed_out xid Spooled items = map item_of (kept xid items)

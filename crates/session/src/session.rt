@@ -1,0 +1,293 @@
+// The session, one function a message.
+use crate::fault::{Refused, SessionFault};
+use crate::place::Place;
+use crate::relations::Relations;
+use crate::step::Step;
+use crate::transactions::{Transactions, Way};
+use bytes::Bytes;
+use catalog::Catalog;
+use messages::{
+    Begin, Commit, Message, Oid, Relation, RowMessage, StreamAbort, StreamCommit, StreamStart,
+    Truncate, decode,
+};
+use savepoint::{CommitInfo, Item, Lsn, Xid};
+use std::alloc::Global;
+
+/// What the messages of a stream have left open, learnt and committed.
+#[derive(Drop)]
+pub struct Session {
+    alloc: Global,
+    place: Place,
+    transactions: Transactions,
+    relations: Relations,
+    /// The end of the last commit; 0 before the first.
+    position: Lsn,
+}
+
+impl Session {
+    /// The session at the start of a stream, with so many workers, whose spools may keep so many
+    /// bytes of payloads. It takes no memory.
+    pub fn new(alloc: Global, workers: usize, spool: u64) -> Session {
+        Session {
+            alloc,
+            place: Place::Outside,
+            transactions: Transactions::new(alloc, workers, spool),
+            relations: Relations::new(alloc),
+            position: 0,
+        }
+    }
+
+    /// Takes the next message, and answers what it asks for.
+    ///
+    /// A payload that is no message is refused first, then a message that may not come here or that
+    /// the spools have no room for, then one that does not fit its relation. A refusal changes
+    /// nothing. The catalog is the same at each call. (PostgreSQL manual: Logical Replication Message
+    /// Formats; Logical Streaming Replication Protocol.)
+    pub fn admit(
+        &mut self,
+        alloc: Global,
+        catalog: &Catalog,
+        payload: &Bytes,
+    ) -> Result<Step, Refused> {
+        let in_block = matches!(self.place, Place::Block(_));
+        let size = payload.len() as u64;
+        match decode(alloc, payload, in_block)? {
+            Message::Begin(m) => self.begin(&m),
+            Message::Commit(m) => self.commit(&m),
+            Message::Origin(_) => self.origin(),
+            Message::Message(_) => Ok(Step::Nothing),
+            Message::Relation { xid, relation } => self.relation(xid, &relation, size),
+            Message::TypeName(m) => self.type_name(m.xid, size),
+            Message::Insert(m) => {
+                let (xid, oid) = (m.xid, m.oid);
+                self.row(catalog, xid, oid, &m.into_row(), size)
+            }
+            Message::Update(m) => {
+                let (xid, oid) = (m.xid, m.oid);
+                self.row(catalog, xid, oid, &m.into_row(), size)
+            }
+            Message::Delete(m) => {
+                let (xid, oid) = (m.xid, m.oid);
+                self.row(catalog, xid, oid, &m.into_row(), size)
+            }
+            Message::Truncate(m) => self.truncate(catalog, &m, size),
+            Message::StreamStart(m) => self.stream_start(&m),
+            Message::StreamStop => self.stream_stop(),
+            Message::StreamCommit(m) => self.stream_commit(&m),
+            Message::StreamAbort(m) => self.stream_abort(&m),
+        }
+    }
+
+    // ---- transactions between Begin and Commit
+
+    fn begin(&mut self, m: &Begin) -> Result<Step, Refused> {
+        match self.place {
+            Place::Outside => {
+                self.transactions.begin(m.xid)?;
+                self.place = Place::Begun {
+                    xid: m.xid,
+                    final_lsn: m.final_lsn,
+                };
+                Ok(Step::Begin(m.xid))
+            }
+            Place::Begun { .. } => Err(SessionFault::NestedBegin.into()),
+            Place::Block(_) => Err(SessionFault::BlockOpen.into()),
+        }
+    }
+
+    fn commit(&mut self, m: &Commit) -> Result<Step, Refused> {
+        match self.place {
+            Place::Outside => Err(SessionFault::NotInTransaction.into()),
+            Place::Begun { xid, final_lsn } => {
+                if m.commit_lsn != final_lsn {
+                    return Err(SessionFault::CommitMismatch.into());
+                }
+                let step = self.close(xid, m.commit_lsn, m.end_lsn)?;
+                self.place = Place::Outside;
+                Ok(step)
+            }
+            Place::Block(_) => Err(SessionFault::BlockOpen.into()),
+        }
+    }
+
+    // ---- streamed transactions
+
+    fn stream_start(&mut self, m: &StreamStart) -> Result<Step, Refused> {
+        match self.place {
+            Place::Outside => {
+                let step = if m.is_first {
+                    self.open(m.xid)?
+                } else {
+                    self.check_open(m.xid)?;
+                    Step::Nothing
+                };
+                self.place = Place::Block(m.xid);
+                Ok(step)
+            }
+            Place::Begun { .. } => Err(SessionFault::NestedBegin.into()),
+            Place::Block(_) => Err(SessionFault::BlockOpen.into()),
+        }
+    }
+
+    fn stream_stop(&mut self) -> Result<Step, Refused> {
+        match self.place {
+            Place::Outside | Place::Begun { .. } => Err(SessionFault::NoBlock.into()),
+            Place::Block(_) => {
+                self.place = Place::Outside;
+                Ok(Step::Nothing)
+            }
+        }
+    }
+
+    fn stream_commit(&mut self, m: &StreamCommit) -> Result<Step, Refused> {
+        match self.place {
+            Place::Outside => Ok(self.close(m.xid, m.commit_lsn, m.end_lsn)?),
+            Place::Begun { .. } => Err(SessionFault::NestedBegin.into()),
+            Place::Block(_) => Err(SessionFault::BlockOpen.into()),
+        }
+    }
+
+    fn stream_abort(&mut self, m: &StreamAbort) -> Result<Step, Refused> {
+        match self.place {
+            Place::Outside => Ok(self.abort(m.xid, m.subtransaction)),
+            Place::Begun { .. } => Err(SessionFault::NestedBegin.into()),
+            Place::Block(_) => Err(SessionFault::BlockOpen.into()),
+        }
+    }
+
+    // ---- messages inside of transactions
+
+    fn origin(&self) -> Result<Step, Refused> {
+        match self.place {
+            Place::Outside => Err(SessionFault::NotInTransaction.into()),
+            Place::Begun { .. } | Place::Block(_) => Ok(Step::Nothing),
+        }
+    }
+
+    fn relation(
+        &mut self,
+        sub: Option<Xid>,
+        relation: &Relation,
+        size: u64,
+    ) -> Result<Step, Refused> {
+        match self.place {
+            Place::Outside | Place::Begun { .. } => {
+                self.relations.learn(relation)?;
+                Ok(Step::Nothing)
+            }
+            Place::Block(xid) => {
+                self.transactions.check_spool(xid, size)?;
+                let sub = sub.unwrap_or(xid);
+                let step = self.take(xid, Item::Touch(sub), size)?;
+                if let Err(fault) = self.relations.learn(relation) {
+                    self.transactions.drop_last(xid);
+                    return Err(fault.into());
+                }
+                Ok(step)
+            }
+        }
+    }
+
+    fn type_name(&mut self, sub: Option<Xid>, size: u64) -> Result<Step, Refused> {
+        match self.place {
+            Place::Outside | Place::Begun { .. } => Ok(Step::Nothing),
+            Place::Block(xid) => {
+                self.transactions.check_spool(xid, size)?;
+                let sub = sub.unwrap_or(xid);
+                self.take(xid, Item::Touch(sub), size)
+            }
+        }
+    }
+
+    fn row(
+        &mut self,
+        catalog: &Catalog,
+        sub: Option<Xid>,
+        oid: Oid,
+        row: &RowMessage,
+        size: u64,
+    ) -> Result<Step, Refused> {
+        let (xid, sub) = self.change_of(sub, size)?;
+        let change = self.relations.plan(catalog, oid, row)?;
+        self.take(xid, Item::Change { sub, change }, size)
+    }
+
+    fn truncate(&mut self, catalog: &Catalog, m: &Truncate, size: u64) -> Result<Step, Refused> {
+        let (xid, sub) = self.change_of(m.xid, size)?;
+        let change = self.relations.wipe(catalog, m.relations.as_slice())?;
+        self.take(xid, Item::Change { sub, change }, size)
+    }
+
+    /// The transaction that a change belongs to and the subtransaction that it names, if it may be
+    /// taken. Between Begin and Commit it names the transaction.
+    fn change_of(&self, sub: Option<Xid>, size: u64) -> Result<(Xid, Xid), SessionFault> {
+        match self.place {
+            Place::Outside => Err(SessionFault::NotInTransaction),
+            Place::Begun { xid, .. } => Ok((xid, xid)),
+            Place::Block(xid) => {
+                self.transactions.check_spool(xid, size)?;
+                Ok((xid, sub.unwrap_or(xid)))
+            }
+        }
+    }
+
+    /// Takes an item of an open transaction.
+    fn take(&mut self, xid: Xid, item: Item, size: u64) -> Result<Step, Refused> {
+        match self.transactions.take(xid, item, size)? {
+            Some(item) => Ok(Step::Item(xid, item)),
+            None => Ok(Step::Nothing),
+        }
+    }
+
+    // ---- opening and closing
+
+    fn check_open(&self, xid: Xid) -> Result<(), SessionFault> {
+        if self.transactions.contains(xid) {
+            Ok(())
+        } else {
+            Err(SessionFault::UnknownTransaction)
+        }
+    }
+
+    /// Opens a streamed transaction.
+    fn open(&mut self, xid: Xid) -> Result<Step, Refused> {
+        if self.transactions.stream(xid)? {
+            Ok(Step::Open(xid))
+        } else {
+            Ok(Step::Nothing)
+        }
+    }
+
+    /// Commits a transaction.
+    fn close(&mut self, xid: Xid, commit: Lsn, end: Lsn) -> Result<Step, SessionFault> {
+        self.check_open(xid)?;
+        if end <= self.position {
+            return Err(SessionFault::OldCommit);
+        }
+        let Some(way) = self.transactions.close(xid) else {
+            return Err(SessionFault::UnknownTransaction);
+        };
+        self.position = end;
+        let items = match way {
+            Way::Direct | Way::Worker => Vec::new(self.alloc),
+            Way::Spooled(spool) => spool.into_items(),
+        };
+        Ok(Step::Commit(xid, CommitInfo { commit, end }, items))
+    }
+
+    /// Rolls back a subtransaction, or the whole transaction if that is the one named.
+    fn abort(&mut self, xid: Xid, sub: Xid) -> Step {
+        if !self.transactions.contains(xid) {
+            Step::Nothing
+        } else if sub == xid {
+            match self.transactions.close(xid) {
+                None | Some(Way::Spooled(_)) => Step::Nothing,
+                Some(Way::Direct | Way::Worker) => Step::Abort(xid),
+            }
+        } else if self.transactions.roll_back(xid, sub) {
+            Step::Nothing
+        } else {
+            Step::Item(xid, Item::BackTo(sub))
+        }
+    }
+}

@@ -1,0 +1,151 @@
+// The open transactions.
+use crate::fault::{Refused, SessionFault};
+use crate::spool::Spool;
+use model::OutOfMemory;
+use savepoint::{Item, Xid};
+use std::alloc::Global;
+use std::collections::BTreeMap;
+
+/// How many transactions may be open at once.
+pub const MOST_OPEN: usize = 4096;
+
+/// Where the items of an open transaction go.
+#[derive(Drop)]
+pub enum Way {
+    /// It is between Begin and Commit, and its items are applied as they come.
+    Direct,
+    /// It is streamed, and has a worker.
+    Worker,
+    /// It is streamed, and its items are kept until it commits.
+    Spooled(Spool),
+}
+
+/// The open transactions, and how much of the limits they use.
+#[derive(Drop)]
+pub struct Transactions {
+    alloc: Global,
+    ways: BTreeMap<Xid, Way>,
+    /// How many workers there are, and how many of the transactions have one.
+    workers: usize,
+    working: usize,
+    /// How many bytes of payloads the spools may keep, and how many they keep.
+    spool: u64,
+    spooled: u64,
+}
+
+impl Transactions {
+    /// No transaction. It takes no memory.
+    pub(crate) fn new(alloc: Global, workers: usize, spool: u64) -> Transactions {
+        Transactions {
+            alloc,
+            ways: BTreeMap::new(alloc),
+            workers,
+            working: 0,
+            spool,
+            spooled: 0,
+        }
+    }
+
+    /// Whether the transaction is open.
+    pub(crate) fn contains(&self, xid: Xid) -> bool {
+        self.ways.contains_key(&xid)
+    }
+
+    /// Whether the transaction is open and spooled.
+    pub(crate) fn is_spooled(&self, xid: Xid) -> bool {
+        matches!(self.ways.get(&xid), Some(Way::Spooled(_)))
+    }
+
+    /// Opens a transaction whose items are applied as they come.
+    pub(crate) fn begin(&mut self, xid: Xid) -> Result<(), Refused> {
+        self.check_room(xid)?;
+        self.ways.insert(xid, Way::Direct)?;
+        Ok(())
+    }
+
+    /// Opens a streamed transaction. It answers whether the transaction gets a worker.
+    pub(crate) fn stream(&mut self, xid: Xid) -> Result<bool, Refused> {
+        self.check_room(xid)?;
+        if self.working < self.workers {
+            self.ways.insert(xid, Way::Worker)?;
+            self.working += 1;
+            Ok(true)
+        } else {
+            self.ways.insert(xid, Way::Spooled(Spool::new(self.alloc)))?;
+            Ok(false)
+        }
+    }
+
+    /// That a transaction of this number may be opened.
+    fn check_room(&self, xid: Xid) -> Result<(), SessionFault> {
+        if self.contains(xid) {
+            Err(SessionFault::AlreadyOpen)
+        } else if self.ways.len() >= MOST_OPEN {
+            Err(SessionFault::TooManyOpen)
+        } else {
+            Ok(())
+        }
+    }
+
+    /// That an item of an open transaction, with a payload of so many bytes, may be taken.
+    pub(crate) fn check_spool(&self, xid: Xid, size: u64) -> Result<(), SessionFault> {
+        if self.is_spooled(xid) && !self.has_spool(size) {
+            Err(SessionFault::SpoolFull)
+        } else {
+            Ok(())
+        }
+    }
+
+    /// Whether the spools may keep so many bytes more.
+    fn has_spool(&self, size: u64) -> bool {
+        match self.spooled.checked_add(size) {
+            Some(spooled) => spooled <= self.spool,
+            None => false,
+        }
+    }
+
+    /// Takes an item. That of a spooled transaction is kept, and any other is given back. Refused for
+    /// memory, it changes nothing.
+    pub(crate) fn take(
+        &mut self,
+        xid: Xid,
+        item: Item,
+        size: u64,
+    ) -> Result<Option<Item>, OutOfMemory> {
+        let Some(Way::Spooled(spool)) = self.ways.get_mut(&xid) else {
+            return Ok(Some(item));
+        };
+        spool.push(item, size)?;
+        self.spooled = self.spooled.saturating_add(size);
+        Ok(None)
+    }
+
+    /// Drops the item that a spooled transaction kept last.
+    pub(crate) fn drop_last(&mut self, xid: Xid) {
+        if let Some(Way::Spooled(spool)) = self.ways.get_mut(&xid) {
+            let freed = spool.pop();
+            self.spooled = self.spooled.saturating_sub(freed);
+        }
+    }
+
+    /// Rolls a subtransaction back. It answers whether the transaction is spooled.
+    pub(crate) fn roll_back(&mut self, xid: Xid, sub: Xid) -> bool {
+        let Some(Way::Spooled(spool)) = self.ways.get_mut(&xid) else {
+            return false;
+        };
+        let freed = spool.cut(sub);
+        self.spooled = self.spooled.saturating_sub(freed);
+        true
+    }
+
+    /// Closes a transaction. It answers what it was, if it was open.
+    pub(crate) fn close(&mut self, xid: Xid) -> Option<Way> {
+        let way = self.ways.remove(&xid)?;
+        match &way {
+            Way::Direct => {}
+            Way::Worker => self.working = self.working.saturating_sub(1),
+            Way::Spooled(spool) => self.spooled = self.spooled.saturating_sub(spool.bytes()),
+        }
+        Some(way)
+    }
+}
