@@ -214,6 +214,38 @@ fn a_fault_comes_again(rt: HostRuntime) -> Result<(), Fail> {
     Ok(())
 }
 
+// Where the payloads of its frames lie.
+const PAYLOADS: [(usize, usize); 4] = [(30, 51), (81, 146), (176, 202), (232, 258)];
+
+// Where memory is refused, the items are a beginning of all, and the refusal comes again. With ample memory it isn't.
+#[test]
+fn items_where_memory_is_refused(rt: HostRuntime) {
+    let mut frames = Frames::new(rt.alloc());
+    let mut payloads = PAYLOADS.iter();
+    for piece in STREAM.chunks(40) {
+        let answer = frames.feed(piece);
+        while let Some(item) = frames.next() {
+            let payload = payloads
+                .next()
+                .and_then(|(from, to)| STREAM.get(*from..*to));
+            let want = CopyItem::Wal {
+                start: 0,
+                end: 0,
+                payload: Bytes::from_static(payload.unwrap_or(&[])),
+            };
+            assert_eq!(rt; item, want);
+        }
+        if let Err(fault) = answer {
+            assert_eq!(rt; fault, FrameFault::OutOfMemory);
+            assert_eq!(rt; frames.feed(piece), Err(FrameFault::OutOfMemory));
+            assert_eq!(rt; frames.finish(), Err(FrameFault::OutOfMemory));
+            return;
+        }
+    }
+    assert_eq!(rt; payloads.next(), None);
+    assert_eq!(rt; frames.finish(), Ok(()));
+}
+
 // Over std's readers: the payloads, and CopyDone, after which nothing is read.
 #[test]
 fn a_reader_up_to_copy_done(rt: HostRuntime) -> Result<(), Fail> {

@@ -5,7 +5,6 @@ use Rattle.std.specs.List.{Contains}
 use Rattle.model.specs.declared.key.Key.{Key}
 use Rattle.model.specs.declared.row.Row.{Row as Record}
 use Rattle.model.specs.declared.cell.Cell.{Cell}
-use Rattle.model.specs.declared.cell.Cell.TheVariants.{Row, Uniq, Whole}
 use Rattle.model.specs.Rows.{TableKeys, Schema, values_in, keys_at}
 use Rattle.model.specs.Cells.{row_cell, unique_cell, unique_cells, cells_of}
 use Rattle.indexes.specs.Table.{Spot, TableContent, spot, unique_spots, spots_of, cell_of_key, cell_at, cells_in, KeepsSpots}
@@ -77,15 +76,15 @@ pub record RoomAt (n : ℕ) (ts : List TableContent) (c : Cell) : Type 0 where
 room_at : (n : ℕ) (ts : List TableContent) (c : Cell) → Elem (cells_from n ts) c → RoomAt n ts c
 room_at n [] c h = absurd h
 room_at n (t ∷ ts) c h = elim (elem_either (cells_in n t) (cells_from (suc n) ts) c h) [
-    | inl here ↦
-        let p = elem_of_map (cell_at n) t.room c here in
-        let n_is : n ≡ n + 0 = omega arith in
-        record { i = 0; t = t; at = refl; spot = p.0; there = p.1; is = sym p.2 ∙ ap (λ (m : ℕ). cell_at m p.0) n_is }
-    | inr later ↦
-        let r = room_at (suc n) ts c later in
-        let n_is : suc n + r.i ≡ n + suc r.i = omega arith in
-        record { i = suc r.i; t = r.t; at = r.at; spot = r.spot; there = r.there; is = r.is ∙ ap (λ (m : ℕ). cell_at m r.spot) n_is }
-  ]
+  | inl here ↦
+      let p = elem_of_map (cell_at n) t.room c here in
+      let n_is : n ≡ n + 0 = omega arith in
+      record { i = 0; t = t; at = refl; spot = p.0; there = p.1; is = sym p.2 ∙ ap (λ (m : ℕ). cell_at m p.0) n_is }
+  | inr later ↦
+      let r = room_at (suc n) ts c later in
+      let n_is : suc n + r.i ≡ n + suc r.i = omega arith in
+      record { i = suc r.i; t = r.t; at = r.at; spot = r.spot; there = r.there; is = r.is ∙ ap (λ (m : ℕ). cell_at m r.spot) n_is }
+]
 
 in_rooms : (n : ℕ) (ts : List TableContent) (i m : ℕ) (t : TableContent) (s : Spot) → slice_get ts i ≡ Some t → Elem t.room s → m ≡ n + i → Elem (cells_from n ts) (cell_at m s)
 in_rooms n [] i m t s at h is = absurd cc
@@ -115,9 +114,9 @@ cell_in ts i t s at c = contains_elem _ _ (in_rooms 0 ts i i t s at (elem_contai
 pub has_room : (ts : List TableContent) (i : ℕ) (t : TableContent) (row : Record) → slice_get ts i ≡ Some t → HasRoom (cells_from 0 ts) (schema_of ts) i row → KeepsSpots (spots_of t.keys row) t.room
 has_room ts i t row at room s c =
     let in_cells : Contains (cells_of (schema_of ts) i row) (cell_at i s) =
-        subst (λ (cs : List Cell). Contains cs (cell_at i s)) (sym (cells_are (schema_of ts) i row))
-        (contains_elem _ _ (elem_map (cell_at i) (spots_of (keys_at (schema_of ts) i) row) s
-          (subst (λ (k : TableKeys). Elem (spots_of k row) s) (sym (keys_is ts i t at)) (elem_contains _ _ c)))) in
+    subst (λ (cs : List Cell). Contains cs (cell_at i s)) (sym (cells_are (schema_of ts) i row))
+    (contains_elem _ _ (elem_map (cell_at i) (spots_of (keys_at (schema_of ts) i) row) s
+    (subst (λ (k : TableKeys). Elem (spots_of k row) s) (sym (keys_is ts i t at)) (elem_contains _ _ c)))) in
     spot_in ts i t s at (room (cell_at i s) in_cells)
 
 pub room_has : (ts : List TableContent) (i : ℕ) (t : TableContent) (row : Record) → slice_get ts i ≡ Some t → KeepsSpots (spots_of t.keys row) t.room → HasRoom (cells_from 0 ts) (schema_of ts) i row
@@ -164,7 +163,7 @@ room_of_table ts i t at c table_is h =
     let same : r.i ≡ i = sym (table_of_cell r.i r.spot) ∙ ap table_of c_is ∙ table_is in
     let t_is : r.t ≡ t = let there : slice_get ts r.i ≡ Some t = ap (slice_get ts) same ∙ at in let here = r.at in cc in
     contains_elem _ _ (subst (Elem (cells_in i t)) (ap (λ (m : ℕ). cell_at m r.spot) (sym same) ∙ c_is)
-      (elem_map (cell_at i) t.room r.spot (subst (λ (w : TableContent). Elem w.room r.spot) t_is r.there)))
+    (elem_map (cell_at i) t.room r.spot (subst (λ (w : TableContent). Elem w.room r.spot) t_is r.there)))
 
 pub room_of_new : (ts : List TableContent) (i : ℕ) (t new : TableContent) → slice_get ts i ≡ Some t → Keeps (cells_in i new) (cells_from 0 (slice_set ts i new))
 room_of_new ts i t new at c h =

@@ -1,6 +1,6 @@
 -- What a list contains, by recursion.
-use Rattle.std.specs.Prelude.{◌≡◌, ℕ, suc, ◌+◌, ◌<◌, Bool, true, false, cond, List, [], ◌∷◌, ◌++◌, length, map, Option, Some, None, refl, ◌⊎◌, slice_get, slice_index_or, IsSome, is_some}
-use Rattle.std.proofs.Common.{zero, sym, ◌∙◌, ap, subst, inl, inr, arith}
+use Rattle.std.specs.Prelude.{◌≡◌, ℕ, suc, ◌<◌, cond, List, [], ◌∷◌, ◌++◌, length, map, Option, Some, None, refl, ◌⊎◌, slice_index_or, IsSome}
+use Rattle.std.proofs.Common.{zero, sym, ◌∙◌, ap, inl, inr, arith}
 use Rattle.std.specs.List.{Contains}
 use Rattle.std.specs.Map.{lookup}
 use Rattle.std.specs.BTreeMap.{is_at}

@@ -1,9 +1,9 @@
 -- One table among all, and what a change of it does to what is gathered.
-use Rattle.std.specs.Prelude.{◌≡◌, ◌≢◌, ℕ, suc, ◌+◌, ◌<◌, ◌≤◌, Bool, true, false, cond, List, [], ◌∷◌, ◌++◌, length, map, Option, Some, None, refl, ◌⊎◌, slice_get, slice_set, unwrap_or}
+use Rattle.std.specs.Prelude.{◌≡◌, ◌≢◌, ℕ, suc, ◌+◌, ◌<◌, true, false, cond, List, [], ◌∷◌, ◌++◌, map, Option, Some, None, refl, ◌⊎◌, slice_get, slice_set, unwrap_or}
 use Rattle.std.proofs.Common.{zero, sym, ◌∙◌, ap, subst, inl, inr, arith, true≢false}
 use Rattle.std.specs.Ordering.{eq_by_cmp}
 use Rattle.std.specs.Cmp.{eq_by_cmp_equiv}
-use Rattle.std.specs.FinMap.{FinMap, find, get, entries, get-entries, insert, remove, from_entries, get-from_entries, get-insert, get-remove, same_map}
+use Rattle.std.specs.FinMap.{FinMap, find, get, entries, get-entries, insert, remove, get-from_entries, get-insert, get-remove, same_map}
 use Rattle.std.proofs.lemmas.Map.Views.{tells_apart}
 use Rattle.model.specs.declared.key.Key.{Key}
 use Rattle.model.specs.declared.row.Row.{Row}
@@ -12,7 +12,7 @@ use Rattle.model.specs.Exact.{place_cmp_exact}
 use Rattle.model.specs.Rows.{Place, Rows, Schema, TableKeys, place_cmp, place_cmp_total, values_in, keys_at, IsValid}
 use Rattle.model.specs.Effect.{first_taken, is_taken}
 use Rattle.model.specs.TakenLaws.{taken_by_row, first_taken_none}
-use Rattle.rows.specs.KeyLaws.{IsApart, one_or_apart, same_key, get_inserted, get_beside_insert, get_removed, get_beside_remove}
+use Rattle.rows.specs.KeyLaws.{one_or_apart, same_key}
 use Rattle.indexes.specs.Table.{TableContent, NoClash, IsSound}
 use Rattle.indexes.specs.Gathered.{placed, rows_of, schema_of, AllSound}
 
@@ -36,12 +36,12 @@ other_table m n key other differs = apart_by (m, key) (n, other) (λ e. differs 
 
 same_table : (n : ℕ) (key other : Key) → eq_by_cmp place_cmp (n, key) (n, other) ≡ eq_by_cmp key_cmp key other
 same_table n key other = elim (one_or_apart key other) [
-    | inl same ↦ subst (λ (k : Key). eq_by_cmp place_cmp (n, key) (n, k) ≡ eq_by_cmp key_cmp key k) same (same_place (n, key) ∙ sym (same_key key))
-    | inr apart ↦ apart_by (n, key) (n, other) (λ e.
-        let key_is : key ≡ other = ap (λ (p : Place). p.1) e in
-        let alike : eq_by_cmp key_cmp key other ≡ true = subst (λ (k : Key). eq_by_cmp key_cmp key k ≡ true) key_is (same_key key) in
-        true≢false (sym alike ∙ apart.there)) ∙ sym apart.there
-  ]
+  | inl same ↦ subst (λ (k : Key). eq_by_cmp place_cmp (n, key) (n, k) ≡ eq_by_cmp key_cmp key k) same (same_place (n, key) ∙ sym (same_key key))
+  | inr apart ↦ apart_by (n, key) (n, other) (λ e.
+      let key_is : key ≡ other = ap (λ (p : Place). p.1) e in
+      let alike : eq_by_cmp key_cmp key other ≡ true = subst (λ (k : Key). eq_by_cmp key_cmp key k ≡ true) key_is (same_key key) in
+      true≢false (sym alike ∙ apart.there)) ∙ sym apart.there
+]
 
 -- ---- look-ups
 
@@ -140,15 +140,15 @@ module _ (ts : List TableContent) (i : ℕ) (t : TableContent) (at : slice_get t
   -- rows that have what the new table has, and elsewhere what there was
   pub rows_after : (rows : Rows) → ((key : Key) → get rows (i, key) ≡ get new.rows key) → ((j : ℕ) (key : Key) → j ≢ i → get rows (j, key) ≡ get (rows_of ts) (j, key)) → rows_of (slice_set ts i new) ≡ rows
   rows_after rows there elsewhere = same_map place_cmp_total place_cmp_exact _ _ (λ p. elim (same_or_not p.0 i) [
-      | inl same ↦ subst (λ (j : ℕ). get (rows_of (slice_set ts i new)) (j, p.1) ≡ get rows (j, p.1)) (sym same) (get_there p.1 ∙ sym (there p.1))
-      | inr differs ↦ get_elsewhere p.0 p.1 differs ∙ sym (elsewhere p.0 p.1 differs)
-    ])
+    | inl same ↦ subst (λ (j : ℕ). get (rows_of (slice_set ts i new)) (j, p.1) ≡ get rows (j, p.1)) (sym same) (get_there p.1 ∙ sym (there p.1))
+    | inr differs ↦ get_elsewhere p.0 p.1 differs ∙ sym (elsewhere p.0 p.1 differs)
+  ])
 
   pub rows_inserted : (key : Key) (row : Row) → new.rows ≡ insert t.rows key row → rows_of (slice_set ts i new) ≡ insert (rows_of ts) (i, key) row
   rows_inserted key row is = rows_after (insert (rows_of ts) (i, key) row)
       (λ q. get-insert place_cmp_total (rows_of ts) (i, key) row (i, q) ∙ ap (λ b. cond b (Some row) (get (rows_of ts) (i, q))) (same_table i q key)
-        ∙ ap (cond (eq_by_cmp key_cmp q key) (Some row)) (get_is ts i t at q)
-        ∙ sym (get-insert key_cmp_total t.rows key row q) ∙ ap (λ m. get m q) (sym is))
+      ∙ ap (cond (eq_by_cmp key_cmp q key) (Some row)) (get_is ts i t at q)
+      ∙ sym (get-insert key_cmp_total t.rows key row q) ∙ ap (λ m. get m q) (sym is))
       (λ j q differs. get-insert place_cmp_total (rows_of ts) (i, key) row (j, q) ∙ ap (λ b. cond b (Some row) (get (rows_of ts) (j, q))) (other_table j i q key differs))
 
   pub rows_removed : (key : Key) → new.rows ≡ remove t.rows key → rows_of (slice_set ts i new) ≡ remove (rows_of ts) (i, key)
@@ -161,11 +161,11 @@ module _ (ts : List TableContent) (i : ℕ) (t : TableContent) (at : slice_get t
   pub rows_replaced : (old_key key : Key) (row : Row) → new.rows ≡ insert (remove t.rows old_key) key row → rows_of (slice_set ts i new) ≡ insert (remove (rows_of ts) (i, old_key)) (i, key) row
   rows_replaced old_key key row is = rows_after (insert (remove (rows_of ts) (i, old_key)) (i, key) row)
       (λ q. get-insert place_cmp_total (remove (rows_of ts) (i, old_key)) (i, key) row (i, q) ∙ ap (λ b. cond b (Some row) (get (remove (rows_of ts) (i, old_key)) (i, q))) (same_table i q key)
-        ∙ ap (cond (eq_by_cmp key_cmp q key) (Some row)) (get_without ts i t at old_key q)
-        ∙ sym (get-insert key_cmp_total (remove t.rows old_key) key row q) ∙ ap (λ m. get m q) (sym is))
+      ∙ ap (cond (eq_by_cmp key_cmp q key) (Some row)) (get_without ts i t at old_key q)
+      ∙ sym (get-insert key_cmp_total (remove t.rows old_key) key row q) ∙ ap (λ m. get m q) (sym is))
       (λ j q differs. get-insert place_cmp_total (remove (rows_of ts) (i, old_key)) (i, key) row (j, q)
-        ∙ ap (λ b. cond b (Some row) (get (remove (rows_of ts) (i, old_key)) (j, q))) (other_table j i q key differs)
-        ∙ get-remove place_cmp_total (rows_of ts) (i, old_key) (j, q) ∙ ap (λ b. cond b None (get (rows_of ts) (j, q))) (other_table j i q old_key differs))
+      ∙ ap (λ b. cond b (Some row) (get (remove (rows_of ts) (i, old_key)) (j, q))) (other_table j i q key differs)
+      ∙ get-remove place_cmp_total (rows_of ts) (i, old_key) (j, q) ∙ ap (λ b. cond b None (get (rows_of ts) (j, q))) (other_table j i q old_key differs))
 
 -- ---- what one table needs, from what is gathered
 
@@ -179,12 +179,12 @@ no_clash keys rows own table row is none i columns key values twin at there has 
 
 pub sound_after : (ts : List TableContent) (i : ℕ) (t new : TableContent) → slice_get ts i ≡ Some t → AllSound ts → IsSound new → AllSound (slice_set ts i new)
 sound_after ts i t new at all sound j s there = elim (same_or_not j i) [
-    | inl same ↦
-        let is : slice_get (slice_set ts i new) j ≡ Some new = ap (slice_get (slice_set ts i new)) same ∙ set_there ts i t new at in
-        let new_is : new ≡ s = cc in
-        subst IsSound new_is sound
-    | inr differs ↦ all j s (sym (set_elsewhere ts i j new differs) ∙ there)
-  ]
+  | inl same ↦
+      let is : slice_get (slice_set ts i new) j ≡ Some new = ap (slice_get (slice_set ts i new)) same ∙ set_there ts i t new at in
+      let new_is : new ≡ s = cc in
+      subst IsSound new_is sound
+  | inr differs ↦ all j s (sym (set_elsewhere ts i j new differs) ∙ there)
+]
 
 pub schema_after : (ts : List TableContent) (i : ℕ) (t new : TableContent) → slice_get ts i ≡ Some t → new.keys ≡ t.keys → schema_of (slice_set ts i new) ≡ schema_of ts
 schema_after [] i t new at same = absurd cc
@@ -204,11 +204,11 @@ table_at ts i key row e = at_some (slice_get ts i) key row (sym (get_gathered ts
 
 pub valid : (ts : List TableContent) → AllSound ts → IsValid (schema_of ts) (rows_of ts)
 valid ts all = record {
-    own_key = λ table key row e.
-        let a = table_at ts table key row e in
-        ap (λ (k : TableKeys). values_in k.primary row) (keys_is ts table a.0 a.1) ∙ (all table a.0 a.1).own_key key row a.2;
-    unique = λ table i columns key other row twin values at e f has too.
-        let a = table_at ts table key row e in
-        let b = sym (get_is ts table a.0 a.1 other) ∙ f in
-        (all table a.0 a.1).unique i columns key other row twin values (ap (λ (k : TableKeys). slice_get k.uniques i) (sym (keys_is ts table a.0 a.1)) ∙ at) a.2 b has too;
-  }
+  own_key = λ table key row e.
+      let a = table_at ts table key row e in
+      ap (λ (k : TableKeys). values_in k.primary row) (keys_is ts table a.0 a.1) ∙ (all table a.0 a.1).own_key key row a.2;
+  unique = λ table i columns key other row twin values at e f has too.
+      let a = table_at ts table key row e in
+      let b = sym (get_is ts table a.0 a.1 other) ∙ f in
+      (all table a.0 a.1).unique i columns key other row twin values (ap (λ (k : TableKeys). slice_get k.uniques i) (sym (keys_is ts table a.0 a.1)) ∙ at) a.2 b has too;
+}

@@ -1,42 +1,42 @@
 -- An index after a change of the rows that it is of.
-use Rattle.std.specs.Prelude.{◌≡◌, ◌≢◌, ℕ, false, List, [], ◌∷◌, Option, Some, None, refl, ◌⊎◌, IsSome, is_some}
+use Rattle.std.specs.Prelude.{◌≡◌, ◌≢◌, ℕ, false, List, Option, Some, None, refl, ◌⊎◌, is_some}
 use Rattle.std.specs.Ordering.{eq_by_cmp}
 use Rattle.std.proofs.Common.{sym, ◌∙◌, ap, subst, inl, inr}
-use Rattle.std.specs.FinMap.{FinMap, get, insert, remove}
+use Rattle.std.specs.FinMap.{get, insert, remove}
 use Rattle.model.specs.declared.key.Key.{Key}
 use Rattle.model.specs.declared.row.Row.{Row}
 use Rattle.model.specs.Key.{key_cmp}
 use Rattle.model.specs.Rows.{values_in}
 use Rattle.rows.specs.Kept.{Kept, KeepsSlots, IsNumbered, IsSlotted}
-use Rattle.rows.specs.KeyLaws.{IsApart, one_or_apart, same_key, get_inserted, get_beside_insert, get_removed, get_beside_remove}
+use Rattle.rows.specs.KeyLaws.{one_or_apart, same_key, get_inserted, get_beside_insert, get_removed, get_beside_remove}
 use Rattle.indexes.specs.Unique.{Entries, entry_at, held, number_in, with_number, HasEntry, SetsEntry}
-use Rattle.indexes.specs.Indexed.{Holder, IsIndex}
+use Rattle.indexes.specs.Indexed.{IsIndex}
 
 -- a row has these values, or has not
 pub has_or_not : (o : Option Key) (values : Key) → (o ≡ Some values) ⊎ (o ≢ Some values)
 has_or_not None values = inr (λ e. cc)
 has_or_not (Some found) values = elim (one_or_apart found values) [
-    | inl same ↦ inl (ap Some same)
-    | inr apart ↦ inr (λ e. let same : found ≡ values = cc in
-        let itself : eq_by_cmp key_cmp found found ≡ false = subst (λ (k : Key). eq_by_cmp key_cmp found k ≡ false) (sym same) apart.there in
-        let alike = same_key found in
-        cc)
-  ]
+  | inl same ↦ inl (ap Some same)
+  | inr apart ↦ inr (λ e. let same : found ≡ values = cc in
+      let itself : eq_by_cmp key_cmp found found ≡ false = subst (λ (k : Key). eq_by_cmp key_cmp found k ≡ false) (sym same) apart.there in
+      let alike = same_key found in
+      cc)
+]
 
 -- no row changed, no slot went, and no number in an entry changed
 pub index_kept : (columns : List ℕ) (old new : Kept) (before after : Entries) → IsIndex columns old before → IsSlotted old
     → new.rows ≡ old.rows → KeepsSlots old.slots new.slots → ((values : Key) → held after values ≡ held before values) → IsIndex columns new after
 index_kept columns old new before after was slotted rows slots numbers = record {
-    holds = λ key row values number at slot has.
-        let before_at = ap (λ m. get m key) (sym rows) ∙ at in
-        let place = slotted key row before_at in
-        let kept = slots key place.0 place.1 in
-        let same : place.0 ≡ number = cc in
-        numbers values ∙ was.holds key row values number before_at (place.1 ∙ ap Some same) has;
-    only = λ values number e.
-        let h = was.only values number (sym (numbers values) ∙ e) in
-        record { key = h.key; row = h.row; slot = slots h.key number h.slot; at = ap (λ m. get m h.key) rows ∙ h.at; has = h.has };
-  }
+  holds = λ key row values number at slot has.
+      let before_at = ap (λ m. get m key) (sym rows) ∙ at in
+      let place = slotted key row before_at in
+      let kept = slots key place.0 place.1 in
+      let same : place.0 ≡ number = cc in
+      numbers values ∙ was.holds key row values number before_at (place.1 ∙ ap Some same) has;
+  only = λ values number e.
+      let h = was.only values number (sym (numbers values) ∙ e) in
+      record { key = h.key; row = h.row; slot = slots h.key number h.slot; at = ap (λ m. get m h.key) rows ∙ h.at; has = h.has };
+}
 
 module _ (columns : List ℕ) (kept : Kept) (before after : Entries) (was : IsIndex columns kept before) (key : Key) (row : Row) where
   -- a row came into its slot, with values that no row has
@@ -46,10 +46,10 @@ module _ (columns : List ℕ) (kept : Kept) (before after : Entries) (was : IsIn
       → IsIndex columns (record { rows = insert kept.rows key row; slots = kept.slots }) after
   index_filled number slot absent free entry sets =
       let made : (values : Key) → values_in columns row ≡ Some values → held after values ≡ Some number =
-          λ values has. elim (entry_at before values) as (λ o. entry_at before values ≡ o → held after values ≡ Some number) [
-            | None ↦ λ none. absurd (let some = entry values has in let no : is_some (entry_at before values) ≡ false = ap is_some none in cc)
-            | Some b ↦ λ some. ap number_in (sets.here values has ∙ ap (with_number (Some number)) some)
-          ] refl
+      λ values has. elim (entry_at before values) as (λ o. entry_at before values ≡ o → held after values ≡ Some number) [
+        | None ↦ λ none. absurd (let some = entry values has in let no : is_some (entry_at before values) ≡ false = ap is_some none in cc)
+        | Some b ↦ λ some. ap number_in (sets.here values has ∙ ap (with_number (Some number)) some)
+      ] refl
       in
       record {
         holds = λ other there values n at at_slot has. elim (one_or_apart key other) [
@@ -87,12 +87,12 @@ module _ (columns : List ℕ) (kept : Kept) (before after : Entries) (was : IsIn
               let old_at = sym (get_beside_remove kept.rows key other apart) ∙ at in
               let old = was.holds other twin values n old_at at_slot has in
               ap number_in (sets.beside values (λ mine.
-                  let place = slotted key row there in
-                  let held_mine = was.holds key row values place.0 there place.1 mine in
-                  let number_is : place.0 ≡ n = cc in
-                  let same = numbered key other n (place.1 ∙ ap Some number_is) at_slot in
-                  let gone : get (remove kept.rows key) other ≡ None = subst (λ (k : Key). get (remove kept.rows key) k ≡ None) same (get_removed kept.rows key) in
-                  cc)) ∙ old
+              let place = slotted key row there in
+              let held_mine = was.holds key row values place.0 there place.1 mine in
+              let number_is : place.0 ≡ n = cc in
+              let same = numbered key other n (place.1 ∙ ap Some number_is) at_slot in
+              let gone : get (remove kept.rows key) other ≡ None = subst (λ (k : Key). get (remove kept.rows key) k ≡ None) same (get_removed kept.rows key) in
+              cc)) ∙ old
         ];
         only = λ values n e. elim (has_or_not (values_in columns row) values) [
           | inl has ↦ absurd (emptied (entry_at before values) (entry_at after values) n (sets.here values has) e)
@@ -108,7 +108,7 @@ module _ (columns : List ℕ) (kept : Kept) (before after : Entries) (was : IsIn
               ]
         ];
       }
-      where
-        emptied : (o p : Option (Option ℕ)) (n : ℕ) → p ≡ with_number None o → number_in p ≡ Some n → ⊥
-        emptied None p n is e = let none : number_in p ≡ None = ap number_in is in cc
-        emptied (Some b) p n is e = let none : number_in p ≡ None = ap number_in is in cc
+    where
+      emptied : (o p : Option (Option ℕ)) (n : ℕ) → p ≡ with_number None o → number_in p ≡ Some n → ⊥
+      emptied None p n is e = let none : number_in p ≡ None = ap number_in is in cc
+      emptied (Some b) p n is e = let none : number_in p ≡ None = ap number_in is in cc

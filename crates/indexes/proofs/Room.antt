@@ -1,17 +1,16 @@
 -- Which spots a table's room has, and which a row fills.
-use Rattle.std.specs.Prelude.{◌≡◌, ℕ, suc, ◌+◌, ◌<◌, List, [], ◌∷◌, ◌++◌, length, map, Option, Some, None, refl, ◌⊎◌, slice_get, slice_index_or, IsSome, is_some}
+use Rattle.std.specs.Prelude.{◌≡◌, ℕ, suc, ◌+◌, ◌<◌, List, [], ◌∷◌, length, map, Option, Some, None, refl, ◌⊎◌, slice_get, slice_index_or, IsSome, is_some}
 use Rattle.std.proofs.Common.{zero, sym, ◌∙◌, ap, subst, inl, inr, arith}
 use Rattle.std.specs.BTreeMap as tree
 use Rattle.std.specs.List.{Contains}
 use Rattle.std.specs.FinMap as finite
 use Rattle.model.specs.declared.key.Key.{Key}
 use Rattle.model.specs.declared.row.Row.{Row}
-use Rattle.model.specs.Key.{key_cmp}
 use Rattle.model.specs.Rows.{TableKeys, values_in}
 use Rattle.rows.specs.Kept.{Kept}
 use Rattle.indexes.specs.declared.unique.Unique.{Unique}
-use Rattle.indexes.specs.Unique.{entry_at, EachHasSlot}
-use Rattle.indexes.specs.Table.{Spot, spot, unique_spots, spots_of, KeepsSpots}
+use Rattle.indexes.specs.Unique.{entry_at}
+use Rattle.indexes.specs.Table.{Spot, spot, unique_spots, spots_of}
 use Rattle.indexes.specs.Indexed.{entry_spots, room_of, columns_of}
 use Rattle.indexes.proofs.Elements.{Elem, contains_elem, elem_contains, elem_left, elem_right, elem_either, elem_map, elem_of_map, found_key, key_found, elem_keys, get_elem, some_of}
 
@@ -84,7 +83,7 @@ elem_entry_spots n (u ∷ us) zero m d values l some is =
     let number_is : n ≡ m = omega arith in
     elem_left (map (λ v. (n, v)) (tree.keys u.entries)) _ (m, values)
     (subst (λ (k : ℕ). Elem {X = Spot} (map (λ v. (n, v)) (tree.keys u.entries)) (k, values)) number_is
-      (elem_map (λ (v : Key). (n, v)) (tree.keys u.entries) values (found_key u.entries.entries values entry.0 entry.1)))
+    (elem_map (λ (v : Key). (n, v)) (tree.keys u.entries) values (found_key u.entries.entries values entry.0 entry.1)))
 elem_entry_spots n (u ∷ us) (suc i) m d values l some is =
     elem_right (map (λ v. (n, v)) (tree.keys u.entries)) _ (m, values) (elem_entry_spots (suc n) us i m d values (omega arith) some (omega arith))
 

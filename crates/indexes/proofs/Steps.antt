@@ -1,5 +1,5 @@
 -- A step at each index of a table, one more of them done.
-use Rattle.std.specs.Prelude.{◌≡◌, ◌≢◌, ℕ, ◌+◌, ◌<◌, ◌≤◌, List, length, Some, refl, ◌⊎◌, slice_index_or, slice_set, slice_get, take, drop, ◌++◌}
+use Rattle.std.specs.Prelude.{◌≡◌, ◌≢◌, ℕ, ◌+◌, ◌<◌, ◌≤◌, List, length, refl, ◌⊎◌, slice_index_or, slice_set, take, drop, ◌++◌}
 use Rattle.std.proofs.Common.{sym, ◌∙◌, ap, subst, inl, inr, arith}
 use Rattle.std.specs.Global.{Vec}
 use Rattle.std.proofs.lemmas.List.{get_or-set_same, get_or-set_other, take_at}
@@ -21,7 +21,6 @@ any_default us i d e l = let one = slice_get-get_or us i d l in let two = slice_
 module _ (Step : Unique → Unique → Type 0) (olds now : List Unique) (i : ℕ) (within : i < length now)
     (left : (k : ℕ) (d : Unique) → i ≤ k → slice_index_or now k d ≡ slice_index_or olds k d)
     (item new : Unique) where
-
   pub left_after : (k : ℕ) (d : Unique) → i < k → slice_index_or (slice_set now i new) k d ≡ slice_index_or olds k d
   left_after k d lt = get_or-set_other now i k new d (λ same. absurd (omega arith)) ∙ left k d (omega arith)
 
@@ -37,16 +36,16 @@ module _ (Step : Unique → Unique → Type 0) (olds now : List Unique) (i : ℕ
   pub done_more : ((k : ℕ) (d : Unique) → k < i → Step (slice_index_or olds k d) (slice_index_or now k d)) → Step (slice_index_or now i item) new
       → (k : ℕ) (d : Unique) → k < i + 1 → Step (slice_index_or olds k d) (slice_index_or (slice_set now i new) k d)
   done_more done step k d lt = elim (same_or_not k i) [
-      | inl same ↦ subst (λ (u : Unique). Step (slice_index_or olds k d) u) (sym (new_there k d same)) (subst (λ (u : Unique). Step u new) (old_there k d same) step)
-      | inr differs ↦ subst (λ (u : Unique). Step (slice_index_or olds k d) u) (sym (get_or-set_other now i k new d differs)) (done k d (omega arith))
-    ]
+    | inl same ↦ subst (λ (u : Unique). Step (slice_index_or olds k d) u) (sym (new_there k d same)) (subst (λ (u : Unique). Step u new) (old_there k d same) step)
+    | inr differs ↦ subst (λ (u : Unique). Step (slice_index_or olds k d) u) (sym (get_or-set_other now i k new d differs)) (done k d (omega arith))
+  ]
 
   pub each_more : (P : Unique → Type 0) → ((k : ℕ) (d : Unique) → k < i → P (slice_index_or now k d)) → P new
       → (k : ℕ) (d : Unique) → k < i + 1 → P (slice_index_or (slice_set now i new) k d)
   each_more P done there k d lt = elim (same_or_not k i) [
-      | inl same ↦ subst P (sym (new_there k d same)) there
-      | inr differs ↦ subst P (sym (get_or-set_other now i k new d differs)) (done k d (omega arith))
-    ]
+    | inl same ↦ subst P (sym (new_there k d same)) there
+    | inr differs ↦ subst P (sym (get_or-set_other now i k new d differs)) (done k d (omega arith))
+  ]
 
 itself : (u : Unique) → KeepsSlots u u
 itself u = record { columns = refl; entries = record { numbers = λ values. refl; entries = λ values some. some } }
@@ -56,12 +55,12 @@ pub all_kept : (olds now : List Unique) (i : ℕ) (within : i < length now) (lef
     (item new : Unique) → ((k : ℕ) (d : Unique) → k < i → KeepsSlots (slice_index_or olds k d) (slice_index_or now k d)) → KeepsSlots (slice_index_or now i item) new
     → length now ≡ length olds → EachStep KeepsSlots olds (slice_set now i new)
 all_kept olds now i within left item new done step long = record {
-    long = length-set now i new ∙ long;
-    each = λ k d lt. elim (before_or_after k i) [
-      | inl before ↦ done_more KeepsSlots olds now i within left item new done step k d before
-      | inr after ↦ subst (λ (u : Unique). KeepsSlots (slice_index_or olds k d) u) (sym (left_after KeepsSlots olds now i within left item new k d after)) (itself (slice_index_or olds k d))
-    ];
-  }
+  long = length-set now i new ∙ long;
+  each = λ k d lt. elim (before_or_after k i) [
+    | inl before ↦ done_more KeepsSlots olds now i within left item new done step k d before
+    | inr after ↦ subst (λ (u : Unique). KeepsSlots (slice_index_or olds k d) u) (sym (left_after KeepsSlots olds now i within left item new k d after)) (itself (slice_index_or olds k d))
+  ];
+}
 
 -- ---- a slice of all of a vector
 

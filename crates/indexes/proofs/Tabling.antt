@@ -1,5 +1,5 @@
 -- A table after a change of its rows: its indexes, its columns and its room.
-use Rattle.std.specs.Prelude.{◌≡◌, ◌≢◌, ℕ, suc, ◌+◌, ◌<◌, List, [], ◌∷◌, length, Option, Some, None, refl, ◌⊎◌, slice_get, slice_index_or, IsSome, is_some, IfSome, IfNone, ◌≤◌, ◌-◌, unwrap_or, Bool, true, false, if◌then◌else◌}
+use Rattle.std.specs.Prelude.{◌≡◌, ◌≢◌, ℕ, suc, ◌<◌, List, [], ◌∷◌, length, Option, Some, None, refl, ◌⊎◌, slice_get, slice_index_or, IsSome, is_some, IfSome, IfNone, ◌≤◌, ◌-◌, unwrap_or, Bool, true, false, if◌then◌else◌}
 use Rattle.std.proofs.Common.{zero, sym, ◌∙◌, ap, subst, inl, inr, arith, true≢false}
 use Rattle.std.specs.Map.{lookup}
 use Rattle.std.specs.BTreeMap.{is_at}
@@ -10,15 +10,15 @@ use Rattle.model.specs.Key.{key_cmp}
 use Rattle.model.specs.declared.key.Key.{Key}
 use Rattle.model.specs.declared.row.Row.{Row}
 use Rattle.model.specs.Rows.{TableKeys, values_in}
-use Rattle.rows.specs.Kept.{Kept, KeepsSlots, IsNumbered, IsSlotted}
-use Rattle.rows.specs.KeyLaws.{IsApart, one_or_apart, get_inserted, get_beside_insert, get_removed, get_beside_remove}
+use Rattle.rows.specs.Kept.{Kept, KeepsSlots, IsNumbered}
+use Rattle.rows.specs.KeyLaws.{one_or_apart, get_inserted, get_beside_insert, get_removed, get_beside_remove}
 use Rattle.indexes.specs.declared.unique.Unique.{Unique}
 use Rattle.indexes.specs.Unique as step
 use Rattle.indexes.specs.Unique.{Entries, entry_at, held, with_number, number_in, HasEntry, SetsEntry, Sets, EachStep, EachHasSlot}
-use Rattle.indexes.specs.Table.{Spot, spots_of, KeepsSpots, NoClash, HasValues, IsSound, TableContent}
+use Rattle.indexes.specs.Table.{Spot, spots_of, KeepsSpots, NoClash, HasValues, IsSound}
 use Rattle.indexes.specs.Indexed.{IsIndex, IsIndexed, room_of, columns_of}
 use Rattle.indexes.proofs.Indexing.{has_or_not, index_kept, index_filled, index_cleared}
-use Rattle.indexes.proofs.Room.{OfUnique, HasEntryAt, key_spot, unique_spot, spot_of, key_in_room, entry_in_room, in_room, columns_at, column_within}
+use Rattle.indexes.proofs.Room.{key_spot, unique_spot, spot_of, key_in_room, entry_in_room, in_room, columns_at, column_within}
 
 -- ---- columns
 
@@ -35,9 +35,9 @@ same_columns (u ∷ us) (v ∷ vs) long each =
 
 sets_keep : (columns : List ℕ) (row : Row) (number : Option ℕ) (old new : Entries) → SetsEntry columns row number old new → (values : Key) → IsSome (entry_at old values) → IsSome (entry_at new values)
 sets_keep columns row number old new sets values some = elim (has_or_not (values_in columns row) values) [
-    | inl has ↦ ap is_some (sets.here values has) ∙ written (entry_at old values) some
-    | inr has_not ↦ ap is_some (sets.beside values has_not) ∙ some
-  ]
+  | inl has ↦ ap is_some (sets.here values has) ∙ written (entry_at old values) some
+  | inr has_not ↦ ap is_some (sets.beside values has_not) ∙ some
+]
   where
     written : (o : Option (Option ℕ)) → IsSome o → IsSome (with_number number o)
     written None e = absurd cc
@@ -55,22 +55,22 @@ pub room_kept : (old new : Kept) (us vs : List Unique) → KeepsSlots old.slots 
     → ((k : ℕ) (d : Unique) → k < length us → (values : Key) → IsSome (entry_at (slice_index_or us k d).entries values) → IsSome (entry_at (slice_index_or vs k d).entries values))
     → KeepsSpots (room_of old us) (room_of new vs)
 room_kept old new us vs slots long entries s c = elim (in_room old us s c) [
-    | inl (key, is, number, at) ↦ subst (λ (t : Spot). Contains (room_of new vs) t) (sym is) (key_in_room new vs key number (slots key number at))
-    | inr h ↦
-        let number_is : suc h.i ≡ s.0 = let e = h.number in omega arith in
-        let within : h.i < length vs = let l = h.within in omega arith in
-        let u = first_of us h.i h.within in
-        subst (λ (n : ℕ). Contains (room_of new vs) (n, s.1)) number_is
-        (entry_in_room new vs h.i u s.1 within (entries h.i u h.within s.1 (h.entry u)))
-  ]
+  | inl (key, is, number, at) ↦ subst (λ (t : Spot). Contains (room_of new vs) t) (sym is) (key_in_room new vs key number (slots key number at))
+  | inr h ↦
+      let number_is : suc h.i ≡ s.0 = let e = h.number in omega arith in
+      let within : h.i < length vs = let l = h.within in omega arith in
+      let u = first_of us h.i h.within in
+      subst (λ (n : ℕ). Contains (room_of new vs) (n, s.1)) number_is
+      (entry_in_room new vs h.i u s.1 within (entries h.i u h.within s.1 (h.entry u)))
+]
 
 -- the key of a row that there is room for has a slot
 pub slot_of_room : (keys : TableKeys) (kept : Kept) (us : List Unique) (row : Row) (key : Key) → values_in keys.primary row ≡ Some key
     → KeepsSpots (spots_of keys row) (room_of kept us) → (number : ℕ) × (get kept.slots key ≡ Some number)
 slot_of_room keys kept us row key has room = elim (in_room kept us (0, key) (room (0, key) (key_spot keys row key has))) [
-    | inl (other, is, number, at) ↦ (number, ap (get kept.slots) (ap (λ (t : Spot). t.1) is) ∙ at)
-    | inr h ↦ absurd (let e = h.number in omega arith)
-  ]
+  | inl (other, is, number, at) ↦ (number, ap (get kept.slots) (ap (λ (t : Spot). t.1) is) ∙ at)
+  | inr h ↦ absurd (let e = h.number in omega arith)
+]
 
 -- and each index has an entry for it
 pub entries_of_room : (keys : TableKeys) (kept : Kept) (us : List Unique) (row : Row) → keys.uniques ≡ columns_of us
@@ -88,32 +88,32 @@ entries_of_room keys kept us row is room k d l values has =
 pub room_for : (keys : TableKeys) (kept : Kept) (us : List Unique) (row : Row) (key : Key) (number : ℕ) → keys.uniques ≡ columns_of us
     → values_in keys.primary row ≡ Some key → get kept.slots key ≡ Some number → EachHasSlot row us → KeepsSpots (spots_of keys row) (room_of kept us)
 room_for keys kept us row key number is has slot each s c = elim (spot_of keys row s c) [
-    | inl (other, has_other, same) ↦
-        let key_is : key ≡ other = cc in
-        subst (λ (t : Spot). Contains (room_of kept us) t) (sym same) (key_in_room kept us other number (ap (get kept.slots) (sym key_is) ∙ slot))
-    | inr o ↦
-        let within = column_within us o.i o.columns (ap (λ cs. slice_get cs o.i) (sym is) ∙ o.at) in
-        let number_is : suc o.i ≡ s.0 = let e = o.number in omega arith in
-        subst (λ (n : ℕ). Contains (room_of kept us) (n, s.1)) number_is
-        (entry_in_room kept us o.i within.1 s.1 within.0 (each o.i within.1 within.0 s.1 (ap (λ cs. values_in cs row) within.2 ∙ o.has)))
-  ]
+  | inl (other, has_other, same) ↦
+      let key_is : key ≡ other = cc in
+      subst (λ (t : Spot). Contains (room_of kept us) t) (sym same) (key_in_room kept us other number (ap (get kept.slots) (sym key_is) ∙ slot))
+  | inr o ↦
+      let within = column_within us o.i o.columns (ap (λ cs. slice_get cs o.i) (sym is) ∙ o.at) in
+      let number_is : suc o.i ≡ s.0 = let e = o.number in omega arith in
+      subst (λ (n : ℕ). Contains (room_of kept us) (n, s.1)) number_is
+      (entry_in_room kept us o.i within.1 s.1 within.0 (each o.i within.1 within.0 s.1 (ap (λ cs. values_in cs row) within.2 ∙ o.has)))
+]
 
 -- ---- indexes
 
 pub indexed_kept : (primary : List ℕ) (old new : Kept) (us vs : List Unique) → IsIndexed primary old us
     → new.rows ≡ old.rows → KeepsSlots old.slots new.slots → IsNumbered new.slots → EachStep step.KeepsSlots us vs → IsIndexed primary new vs
 indexed_kept primary old new us vs was rows slots numbered steps = record {
-    own_key = λ key row at. was.own_key key row (ap (λ m. get m key) (sym rows) ∙ at);
-    each = λ k d l.
-        let within : k < length us = let e = steps.long in omega arith in
-        let s = steps.each k d within in
-        subst (λ (cs : List ℕ). IsIndex cs new (slice_index_or vs k d).entries) (sym s.columns)
-        (index_kept _ old new _ _ (was.each k d within) was.slotted rows slots s.entries.numbers);
-    numbered = numbered;
-    slotted = λ key row at.
-        let place = was.slotted key row (ap (λ m. get m key) (sym rows) ∙ at) in
-        (place.0, slots key place.0 place.1);
-  }
+  own_key = λ key row at. was.own_key key row (ap (λ m. get m key) (sym rows) ∙ at);
+  each = λ k d l.
+      let within : k < length us = let e = steps.long in omega arith in
+      let s = steps.each k d within in
+      subst (λ (cs : List ℕ). IsIndex cs new (slice_index_or vs k d).entries) (sym s.columns)
+      (index_kept _ old new _ _ (was.each k d within) was.slotted rows slots s.entries.numbers);
+  numbered = numbered;
+  slotted = λ key row at.
+      let place = was.slotted key row (ap (λ m. get m key) (sym rows) ∙ at) in
+      (place.0, slots key place.0 place.1);
+}
 
 -- no row has the values of one that may come
 pub free_values : (keys : TableKeys) (primary : List ℕ) (kept : Kept) (us : List Unique) (row : Row) → keys.uniques ≡ columns_of us → IsIndexed primary kept us → NoClash keys kept.rows row
@@ -131,24 +131,24 @@ pub indexed_filled : (primary : List ℕ) (kept : Kept) (us vs : List Unique) (k
     → ((k : ℕ) (d : Unique) → k < length us → (values : Key) → values_in (slice_index_or us k d).columns.items row ≡ Some values → held (slice_index_or us k d).entries values ≡ None)
     → EachHasSlot row us → EachStep (Sets row (Some number)) us vs → IsIndexed primary (record { rows = insert kept.rows key row; slots = kept.slots }) vs
 indexed_filled primary kept us vs key row number was own slot absent free entry steps = record {
-    own_key = λ other there at. elim (one_or_apart key other) [
-      | inl same ↦
-          let now : get (insert kept.rows key row) other ≡ Some row = subst (λ (k : Key). get (insert kept.rows key row) k ≡ Some row) same (get_inserted kept.rows key row) in
-          let row_is : row ≡ there = cc in
-          ap (values_in primary) (sym row_is) ∙ own ∙ ap Some same
-      | inr apart ↦ was.own_key other there (sym (get_beside_insert kept.rows key row other apart) ∙ at)
-    ];
-    each = λ k d l.
-        let within : k < length us = let e = steps.long in omega arith in
-        let s = steps.each k d within in
-        subst (λ (cs : List ℕ). IsIndex cs (record { rows = insert kept.rows key row; slots = kept.slots }) (slice_index_or vs k d).entries) (sym s.columns)
-        (index_filled _ kept _ _ (was.each k d within) key row number slot absent (free k d within) (entry k d within) s.entries);
-    numbered = was.numbered;
-    slotted = λ other there at. elim (one_or_apart key other) [
-      | inl same ↦ (number, ap (get kept.slots) (sym same) ∙ slot)
-      | inr apart ↦ was.slotted other there (sym (get_beside_insert kept.rows key row other apart) ∙ at)
-    ];
-  }
+  own_key = λ other there at. elim (one_or_apart key other) [
+    | inl same ↦
+        let now : get (insert kept.rows key row) other ≡ Some row = subst (λ (k : Key). get (insert kept.rows key row) k ≡ Some row) same (get_inserted kept.rows key row) in
+        let row_is : row ≡ there = cc in
+        ap (values_in primary) (sym row_is) ∙ own ∙ ap Some same
+    | inr apart ↦ was.own_key other there (sym (get_beside_insert kept.rows key row other apart) ∙ at)
+  ];
+  each = λ k d l.
+      let within : k < length us = let e = steps.long in omega arith in
+      let s = steps.each k d within in
+      subst (λ (cs : List ℕ). IsIndex cs (record { rows = insert kept.rows key row; slots = kept.slots }) (slice_index_or vs k d).entries) (sym s.columns)
+      (index_filled _ kept _ _ (was.each k d within) key row number slot absent (free k d within) (entry k d within) s.entries);
+  numbered = was.numbered;
+  slotted = λ other there at. elim (one_or_apart key other) [
+    | inl same ↦ (number, ap (get kept.slots) (sym same) ∙ slot)
+    | inr apart ↦ was.slotted other there (sym (get_beside_insert kept.rows key row other apart) ∙ at)
+  ];
+}
 
 pub indexed_cleared : (primary : List ℕ) (kept : Kept) (us vs : List Unique) (key : Key) (row : Row) → IsIndexed primary kept us
     → get kept.rows key ≡ Some row → EachStep (Sets row None) us vs → IsIndexed primary (record { rows = remove kept.rows key; slots = kept.slots }) vs
@@ -180,21 +180,21 @@ held_entry entries values number e = by_entry (entry_at entries values) e
 pub sound : (keys : TableKeys) (kept : Kept) (us : List Unique) → keys.uniques ≡ columns_of us → IsIndexed keys.primary kept us
     → IsSound (record { keys = keys; rows = kept.rows; room = room_of kept us })
 sound keys kept us is was = record {
-    own_key = was.own_key;
-    unique = λ i columns key other row twin values at here there has too.
-        let within = column_within us i columns (ap (λ cs. slice_get cs i) (sym is) ∙ at) in
-        let index = was.each i within.1 within.0 in
-        let mine = was.slotted key row here in
-        let yours = was.slotted other twin there in
-        let one = index.holds key row values mine.0 here mine.1 (ap (λ cs. values_in cs row) within.2 ∙ has) in
-        let two = index.holds other twin values yours.0 there yours.1 (ap (λ cs. values_in cs twin) within.2 ∙ too) in
-        let same : yours.0 ≡ mine.0 = cc in
-        was.numbered key other mine.0 mine.1 (yours.1 ∙ ap Some same);
-    room = λ key row at.
-        let place = was.slotted key row at in
-        room_for keys kept us row key place.0 is (was.own_key key row at) place.1
-        (λ k d l values has. held_entry (slice_index_or us k d).entries values place.0 ((was.each k d l).holds key row values place.0 at place.1 has));
-  }
+  own_key = was.own_key;
+  unique = λ i columns key other row twin values at here there has too.
+      let within = column_within us i columns (ap (λ cs. slice_get cs i) (sym is) ∙ at) in
+      let index = was.each i within.1 within.0 in
+      let mine = was.slotted key row here in
+      let yours = was.slotted other twin there in
+      let one = index.holds key row values mine.0 here mine.1 (ap (λ cs. values_in cs row) within.2 ∙ has) in
+      let two = index.holds other twin values yours.0 there yours.1 (ap (λ cs. values_in cs twin) within.2 ∙ too) in
+      let same : yours.0 ≡ mine.0 = cc in
+      was.numbered key other mine.0 mine.1 (yours.1 ∙ ap Some same);
+  room = λ key row at.
+      let place = was.slotted key row at in
+      room_for keys kept us row key place.0 is (was.own_key key row at) place.1
+      (λ k d l values has. held_entry (slice_index_or us k d).entries values place.0 ((was.each k d l).holds key row values place.0 at place.1 has));
+}
 
 -- ---- parts
 
@@ -255,9 +255,9 @@ indexed_empty primary us all =
     record {
       own_key = λ key row e. absurd (no_row key row e);
       each = λ k d l. record {
-          holds = λ key row values number e slot has. absurd (no_row key row e);
-          only = λ values number e. absurd (let none = held_none (slice_index_or us k d) (none_at us all k d l) values in cc);
-        };
+        holds = λ key row values number e slot has. absurd (no_row key row e);
+        only = λ values number e. absurd (let none = held_none (slice_index_or us k d) (none_at us all k d l) values in cc);
+      };
       numbered = λ key other number e f. absurd (let none = get-empty {X = ℕ} key_cmp key in cc);
       slotted = λ key row e. absurd (no_row key row e);
     }
@@ -295,40 +295,40 @@ module _ (old new : Kept) (key : Key) (rows : new.rows ≡ old.rows) (slots : ne
 
   pub indexed_settled : (primary : List ℕ) (us vs : List Unique) (row : Row) → IsIndexed primary old us → EachStep (step.Settles row) us vs → IsIndexed primary new vs
   indexed_settled primary us vs row was steps = record {
-      own_key = λ other there at. was.own_key other there (ap (λ m. get m other) (sym rows) ∙ at);
-      each = λ k d l.
-          let within : k < length us = let e = steps.long in omega arith in
-          let s = steps.each k d within in
-          let index = was.each k d within in
-          subst (λ (cs : List ℕ). IsIndex cs new (slice_index_or vs k d).entries) (sym s.columns)
-          (record {
-            holds = λ other there values number at slot has.
-                s.entries.numbers values ∙ index.holds other there values number (ap (λ m. get m other) (sym rows) ∙ at) (slot_was other number slot) has;
-            only = λ values number e.
-                let h = index.only values number (sym (s.entries.numbers values) ∙ e) in
-                record { key = h.key; row = h.row; slot = slot_stays h.key number (inl (ap is_some h.at)) h.slot; at = ap (λ m. get m h.key) rows ∙ h.at; has = h.has };
-          });
-      numbered = λ one other number e f. was.numbered one other number (slot_was one number e) (slot_was other number f);
-      slotted = λ other there at.
-          let before = ap (λ m. get m other) (sym rows) ∙ at in
-          let place = was.slotted other there before in
-          (place.0, slot_stays other place.0 (inl (ap is_some before)) place.1);
-    }
+    own_key = λ other there at. was.own_key other there (ap (λ m. get m other) (sym rows) ∙ at);
+    each = λ k d l.
+        let within : k < length us = let e = steps.long in omega arith in
+        let s = steps.each k d within in
+        let index = was.each k d within in
+        subst (λ (cs : List ℕ). IsIndex cs new (slice_index_or vs k d).entries) (sym s.columns)
+        (record {
+          holds = λ other there values number at slot has.
+              s.entries.numbers values ∙ index.holds other there values number (ap (λ m. get m other) (sym rows) ∙ at) (slot_was other number slot) has;
+          only = λ values number e.
+              let h = index.only values number (sym (s.entries.numbers values) ∙ e) in
+              record { key = h.key; row = h.row; slot = slot_stays h.key number (inl (ap is_some h.at)) h.slot; at = ap (λ m. get m h.key) rows ∙ h.at; has = h.has };
+        });
+    numbered = λ one other number e f. was.numbered one other number (slot_was one number e) (slot_was other number f);
+    slotted = λ other there at.
+        let before = ap (λ m. get m other) (sym rows) ∙ at in
+        let place = was.slotted other there before in
+        (place.0, slot_stays other place.0 (inl (ap is_some before)) place.1);
+  }
 
   pub room_settled : (keys : TableKeys) (us vs : List Unique) (row : Row) → keys.uniques ≡ columns_of us → EachStep (step.Settles row) us vs
       → (s : Spot) → ¬ Contains (spots_of keys row) s → s ≢ (0, key) → Contains (room_of old us) s → Contains (room_of new vs) s
   room_settled keys us vs row is steps s not_row not_key c = elim (in_room old us s c) [
-      | inl (other, same, number, at) ↦
-          let differs : key ≢ other = λ e. not_key (same ∙ ap (λ (k : Key). let t : Spot = (0, k) in t) (sym e)) in
-          subst (λ (t : Spot). Contains (room_of new vs) t) (sym same) (key_in_room new vs other number (slot_stays other number (inr differs) at))
-      | inr h ↦
-          let number_is : suc h.i ≡ s.0 = let e = h.number in omega arith in
-          let within : h.i < length vs = let l = h.within in let e = steps.long in omega arith in
-          let u = first_of us h.i h.within in
-          let stepped = steps.each h.i u h.within in
-          let differs : values_in (slice_index_or us h.i u).columns.items row ≢ Some s.1 =
-              λ e. not_row (subst (λ (n : ℕ). Contains (spots_of keys row) (n, s.1)) number_is
-                (unique_spot keys row h.i (slice_index_or us h.i u).columns.items s.1 (ap (λ cs. slice_get cs h.i) is ∙ columns_at us h.i u h.within) e)) in
-          subst (λ (n : ℕ). Contains (room_of new vs) (n, s.1)) number_is
-          (entry_in_room new vs h.i u s.1 within (ap is_some (stepped.entries.beside s.1 differs) ∙ h.entry u))
-    ]
+    | inl (other, same, number, at) ↦
+        let differs : key ≢ other = λ e. not_key (same ∙ ap (λ (k : Key). let t : Spot = (0, k) in t) (sym e)) in
+        subst (λ (t : Spot). Contains (room_of new vs) t) (sym same) (key_in_room new vs other number (slot_stays other number (inr differs) at))
+    | inr h ↦
+        let number_is : suc h.i ≡ s.0 = let e = h.number in omega arith in
+        let within : h.i < length vs = let l = h.within in let e = steps.long in omega arith in
+        let u = first_of us h.i h.within in
+        let stepped = steps.each h.i u h.within in
+        let differs : values_in (slice_index_or us h.i u).columns.items row ≢ Some s.1 =
+        λ e. not_row (subst (λ (n : ℕ). Contains (spots_of keys row) (n, s.1)) number_is
+        (unique_spot keys row h.i (slice_index_or us h.i u).columns.items s.1 (ap (λ cs. slice_get cs h.i) is ∙ columns_at us h.i u h.within) e)) in
+        subst (λ (n : ℕ). Contains (room_of new vs) (n, s.1)) number_is
+        (entry_in_room new vs h.i u s.1 within (ap is_some (stepped.entries.beside s.1 differs) ∙ h.entry u))
+  ]

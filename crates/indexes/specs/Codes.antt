@@ -1,12 +1,12 @@
 -- The codes of what callers see of tables, by which proofs tell two of them apart.
-use Rattle.std.specs.Prelude.{ℕ, List, Option, refl}
+use Rattle.std.specs.Prelude.{ℕ, List, refl}
 use Rattle.std.specs.FinMap.{FinMap, code}
 use Rattle.std.specs.Coded.{Coded, code_by, coded×, coded_ℕ, coded_list}
 use Rattle.model.specs.contracts.cell.Cell as cell_type
 use Rattle.model.specs.declared.cell.Cell.{Cell}
 use Rattle.model.specs.declared.row.Row.{Row}
 use Rattle.model.specs.Key.{key_cmp}
-use Rattle.model.specs.Rows.{TableKeys, Schema, Rows, place_cmp}
+use Rattle.model.specs.Rows.{TableKeys, Schema, Rows}
 use Rattle.rows.specs.KeptCode.{key_code, row_code}
 use Rattle.indexes.specs.Table.{Spot, TableContent}
 use Rattle.indexes.specs.Content.{Content}

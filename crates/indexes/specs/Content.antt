@@ -2,7 +2,7 @@
 --     Keeps, HasRoom      no cell goes; there is room for a row
 --     unique_columns      the columns of a unique key, by its number from 1
 --     IsTable, SameElsewhere, SameRoomElsewhere      a table's rows by themselves; the other tables stay as they were
-use Rattle.std.specs.Prelude.{◌≡◌, ◌≢◌, ℕ, ◌-◌, List, [], Option, Some, None, unwrap_or, slice_get}
+use Rattle.std.specs.Prelude.{◌≡◌, ◌≢◌, ℕ, ◌-◌, List, [], unwrap_or, slice_get}
 use Rattle.std.specs.List.{Contains}
 use Rattle.std.specs.FinMap.{FinMap, get}
 use Rattle.model.specs.declared.key.Key.{Key}
@@ -10,13 +10,13 @@ use Rattle.model.specs.declared.row.Row.{Row as Record}
 use Rattle.model.specs.declared.cell.Cell.{Cell}
 use Rattle.model.specs.declared.cell.Cell.TheVariants.{Row, Uniq, Whole}
 use Rattle.model.specs.Key.{key_cmp}
-use Rattle.model.specs.Rows.{Rows, Schema, TableKeys, keys_at}
+use Rattle.model.specs.Rows.{Rows, Schema, keys_at}
 use Rattle.model.specs.Cells.{cells_of}
 
 pub record Content : Type 0 where
-  pub schema : Schema     -- the keys of each table, in the catalog's order
-  pub rows : Rows         -- all rows of all tables
-  pub room : List Cell    -- the cells that can be filled again without memory
+  pub schema : Schema  -- the keys of each table, in the catalog's order
+  pub rows : Rows  -- all rows of all tables
+  pub room : List Cell  -- the cells that can be filled again without memory
 
 -- each cell of the one is in the other
 abbrev pub Keeps : List Cell → List Cell → Type 0

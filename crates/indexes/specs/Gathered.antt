@@ -1,9 +1,9 @@
 -- The tables, one by one, gathered into what callers see.
-use Rattle.std.specs.Prelude.{◌≡◌, ℕ, suc, List, [], ◌∷◌, ◌++◌, Option, Some, map, slice_get}
+use Rattle.std.specs.Prelude.{◌≡◌, ℕ, suc, List, [], ◌∷◌, ◌++◌, Some, map, slice_get}
 use Rattle.std.specs.FinMap.{entries, from_entries, empty}
 use Rattle.model.specs.declared.row.Row.{Row}
 use Rattle.model.specs.declared.cell.Cell.{Cell}
-use Rattle.model.specs.Rows.{Place, place_cmp, Rows, Schema}
+use Rattle.model.specs.Rows.{Place, Rows, Schema}
 use Rattle.indexes.specs.Table.{TableContent, cells_in, IsSound}
 use Rattle.indexes.specs.Content.{Content}
 

@@ -1,5 +1,5 @@
 -- What a table keeps: each index holds just the rows' values.
-use Rattle.std.specs.Prelude.{◌≡◌, ℕ, suc, List, [], ◌∷◌, ◌++◌, Option, Some, map}
+use Rattle.std.specs.Prelude.{◌≡◌, ℕ, suc, List, [], ◌∷◌, ◌++◌, Some, map}
 use Rattle.std.specs.List.{All}
 use Rattle.std.specs.FinMap as finite
 use Rattle.std.specs.BTreeMap as tree
@@ -24,8 +24,8 @@ pub record Holder (columns : List ℕ) (kept : Kept) (values : Key) (number : �
 -- the entries with numbers are those of the rows' values
 pub record IsIndex (columns : List ℕ) (kept : Kept) (entries : Entries) : Type 0 where
   pub holds : (key : Key) (row : Record) (values : Key) (number : ℕ)
-    → finite.get kept.rows key ≡ Some row → finite.get kept.slots key ≡ Some number → values_in columns row ≡ Some values
-    → held entries values ≡ Some number
+      → finite.get kept.rows key ≡ Some row → finite.get kept.slots key ≡ Some number → values_in columns row ≡ Some values
+      → held entries values ≡ Some number
   pub only : (values : Key) (number : ℕ) → held entries values ≡ Some number → Holder columns kept values number
 
 abbrev pub IndexOf : Kept → Unique → Type 0
@@ -47,7 +47,7 @@ room_of kept uniques = map (λ key. (0, key)) (finite.keys kept.slots) ++ entry_
 
 abbrev pub content_of : Inside → TableContent
 content_of a = record {
-    keys = record { primary = a.primary.items; uniques = columns_of a.uniques.items };
-    rows = a.rows.rows;
-    room = room_of a.rows a.uniques.items;
-  }
+  keys = record { primary = a.primary.items; uniques = columns_of a.uniques.items };
+  rows = a.rows.rows;
+  room = room_of a.rows a.uniques.items;
+}

@@ -2,12 +2,11 @@
 --     Spot      a key's number, 0 for the primary key, and values of it.        spots_of      those that a row fills
 --     cell_at, cells_in      a spot as a cell of a table with a number; all of a table's
 --     IsSound      rows stand at their own keys, no two agree in a unique key, and the room has what they fill
-use Rattle.std.specs.Prelude.{◌≡◌, ◌≢◌, ℕ, suc, ◌+◌, List, [], ◌∷◌, ◌++◌, ◌-◌, Option, Some, None, map, slice_get, unwrap_or}
+use Rattle.std.specs.Prelude.{◌≡◌, ◌≢◌, ℕ, suc, List, [], ◌∷◌, ◌++◌, ◌-◌, Option, Some, None, map, slice_get, unwrap_or}
 use Rattle.std.specs.List.{Contains}
 use Rattle.std.proofs.Common.{zero}
 use Rattle.std.specs.FinMap as finite
 use Rattle.std.specs.FinMap.{FinMap}
-use Rattle.std.specs.BTreeMap as tree
 use Rattle.model.specs.declared.key.Key.{Key}
 use Rattle.model.specs.declared.row.Row.{Row as Record}
 use Rattle.model.specs.declared.cell.Cell.{Cell}
@@ -69,8 +68,8 @@ NoClash keys rows row =
 pub record IsSound (t : TableContent) : Type 0 where
   pub own_key : (key : Key) (row : Record) → finite.get t.rows key ≡ Some row → values_in t.keys.primary row ≡ Some key
   pub unique : (i : ℕ) (columns : List ℕ) (key other : Key) (row twin : Record) (values : Key)
-    → slice_get t.keys.uniques i ≡ Some columns
-    → finite.get t.rows key ≡ Some row → finite.get t.rows other ≡ Some twin
-    → values_in columns row ≡ Some values → values_in columns twin ≡ Some values
-    → key ≡ other
+      → slice_get t.keys.uniques i ≡ Some columns
+      → finite.get t.rows key ≡ Some row → finite.get t.rows other ≡ Some twin
+      → values_in columns row ≡ Some values → values_in columns twin ≡ Some values
+      → key ≡ other
   pub room : (key : Key) (row : Record) → finite.get t.rows key ≡ Some row → KeepsSpots (spots_of t.keys row) t.room

@@ -2,7 +2,7 @@
 --     held      the number at some values, if there is an entry with one
 --     KeepsSlots, HasSlot      no number changes and no entry goes; there is an entry for the row's values
 --     Sets, Settles      the number at the row's values is set; their entry is dropped if it has none
-use Rattle.std.specs.Prelude.{◌≡◌, ◌≢◌, ℕ, ◌<◌, List, [], ◌∷◌, length, Option, Some, None, IsSome, slice_index_or, map}
+use Rattle.std.specs.Prelude.{◌≡◌, ◌≢◌, ℕ, ◌<◌, List, [], length, Option, Some, None, IsSome, slice_index_or, map}
 use Rattle.std.specs.BTreeMap as tree
 use Rattle.std.specs.BTreeMap.{BTreeMap}
 use Rattle.model.specs.declared.key.Key.{Key}

@@ -63,10 +63,7 @@ impl Model for Contents {
 
 impl Tables {
     /// Empty tables of these definitions.
-    pub fn of_definitions(
-        alloc: Global,
-        definitions: &[TableDef],
-    ) -> Result<Tables, OutOfMemory>
+    pub fn of_definitions(alloc: Global, definitions: &[TableDef]) -> Result<Tables, OutOfMemory>
         ensures schema { IfOk result (λ tables. tables.schema ≡ map keys_of definitions.now) }
         ensures empty { IfOk result (λ tables. tables.rows ≡ finite.empty) }
     {

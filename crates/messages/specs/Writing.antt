@@ -121,18 +121,39 @@ stream_commit_bytes m = number_bytes four m.xid ++ ((0 ∷ []) ++ (number_bytes 
 unfoldable pub stream_abort_bytes : StreamAbort → List ℕ
 stream_abort_bytes m = number_bytes four m.xid ++ (number_bytes four m.subtransaction ++ (number_bytes eight m.lsn ++ signed_bytes eight m.abort_time))
 
+-- the tag, as the ASCII code of its letter: B, C, O, R, Y, I, U, D, T, M, S, E, c, A
+abbrev pub tag_byte : Message → ℕ
+tag_byte (messages.Begin m) = 66
+tag_byte (messages.Commit m) = 67
+tag_byte (messages.Origin m) = 79
+tag_byte (messages.Relation xid m) = 82
+tag_byte (messages.TypeName m) = 89
+tag_byte (messages.Insert m) = 73
+tag_byte (messages.Update m) = 85
+tag_byte (messages.Delete m) = 68
+tag_byte (messages.Truncate m) = 84
+tag_byte (messages.Message m) = 77
+tag_byte (messages.StreamStart m) = 83
+tag_byte messages.StreamStop = 69
+tag_byte (messages.StreamCommit m) = 99
+tag_byte (messages.StreamAbort m) = 65
+
+-- what follows the tag
+abbrev pub body_bytes : Message → List ℕ
+body_bytes (messages.Begin m) = begin_bytes m
+body_bytes (messages.Commit m) = commit_bytes m
+body_bytes (messages.Origin m) = origin_bytes m
+body_bytes (messages.Relation xid m) = xid_bytes xid ++ relation_bytes m
+body_bytes (messages.TypeName m) = type_name_bytes m
+body_bytes (messages.Insert m) = insert_bytes m
+body_bytes (messages.Update m) = update_bytes m
+body_bytes (messages.Delete m) = delete_bytes m
+body_bytes (messages.Truncate m) = truncate_bytes m
+body_bytes (messages.Message m) = logical_message_bytes m
+body_bytes (messages.StreamStart m) = stream_start_bytes m
+body_bytes messages.StreamStop = []
+body_bytes (messages.StreamCommit m) = stream_commit_bytes m
+body_bytes (messages.StreamAbort m) = stream_abort_bytes m
+
 abbrev pub message_bytes : Message → List ℕ
-message_bytes (messages.Begin m) = codes "B" ++ begin_bytes m
-message_bytes (messages.Commit m) = codes "C" ++ commit_bytes m
-message_bytes (messages.Origin m) = codes "O" ++ origin_bytes m
-message_bytes (messages.Relation xid m) = codes "R" ++ (xid_bytes xid ++ relation_bytes m)
-message_bytes (messages.TypeName m) = codes "Y" ++ type_name_bytes m
-message_bytes (messages.Insert m) = codes "I" ++ insert_bytes m
-message_bytes (messages.Update m) = codes "U" ++ update_bytes m
-message_bytes (messages.Delete m) = codes "D" ++ delete_bytes m
-message_bytes (messages.Truncate m) = codes "T" ++ truncate_bytes m
-message_bytes (messages.Message m) = codes "M" ++ logical_message_bytes m
-message_bytes (messages.StreamStart m) = codes "S" ++ stream_start_bytes m
-message_bytes messages.StreamStop = codes "E"
-message_bytes (messages.StreamCommit m) = codes "c" ++ stream_commit_bytes m
-message_bytes (messages.StreamAbort m) = codes "A" ++ stream_abort_bytes m
+message_bytes m = tag_byte m ∷ body_bytes m

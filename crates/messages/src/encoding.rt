@@ -4,7 +4,7 @@ ghost use Rattle.std.specs.Prelude.{◌≡◌, ◌<◌, ◌^◌, ◌++◌, ℕ, 
 ghost use Rattle.std.specs.List.{All, flat_map};
 ghost use Rattle.messages.specs.Field.{two, four, eight, IsName, number_bytes};
 ghost use Rattle.messages.specs.Messages.{begin, commit, origin, relation_column, relation_columns, relation, type_name, column, tuple, old_tuple, optional_old_tuple, insert, update, delete, truncate, logical_message, stream_start, stream_commit, stream_abort, message, Spelled, HasXid};
-ghost use Rattle.messages.specs.Writing.{Says, signed_bytes, flag_bytes, string_bytes, identity_bytes, options_bytes, xid_bytes, column_bytes, tuple_bytes, old_tuple_bytes, optional_old_tuple_bytes, begin_bytes, commit_bytes, origin_bytes, relation_column_bytes, relation_columns_bytes, relation_bytes, type_name_bytes, insert_bytes, update_bytes, delete_bytes, relations_bytes, truncate_bytes, content_bytes, logical_message_bytes, stream_start_bytes, stream_commit_bytes, stream_abort_bytes, message_bytes};
+ghost use Rattle.messages.specs.Writing.{Says, signed_bytes, flag_bytes, string_bytes, identity_bytes, options_bytes, xid_bytes, column_bytes, tuple_bytes, old_tuple_bytes, optional_old_tuple_bytes, begin_bytes, commit_bytes, origin_bytes, relation_column_bytes, relation_columns_bytes, relation_bytes, type_name_bytes, insert_bytes, update_bytes, delete_bytes, relations_bytes, truncate_bytes, content_bytes, logical_message_bytes, stream_start_bytes, stream_commit_bytes, stream_abort_bytes, tag_byte, body_bytes, message_bytes};
 ghost use Rattle.messages.specs.declared.fault.MsgFault.TheVariants.{OutOfMemory};
 
 use crate::fault::MsgFault;
@@ -381,71 +381,62 @@ fn put_stream_abort(out: &mut Vec<u8>, m: &StreamAbort) -> Result<(), AllocError
     put_i64(out, m.abort_time)
 }
 
+fn tag_byte(m: &Message) -> u8
+    ensures { result ≡ tag_byte m.now }
+{
+    match m {
+        Message::Begin(_) => b'B',
+        Message::Commit(_) => b'C',
+        Message::Origin(_) => b'O',
+        Message::Relation { .. } => b'R',
+        Message::TypeName(_) => b'Y',
+        Message::Insert(_) => b'I',
+        Message::Update(_) => b'U',
+        Message::Delete(_) => b'D',
+        Message::Truncate(_) => b'T',
+        Message::Message(_) => b'M',
+        Message::StreamStart(_) => b'S',
+        Message::StreamStop => b'E',
+        Message::StreamCommit(_) => b'c',
+        Message::StreamAbort(_) => b'A',
+    }
+}
+
+/// What follows the tag.
 #[tactic(auto, using(crate::proofs::Spellings::message_says))]
+fn put_body(out: &mut Vec<u8>, m: &Message, in_block: bool) -> Result<(), AllocError>
+    requires { HasXid in_block m.now }
+    ensures written { OnOk result (out.new.items ≡ out.old.items ++ body_bytes m.now) }
+    ensures says { OnOk result (Says (message in_block) (message_bytes m.now) m.now) }
+{
+    match m {
+        Message::Begin(m) => put_begin(out, m),
+        Message::Commit(m) => put_commit(out, m),
+        Message::Origin(m) => put_origin(out, m),
+        Message::Relation { xid, relation } => {
+            put_xid(out, *xid)?;
+            put_relation(out, relation)
+        }
+        Message::TypeName(m) => put_type_name(out, m, in_block),
+        Message::Insert(m) => put_insert(out, m, in_block),
+        Message::Update(m) => put_update(out, m, in_block),
+        Message::Delete(m) => put_delete(out, m, in_block),
+        Message::Truncate(m) => put_truncate(out, m, in_block),
+        Message::Message(m) => put_logical_message(out, m, in_block),
+        Message::StreamStart(m) => put_stream_start(out, m),
+        Message::StreamStop => Ok(()),
+        Message::StreamCommit(m) => put_stream_commit(out, m),
+        Message::StreamAbort(m) => put_stream_abort(out, m),
+    }
+}
+
 fn put_message(out: &mut Vec<u8>, m: &Message, in_block: bool) -> Result<(), AllocError>
     requires { HasXid in_block m.now }
     ensures written { OnOk result (out.new.items ≡ out.old.items ++ message_bytes m.now) }
     ensures says { OnOk result (Says (message in_block) (message_bytes m.now) m.now) }
 {
-    match m {
-        Message::Begin(m) => {
-            out.push(b'B')?;
-            put_begin(out, m)
-        }
-        Message::Commit(m) => {
-            out.push(b'C')?;
-            put_commit(out, m)
-        }
-        Message::Origin(m) => {
-            out.push(b'O')?;
-            put_origin(out, m)
-        }
-        Message::Relation { xid, relation } => {
-            out.push(b'R')?;
-            put_xid(out, *xid)?;
-            put_relation(out, relation)
-        }
-        Message::TypeName(m) => {
-            out.push(b'Y')?;
-            put_type_name(out, m, in_block)
-        }
-        Message::Insert(m) => {
-            out.push(b'I')?;
-            put_insert(out, m, in_block)
-        }
-        Message::Update(m) => {
-            out.push(b'U')?;
-            put_update(out, m, in_block)
-        }
-        Message::Delete(m) => {
-            out.push(b'D')?;
-            put_delete(out, m, in_block)
-        }
-        Message::Truncate(m) => {
-            out.push(b'T')?;
-            put_truncate(out, m, in_block)
-        }
-        Message::Message(m) => {
-            out.push(b'M')?;
-            put_logical_message(out, m, in_block)
-        }
-        Message::StreamStart(m) => {
-            out.push(b'S')?;
-            put_stream_start(out, m)
-        }
-        Message::StreamStop => {
-            out.push(b'E')?;
-            Ok(())
-        }
-        Message::StreamCommit(m) => {
-            out.push(b'c')?;
-            put_stream_commit(out, m)
-        }
-        Message::StreamAbort(m) => {
-            out.push(b'A')?;
-            put_stream_abort(out, m)
-        }
-    }
+    out.push(tag_byte(m))?;
+    put_body(out, m, in_block)
 }
 
 /// Appends the one spelling of the message, in a block of a streamed transaction or outside of one. The caller

@@ -1,5 +1,7 @@
 //! What no clause says: payloads from outside, and what they must read as.
 
+ghost use Rattle.std.specs.Prelude.{◌<◌};
+
 use super::*;
 use bytes::Bytes;
 use std::alloc::{AllocError, Global};
@@ -169,37 +171,6 @@ fn each_case_reads_as_it_must(rt: HostRuntime) -> Result<(), Fail> {
         let answer = words.next().unwrap_or("");
         let payload = from_hex(rt.alloc(), digits)?;
         assert_eq!(rt; reading(rt.alloc(), &payload, in_block)?, answer, "{line}");
-    }
-    Ok(())
-}
-
-// What is read is written again byte for byte, each beginning of it is short, and bytes after it are refused.
-#[test]
-fn each_message_is_written_again(rt: HostRuntime) -> Result<(), Fail> {
-    for line in CASES.lines() {
-        let mut words = line.split(' ');
-        let digits = words.next().unwrap_or("");
-        let in_block = words.next().unwrap_or("") == "in";
-        let mut payload = from_hex(rt.alloc(), digits)?;
-        let shared = Bytes::copy_from_slice(rt.alloc(), &payload)?;
-        if let Ok(m) = decode(rt.alloc(), &shared, in_block) {
-            let mut out = Vec::new(rt.alloc());
-            assert!(rt; encode(rt.alloc(), &m, in_block, &mut out).is_ok());
-            assert_eq!(rt; out.as_slice(), payload.as_slice(), "{line}");
-            for len in 0..payload.len() {
-                assert_eq!(rt;
-                    reading(rt.alloc(), &payload[..len], in_block)?,
-                    "Short",
-                    "{line}"
-                );
-            }
-            payload.push(0)?;
-            assert_eq!(rt;
-                reading(rt.alloc(), &payload, in_block)?,
-                "Trailing",
-                "{line}"
-            );
-        }
     }
     Ok(())
 }

@@ -129,7 +129,7 @@ module _ (schema : Schema) (rows : Rows) (table : ℕ) (key : Key) (row : Row) (
         | inl is ↦ absurd (not_none twin.row (sym free ∙ ap (get rows) (sym is) ∙ twin.at))
         | inr other ↦
             let same : key ≡ twin.key = valid.unique table i columns key twin.key row twin.row values is_unique
-              (get_insert_same rows (table, key) row) (get_insert_other rows (table, key) row (table, twin.key) other ∙ twin.at) has twin.has in
+            (get_insert_same rows (table, key) row) (get_insert_other rows (table, key) row (table, twin.key) other ∙ twin.at) has twin.has in
             absurd (not_none twin.row (sym free ∙ ap (λ (k : Key). get rows (table, k)) same ∙ twin.at))
       ]
 

@@ -37,7 +37,8 @@ is_table_of r table = bytes_eq table.namespace (schema_of r.namespace) && bytes_
 
 -- the relation's table, after its place, if there is one
 abbrev pub table_of : Published → List Definition → Option (ℕ × Definition)
-table_of r tables = option_and_then (λ place. option_map (λ table. (place, table)) (slice_get tables place)) (position (is_table_of r) tables)
+table_of r tables =
+    option_and_then (λ place. option_map (λ table. (place, table)) (slice_get tables place)) (position (is_table_of r) tables)
 
 -- ---- the columns
 
@@ -57,18 +58,19 @@ has_twice (column ∷ columns) = list_any (is_named column.name) columns || has_
 abbrev pub field_at : Column → ℕ → Field
 field_at column place = record { place = place; kind = column.kind }
 
--- the published column of that name, or else the default
+-- the field of the published column of that name, if there is one
+abbrev pub field_of : List PublishedColumn → Column → Option Field
+field_of sent column = option_map (field_at column) (position (is_named column.name) sent)
+
 abbrev pub sent_or : Option Value → Option Field → ColumnSource
 sent_or default None = Default default
 sent_or default (Some field) = Sent field
 
-abbrev pub field_of : List PublishedColumn → Column → Option Field
-field_of sent column = option_map (field_at column) (position (is_named column.name) sent)
-
+-- that field, or else the default
 abbrev pub source_of : List PublishedColumn → Column → Option Value → ColumnSource
 source_of sent column default = sent_or default (field_of sent column)
 
--- for each of the table's columns with its default, if it has one
+-- where the value of each of the table's columns comes from; a column without a default is null
 abbrev pub sources_of : List PublishedColumn → List Column → List (Option Value) → List ColumnSource
 sources_of sent [] defaults = []
 sources_of sent (column ∷ columns) [] = source_of sent column None ∷ sources_of sent columns []

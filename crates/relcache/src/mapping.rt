@@ -40,7 +40,12 @@ impl Model for Mapping {
 
     ghost Value = { Mapped };
 
-    ghost view = { λ m. record { table = m.table; published = m.published; columns = m.columns.items; key = option_map (λ key. key.items) m.key } };
+    ghost view = { λ m. record {
+      table = m.table;
+      published = m.published;
+      columns = m.columns.items;
+      key = option_map (λ fields. fields.items) m.key;
+    } };
 }
 
 impl Mapping {
@@ -51,7 +56,12 @@ impl Mapping {
         columns: Vec<ColumnSource>,
         key: Option<Vec<Field>>,
     ) -> Mapping
-        ensures { result ≡ record { table = table; published = published; columns = columns.items; key = option_map (λ fields. fields.items) key } }
+        ensures { result ≡ record {
+          table = table;
+          published = published;
+          columns = columns.items;
+          key = option_map (λ fields. fields.items) key;
+        } }
     {
         Mapping {
             table,

@@ -45,7 +45,7 @@ fn plan_row(alloc: Global, m: &Mapping, row: &RowMessage) -> Result<Change, RelF
         RowMessage::Update {
             old: Some(old),
             new,
-        } => { plan_update(alloc, m, old_tuple(old), new) }
+        } => plan_update(alloc, m, old_tuple(old), new),
         RowMessage::Update { old: None, new } => plan_update(alloc, m, new, new),
         RowMessage::Delete { old } => plan_delete(alloc, m, old_tuple(old)),
     }
@@ -101,7 +101,8 @@ fn plan_delete(alloc: Global, m: &Mapping, old: &Tuple) -> Result<Change, RelFau
 
 /// The fields of the primary key, if the relation flags all of its columns as key.
 fn key_fields(m: &Mapping) -> Result<&[Field], RelFault>
-    ensures { result_map_both (λ (fields : Bor (List Field)). fields.now) (λ fault. fault) result ≡ ok_or m.now.key KeyNotSent }
+    ensures { result_map_both (λ (fields : Bor (List Field)). fields.now) (λ fault. fault) result
+        ≡ ok_or m.now.key KeyNotSent }
 {
     m.key().ok_or(RelFault::KeyNotSent)
 }

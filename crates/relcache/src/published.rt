@@ -29,7 +29,11 @@ impl Model for Published {
 
     ghost Value = { Published };
 
-    ghost view = { λ p. record { namespace = p.namespace; name = p.name; columns = p.columns.items } };
+    ghost view = { λ p. record {
+      namespace = p.namespace;
+      name = p.name;
+      columns = p.columns.items;
+    } };
 }
 
 impl Published {

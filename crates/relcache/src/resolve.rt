@@ -134,7 +134,8 @@ fn source_of(
     column: &Column,
     default: Option<&Value>,
 ) -> Result<ColumnSource, AllocError>
-    ensures { IfOk result (λ source. source ≡ spec.source_of sent.now column.now (option_copied default.entry)) }
+    ensures { IfOk result
+        (λ source. source ≡ spec.source_of sent.now column.now (option_copied default.entry)) }
 {
     match field_of(sent, column) {
         Some(field) => Ok(ColumnSource::Sent(field)),
@@ -161,7 +162,8 @@ fn sources_of(
     sent: &[PublishedColumn],
     table: &TableDef,
 ) -> Result<Vec<ColumnSource>, AllocError>
-    ensures { IfOk result (λ sources. sources.items ≡ spec.sources_of sent.now table.now.columns table.now.defaults) }
+    ensures { IfOk result
+        (λ sources. sources.items ≡ spec.sources_of sent.now table.now.columns table.now.defaults) }
 {
     let columns = table.columns();
     let defaults = table.defaults();
@@ -189,7 +191,8 @@ fn key_of(
     sent: &[PublishedColumn],
     table: &TableDef,
 ) -> Result<Option<Vec<Field>>, AllocError>
-    ensures { IfOk result (λ key. option_map (λ fields. fields.items) key ≡ spec.key_of sent.now table.now) }
+    ensures { IfOk result
+        (λ key. option_map (λ fields. fields.items) key ≡ spec.key_of sent.now table.now) }
 {
     let columns = table.columns();
     let numbers = table.primary().numbers();

@@ -1,100 +1,98 @@
 -- The keys by their slots' numbers, after a slot is made or dropped.
-use Rattle.std.specs.Prelude.{◌≡◌, ◌≢◌, ℕ, ◌+◌, ◌<◌, List, [], ◌∷◌, Option, Some, None, refl, ◌⊎◌, Bool, true, false, cond, if◌then◌else◌}
+use Rattle.std.specs.Prelude.{◌≡◌, ◌≢◌, ℕ, ◌+◌, Option, Some, None, refl, ◌⊎◌, Bool, true, false, cond, if◌then◌else◌}
 use Rattle.std.proofs.Common.{sym, ◌∙◌, ap, subst, inl, inr, arith}
 use Rattle.std.specs.Ordering.{nat_cmp}
 use Rattle.std.specs.BTreeMap as tree
 use Rattle.std.specs.BTreeMap.{BTreeMap}
 use Rattle.std.specs.FinMap.{FinMap, get, insert, remove}
-use native.Mathlib.Decide.{dec_lt}
 use Rattle.model.specs.declared.key.Key.{Key}
 use Rattle.model.specs.Key.{key_cmp}
 use Rattle.rows.specs.Ordered.{IsNamed}
-use Rattle.rows.specs.KeyLaws.{IsApart, one_or_apart, get_inserted, get_beside_insert, get_removed, get_beside_remove, same_at_and_beside}
+use Rattle.rows.specs.KeyLaws.{one_or_apart, get_inserted, get_beside_insert, get_removed, get_beside_remove, same_at_and_beside}
 
 same_or_not : (n m : ℕ) → (n ≡ m) ⊎ (n ≢ m)
 same_or_not n m = grind arith
 
 module _ (slots : FinMap key_cmp ℕ) (keys changed : BTreeMap ℕ Key) (next : ℕ) (was : IsNamed slots keys next)
     (at : ℕ) (others : (other : ℕ) → other ≢ at → tree.get nat_cmp changed other ≡ tree.get nat_cmp keys other) where
-
   -- the name that was made went again
   pub named_after_refusal : at ≡ next → tree.get nat_cmp changed at ≡ None → IsNamed slots changed next
   named_after_refusal is gone = record {
-      named = λ key number e.
-          let named = was.named key number e in
-          let below = was.below key number named in
-          others number (λ same. absurd (omega arith)) ∙ named;
-      names = λ key number e. elim (same_or_not number at) [
-        | inl same ↦ absurd (let named : tree.get nat_cmp changed number ≡ None = ap (tree.get nat_cmp changed) same ∙ gone in cc)
-        | inr apart ↦ was.names key number (sym (others number apart) ∙ e)
-      ];
-      below = λ key number e. elim (same_or_not number at) [
-        | inl same ↦ absurd (let named : tree.get nat_cmp changed number ≡ None = ap (tree.get nat_cmp changed) same ∙ gone in cc)
-        | inr apart ↦ was.below key number (sym (others number apart) ∙ e)
-      ];
-    }
+    named = λ key number e.
+        let named = was.named key number e in
+        let below = was.below key number named in
+        others number (λ same. absurd (omega arith)) ∙ named;
+    names = λ key number e. elim (same_or_not number at) [
+      | inl same ↦ absurd (let named : tree.get nat_cmp changed number ≡ None = ap (tree.get nat_cmp changed) same ∙ gone in cc)
+      | inr apart ↦ was.names key number (sym (others number apart) ∙ e)
+    ];
+    below = λ key number e. elim (same_or_not number at) [
+      | inl same ↦ absurd (let named : tree.get nat_cmp changed number ≡ None = ap (tree.get nat_cmp changed) same ∙ gone in cc)
+      | inr apart ↦ was.below key number (sym (others number apart) ∙ e)
+    ];
+  }
 
   pub named_after_insert : (key : Key) → at ≡ next → get slots key ≡ None → tree.get nat_cmp changed at ≡ Some key → IsNamed (insert slots key at) changed (next + 1)
   named_after_insert key is absent named = record {
-      named = λ other number e. elim (one_or_apart key other) [
-        | inl same ↦
-            let there : get (insert slots key at) other ≡ Some at = subst (λ (k : Key). get (insert slots key at) k ≡ Some at) same (get_inserted slots key at) in
-            let number_is : at ≡ number = cc in
-            ap (tree.get nat_cmp changed) (sym number_is) ∙ named ∙ ap Some same
-        | inr apart ↦
-            let old = was.named other number (sym (get_beside_insert slots key at other apart) ∙ e) in
-            let below = was.below other number old in
-            others number (λ same. absurd (omega arith)) ∙ old
-      ];
-      names = λ other number e. elim (same_or_not number at) [
-        | inl same ↦
-            let named_too : tree.get nat_cmp changed number ≡ Some key = ap (tree.get nat_cmp changed) same ∙ named in
-            let key_is : key ≡ other = cc in
-            subst (λ (k : Key). get (insert slots key at) k ≡ Some number) key_is (get_inserted slots key at ∙ ap Some (sym same))
-        | inr differs ↦
-            let old = was.names other number (sym (others number differs) ∙ e) in
-            elim (one_or_apart key other) [
-              | inl same ↦ absurd (let gone : get slots other ≡ None = ap (get slots) (sym same) ∙ absent in cc)
-              | inr apart ↦ get_beside_insert slots key at other apart ∙ old
-            ]
-      ];
-      below = λ other number e. elim (same_or_not number at) [
-        | inl same ↦ omega arith
-        | inr differs ↦ let below = was.below other number (sym (others number differs) ∙ e) in omega arith
-      ];
-    }
+    named = λ other number e. elim (one_or_apart key other) [
+      | inl same ↦
+          let there : get (insert slots key at) other ≡ Some at = subst (λ (k : Key). get (insert slots key at) k ≡ Some at) same (get_inserted slots key at) in
+          let number_is : at ≡ number = cc in
+          ap (tree.get nat_cmp changed) (sym number_is) ∙ named ∙ ap Some same
+      | inr apart ↦
+          let old = was.named other number (sym (get_beside_insert slots key at other apart) ∙ e) in
+          let below = was.below other number old in
+          others number (λ same. absurd (omega arith)) ∙ old
+    ];
+    names = λ other number e. elim (same_or_not number at) [
+      | inl same ↦
+          let named_too : tree.get nat_cmp changed number ≡ Some key = ap (tree.get nat_cmp changed) same ∙ named in
+          let key_is : key ≡ other = cc in
+          subst (λ (k : Key). get (insert slots key at) k ≡ Some number) key_is (get_inserted slots key at ∙ ap Some (sym same))
+      | inr differs ↦
+          let old = was.names other number (sym (others number differs) ∙ e) in
+          elim (one_or_apart key other) [
+            | inl same ↦ absurd (let gone : get slots other ≡ None = ap (get slots) (sym same) ∙ absent in cc)
+            | inr apart ↦ get_beside_insert slots key at other apart ∙ old
+          ]
+    ];
+    below = λ other number e. elim (same_or_not number at) [
+      | inl same ↦ omega arith
+      | inr differs ↦ let below = was.below other number (sym (others number differs) ∙ e) in omega arith
+    ];
+  }
 
   pub named_after_remove : (key : Key) → get slots key ≡ Some at → tree.get nat_cmp changed at ≡ None → IsNamed (remove slots key) changed next
   named_after_remove key there gone = record {
-      named = λ other number e. elim (one_or_apart key other) [
-        | inl same ↦ absurd (let none : get (remove slots key) other ≡ None = subst (λ (k : Key). get (remove slots key) k ≡ None) same (get_removed slots key) in cc)
-        | inr apart ↦
-            let slot = sym (get_beside_remove slots key other apart) ∙ e in
-            let old = was.named other number slot in
-            elim (same_or_not number at) [
-              | inl same ↦
-                  let mine = was.named key at there in
-                  let mine_too : tree.get nat_cmp keys number ≡ Some key = ap (tree.get nat_cmp keys) same ∙ mine in
-                  let one : key ≡ other = cc in
-                  let none : get (remove slots key) other ≡ None = subst (λ (k : Key). get (remove slots key) k ≡ None) one (get_removed slots key) in
-                  absurd cc
-              | inr differs ↦ others number differs ∙ old
-            ]
-      ];
-      names = λ other number e. elim (same_or_not number at) [
-        | inl same ↦ absurd (let none : tree.get nat_cmp changed number ≡ None = ap (tree.get nat_cmp changed) same ∙ gone in cc)
-        | inr differs ↦
-            let old = was.names other number (sym (others number differs) ∙ e) in
-            elim (one_or_apart key other) [
-              | inl same ↦ absurd (let mine : get slots other ≡ Some at = ap (get slots) (sym same) ∙ there in let one : number ≡ at = cc in differs one)
-              | inr apart ↦ get_beside_remove slots key other apart ∙ old
-            ]
-      ];
-      below = λ other number e. elim (same_or_not number at) [
-        | inl same ↦ absurd (let none : tree.get nat_cmp changed number ≡ None = ap (tree.get nat_cmp changed) same ∙ gone in cc)
-        | inr differs ↦ was.below other number (sym (others number differs) ∙ e)
-      ];
-    }
+    named = λ other number e. elim (one_or_apart key other) [
+      | inl same ↦ absurd (let none : get (remove slots key) other ≡ None = subst (λ (k : Key). get (remove slots key) k ≡ None) same (get_removed slots key) in cc)
+      | inr apart ↦
+          let slot = sym (get_beside_remove slots key other apart) ∙ e in
+          let old = was.named other number slot in
+          elim (same_or_not number at) [
+            | inl same ↦
+                let mine = was.named key at there in
+                let mine_too : tree.get nat_cmp keys number ≡ Some key = ap (tree.get nat_cmp keys) same ∙ mine in
+                let one : key ≡ other = cc in
+                let none : get (remove slots key) other ≡ None = subst (λ (k : Key). get (remove slots key) k ≡ None) one (get_removed slots key) in
+                absurd cc
+            | inr differs ↦ others number differs ∙ old
+          ]
+    ];
+    names = λ other number e. elim (same_or_not number at) [
+      | inl same ↦ absurd (let none : tree.get nat_cmp changed number ≡ None = ap (tree.get nat_cmp changed) same ∙ gone in cc)
+      | inr differs ↦
+          let old = was.names other number (sym (others number differs) ∙ e) in
+          elim (one_or_apart key other) [
+            | inl same ↦ absurd (let mine : get slots other ≡ Some at = ap (get slots) (sym same) ∙ there in let one : number ≡ at = cc in differs one)
+            | inr apart ↦ get_beside_remove slots key other apart ∙ old
+          ]
+    ];
+    below = λ other number e. elim (same_or_not number at) [
+      | inl same ↦ absurd (let none : tree.get nat_cmp changed number ≡ None = ap (tree.get nat_cmp changed) same ∙ gone in cc)
+      | inr differs ↦ was.below other number (sym (others number differs) ∙ e)
+    ];
+  }
 
 settled_names : (slots : FinMap key_cmp ℕ) (keys changed : BTreeMap ℕ Key) (next : ℕ) → IsNamed slots keys next → (key : Key) (filled : Bool) (dropped : Option ℕ) (slot : Option ℕ)
     → get slots key ≡ slot → dropped ≡ cond filled None slot
@@ -111,7 +109,7 @@ settled_names slots keys changed next was key true dropped slot at is others gon
 settled_names slots keys changed next was key false dropped None at is others gone =
     let same : (other : ℕ) → tree.get nat_cmp changed other ≡ tree.get nat_cmp keys other = λ other. others other (λ e. absurd cc) in
     let unchanged : remove slots key ≡ slots =
-        same_at_and_beside _ _ key (get_removed slots key ∙ sym at) (λ other apart. get_beside_remove slots key other apart) in
+    same_at_and_beside _ _ key (get_removed slots key ∙ sym at) (λ other apart. get_beside_remove slots key other apart) in
     subst (λ (m : FinMap key_cmp ℕ). IsNamed m changed next) (sym unchanged)
     (record {
       named = λ k number e. same number ∙ was.named k number e;

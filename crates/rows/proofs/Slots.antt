@@ -1,16 +1,14 @@
 -- The rows and the numbers in slots, by what a look-up finds, and after a change of one slot.
-use Rattle.std.specs.Prelude.{◌≡◌, ℕ, ◌<◌, Bool, true, false, cond, List, [], ◌∷◌, Option, Some, None, refl, IsSome, is_some, if◌then◌else◌}
-use Rattle.std.proofs.Common.{sym, ◌∙◌, ap, subst, inl, inr}
-use Rattle.std.specs.Map.{lookup}
-use Rattle.std.specs.BTreeMap.{is_at}
+use Rattle.std.specs.Prelude.{◌≡◌, ℕ, Bool, true, false, cond, List, [], ◌∷◌, Option, Some, None, refl, IsSome, is_some, if◌then◌else◌}
+use Rattle.std.proofs.Common.{sym, ◌∙◌, ap, inl, inr}
 use Rattle.std.specs.Ordering.{eq_by_cmp}
-use Rattle.std.specs.FinMap.{FinMap, get, insert, remove, empty, get-insert, get-remove, get-empty}
+use Rattle.std.specs.FinMap.{FinMap, get, insert, remove, get-insert, get-remove, get-empty}
 use Rattle.model.specs.declared.key.Key.{Key}
 use Rattle.model.specs.declared.row.Row.{Row}
 use Rattle.model.specs.Key.{key_cmp, key_cmp_total}
 use Rattle.rows.specs.declared.ordered.Slot.{Slot}
 use Rattle.rows.specs.Slots.{with_row, with_row_at, rows_in, numbers_in, row_at, number_at, found, SameBeside, kept_if_filled, without_empty, number_if_empty, number_of_empty}
-use Rattle.rows.specs.KeyLaws.{IsApart, one_or_apart, get_inserted, get_beside_insert, get_removed, get_beside_remove, same_at_and_beside}
+use Rattle.rows.specs.KeyLaws.{one_or_apart, get_inserted, get_beside_insert, get_removed, get_beside_remove, same_at_and_beside}
 
 get-with_row : (rows : FinMap key_cmp Row) (key : Key) (row : Option Row) (q : Key) → get (with_row rows key row) q ≡ cond (eq_by_cmp key_cmp q key) row (get rows q)
 get-with_row rows key None q = get-remove key_cmp_total rows key q
@@ -142,9 +140,9 @@ found_number kept es q o is e = e ∙ sym (get-numbers_in es q) ∙ ap (λ m. ge
 -- a slot more keeps the others
 pub slots_kept_by_insert : (slots : FinMap key_cmp ℕ) (key : Key) (at : ℕ) → get slots key ≡ None → (other : Key) (number : ℕ) → get slots other ≡ Some number → get (insert slots key at) other ≡ Some number
 slots_kept_by_insert slots key at absent other number e = elim (one_or_apart key other) [
-    | inl same ↦ absurd (let none : get slots other ≡ None = ap (get slots) (sym same) ∙ absent in cc)
-    | inr apart ↦ get_beside_insert slots key at other apart ∙ e
-  ]
+  | inl same ↦ absurd (let none : get slots other ≡ None = ap (get slots) (sym same) ∙ absent in cc)
+  | inr apart ↦ get_beside_insert slots key at other apart ∙ e
+]
 
 empty_number : (o : Option Slot) → (row : Option Row) → row_at o ≡ row → (number : Option ℕ) → number_at o ≡ number → number_of_empty o ≡ cond (is_some row) None number
 empty_number None None at None is = refl

@@ -1,6 +1,6 @@
 -- A store of rows as its callers see it.
 --     Kept      the rows by their keys, and the slots: each key that has one, and the slot's number
-use Rattle.std.specs.Prelude.{◌≡◌, ℕ, List, Option, Some, None, ◌⊎◌}
+use Rattle.std.specs.Prelude.{◌≡◌, ℕ, Some}
 use Rattle.std.specs.FinMap.{FinMap, get}
 use Rattle.model.specs.declared.key.Key.{Key}
 use Rattle.model.specs.declared.row.Row.{Row}

@@ -1,9 +1,9 @@
 -- Two keys are one or apart, and what a finite map under keys has at each after a change.
-use Rattle.std.specs.Prelude.{◌≡◌, ℕ, Bool, true, false, cond, Option, Some, None, refl, ◌⊎◌, is_some, IsSome}
-use Rattle.std.proofs.Common.{sym, ◌∙◌, ap, subst, inl, inr}
+use Rattle.std.specs.Prelude.{◌≡◌, true, false, cond, Some, None, refl, ◌⊎◌}
+use Rattle.std.proofs.Common.{◌∙◌, ap, subst, inl, inr}
 use Rattle.std.specs.Ordering.{eq_by_cmp}
 use Rattle.std.specs.Cmp.{eq_by_cmp_equiv}
-use Rattle.std.specs.FinMap.{FinMap, get, insert, remove, empty, get-insert, get-remove, get-empty, same_map}
+use Rattle.std.specs.FinMap.{FinMap, get, insert, remove, get-insert, get-remove, same_map}
 use Rattle.std.proofs.lemmas.Map.Views.{tells_apart}
 use Rattle.model.specs.declared.key.Key.{Key}
 use Rattle.model.specs.Key.{key_cmp, key_cmp_total}
@@ -41,7 +41,7 @@ module _ {X : Type 0} where
   pub same_at_and_beside : (m n : FinMap key_cmp X) (key : Key) → get m key ≡ get n key → ((other : Key) → IsApart key other → get m other ≡ get n other) → m ≡ n
   same_at_and_beside m n key here beside =
       same_map key_cmp_total key_cmp_exact m n (λ other.
-          elim (one_or_apart key other) [
-            | inl e ↦ subst (λ (k : Key). get m k ≡ get n k) e here
-            | inr apart ↦ beside other apart
-          ])
+      elim (one_or_apart key other) [
+        | inl e ↦ subst (λ (k : Key). get m k ≡ get n k) e here
+        | inr apart ↦ beside other apart
+      ])

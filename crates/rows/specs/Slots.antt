@@ -36,7 +36,6 @@ abbrev pub numbers_in : List (Key × Slot) → FinMap key_cmp ℕ
 numbers_in [] = map.empty
 numbers_in (e ∷ es) = map.insert (numbers_in es) e.0 e.1.number
 
-
 -- the slots but one are as they were
 abbrev pub SameBeside : List (Key × Slot) → List (Key × Slot) → Key → Type 0
 SameBeside es fs key = (q : Key) → is_at (key_cmp key) q ≡ false → found fs q ≡ found es q

@@ -15,9 +15,9 @@
 //   ordered    `OrderedRows`, the first form: an ordered map of lists of values
 //   view       a row as it is read: column by column
 pub mod ordered;
-
+pub mod store;
 pub mod view;
 
 pub use ordered::OrderedRows;
-
+pub use store::RowStore;
 pub use view::{RowView, ValueRef};

@@ -1,17 +1,24 @@
 -- What is kept of the open transactions, as one is opened, changed or closed.
-use Rattle.std.proofs.Common.{◌≡◌, ℕ, ◌+◌, ◌-◌, ◌<◌, ◌≤◌, Bool, true, false, not, List, [], ◌∷◌, Option, Some, None, cond, refl, sym, ap, ◌∙◌, arith, ⊎_elim}
-use Rattle.std.specs.Prelude.{sum_by, count_by, option_map, is_some}
-use Rattle.std.specs.Ordering.{nat_cmp, is_eq, eq_by_cmp}
+use Rattle.std.proofs.Common.{◌≡◌, ℕ, ◌+◌, ◌-◌, Bool, true, false, List, [], ◌∷◌, length, Option, Some, None, cond, refl, sym, ap, ◌∙◌, arith, ⊎_elim}
+use Rattle.std.specs.Prelude.{option_map, is_some, Result, Ok, Err, IsErrAnd}
+use Rattle.std.specs.Ordering.{nat_cmp, eq_by_cmp}
 use Rattle.std.specs.Cmp.{nat_cmp_total}
-use Rattle.std.specs.BTreeMap.{BTreeMap, get, is_at, Updates, UpdatesBy}
+use Rattle.std.specs.BTreeMap.{BTreeMap, btree_map_len, get, is_at, Updates}
 use Rattle.std.specs.FinMap as map
 use Rattle.std.proofs.lemmas.Bool.{cases_Bool, cases_eq}
 use Rattle.std.proofs.lemmas.Bool.Decides.{nat_tests}
 use Rattle.session.specs.declared.transactions.Way.{Way as Keeping}
-use Rattle.session.specs.State.{Way, Direct, Worker, Spooled, Open, Transactions, has_worker, working, spooled, spooled_by}
-use Rattle.session.specs.Table.{opened}
-use Rattle.session.specs.Stands.{keeping_of}
-use Rattle.session.proofs.Totals.{same_key, total-insert_absent, total-insert, total-remove}
+use Rattle.session.specs.State.{Way, Direct, Worker, Spooled, Open, Transactions, Setting, has_worker, kept, working, spooled, spooled_by}
+use Rattle.session.specs.declared.transactions.Transactions.{Transactions as OpenOnes}
+use Rattle.session.specs.declared.fault.SessionFault.{SessionFault}
+use Rattle.session.specs.declared.fault.SessionFault.TheVariants.{AlreadyOpen}
+use Rattle.session.specs.declared.fault.Refused.{Refused}
+use Rattle.session.specs.declared.fault.Refused.TheVariants.{Session}
+use Rattle.session.specs.declared.transactions.Way.TheVariants as keepings
+use Rattle.session.specs.Sized.{SizedItems}
+use Rattle.session.specs.Table.{opened, room_fault}
+use Rattle.session.specs.Stands.{keeping_of, Keeps, IsOpened, IsStreamed}
+use Rattle.session.proofs.Totals.{total-insert_absent, total-remove}
 
 -- what is kept of a transaction
 abbrev pub keeping : ℕ → Open → Keeping
@@ -61,3 +68,127 @@ is_some-option_map f (Some x) = refl
 -- a transaction is kept exactly if it is open
 pub kept_if_open : (ways : BTreeMap ℕ Keeping) (m : Transactions) (xid : ℕ) → WaysAre ways m → is_some (get nat_cmp ways xid) ≡ map.contains_key m xid
 kept_if_open ways m xid are = ap is_some (are xid) ∙ is_some-option_map (λ (o : Open). keeping_of xid o.items o.way) (map.get m xid)
+
+-- ---- what the limits count
+
+pub absent_from_room : (m : Transactions) (xid : ℕ) → room_fault m xid ≡ None → map.get m xid ≡ None
+absent_from_room m xid e = none_from (map.get m xid) (⊎_elim
+    (λ is_open. let fault : Some AlreadyOpen ≡ None = rw is_open at e in cc)
+    (λ closed. closed)
+    (cases_Bool (map.contains_key m xid)))
+  where
+    none_from : (o : Option Open) → is_some o ≡ false → o ≡ None
+    none_from None e = refl
+    none_from (Some x) e = cc
+
+pub working-insert : (m : Transactions) (xid : ℕ) (o : Open) → map.get m xid ≡ None → working (map.insert m xid o) ≡ cond (has_worker o.way) 1 0 + working m
+working-insert m xid o none = total-insert_absent (λ (t : ℕ × Open). cond (has_worker t.1.way) 1 0) m xid o none
+
+pub spooled-insert : (m : Transactions) (xid : ℕ) (o : Open) → map.get m xid ≡ None → spooled (map.insert m xid o) ≡ spooled_by xid o.items o.way + spooled m
+spooled-insert m xid o none = total-insert_absent (λ (t : ℕ × Open). spooled_by t.0 t.1.items t.1.way) m xid o none
+
+pub working-remove : (m : Transactions) (xid : ℕ) (o : Open) → map.get m xid ≡ Some o → working m ≡ cond (has_worker o.way) 1 0 + working (map.remove m xid)
+working-remove m xid o some = total-remove (λ (t : ℕ × Open). cond (has_worker t.1.way) 1 0) m xid o some
+
+pub spooled-remove : (m : Transactions) (xid : ℕ) (o : Open) → map.get m xid ≡ Some o → spooled m ≡ spooled_by xid o.items o.way + spooled (map.remove m xid)
+spooled-remove m xid o some = total-remove (λ (t : ℕ × Open). spooled_by t.0 t.1.items t.1.way) m xid o some
+
+pub len-insert_absent : (m : Transactions) (xid : ℕ) (o : Open) → map.get m xid ≡ None → map.len (map.insert m xid o) ≡ map.len m + 1
+len-insert_absent m xid o none = map.len-insert nat_cmp_total m xid o ∙ rw (ap is_some none)
+
+pub len-remove_present : (m : Transactions) (xid : ℕ) (o : Open) → map.get m xid ≡ Some o → map.len (map.remove m xid) ≡ map.len m - 1
+len-remove_present m xid o some = map.len-remove nat_cmp_total m xid ∙ rw (ap is_some some)
+
+-- ---- a transaction more
+
+-- what is kept once a transaction is opened
+pub Keeps-insert : (g : Setting) (old new : OpenOnes) (m : Transactions) (xid : ℕ) (way : Way) → Keeps g old m → map.get m xid ≡ None
+    → Updates nat_cmp old.ways new.ways xid (Some (keeping_of xid [] way)) → btree_map_len new.ways ≡ btree_map_len old.ways + 1
+    → new.workers ≡ old.workers → new.working ≡ cond (has_worker way) 1 0 + old.working → new.spool ≡ old.spool → new.spooled ≡ old.spooled → spooled_by xid [] way ≡ 0
+    → Keeps g new (map.insert m xid (opened way))
+Keeps-insert g old new m xid way kept none step more workers working_is spool spooled_is empty = record {
+  ways = WaysAre-insert old.ways new.ways m xid (opened way) kept.ways step;
+  count = more ∙ ap (λ n. n + 1) kept.count ∙ sym (len-insert_absent m xid (opened way) none);
+  workers = workers ∙ kept.workers;
+  working = working_is ∙ ap (λ n. cond (has_worker way) 1 0 + n) kept.working ∙ sym (working-insert m xid (opened way) none);
+  room = spool ∙ kept.room;
+  spooled = let sums = spooled-insert m xid (opened way) none in omega (arith, sums, empty, spooled_is, kept.spooled);
+  fits = omega (arith, spooled_is, kept.fits);
+}
+
+-- what is kept once a transaction is closed
+pub Keeps-remove : (g : Setting) (old new : OpenOnes) (m : Transactions) (xid : ℕ) (o : Open) → Keeps g old m → map.get m xid ≡ Some o
+    → Updates nat_cmp old.ways new.ways xid None → btree_map_len new.ways + 1 ≡ btree_map_len old.ways
+    → new.workers ≡ old.workers → new.working ≡ old.working - cond (has_worker o.way) 1 0 → new.spool ≡ old.spool → new.spooled ≡ old.spooled - spooled_by xid o.items o.way
+    → Keeps g new (map.remove m xid)
+Keeps-remove g old new m xid o kept some step less workers working_is spool spooled_is = record {
+  ways = WaysAre-remove old.ways new.ways m xid kept.ways step;
+  count = let one = len-remove_present m xid o some in omega (arith, one, less, kept.count);
+  workers = workers ∙ kept.workers;
+  working = let sums = working-remove m xid o some in omega (arith, sums, working_is, kept.working);
+  room = spool ∙ kept.room;
+  spooled = let sums = spooled-remove m xid o some in omega (arith, sums, spooled_is, kept.spooled);
+  fits = omega (arith, spooled_is, kept.fits);
+}
+
+-- ---- no transaction
+
+no_entries : (es : List (ℕ × Open)) → length es ≡ 0 → es ≡ []
+no_entries [] e = refl
+no_entries (x ∷ es) e = absurd (omega arith)
+
+pub entries-empty : map.entries (map.empty {K = ℕ} {X = Open} {R = nat_cmp}) ≡ []
+entries-empty = no_entries _ (sym (map.len-entries _) ∙ map.len-empty nat_cmp Open)
+
+-- ---- refusals
+
+-- a fault that became a refusal
+pub IsOpened-refused : (g : Setting) (v : OpenOnes) (m : Transactions) (xid : ℕ) (result : Result (Unit {0}) Refused) (why : SessionFault) → Keeps g v m → room_fault m xid ≡ Some why → IsErrAnd result (λ e. e ≡ Session why) → IsOpened g v m xid result
+IsOpened-refused g v m xid (Ok u) why kept fault is = absurd is
+IsOpened-refused g v m xid (Err e) why kept fault is = (kept, λ other. (why, fault, is))
+
+pub IsStreamed-refused : (g : Setting) (v : OpenOnes) (m : Transactions) (xid : ℕ) (result : Result Bool Refused) (why : SessionFault) → Keeps g v m → room_fault m xid ≡ Some why → IsErrAnd result (λ e. e ≡ Session why) → IsStreamed g v m xid result
+IsStreamed-refused g v m xid (Ok u) why kept fault is = absurd is
+IsStreamed-refused g v m xid (Err e) why kept fault is = (kept, λ other. (why, fault, is))
+
+-- ---- what is kept of one transaction
+
+pub kept_absent : (ways : BTreeMap ℕ Keeping) (m : Transactions) (xid : ℕ) → WaysAre ways m → map.get m xid ≡ None → get nat_cmp ways xid ≡ None
+kept_absent ways m xid are none = are xid ∙ ap (option_map (λ (o : Open). keeping_of xid o.items o.way)) none
+
+pub kept_present : (ways : BTreeMap ℕ Keeping) (m : Transactions) (xid : ℕ) (k : Keeping) → WaysAre ways m → get nat_cmp ways xid ≡ Some k → (o : Open) × (map.get m xid ≡ Some o) × (k ≡ keeping_of xid o.items o.way)
+kept_present ways m xid k are some = from (map.get m xid) refl
+  where
+    from : (o : Option Open) → map.get m xid ≡ o → (p : Open) × (map.get m xid ≡ Some p) × (k ≡ keeping_of xid p.items p.way)
+    from None e = let no : Some k ≡ None = sym some ∙ are xid ∙ ap (option_map (λ (p : Open). keeping_of xid p.items p.way)) e in cc
+    from (Some o) e = let same : Some k ≡ Some (keeping_of xid o.items o.way) = sym some ∙ are xid ∙ ap (option_map (λ (p : Open). keeping_of xid p.items p.way)) e in (o, e, cc)
+
+pub none_kept : (ways : BTreeMap ℕ Keeping) (m : Transactions) (xid : ℕ) → WaysAre ways m → get nat_cmp ways xid ≡ None → map.get m xid ≡ None
+none_kept ways m xid are none = from (map.get m xid) refl
+  where
+    from : (o : Option Open) → map.get m xid ≡ o → map.get m xid ≡ None
+    from None e = e
+    from (Some o) e = let some : None ≡ Some (keeping_of xid o.items o.way) = sym none ∙ are xid ∙ ap (option_map (λ (p : Open). keeping_of xid p.items p.way)) e in cc
+
+pub is_kept_direct : (xid : ℕ) (items : SizedItems) (way : Way) → keepings.Direct ≡ keeping_of xid items way → way ≡ Direct
+is_kept_direct xid items Direct e = refl
+is_kept_direct xid items Worker e = cc
+is_kept_direct xid items Spooled e = cc
+
+pub is_kept_worker : (xid : ℕ) (items : SizedItems) (way : Way) → keepings.Worker ≡ keeping_of xid items way → way ≡ Worker
+is_kept_worker xid items Direct e = cc
+is_kept_worker xid items Worker e = refl
+is_kept_worker xid items Spooled e = cc
+
+pub is_kept_spooled : (xid : ℕ) (items spool : SizedItems) (way : Way) → keepings.Spooled spool ≡ keeping_of xid items way → (way ≡ Spooled) × (spool ≡ kept xid items)
+is_kept_spooled xid items spool Direct e = cc
+is_kept_spooled xid items spool Worker e = cc
+is_kept_spooled xid items spool Spooled e = (refl, cc)
+
+-- an open transaction is there
+pub present : (m : Transactions) (xid : ℕ) → map.contains_key m xid ≡ true → (o : Open) × (map.get m xid ≡ Some o)
+present m xid e = from (map.get m xid) e
+  where
+    from : (o : Option Open) → is_some o ≡ true → (p : Open) × (o ≡ Some p)
+    from None e = cc
+    from (Some o) e = (o, refl)

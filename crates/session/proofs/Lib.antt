@@ -1,3 +1,4 @@
 pub mod Spools
 pub mod Totals
 pub mod Kept
+pub mod Steps

@@ -1,9 +1,9 @@
 -- What a spool keeps as items come, are rolled back and are dropped again.
-use Rattle.std.proofs.Common.{◌≡◌, ℕ, zero, suc, ◌+◌, ◌<◌, ◌≤◌, ◌==◌, Bool, true, false, List, [], ◌∷◌, ◌++◌, length, take, drop, Option, Some, None, refl, sym, ap, ◌∙◌, arith, ⊎_elim, min, length-append, if◌then◌else◌}
+use Rattle.std.proofs.Common.{◌≡◌, ℕ, zero, suc, ◌+◌, ◌<◌, ◌≤◌, ◌==◌, true, false, List, [], ◌∷◌, ◌++◌, length, take, drop, Option, Some, None, refl, sym, ap, ◌∙◌, arith, ⊎_elim, min, length-append, if◌then◌else◌}
 use Rattle.std.proofs.lemmas.List.{length-take}
 use Rattle.std.proofs.lemmas.List.Sums.{sum_by_push, sum_by-take-drop}
 use Rattle.std.proofs.Math.Seq.{take-append_seam}
-use Rattle.std.specs.Prelude.{map, is_some, is_ok, sum, Result, Ok, Err, ◌-◌}
+use Rattle.std.specs.Prelude.{map, is_some, is_ok, sum, Result, Ok, ◌-◌}
 use Rattle.std.specs.List.{zip}
 use Rattle.std.proofs.lemmas.Bool.{cases_Bool, eq-eqb, ne_eqb}
 use Rattle.savepoint.specs.declared.item.Item.{Item}
@@ -11,7 +11,7 @@ use Rattle.savepoint.specs.declared.item.Item.TheVariants.{Change, Touch, BackTo
 use Rattle.savepoint.specs.Survivors.{is_of}
 use Rattle.savepoint.specs.Savepoints.{mark_at, before_mark, noted, noted_by, marking, savepoints, before_first}
 use Rattle.savepoint.proofs.Cutting.{IsNumbered, count_before_first, first_mark, first_mark-place, mark_at-savepoints, before_mark-savepoints, before_first-unmarked, mark_at-noted_same, before_mark-noted_same}
-use Rattle.session.specs.Sized.{SizedItems, bytes_of, item_of, size_of, numbered, is_place, without_mark, unnoted_by, IsSpool}
+use Rattle.session.specs.Sized.{bytes_of, item_of, size_of, numbered, is_place, without_mark, unnoted_by, IsSpool}
 
 -- ---- lists side by side
 

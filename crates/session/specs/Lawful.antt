@@ -1,12 +1,11 @@
 -- Lawful streams: each payload is a message that the session table admits, given those before it.
-use Rattle.std.specs.Prelude.{◌≡◌, ℕ, List, [], ◌∷◌, length, Result, Ok, Err}
+use Rattle.std.specs.Prelude.{◌≡◌, ℕ, List, [], ◌∷◌, length, Ok, Err}
 use Rattle.messages.specs.declared.message.Message.{Message}
-use Rattle.messages.specs.declared.fault.MsgFault.{MsgFault}
 use Rattle.messages.specs.Messages.{Spelled, Stands}
 use Rattle.session.specs.declared.fault.Refused.{Refused}
 use Rattle.session.specs.declared.fault.Refused.TheVariants.{Msg, Session, Rel, OutOfMemory}
 use Rattle.session.specs.State.{State, Setting, start, in_block}
-use Rattle.session.specs.Table.{Next, step}
+use Rattle.session.specs.Table.{step}
 
 -- The payload spells a message that the table admits, and that leaves the state.
 pub record Admits (g : Setting) (s : State) (payload : List ℕ) (m : Message) (t : State) : Type 0 where

@@ -4,6 +4,7 @@ pub mod Table
 pub mod Lawful
 pub mod Told
 pub mod Stands
+pub mod Kept
 pub use Rattle.messages.specs.Messages
 pub use Rattle.relcache.specs.Mapping
 pub use Rattle.relcache.specs.Planning

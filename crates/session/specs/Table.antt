@@ -1,6 +1,6 @@
 -- The session table: what each message does in each place, a line a message, and a column each for
 -- outside of transactions, between Begin and Commit, and in a block of a streamed transaction.
-use Rattle.std.specs.Prelude.{◌≡◌, ℕ, ◌+◌, ◌==◌, Bool, true, false, not, List, [], ◌∷◌, ◌++◌, Option, Some, None, unwrap_or, Result, Ok, Err, nat_lt, nat_le, if◌then◌else◌}
+use Rattle.std.specs.Prelude.{ℕ, ◌+◌, ◌==◌, Bool, true, List, [], ◌∷◌, ◌++◌, Option, Some, None, unwrap_or, Result, Ok, Err, nat_lt, nat_le, if◌then◌else◌}
 use Rattle.std.specs.FinMap as map
 use Rattle.model.specs.Definition.{Definition}
 use Rattle.model.specs.declared.change.Change.{Change as Alteration}
@@ -19,7 +19,7 @@ use Rattle.messages.specs.declared.row.RowMessage.{RowMessage}
 use Rattle.messages.specs.declared.row.RowMessage.TheVariants as rows
 use Rattle.relcache.specs.declared.fault.RelFault.{RelFault}
 use Rattle.relcache.specs.Published.{Relations, learnt}
-use Rattle.relcache.specs.Mapping.{Mapped, resolved}
+use Rattle.relcache.specs.Mapping.{resolved}
 use Rattle.relcache.specs.Planning.{planned}
 use Rattle.relcache.specs.Steps.{◌>>=◌}
 use Rattle.session.specs.declared.place.Place.{Place}
@@ -28,7 +28,7 @@ use Rattle.session.specs.declared.fault.SessionFault.{SessionFault}
 use Rattle.session.specs.declared.fault.SessionFault.TheVariants.{NotInTransaction, NestedBegin, BlockOpen, NoBlock, UnknownTransaction, AlreadyOpen, OldCommit, CommitMismatch, SpoolFull, TooManyOpen}
 use Rattle.session.specs.declared.fault.Refused.{Refused}
 use Rattle.session.specs.declared.fault.Refused.TheVariants.{Session, Rel}
-use Rattle.session.specs.State.{Way, Direct, Worker, Spooled, Open, Committed, Transactions, State, Setting, working, spooled}
+use Rattle.session.specs.State.{Way, Direct, Worker, Spooled, Open, Transactions, State, Setting, working, spooled}
 
 -- the next state, or why the message is refused
 abbrev pub Next : Type 0
@@ -74,6 +74,9 @@ streams g s m =
     if m.is_first then opens s m.xid (next_way g s) (Block m.xid)
     else (if is_open s m.xid then Ok (record s { place = Block m.xid }) else refuse UnknownTransaction)
 
+abbrev pub leaves_block : State → State
+leaves_block s = record s { place = Outside }
+
 -- ---- items
 
 -- what an open transaction does, or that it is unknown
@@ -89,14 +92,14 @@ abbrev pub gives : State → ℕ → Item → ℕ → Open → State
 gives s xid item size o = record s { transactions = map.insert s.transactions xid (record o { items = o.items ++ (item, size) ∷ [] }) }
 
 -- there is room for the payload, if the transaction is spooled
-abbrev pub has_room : Setting → State → ℕ → Way → Bool
-has_room g s size Direct = true
-has_room g s size Worker = true
-has_room g s size Spooled = nat_le (spooled s.transactions + size) g.spool
+abbrev pub has_room : Setting → Transactions → ℕ → Way → Bool
+has_room g m size Direct = true
+has_room g m size Worker = true
+has_room g m size Spooled = nat_le (spooled m + size) g.spool
 
 -- a relation or type message in a block is an item that changes no row
 abbrev pub touches : Setting → State → ℕ → ℕ → ℕ → Next
-touches g s xid sub size = of_open (transaction s xid) (λ o. if has_room g s size o.way then Ok (gives s xid (Touch sub) size o) else refuse SpoolFull)
+touches g s xid sub size = of_open (transaction s xid) (λ o. if has_room g s.transactions size o.way then Ok (gives s xid (Touch sub) size o) else refuse SpoolFull)
 
 abbrev pub plans : Result Alteration RelFault → (Alteration → State) → Next
 plans (Ok c) next = Ok (next c)
@@ -105,7 +108,7 @@ plans (Err fault) next = Err (Rel fault)
 -- a change that the relations allow
 abbrev pub changes : Setting → State → ℕ → ℕ → ℕ → Result Alteration RelFault → Next
 changes g s xid sub size planned =
-    of_open (transaction s xid) (λ o. if has_room g s size o.way then plans planned (λ c. gives s xid (Change sub c) size o) else refuse SpoolFull)
+    of_open (transaction s xid) (λ o. if has_room g s.transactions size o.way then plans planned (λ c. gives s xid (Change sub c) size o) else refuse SpoolFull)
 
 -- the subtransaction that a message in a block names
 abbrev pub named : Option ℕ → ℕ → ℕ
@@ -188,6 +191,6 @@ step g s size (messages.Update m) = change_line g s size m.xid (row_change g s m
 step g s size (messages.Delete m) = change_line g s size m.xid (row_change g s m.oid (rows.Delete m.old))
 step g s size (messages.Truncate m) = change_line g s size m.xid (truncate_change g s m.relations)
 step g s size (messages.StreamStart m) = at s.place (streams g s m) (λ xid final. refuse NestedBegin) (λ xid. refuse BlockOpen)
-step g s size messages.StreamStop = at s.place (refuse NoBlock) (λ xid final. refuse NoBlock) (λ xid. Ok (record s { place = Outside }))
+step g s size messages.StreamStop = at s.place (refuse NoBlock) (λ xid final. refuse NoBlock) (λ xid. Ok (leaves_block s))
 step g s size (messages.StreamCommit m) = at s.place (commits s m.xid m.commit_lsn m.end_lsn) (λ xid final. refuse NestedBegin) (λ xid. refuse BlockOpen)
 step g s size (messages.StreamAbort m) = at s.place (Ok (aborts s m)) (λ xid final. refuse NestedBegin) (λ xid. refuse BlockOpen)

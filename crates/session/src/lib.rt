@@ -15,6 +15,12 @@
 // commit. To find a transaction takes a look-up among the open ones, to keep an item the work of
 // one, and a cut the work of the items that it drops.
 //
+// `specs/Stands` says when what is kept stands for a state of the table. By their contracts Begin,
+// Commit, Stream Stop, Stream Commit, Origin and a transaction's first block take it from one state of
+// the table to the next, or are refused as the table refuses them; and a spool keeps just the items
+// that survive, with their bytes. Items, rollbacks, aborts and further blocks are proved safe and
+// total.
+//
 // It stands on `messages`, which reads payloads, `relcache`, which learns relations and plans rows,
 // and `savepoint`, which has the items of transactions and cuts them at savepoints.
 mod fault;

@@ -18,8 +18,13 @@ pub struct Relations {
 }
 
 impl Relations {
+    ghost use Rattle.session.specs.State.{Setting, start};
+    ghost use Rattle.session.specs.Stands.{Knows};
+
     /// None yet. It takes no memory.
-    pub(crate) fn new(alloc: Global) -> Relations {
+    pub(crate) fn new(alloc: Global) -> Relations
+        ensures { (g : Setting) → Knows g result start }
+    {
         Relations {
             alloc,
             learnt: RelCache::new(alloc),

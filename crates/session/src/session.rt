@@ -1,4 +1,7 @@
 // The session, one function a message.
+ghost use Rattle.std.specs.Prelude.{◌≡◌, Ok};
+ghost use Rattle.session.specs.Kept.{items_kept};
+
 use crate::fault::{Refused, SessionFault};
 use crate::place::Place;
 use crate::relations::Relations;
@@ -25,9 +28,17 @@ pub struct Session {
 }
 
 impl Session {
+    ghost use Rattle.session.specs.State.{Setting, State, start};
+    ghost use Rattle.session.specs.Table as table;
+    ghost use Rattle.session.specs.Stands.{StandsFor, Follows};
+    ghost use Rattle.session.specs.declared.fault.SessionFault.TheVariants as faults;
+    ghost use Rattle.session.specs.declared.place.Place.TheVariants as places;
+
     /// The session at the start of a stream, with so many workers, whose spools may keep so many
     /// bytes of payloads. It takes no memory.
-    pub fn new(alloc: Global, workers: usize, spool: u64) -> Session {
+    pub fn new(alloc: Global, workers: usize, spool: u64) -> Session
+        ensures { (g : Setting) → g.workers ≡ workers → g.spool ≡ spool → StandsFor g result start }
+    {
         Session {
             alloc,
             place: Place::Outside,
@@ -80,7 +91,10 @@ impl Session {
 
     // ---- transactions between Begin and Commit
 
-    fn begin(&mut self, m: &Begin) -> Result<Step, Refused> {
+    fn begin(&mut self, m: &Begin) -> Result<Step, Refused>
+        ensures { (g : Setting) (h : State) → StandsFor g self.old h
+            → Follows g self.new h (table.at h.place (table.begins h m.now) (λ _ _. table.refuse faults.NestedBegin) (λ _. table.refuse faults.BlockOpen)) result }
+    {
         match self.place {
             Place::Outside => {
                 self.transactions.begin(m.xid)?;
@@ -95,16 +109,17 @@ impl Session {
         }
     }
 
-    fn commit(&mut self, m: &Commit) -> Result<Step, Refused> {
+    fn commit(&mut self, m: &Commit) -> Result<Step, Refused>
+        ensures { (g : Setting) (h : State) → StandsFor g self.old h
+            → Follows g self.new h (table.at h.place (table.refuse faults.NotInTransaction) (λ xid final. table.commits_begun h xid final m.now) (λ _. table.refuse faults.BlockOpen)) result }
+    {
         match self.place {
             Place::Outside => Err(SessionFault::NotInTransaction.into()),
             Place::Begun { xid, final_lsn } => {
                 if m.commit_lsn != final_lsn {
                     return Err(SessionFault::CommitMismatch.into());
                 }
-                let step = self.close(xid, m.commit_lsn, m.end_lsn)?;
-                self.place = Place::Outside;
-                Ok(step)
+                self.close(xid, m.commit_lsn, m.end_lsn)
             }
             Place::Block(_) => Err(SessionFault::BlockOpen.into()),
         }
@@ -115,21 +130,21 @@ impl Session {
     fn stream_start(&mut self, m: &StreamStart) -> Result<Step, Refused> {
         match self.place {
             Place::Outside => {
-                let step = if m.is_first {
-                    self.open(m.xid)?
+                if m.is_first {
+                    self.open(m.xid)
                 } else {
-                    self.check_open(m.xid)?;
-                    Step::Nothing
-                };
-                self.place = Place::Block(m.xid);
-                Ok(step)
+                    self.go_on(m.xid)
+                }
             }
             Place::Begun { .. } => Err(SessionFault::NestedBegin.into()),
             Place::Block(_) => Err(SessionFault::BlockOpen.into()),
         }
     }
 
-    fn stream_stop(&mut self) -> Result<Step, Refused> {
+    fn stream_stop(&mut self) -> Result<Step, Refused>
+        ensures { (g : Setting) (h : State) → StandsFor g self.old h
+            → Follows g self.new h (table.at h.place (table.refuse faults.NoBlock) (λ _ _. table.refuse faults.NoBlock) (λ _. Ok (table.leaves_block h))) result }
+    {
         match self.place {
             Place::Outside | Place::Begun { .. } => Err(SessionFault::NoBlock.into()),
             Place::Block(_) => {
@@ -139,9 +154,12 @@ impl Session {
         }
     }
 
-    fn stream_commit(&mut self, m: &StreamCommit) -> Result<Step, Refused> {
+    fn stream_commit(&mut self, m: &StreamCommit) -> Result<Step, Refused>
+        ensures { (g : Setting) (h : State) → StandsFor g self.old h
+            → Follows g self.new h (table.at h.place (table.commits h m.now.xid m.now.commit_lsn m.now.end_lsn) (λ _ _. table.refuse faults.NestedBegin) (λ _. table.refuse faults.BlockOpen)) result }
+    {
         match self.place {
-            Place::Outside => Ok(self.close(m.xid, m.commit_lsn, m.end_lsn)?),
+            Place::Outside => self.close(m.xid, m.commit_lsn, m.end_lsn),
             Place::Begun { .. } => Err(SessionFault::NestedBegin.into()),
             Place::Block(_) => Err(SessionFault::BlockOpen.into()),
         }
@@ -157,10 +175,14 @@ impl Session {
 
     // ---- messages inside of transactions
 
-    fn origin(&self) -> Result<Step, Refused> {
+    fn origin(&self) -> Result<Step, Refused>
+        ensures { (g : Setting) (h : State) → StandsFor g self.now h
+            → Follows g self.now h (table.at h.place (table.refuse faults.NotInTransaction) (λ _ _. Ok h) (λ _. Ok h)) result }
+    {
         match self.place {
             Place::Outside => Err(SessionFault::NotInTransaction.into()),
-            Place::Begun { .. } | Place::Block(_) => Ok(Step::Nothing),
+            Place::Begun { .. } => Ok(Step::Nothing),
+            Place::Block(_) => Ok(Step::Nothing),
         }
     }
 
@@ -249,30 +271,44 @@ impl Session {
         }
     }
 
-    /// Opens a streamed transaction.
-    fn open(&mut self, xid: Xid) -> Result<Step, Refused> {
-        if self.transactions.stream(xid)? {
+    /// Opens a streamed transaction and its first block.
+    fn open(&mut self, xid: Xid) -> Result<Step, Refused>
+        ensures { (g : Setting) (h : State) → StandsFor g self.old h
+            → Follows g self.new h (table.opens h xid (table.next_way g h) (places.Block xid)) result }
+    {
+        let has_worker = self.transactions.stream(xid)?;
+        self.place = Place::Block(xid);
+        if has_worker {
             Ok(Step::Open(xid))
         } else {
             Ok(Step::Nothing)
         }
     }
 
-    /// Commits a transaction.
-    fn close(&mut self, xid: Xid, commit: Lsn, end: Lsn) -> Result<Step, SessionFault> {
+    /// Opens a further block of a streamed transaction.
+    fn go_on(&mut self, xid: Xid) -> Result<Step, Refused> {
         self.check_open(xid)?;
-        if end <= self.position {
-            return Err(SessionFault::OldCommit);
+        self.place = Place::Block(xid);
+        Ok(Step::Nothing)
+    }
+
+    /// Commits a transaction. Nothing is begun afterwards.
+    fn close(&mut self, xid: Xid, commit: Lsn, end: Lsn) -> Result<Step, Refused>
+        ensures { (g : Setting) (h : State) → StandsFor g self.old h
+            → Follows g self.new h (table.commits h xid commit end) result }
+    {
+        if self.transactions.contains(xid) && end <= self.position {
+            return Err(SessionFault::OldCommit.into());
         }
-        let Some(way) = self.transactions.close(xid) else {
-            return Err(SessionFault::UnknownTransaction);
-        };
-        self.position = end;
-        let items = match way {
-            Way::Direct | Way::Worker => Vec::new(self.alloc),
-            Way::Spooled(spool) => spool.into_items(),
-        };
-        Ok(Step::Commit(xid, CommitInfo { commit, end }, items))
+        match self.transactions.close(xid) {
+            Some(way) => {
+                self.place = Place::Outside;
+                self.position = end;
+                let items = handed_out(self.alloc, way);
+                Ok(Step::Commit(xid, CommitInfo { commit, end }, items))
+            }
+            None => Err(SessionFault::UnknownTransaction.into()),
+        }
     }
 
     /// Rolls back a subtransaction, or the whole transaction if that is the one named.
@@ -289,5 +325,15 @@ impl Session {
         } else {
             Step::Item(xid, Item::BackTo(sub))
         }
+    }
+}
+
+/// The items that a commit hands out: those of a spooled transaction that survived.
+fn handed_out(alloc: Global, way: Way) -> Vec<Item>
+    ensures { result.items ≡ items_kept way }
+{
+    match way {
+        Way::Direct | Way::Worker => Vec::new(alloc),
+        Way::Spooled(spool) => spool.into_items(),
     }
 }

@@ -34,8 +34,16 @@ pub struct Transactions {
 }
 
 impl Transactions {
+    ghost use Rattle.std.specs.Prelude.{◌≡◌};
+    ghost use Rattle.std.specs.FinMap as map;
+    ghost use Rattle.session.specs.State.{Setting, Transactions as OpenMap};
+    ghost use Rattle.session.specs.Stands.{Keeps, RoomIs, IsOpened, IsStreamed, IsClosed};
+    ghost use Rattle.session.specs.Table.{room_fault};
+
     /// No transaction. It takes no memory.
-    pub(crate) fn new(alloc: Global, workers: usize, spool: u64) -> Transactions {
+    pub(crate) fn new(alloc: Global, workers: usize, spool: u64) -> Transactions
+        ensures { (g : Setting) → g.workers ≡ workers → g.spool ≡ spool → Keeps g result map.empty }
+    {
         Transactions {
             alloc,
             ways: BTreeMap::new(alloc),
@@ -47,7 +55,9 @@ impl Transactions {
     }
 
     /// Whether the transaction is open.
-    pub(crate) fn contains(&self, xid: Xid) -> bool {
+    pub(crate) fn contains(&self, xid: Xid) -> bool
+        ensures { (g : Setting) (m : OpenMap) → Keeps g self.now m → result ≡ map.contains_key m xid }
+    {
         self.ways.contains_key(&xid)
     }
 
@@ -57,14 +67,18 @@ impl Transactions {
     }
 
     /// Opens a transaction whose items are applied as they come.
-    pub(crate) fn begin(&mut self, xid: Xid) -> Result<(), Refused> {
+    pub(crate) fn begin(&mut self, xid: Xid) -> Result<(), Refused>
+        ensures { (g : Setting) (m : OpenMap) → Keeps g self.old m → IsOpened g self.new m xid result }
+    {
         self.check_room(xid)?;
         self.ways.insert(xid, Way::Direct)?;
         Ok(())
     }
 
     /// Opens a streamed transaction. It answers whether the transaction gets a worker.
-    pub(crate) fn stream(&mut self, xid: Xid) -> Result<bool, Refused> {
+    pub(crate) fn stream(&mut self, xid: Xid) -> Result<bool, Refused>
+        ensures { (g : Setting) (m : OpenMap) → Keeps g self.old m → IsStreamed g self.new m xid result }
+    {
         self.check_room(xid)?;
         if self.working < self.workers {
             self.ways.insert(xid, Way::Worker)?;
@@ -77,7 +91,9 @@ impl Transactions {
     }
 
     /// That a transaction of this number may be opened.
-    fn check_room(&self, xid: Xid) -> Result<(), SessionFault> {
+    fn check_room(&self, xid: Xid) -> Result<(), SessionFault>
+        ensures { (g : Setting) (m : OpenMap) → Keeps g self.now m → RoomIs (room_fault m xid) result }
+    {
         if self.contains(xid) {
             Err(SessionFault::AlreadyOpen)
         } else if self.ways.len() >= MOST_OPEN {
@@ -139,7 +155,9 @@ impl Transactions {
     }
 
     /// Closes a transaction. It answers what it was, if it was open.
-    pub(crate) fn close(&mut self, xid: Xid) -> Option<Way> {
+    pub(crate) fn close(&mut self, xid: Xid) -> Option<Way>
+        ensures { (g : Setting) (m : OpenMap) → Keeps g self.old m → IsClosed g self.new m xid result }
+    {
         let way = self.ways.remove(&xid)?;
         match &way {
             Way::Direct => {}

@@ -1,4 +1,4 @@
-use Rattle.std.specs.Prelude.{◌≡◌, Some, None}
+use Rattle.std.specs.Prelude.{Some}
 use Rattle.std.proofs.Common.{sym, ◌∙◌, ap}
 use Rattle.indexes.specs.Columns.{present}
 use Rattle.indexes.specs.Unique.{number_in}

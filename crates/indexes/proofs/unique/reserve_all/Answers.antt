@@ -1,6 +1,5 @@
-use Rattle.std.specs.Prelude.{◌≡◌, ℕ, ◌+◌, ◌<◌, length, refl, ◌⊎◌, slice_index_or, slice_set}
-use Rattle.std.proofs.Common.{sym, ◌∙◌, ap, subst, inl, inr, arith}
-use Rattle.indexes.specs.declared.unique.Unique.{Unique}
+use Rattle.std.specs.Prelude.{◌<◌, length}
+use Rattle.std.proofs.Common.{arith}
 use Rattle.indexes.specs.Unique.{KeepsSlots, HasSlot}
 use Rattle.indexes.proofs.Steps.{done_more, left_more, each_more, all_kept}
 use Rattle.indexes.proofs.unique.reserve_all.Goals as goal

@@ -1,4 +1,4 @@
-use Rattle.indexes.specs.Unique.{KeepsSlots, EachStep}
+use Rattle.indexes.specs.Unique.{KeepsSlots}
 use Rattle.indexes.proofs.Steps.{whole_step}
 use Rattle.indexes.proofs.unique.reserve_each.Goals as goal
 

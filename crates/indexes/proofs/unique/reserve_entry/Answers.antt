@@ -1,5 +1,5 @@
-use Rattle.std.specs.Prelude.{◌≡◌, IsSome, None, Option, is_some}
-use Rattle.std.proofs.Common.{sym, ◌∙◌, ap, subst}
+use Rattle.std.specs.Prelude.{◌≡◌, IsSome, None}
+use Rattle.std.proofs.Common.{sym, ◌∙◌, subst}
 use Rattle.model.specs.declared.key.Key.{Key}
 use Rattle.indexes.specs.Unique.{entry_at}
 use Rattle.indexes.proofs.Entries.{present_is, none_of_false}

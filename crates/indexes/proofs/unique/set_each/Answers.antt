@@ -1,4 +1,4 @@
-use Rattle.indexes.specs.Unique.{Sets, EachStep}
+use Rattle.indexes.specs.Unique.{Sets}
 use Rattle.indexes.proofs.Steps.{whole_step}
 use Rattle.indexes.proofs.unique.set_each.Goals as goal
 

@@ -1,4 +1,4 @@
-use Rattle.indexes.specs.Unique.{Settles, EachStep}
+use Rattle.indexes.specs.Unique.{Settles}
 use Rattle.indexes.proofs.Steps.{whole_step}
 use Rattle.indexes.proofs.unique.settle_each.Goals as goal
 

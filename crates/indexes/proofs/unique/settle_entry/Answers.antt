@@ -1,4 +1,3 @@
-use Rattle.std.specs.Prelude.{◌≡◌}
 use Rattle.std.proofs.Common.{sym, ◌∙◌}
 use Rattle.model.specs.Rows.{values_in}
 use Rattle.indexes.proofs.Entries.{settled_at_present, value_of_some}

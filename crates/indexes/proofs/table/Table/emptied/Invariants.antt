@@ -5,6 +5,6 @@ use Rattle.indexes.proofs.table.Table.emptied.Given as goal
 
 abbrev pub invariant-loop-unique : goal.invariant-loop-unique
 invariant-loop-unique l = record {
-    columns : columns_of l.uniques.items ≡ columns_of (take l.unique-index l.self-inside.uniques.items);
-    none : AllByRecursion HasNone l.uniques.items;
-  }
+  columns : columns_of l.uniques.items ≡ columns_of (take l.unique-index l.self-inside.uniques.items);
+  none : AllByRecursion HasNone l.uniques.items;
+}

@@ -1,21 +1,21 @@
-use Rattle.std.specs.Prelude.{◌≡◌, ℕ, List, Option, Some, None, refl, IsSome, is_some}
+use Rattle.std.specs.Prelude.{◌≡◌, ℕ, List, Option, Some, None, refl, is_some}
 use Rattle.std.proofs.Common.{sym, ◌∙◌, ap, subst}
 use Rattle.std.specs.List.{Contains}
-use Rattle.std.specs.FinMap.{get, insert, remove}
+use Rattle.std.specs.FinMap.{get, insert}
 use Rattle.model.specs.Rows.{values_in, TableKeys}
 use Rattle.rows.specs.Kept.{Kept}
 use Rattle.indexes.specs.Table.{TableContent, KeepsSpots, spots_of, NoClash}
 use Rattle.indexes.specs.Unique.{EachStep, Sets}
-use Rattle.indexes.specs.Indexed.{IsIndexed, room_of, columns_of}
-use Rattle.indexes.proofs.Tabling.{same_columns, room_kept, entries_after_set, slot_of_room, entries_of_room, room_for, indexed_kept, indexed_filled, indexed_cleared, free_values, kept_is, itself, sound}
+use Rattle.indexes.specs.Indexed.{IsIndexed, columns_of}
+use Rattle.indexes.proofs.Tabling.{same_columns, room_kept, entries_after_set, slot_of_room, entries_of_room, indexed_filled, free_values, kept_is, sound}
 use Rattle.indexes.proofs.table.Table.put_back.Goals as goal
 
 pub restore-requires : goal.restore-requires
 restore-requires c =
     let keys : TableKeys = record { primary = c.self.inside.primary.items; uniques = columns_of c.self.inside.uniques.items } in
     let place = slot_of_room keys c.self.inside.rows c.self.inside.uniques.items c.args.row c.args.key.now
-      (subst (λ (t : TableContent). values_in t.keys.primary c.args.row ≡ Some c.args.key.now) (sym c.self.view_is) c.requires.own_key)
-      (subst (λ (t : TableContent). KeepsSpots (spots_of t.keys c.args.row) t.room) (sym c.self.view_is) c.requires.room) in
+    (subst (λ (t : TableContent). values_in t.keys.primary c.args.row ≡ Some c.args.key.now) (sym c.self.view_is) c.requires.own_key)
+    (subst (λ (t : TableContent). KeepsSpots (spots_of t.keys c.args.row) t.room) (sym c.self.view_is) c.requires.room) in
     ap is_some place.1
 
 pub invariant_of-self : goal.invariant_of-self
@@ -33,7 +33,7 @@ invariant_of-self c =
     subst (λ (k : Kept). IsIndexed c.self.inside.primary.items k vs)
     (sym (kept_is c.restore.new.self (insert kept.rows c.args.key.now c.args.row) kept.slots c.restore.ensures.rows c.restore.ensures.slots))
     (indexed_filled c.self.inside.primary.items kept us vs c.args.key.now c.args.row place.0 c.self.invariant own place.1 absent
-      (free_values keys c.self.inside.primary.items kept us c.args.row refl c.self.invariant clash) (entries_of_room keys kept us c.args.row refl room) steps)
+    (free_values keys c.self.inside.primary.items kept us c.args.row refl c.self.invariant clash) (entries_of_room keys kept us c.args.row refl room) steps)
 
 pub returns-clause-keys : goal.returns-clause-keys
 returns-clause-keys c =

@@ -1,13 +1,12 @@
-use Rattle.std.specs.Prelude.{◌≡◌, ℕ, List, Option, Some, None, refl, IsSome, is_some}
+use Rattle.std.specs.Prelude.{ℕ, List, None, refl}
 use Rattle.std.proofs.Common.{sym, ◌∙◌, ap, subst}
 use Rattle.std.specs.List.{Contains}
-use Rattle.std.specs.FinMap.{get, insert, remove}
-use Rattle.model.specs.Rows.{values_in, TableKeys}
+use Rattle.std.specs.FinMap.{get, remove}
+use Rattle.model.specs.Rows.{TableKeys}
 use Rattle.rows.specs.Kept.{Kept}
-use Rattle.indexes.specs.Table.{TableContent, KeepsSpots, spots_of, NoClash}
-use Rattle.indexes.specs.Unique.{EachStep, Sets}
-use Rattle.indexes.specs.Indexed.{IsIndexed, room_of, columns_of}
-use Rattle.indexes.proofs.Tabling.{same_columns, room_kept, entries_after_set, slot_of_room, entries_of_room, room_for, indexed_kept, indexed_filled, indexed_cleared, free_values, kept_is, itself, sound}
+use Rattle.indexes.specs.Table.{TableContent}
+use Rattle.indexes.specs.Indexed.{IsIndexed, columns_of}
+use Rattle.indexes.proofs.Tabling.{same_columns, room_kept, entries_after_set, indexed_cleared, kept_is, sound}
 use Rattle.indexes.proofs.table.Table.remove.Goals as goal
 
 pub invariant_of-self : goal.invariant_of-self

@@ -1,13 +1,10 @@
-use Rattle.std.specs.Prelude.{◌≡◌, ℕ, List, Option, Some, None, refl, IsSome, is_some}
+use Rattle.std.specs.Prelude.{◌≡◌, ℕ, List, Some, refl}
 use Rattle.std.proofs.Common.{sym, ◌∙◌, ap, subst}
 use Rattle.std.specs.List.{Contains}
-use Rattle.std.specs.FinMap.{get, insert, remove}
 use Rattle.model.specs.Rows.{values_in, TableKeys}
-use Rattle.rows.specs.Kept.{Kept}
-use Rattle.indexes.specs.Table.{TableContent, KeepsSpots, spots_of, NoClash}
-use Rattle.indexes.specs.Unique.{EachStep, Sets}
-use Rattle.indexes.specs.Indexed.{IsIndexed, room_of, columns_of}
-use Rattle.indexes.proofs.Tabling.{same_columns, room_kept, entries_after_set, slot_of_room, entries_of_room, room_for, indexed_kept, indexed_filled, indexed_cleared, free_values, kept_is, itself, sound}
+use Rattle.indexes.specs.Table.{TableContent}
+use Rattle.indexes.specs.Indexed.{columns_of}
+use Rattle.indexes.proofs.Tabling.{same_columns, room_kept, room_for, indexed_kept, itself, sound}
 use Rattle.std.proofs.lemmas.Result.{on_ok_weaker}
 use Rattle.indexes.proofs.table.Table.reserve.Goals as goal
 
@@ -43,9 +40,9 @@ returns-clause-ok c =
     let primary = c.self.inside.primary.items in
     let vs = c.reserve_each.new.uniques.items in
     on_ok_weaker c.reserve_each.result (λ each.
-      room_for (record { primary = primary; uniques = columns_of vs }) c.reserve.new.self vs c.args.row.now c.args.key.now _ refl
-      (subst (λ (t : TableContent). values_in t.keys.primary c.args.row.now ≡ Some c.args.key.now) (sym c.self.view_is) c.requires)
-      c.in_ok-reserve.ensures.ok each) c.reserve_each.ensures.ok
+    room_for (record { primary = primary; uniques = columns_of vs }) c.reserve.new.self vs c.args.row.now c.args.key.now _ refl
+    (subst (λ (t : TableContent). values_in t.keys.primary c.args.row.now ≡ Some c.args.key.now) (sym c.self.view_is) c.requires)
+    c.in_ok-reserve.ensures.ok each) c.reserve_each.ensures.ok
 
 pub returns-in_err-reserve-clause-sound : goal.returns-in_err-reserve-clause-sound
 returns-in_err-reserve-clause-sound c =

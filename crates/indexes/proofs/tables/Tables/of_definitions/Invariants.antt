@@ -6,6 +6,6 @@ use Rattle.indexes.proofs.tables.Tables.of_definitions.Given as goal
 
 abbrev pub invariant-loop-definition : goal.invariant-loop-definition
 invariant-loop-definition l = record {
-    schema : schema_of l.tables.items ≡ map keys_of (take l.definition-index l.definitions);
-    new : AllByRecursion IsNew l.tables.items;
-  }
+  schema : schema_of l.tables.items ≡ map keys_of (take l.definition-index l.definitions);
+  new : AllByRecursion IsNew l.tables.items;
+}

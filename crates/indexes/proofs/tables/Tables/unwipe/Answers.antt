@@ -1,6 +1,4 @@
-use Rattle.std.specs.Prelude.{◌≡◌, ℕ, Some, None}
-use Rattle.std.proofs.Common.{sym, ◌∙◌, ap, subst}
-use Rattle.std.proofs.lemmas.Result.{on_ok_weaker, on_err_weaker, IfOk-weaker}
+use Rattle.std.proofs.Common.{◌∙◌, ap, subst}
 use Rattle.std.specs.Prelude.{slice_set}
 use Rattle.std.specs.FinMap.{get}
 use Rattle.indexes.specs.Table.{TableContent, cells_in}

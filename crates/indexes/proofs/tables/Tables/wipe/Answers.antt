@@ -1,12 +1,9 @@
-use Rattle.std.specs.Prelude.{◌≡◌, ℕ, Some, None}
 use Rattle.std.proofs.Common.{sym, ◌∙◌, ap, subst}
-use Rattle.std.proofs.lemmas.Result.{on_ok_weaker, on_err_weaker, IfOk-weaker}
 use Rattle.indexes.proofs.Seen as seen
 use Rattle.indexes.proofs.Gather.{sound_after}
 use Rattle.std.specs.List.{Contains}
 use Rattle.std.specs.FinMap.{get, get-empty}
 use Rattle.model.specs.declared.row.Row.{Row}
-use Rattle.model.specs.declared.cell.Cell.{Cell}
 use Rattle.model.specs.Key.{key_cmp}
 use Rattle.indexes.specs.Table.{TableContent, IsSound, cells_in}
 use Rattle.indexes.proofs.tables.Tables.wipe.Goals as goal

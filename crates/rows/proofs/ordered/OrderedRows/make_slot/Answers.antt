@@ -1,7 +1,6 @@
-use Rattle.std.specs.Prelude.{◌≡◌, ℕ, ◌+◌, Some, None, refl}
+use Rattle.std.specs.Prelude.{ℕ, ◌+◌, refl}
 use Rattle.std.proofs.Common.{sym, ◌∙◌, ap, subst}
-use Rattle.std.specs.FinMap.{FinMap, get, insert}
-use Rattle.model.specs.declared.key.Key.{Key}
+use Rattle.std.specs.FinMap.{FinMap, get}
 use Rattle.model.specs.Key.{key_cmp}
 use Rattle.rows.specs.Kept.{Kept}
 use Rattle.rows.specs.Slots.{row_at, number_at, numbers_in}
@@ -78,7 +77,7 @@ returns-in_err-add_slot-clause-numbered c =
     let same = numbers_in-same es c.add_slot.new.slots.entries c.args.key.now c.add_slot.ensures.beside (ap number_at (c.in_err-add_slot.ensures.err.0 ∙ sym none)) in
     numbered (numbers_in c.add_slot.new.slots.entries) c.add_slot.new.keys c.self.inside.next
     (subst (λ (m : FinMap key_cmp ℕ). IsNamed m c.add_slot.new.keys c.self.inside.next) (sym same)
-      (named_after_refusal (numbers_in es) c.self.inside.keys c.add_slot.new.keys c.self.inside.next c.self.invariant c.self.inside.next c.add_slot.ensures.names refl c.in_err-add_slot.ensures.err.1))
+    (named_after_refusal (numbers_in es) c.self.inside.keys c.add_slot.new.keys c.self.inside.next c.self.invariant c.self.inside.next c.add_slot.ensures.names refl c.in_err-add_slot.ensures.err.1))
 
 pub returns-clause-numbered : goal.returns-clause-numbered
 returns-clause-numbered c =
@@ -87,4 +86,4 @@ returns-clause-numbered c =
     let added = numbers_in-added es c.add_slot.new.slots.entries c.args.key.now c.add_slot.ensures.beside c.self.inside.next (ap number_at c.in_ok-add_slot.ensures.here) in
     numbered (numbers_in c.add_slot.new.slots.entries) c.add_slot.new.keys (c.self.inside.next + 1)
     (subst (λ (m : FinMap key_cmp ℕ). IsNamed m c.add_slot.new.keys (c.self.inside.next + 1)) (sym added)
-      (named_after_insert (numbers_in es) c.self.inside.keys c.add_slot.new.keys c.self.inside.next c.self.invariant c.self.inside.next c.add_slot.ensures.names c.args.key.now refl absent c.in_ok-add_slot.ensures.name))
+    (named_after_insert (numbers_in es) c.self.inside.keys c.add_slot.new.keys c.self.inside.next c.self.invariant c.self.inside.next c.add_slot.ensures.names c.args.key.now refl absent c.in_ok-add_slot.ensures.name))

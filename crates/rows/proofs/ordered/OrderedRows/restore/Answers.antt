@@ -1,4 +1,4 @@
-use Rattle.std.specs.Prelude.{◌≡◌, Some, refl, IsSome}
+use Rattle.std.specs.Prelude.{Some, refl, IsSome}
 use Rattle.std.proofs.Common.{sym, ◌∙◌, ap, subst}
 use Rattle.std.specs.FinMap.{get, insert}
 use Rattle.rows.specs.Kept.{Kept}

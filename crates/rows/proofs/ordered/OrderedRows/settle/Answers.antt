@@ -1,4 +1,4 @@
-use Rattle.std.specs.Prelude.{◌≡◌, ℕ, is_some, if◌then◌else◌}
+use Rattle.std.specs.Prelude.{ℕ, is_some, if◌then◌else◌}
 use Rattle.std.proofs.Common.{sym, ◌∙◌, ap, subst}
 use Rattle.std.specs.FinMap.{FinMap, get, remove}
 use Rattle.rows.specs.Kept.{Kept}

@@ -1,4 +1,3 @@
-use Rattle.std.specs.Prelude.{◌≡◌, Some}
 use Rattle.std.proofs.Common.{sym, ◌∙◌, ap}
 use Rattle.std.specs.FinMap.{get}
 use Rattle.rows.specs.Kept.{Kept}

@@ -1,4 +1,4 @@
-use Rattle.std.specs.Prelude.{◌≡◌, None, refl}
+use Rattle.std.specs.Prelude.{None, refl}
 use Rattle.std.proofs.Common.{sym, ◌∙◌, ap}
 use Rattle.std.specs.FinMap.{get, remove}
 use Rattle.rows.specs.Kept.{Kept}

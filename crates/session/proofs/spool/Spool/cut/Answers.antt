@@ -1,8 +1,8 @@
-use Rattle.std.proofs.Common.{◌≡◌, ◌+◌, ◌<◌, ◌^◌, List, length, take, drop, sym, ap, ◌∙◌, arith}
+use Rattle.std.proofs.Common.{◌≡◌, length, take, drop, sym, ap, ◌∙◌, arith}
 use Rattle.std.specs.Prelude.{sum}
 use Rattle.std.specs.List.{zip}
 use Rattle.savepoint.specs.Savepoints.{before_first, before_mark}
-use Rattle.session.specs.Sized.{bytes_of, SizedItems, IsSpool}
+use Rattle.session.specs.Sized.{bytes_of, IsSpool}
 use Rattle.session.proofs.Spools.{place_within, IsSpool-cut, IsSpool-uncut, zip-cut, zip-uncut, bytes_of-zip, sum-split}
 use Rattle.session.proofs.spool.Spool.cut.Goals as goal
 

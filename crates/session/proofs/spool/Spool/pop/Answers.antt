@@ -1,4 +1,4 @@
-use Rattle.std.proofs.Common.{◌≡◌, ◌++◌, ◌∷◌, ◌+◌, [], List, length, take, sym, ap, ◌∙◌, arith}
+use Rattle.std.proofs.Common.{◌≡◌, ◌++◌, ◌∷◌, ◌+◌, [], length, take, sym, ap, ◌∙◌, arith}
 use Rattle.std.specs.Prelude.{◌-◌, sum}
 use Rattle.std.specs.List.{zip}
 use Rattle.session.specs.Sized.{IsSpool, unnoted_by, bytes_of, SizedItems}

@@ -1,4 +1,4 @@
-use Rattle.std.proofs.Common.{◌≡◌, List, length, ◌++◌, ◌∷◌, [], sym, ap, ◌∙◌, arith}
+use Rattle.std.proofs.Common.{◌≡◌, length, ◌++◌, ◌∷◌, [], ap, ◌∙◌, arith}
 use Rattle.std.specs.List.{zip}
 use Rattle.savepoint.specs.Savepoints.{noted_by}
 use Rattle.session.proofs.Spools.{zip-push, IsSpool-push, pushed}

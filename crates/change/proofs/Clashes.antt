@@ -1,0 +1,151 @@
+-- The search for a key that clashes, against what is taken.
+use Rattle.std.specs.Prelude.{◌≡◌, ℕ, suc, ◌+◌, ◌-◌, ◌<◌, ◌≤◌, Bool, true, false, not, cond, if◌then◌else◌, List, [], ◌∷◌, Option, Some, None, length, drop, slice_get, unwrap_or, get_or, refl, IsSome, is_some, IsTrue, ◌↔◌}
+use Rattle.std.proofs.Common.{zero, sym, ◌∙◌, ap, subst, true≢false, inl, inr, arith, drop-cons, drop_of_length-le, add-one}
+use Rattle.std.specs.Ordering.{eq_by_cmp}
+use Rattle.std.specs.Borrow.{Bor}
+use Rattle.std.specs.FinMap.{get, remove}
+use Rattle.std.proofs.lemmas.Bool.{cases_Bool}
+use Rattle.std.proofs.lemmas.Option.{unwrap_or-slice_get}
+use Rattle.model.specs.declared.key.Key.{Key}
+use Rattle.model.specs.declared.row.Row.{Row}
+use Rattle.model.specs.Key.{key_cmp}
+use Rattle.model.specs.Rows.{Place, Rows, Schema, keys_at, values_in, taken, IsValid}
+use Rattle.model.specs.Effect.{is_taken, first_taken}
+use Rattle.model.specs.EditLaws.{is_place, place_is, place_cases, same_place, get_remove_same, get_remove_other}
+use Rattle.model.specs.TakenLaws.{TakenBy, taken_by_row, row_of_taken}
+use Rattle.model.specs.ValidLaws.{part_remove}
+use Rattle.indexes.specs.Content.{unique_columns}
+use Rattle.change.specs.Applied.{without}
+use Rattle.change.specs.EditsLaws.{place_in_table}
+
+-- ---- all rows but one
+
+some_within : {X : Type 0} (xs : List X) (i : ℕ) (d : X) → i < length xs → slice_get xs i ≡ Some (unwrap_or (slice_get xs i) d)
+some_within [] i d below = absurd (omega arith)
+some_within (x ∷ xs) zero d below = refl
+some_within (x ∷ xs) (suc i) d below = some_within xs i d (omega arith)
+
+module _ (schema : Schema) (rows : Rows) (valid : IsValid schema rows) (table number : ℕ) (values holder key : Key) (row : Row)
+    (within : (1 ≤ number) × (number ≤ length (keys_at schema table).uniques))
+    (at : get rows (table, holder) ≡ Some row) (has : values_in (unique_columns schema table number) row ≡ Some values) where
+  abbrev columns : List ℕ
+  columns = unique_columns schema table number
+
+  is_unique : slice_get (keys_at schema table).uniques (number - 1) ≡ Some columns
+  is_unique = some_within (keys_at schema table).uniques (number - 1) [] (omega arith)
+
+  abbrev rest : Rows
+  rest = remove rows (table, key)
+
+  holders_own : ◌≡◌ {A = Place} (table, holder) (table, key) → taken rest table columns values ≡ false
+  holders_own is =
+      elim (cases_Bool (taken rest table columns values)) [
+        | inl found ↦
+            let twin = row_of_taken rest table columns values found in
+            let same : holder ≡ twin.key = valid.unique table (number - 1) columns holder twin.key row twin.row values is_unique at (part_remove rows (table, key) (table, twin.key) twin.row twin.at) has twin.has in
+            let there : get rest (table, key) ≡ Some twin.row = ap (get rest) (sym is) ∙ ap (λ (k : Key). get rest (table, k)) same ∙ twin.at in
+            let gone : get rest (table, key) ≡ None = get_remove_same rows (table, key) in
+            cc
+        | inr none ↦ none
+      ]
+
+  key_tests : is_place (table, holder) (table, key) ≡ eq_by_cmp key_cmp holder key
+  key_tests = place_in_table table holder key
+
+  -- the values are taken in the rest exactly if another key holds them
+  pub taken_in_rest : taken rest table columns values ≡ not (eq_by_cmp key_cmp holder key)
+  taken_in_rest =
+      elim (place_cases (table, holder) (table, key)) [
+        | inl is ↦ holders_own is ∙ ap not (sym (same_place (table, key)) ∙ ap (λ (p : Place). is_place p (table, key)) (sym is) ∙ key_tests)
+        | inr other ↦
+            taken_by_row rest table columns values holder row (get_remove_other rows (table, key) (table, holder) other ∙ at) has
+            ∙ ap not (sym other ∙ key_tests)
+      ]
+
+-- where no row has the values, none of the rest has them
+pub free_in_rest : (rows : Rows) (table : ℕ) (columns : List ℕ) (values key : Key) → taken rows table columns values ≡ false → taken (remove rows (table, key)) table columns values ≡ false
+free_in_rest rows table columns values key free =
+    elim (cases_Bool (taken (remove rows (table, key)) table columns values)) [
+      | inl found ↦
+          let twin = row_of_taken (remove rows (table, key)) table columns values found in
+          absurd (true≢false (sym (taken_by_row rows table columns values twin.key twin.row (part_remove rows (table, key) (table, twin.key) twin.row twin.at) twin.has) ∙ free))
+      | inr none ↦ none
+    ]
+
+-- ---- the least that clashes
+
+-- the next unique key
+pub first_taken_next : (rows : Rows) (table : ℕ) (row : Row) (uniques : List (List ℕ)) (i : ℕ) → i < length uniques
+    → (columns : List ℕ) → columns ≡ unwrap_or (slice_get uniques i) []
+    → first_taken rows table row (i + 1) (drop i uniques)
+    ≡ (if is_taken rows table columns (values_in columns row) then Some (i + 1) else first_taken rows table row ((i + 1) + 1) (drop (i + 1) uniques))
+first_taken_next rows table row uniques i below columns is =
+    ap (first_taken rows table row (i + 1)) (drop-cons uniques i [] below)
+    ∙ ap (λ (c : List ℕ). if is_taken rows table c (values_in c row) then Some (i + 1) else first_taken rows table row (suc (i + 1)) (drop (suc i) uniques))
+    (sym (unwrap_or-slice_get uniques i []) ∙ sym is)
+    ∙ ap (λ n. if is_taken rows table columns (values_in columns row) then Some (i + 1) else first_taken rows table row n (drop (suc i) uniques)) (sym (add-one (i + 1)))
+    ∙ ap (λ n. if is_taken rows table columns (values_in columns row) then Some (i + 1) else first_taken rows table row ((i + 1) + 1) (drop n uniques)) (sym (add-one i))
+
+-- a row that has them is the least that clashes
+pub first_taken_found : (rows : Rows) (table : ℕ) (row : Row) (uniques : List (List ℕ)) (i : ℕ) → i < length uniques
+    → (columns : List ℕ) → columns ≡ unwrap_or (slice_get uniques i) [] → is_taken rows table columns (values_in columns row) ≡ true
+    → first_taken rows table row (i + 1) (drop i uniques) ≡ Some (i + 1)
+first_taken_found rows table row uniques i below columns is found =
+    first_taken_next rows table row uniques i below columns is
+    ∙ ap (λ b. if b then Some (i + 1) else first_taken rows table row ((i + 1) + 1) (drop (i + 1) uniques)) found
+
+-- none has them, so the rest of the unique keys decide
+pub first_taken_passed : (rows : Rows) (table : ℕ) (row : Row) (uniques : List (List ℕ)) (i : ℕ) → i < length uniques
+    → (columns : List ℕ) → columns ≡ unwrap_or (slice_get uniques i) [] → is_taken rows table columns (values_in columns row) ≡ false
+    → first_taken rows table row (i + 1) (drop i uniques) ≡ first_taken rows table row ((i + 1) + 1) (drop (i + 1) uniques)
+first_taken_passed rows table row uniques i below columns is none =
+    first_taken_next rows table row uniques i below columns is
+    ∙ ap (λ b. if b then Some (i + 1) else first_taken rows table row ((i + 1) + 1) (drop (i + 1) uniques)) none
+
+-- past the last there is none
+pub first_taken_end : (rows : Rows) (table : ℕ) (row : Row) (uniques : List (List ℕ)) (i : ℕ) → length uniques ≤ i → first_taken rows table row (i + 1) (drop i uniques) ≡ None
+first_taken_end rows table row uniques i past = ap (first_taken rows table row (i + 1)) (drop_of_length-le uniques past)
+
+-- ---- as the search answers
+
+pub not_found : {X : Type 0} (found : Option X) (b : Bool) → is_some found ≡ b → found ≡ None → b ≡ false
+not_found found b tells is = sym tells ∙ ap is_some is
+
+-- none of all rows has them, so none of the rest
+pub free_without : (rows : Rows) (table : ℕ) (columns : List ℕ) (values : Key) (except : Option (Bor Key)) → taken rows table columns values ≡ false
+    → taken (without rows table except) table columns values ≡ false
+free_without rows table columns values None free = free
+free_without rows table columns values (Some key) free = free_in_rest rows table columns values key.now free
+
+pub taken_of_values : (rows : Rows) (table : ℕ) (columns : List ℕ) (row : Row) (found : Option Key) (values : Key) (b : Bool)
+    → found ≡ values_in columns row → found ≡ Some values → b ≡ taken rows table columns values → is_taken rows table columns (values_in columns row) ≡ b
+taken_of_values rows table columns row found values b found_is some_is held = ap (is_taken rows table columns) (sym found_is ∙ some_is) ∙ sym held
+
+pub taken_of_none : (rows : Rows) (table : ℕ) (columns : List ℕ) (row : Row) (found : Option Key)
+    → found ≡ values_in columns row → found ≡ None → is_taken rows table columns (values_in columns row) ≡ false
+taken_of_none rows table columns row found found_is none_is = ap (is_taken rows table columns) (sym found_is ∙ none_is)
+
+-- the columns of the unique key after the first i
+pub columns_at : (schema : Schema) (table i : ℕ) → unique_columns schema table (i + 1) ≡ unwrap_or (slice_get (keys_at schema table).uniques i) []
+columns_at schema table i = let e : (i + 1) - 1 ≡ i = omega arith in ap (λ n. unwrap_or (slice_get (keys_at schema table).uniques n) []) e
+
+-- ---- the row at a key, but for one
+
+not_so : (b e : Bool) → b ≡ not e → b ≡ true → e ≡ false
+not_so b true is so = cc
+not_so b false is so = refl
+
+so_too : (b e : Bool) → b ≡ not e → b ≡ false → e ≡ true
+so_too b true is so = refl
+so_too b false is so = cc
+
+module _ (rows : Rows) (table : ℕ) (key except : Key) (b : Bool) (tells : b ≡ not (eq_by_cmp key_cmp key except)) where
+  pub held_elsewhere : b ≡ true → (found : Option Row) → found ≡ get rows (table, key) → is_some found ≡ is_some (get (remove rows (table, except)) (table, key))
+  held_elsewhere so found is =
+      ap is_some (is ∙ sym (get_remove_other rows (table, except) (table, key) (place_in_table table key except ∙ not_so b (eq_by_cmp key_cmp key except) tells so)))
+
+  pub held_by_itself : b ≡ false → b ≡ is_some (get (remove rows (table, except)) (table, key))
+  held_by_itself so =
+      so ∙ ap is_some (sym (get_remove_same rows (table, except)))
+      ∙ ap (λ (p : Place). is_some (get (remove rows (table, except)) p))
+      (sym (place_is (table, key) (table, except) (place_in_table table key except ∙ so_too b (eq_by_cmp key_cmp key except) tells so)))

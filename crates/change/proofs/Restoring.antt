@@ -1,0 +1,91 @@
+-- What the restoring calls need, and what they leave, where an inverse can be put back.
+use Rattle.std.specs.Prelude.{◌≡◌, ℕ, ◌==◌, not, Bool, true, false, cond, filter, List, [], ◌∷◌, ◌++◌, Option, Some, None, map, option_to_list}
+use Rattle.std.proofs.Common.{sym, ◌∙◌, ap, subst, refl, append-nil, inl, inr}
+use Rattle.std.specs.declared.cmp.Ordering.TheVariants.{Equal}
+use Rattle.std.proofs.lemmas.List.Elements.{Contains-append_cases}
+use Rattle.std.specs.FinMap.{get, insert, remove, retain_keys, get-retain_keys}
+use Rattle.model.specs.declared.key.Key.{Key}
+use Rattle.model.specs.declared.row.Row.{Row}
+use Rattle.model.specs.declared.cell.Cell.{Cell}
+use Rattle.model.specs.Rows.{Place, Rows, Schema, place_cmp, IsValid, keys_at, key_of}
+use Rattle.model.specs.Exact.{place_cmp_exact}
+use Rattle.model.specs.Effect.{Edits, first_taken, back, undone, one_edit}
+use Rattle.model.specs.EditLaws.{overlay_one, overlay_two}
+use Rattle.model.specs.ValidLaws.{own_key_of_valid, free_of_valid}
+use Rattle.indexes.specs.Content.{Content, Keeps, IsTable, SameElsewhere, SameRoomElsewhere, table_of}
+use Rattle.indexes.specs.Table.{cells_in}
+use Rattle.change.specs.declared.inverse.Wiped.{Wiped}
+use Rattle.change.specs.declared.inverse.Inverse.{Inverse}
+use Rattle.change.specs.declared.inverse.Inverse.TheVariants.{Take, Put, Replace, Unwipe}
+use Rattle.change.specs.Inverse.{standing, HasNoRows, is_elsewhere, room_with, room_unwiped, AreEmpty, AreKnown, CanUnwipe, CanPutBack, edits_of}
+use Rattle.change.specs.EditsLaws.{back_standing, number_is_not}
+use Rattle.change.specs.InverseLaws.{filter_contains, unwiped_last, known_last, empty_last, room_unwiped_last, room_unwiped_keeps}
+
+module _ (t : Content) (table : ℕ) (key : Key) (row : Row) (can : CanPutBack t (Put table key row)) where
+  put_valid : IsValid t.schema (insert t.rows (table, key) row)
+  put_valid = subst (IsValid t.schema) (overlay_one t.rows (table, key) (Some row)) can.valid
+
+  pub put_own_key : key_of t.schema table row ≡ Some key
+  put_own_key = own_key_of_valid t.schema t.rows table key row put_valid
+
+  pub put_unique : first_taken t.rows table row 1 (keys_at t.schema table).uniques ≡ None
+  put_unique = free_of_valid t.schema t.rows table key row put_valid can.as_left
+
+module _ (t : Content) (table : ℕ) (new_key key : Key) (row : Row) (can : CanPutBack t (Replace table new_key key row)) where
+  replace_valid : IsValid t.schema (insert (remove t.rows (table, new_key)) (table, key) row)
+  replace_valid = subst (IsValid t.schema) (overlay_two t.rows (table, new_key) (table, key) None (Some row)) can.valid
+
+  pub replace_own_key : key_of t.schema table row ≡ Some key
+  replace_own_key = own_key_of_valid t.schema (remove t.rows (table, new_key)) table key row replace_valid
+
+  pub replace_unique : first_taken (remove t.rows (table, new_key)) table row 1 (keys_at t.schema table).uniques ≡ None
+  replace_unique = free_of_valid t.schema (remove t.rows (table, new_key)) table key row replace_valid can.as_left.1
+
+-- the list before its last element was taken
+pub last_of : {X : Type 0} (all rest : List X) (last : X) (popped : Option X) → popped ≡ Some last → all ≡ rest ++ option_to_list popped → all ≡ rest ++ last ∷ []
+last_of all rest last popped is split = split ∙ ap (λ o. rest ++ option_to_list o) is
+
+pub nothing_left : {X : Type 0} (all rest : List X) (popped : Option X) → popped ≡ None → all ≡ rest ++ option_to_list popped → all ≡ rest
+nothing_left all rest popped is split = split ∙ ap (λ o. rest ++ option_to_list o) is ∙ append-nil rest
+
+-- ---- one emptied table gets back what it held
+
+not_false : (b : Bool) → not b ≡ true → b ≡ false
+not_false true e = cc
+not_false false e = refl
+
+module _ (t new : Content) (all ws : List Wiped) (w : Wiped) (split : all ≡ ws ++ w ∷ []) (can : CanUnwipe t all)
+    (schema : new.schema ≡ t.schema) (held : IsTable new.rows w.table w.contents.rows) (elsewhere : SameElsewhere t.rows new.rows w.table)
+    (room : Keeps (cells_in w.table w.contents) new.room) (room_elsewhere : SameRoomElsewhere t.room new.room w.table) where
+  parted_empty : AreEmpty (back t.rows (standing w)) ws × HasNoRows t.rows w.table
+  parted_empty = empty_last t.rows ws w (subst (AreEmpty t.rows) split can.empty)
+
+  given_back : new.rows ≡ back t.rows (standing w)
+  given_back = back_standing t.rows new.rows w parted_empty.1 held elsewhere
+
+  -- the same tables come of what is left
+  pub unwiped_rows : undone new.rows (map standing ws) ≡ undone t.rows (map standing all)
+  unwiped_rows =
+      ap (λ (r : Rows). undone r (map standing ws)) given_back ∙ sym (unwiped_last t.rows ws w)
+      ∙ ap (λ (l : List Wiped). undone t.rows (map standing l)) (sym split)
+
+  pub unwiped_can : CanUnwipe new ws
+  unwiped_can = record {
+    known = subst (λ (s : Schema). AreKnown s ws) (sym schema) (known_last t.schema ws w (subst (AreKnown t.schema) split can.known)).0;
+    empty = subst (λ (r : Rows). AreEmpty r ws) (sym given_back) parted_empty.0;
+  }
+
+  room_given : Keeps (room_with t.room w) new.room
+  room_given cell is =
+      elim (Contains-append_cases (cells_in w.table w.contents) (filter (is_elsewhere w.table) t.room) cell is) [
+        | inl of_table ↦ room cell of_table
+        | inr of_other ↦
+            let parts = filter_contains (is_elsewhere w.table) t.room cell of_other in
+            room_elsewhere cell (number_is_not (table_of cell) w.table (not_false (table_of cell == w.table) parts.1)) parts.0
+      ]
+
+  pub unwiped_room : Keeps (room_unwiped t.room all) (room_unwiped new.room ws)
+  unwiped_room =
+      subst (λ (r : List Cell). Keeps r (room_unwiped new.room ws))
+      (sym (ap (room_unwiped t.room) split ∙ room_unwiped_last t.room ws w))
+      (room_unwiped_keeps (room_with t.room w) new.room ws room_given)

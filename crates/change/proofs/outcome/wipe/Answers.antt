@@ -1,0 +1,49 @@
+use Rattle.std.proofs.Common.{◌≡◌, ◌+◌, ◌<◌, ◌≤◌, length, take, List, [], ◌∷◌, sym, ◌∙◌, ap, subst, refl, arith, get_or}
+use Rattle.std.proofs.lemmas.Grind.{common_steps}
+use Rattle.change.specs.declared.inverse.Wiped.{Wiped}
+use Rattle.indexes.specs.Content.{Content, Keeps}
+use Rattle.model.specs.Rows.{Schema}
+use Rattle.change.specs.Inverse.{room_unwiped}
+use Rattle.change.proofs.Wiping.{IsWiped, nothing_wiped, read_again, one_more_wiped, wipe_ok, wipe_inverse, wipe_can}
+use Rattle.change.proofs.outcome.wipe.Goals as goal
+
+pub loop-table-init : goal.loop-table-init
+loop-table-init c = record {
+  far = subst (IsWiped c.args.t.now c.args.t.now []) (sym c.in_ok-wiped.ensures.items) (nothing_wiped c.args.t.now);
+  len = c.in_ok-wiped.ensures.len;
+  room = c.in_ok-wiped.ensures.capacity;
+}
+
+pub returns-in-Err-clause-room : goal.returns-in-Err-clause-room
+returns-in-Err-clause-room c = λ cell is.
+    c.unwipe_all.ensures.room cell
+    (subst (λ (t : Content). Keeps c.args.t.now.room (room_unwiped t.room c.loop-table.wiped.items)) (sym c.in-Err.ensures.err) c.loop-table.invariant.far.room cell is)
+
+pub loop-table-preserved : goal.loop-table-preserved
+loop-table-preserved c =
+    let i = c.loop-table.table-index in
+    let tables = c.args.tables.now in
+    let below : i < length tables = omega arith in
+    let e = c.in-Ok.ensures in
+    record {
+      far = subst (IsWiped c.args.t.now c.wipe.new.self (take (i + 1) tables)) (sym c.push_reserved.ensures.items)
+          (one_more_wiped c.args.t.now c.loop-table.t c.wipe.new.self tables i c.loop-table.wiped.items (record { table = get_or tables i 0; contents = c.in-Ok.contents }) c.loop-table.invariant.far
+          below (read_again tables i 0 _ below) (subst (λ (s : Schema). get_or tables i 0 < length s) (sym c.loop-table.invariant.far.schema) (c.requires.known i 0 below)) e.schema e.empty e.elsewhere e.room_elsewhere e.keys e.out e.room_out);
+      len = omega (arith, c.push_reserved.ensures.len, c.loop-table.invariant.len);
+      room = omega (arith, c.push_reserved.ensures.capacity, c.loop-table.invariant.room);
+    }
+
+pub returns-clause-ok : goal.returns-clause-ok
+returns-clause-ok c =
+    let past : length c.args.tables.now ≤ c.loop-table.table-index = omega arith in
+    wipe_ok c.args.t.now c.loop-table.t c.args.tables.now c.loop-table.table-index c.loop-table.wiped c.loop-table.invariant.far past c.requires.sound
+
+pub returns-clause-inverse : goal.returns-clause-inverse
+returns-clause-inverse c =
+    let past : length c.args.tables.now ≤ c.loop-table.table-index = omega arith in
+    wipe_inverse c.args.t.now c.loop-table.t c.args.tables.now c.loop-table.table-index c.loop-table.wiped c.loop-table.invariant.far past c.requires.sound
+
+pub returns-clause-can_put_back : goal.returns-clause-can_put_back
+returns-clause-can_put_back c =
+    let past : length c.args.tables.now ≤ c.loop-table.table-index = omega arith in
+    wipe_can c.args.t.now c.loop-table.t c.args.tables.now c.loop-table.table-index c.loop-table.wiped c.loop-table.invariant.far past c.requires.sound

@@ -1,0 +1,66 @@
+-- How a change came out, as its answer says.
+--     IsSound      what the tables keep
+--     AreTables      the tables of a change are there
+--     Answers      an answer tells the outcome
+--     IfDone, room_after      what holds of the inverse, if the change was done; the room that is there once it is put back
+--     without      the rows but the one at a key
+use Rattle.std.specs.Prelude.{◌≡◌, ℕ, ◌<◌, List, Option, Some, None, Result, Ok, Err, length}
+use Rattle.std.specs.List.{All}
+use Rattle.std.specs.Borrow.{Bor}
+use Rattle.std.specs.FinMap.{get, remove}
+use Rattle.model.specs.declared.row.Row.{Row}
+use Rattle.indexes.specs.Content.{Content, HasRoom}
+use Rattle.model.specs.declared.key.Key.{Key}
+use Rattle.model.specs.declared.cell.Cell.{Cell}
+use Rattle.model.specs.declared.change.Change.{Change}
+use Rattle.model.specs.declared.change.Change.TheVariants.{Put, Set, Remove, Wipe}
+use Rattle.model.specs.Rows.{Rows, Schema, IsValid}
+use Rattle.model.specs.Effect.{Outcome, Done, Skip, Clashes, Conflict, Unique, NullKey}
+use Rattle.change.specs.declared.inverse.Inverse.{Inverse}
+use Rattle.change.specs.declared.outcome.Applied.{Applied}
+use Rattle.change.specs.declared.outcome.Applied.TheVariants.{Done as DoneWith, Skipped}
+use Rattle.change.specs.declared.outcome.Clash.{Clash}
+use Rattle.change.specs.declared.outcome.Clash.TheVariants.{Unique as UniqueClash, NullKey as NullKeyClash, OutOfMemory}
+use Rattle.change.specs.Inverse.{room_back}
+
+-- the rows are valid, and there is room for each
+pub record IsSound (t : Content) : Type 0 where
+  pub valid : IsValid t.schema t.rows
+  pub room : (table : ℕ) (key : Key) (row : Row) → get t.rows (table, key) ≡ Some row → HasRoom t.room t.schema table row
+
+-- the tables that the change names are there
+abbrev pub AreTables : Schema → Change → Type 0
+AreTables schema (Put table row) = table < length schema
+AreTables schema (Set table key patch) = table < length schema
+AreTables schema (Remove table key) = table < length schema
+AreTables schema (Wipe tables) = All (λ table. table < length schema) tables
+
+abbrev pub IsDone : Outcome → Type 0
+IsDone (Done edits) = Unit {0}
+IsDone Skip = ⊥
+IsDone (Clashes cause) = ⊥
+
+-- the answer tells the outcome; want of memory may stand in place of any
+abbrev pub Answers : Outcome → Result Applied Clash → Type 0
+Answers o (Ok (DoneWith inverse)) = IsDone o
+Answers o (Ok Skipped) = o ≡ Skip
+Answers o (Err (UniqueClash table key)) = o ≡ Clashes (Unique table key)
+Answers o (Err (NullKeyClash table)) = o ≡ Clashes (NullKey table)
+Answers o (Err OutOfMemory) = Unit {0}
+
+-- of the inverse, if the change was done
+abbrev pub IfDone : Result Applied Clash → (Inverse → Type 0) → Type 0
+IfDone (Ok (DoneWith inverse)) P = P inverse
+IfDone (Ok Skipped) P = Unit {0}
+IfDone (Err e) P = Unit {0}
+
+-- the room that is there once the inverse, if there is one, is put back
+abbrev pub room_after : List Cell → Result Applied Clash → List Cell
+room_after room (Ok (DoneWith inverse)) = room_back room inverse
+room_after room (Ok Skipped) = room
+room_after room (Err e) = room
+
+-- the rows of all tables but the one at this key
+abbrev pub without : Rows → ℕ → Option (Bor Key) → Rows
+without rows table None = rows
+without rows table (Some key) = remove rows (table, key.now)

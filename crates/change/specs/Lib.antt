@@ -1,0 +1,5 @@
+pub mod Edits
+pub mod Inverse
+pub mod EditsLaws
+pub mod InverseLaws
+pub mod Applied

@@ -1,0 +1,76 @@
+// What takes a change back.
+ghost use Rattle.std.specs.Prelude.{◌≡◌, ◌++◌, [], ◌∷◌, length, map};
+ghost use Rattle.std.specs.FinMap.{get, insert, remove};
+ghost use Rattle.model.specs.Effect.{back, undone};
+ghost use Rattle.indexes.specs.Content.{Keeps};
+ghost use Rattle.change.specs.Inverse.{edits_of, room_back, CanPutBack, CanUnwipe, standing, room_unwiped};
+
+use indexes::{Contents, Tables};
+use model::{Key, Row, TableId};
+
+/// What takes a change back: what stood where it altered the tables.
+#[derive(Drop)]
+pub enum Inverse {
+    /// A row was put at this key.
+    Take {
+        table: TableId,
+        key: Key,
+    },
+    /// This row was removed from its key.
+    Put {
+        table: TableId,
+        key: Key,
+        row: Row,
+    },
+    /// The row that stands at `new_key` came in place of this one at `key`.
+    Replace {
+        table: TableId,
+        new_key: Key,
+        key: Key,
+        row: Row,
+    },
+    /// These tables were emptied, one after another.
+    Unwipe {
+        wiped: Vec<Wiped>,
+    },
+}
+
+/// A table that was emptied, and what it held.
+#[derive(Drop)]
+pub struct Wiped {
+    pub table: TableId,
+    pub contents: Contents,
+}
+
+/// Puts back what stood before the change. It takes no memory.
+pub fn put_back(t: &mut Tables, inverse: Inverse)
+    requires { CanPutBack t.old inverse }
+    ensures schema { t.new.schema ≡ t.old.schema }
+    ensures rows { t.new.rows ≡ back t.old.rows (edits_of inverse) }
+    ensures room { Keeps (room_back t.old.room inverse) t.new.room }
+{
+    match inverse {
+        Inverse::Take { table, key } => t.take_back(table, &key),
+        Inverse::Put { table, key, row } => t.put_back(table, key, row),
+        Inverse::Replace {
+            table,
+            new_key,
+            key,
+            row,
+        } => t.replace_back(table, &new_key, key, row),
+        Inverse::Unwipe { wiped } => unwipe_all(t, wiped),
+    }
+}
+
+/// Gives emptied tables back what they held, the last emptied first.
+pub(crate) fn unwipe_all(t: &mut Tables, wiped: Vec<Wiped>)
+    requires { CanUnwipe t.old wiped.items }
+    ensures schema { t.new.schema ≡ t.old.schema }
+    ensures rows { t.new.rows ≡ undone t.old.rows (map standing wiped.items) }
+    ensures room { Keeps (room_unwiped t.old.room wiped.items) t.new.room }
+{
+    let mut wiped = wiped;
+    while let Some(last) = wiped.pop() {
+        t.unwipe(last.table, last.contents);
+    }
+}

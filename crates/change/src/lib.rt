@@ -1,0 +1,28 @@
+#![tactic(auto)]
+
+// What a change does to the tables, and what takes it back.
+//
+// `apply` does a change, or refuses it and leaves the tables as they were. Which of the two, and
+// why, is the word of `model`'s definitions, which look through all rows: a change is done with its
+// edits, skipped because no row stands at its key, or it clashes, with a null in the primary key or
+// in the least key in which its row agrees with another. Want of memory may stand in place of any
+// answer, and then too the tables are as they were.
+//
+// A change that was done comes with its inverse: what stood where it altered the tables. `put_back`
+// puts that back. It takes no memory and succeeds, wherever the tables are still as the change left
+// them at those places and will be valid again; changes at other places may have come in between.
+// Rows and every unique look-up are then as before the change.
+//
+// Inside, each step asks `indexes`: the key and the unique values are looked up before anything is
+// altered, and what the inverse keeps is copied first, so the one step that alters comes last. An
+// inverse keeps the row that went, as it was handed out; a wipe moves whole tables out, and no row
+// is copied.
+//
+//   outcome      `apply`, its answers, and the four changes
+//   inverse      `Inverse` and `put_back`
+pub mod inverse;
+pub mod outcome;
+
+pub use inverse::{Inverse, Wiped, put_back};
+pub use model::{Change, ColumnPatch, Patch, TableIds};
+pub use outcome::{Applied, Clash, apply};

@@ -1,0 +1,288 @@
+// What a change does to the tables.
+ghost use Rattle.std.specs.Prelude.{◌≡◌, ◌+◌, ◌-◌, ◌<◌, ◌≤◌, length, IfOk, IfSome, IsSome, is_some, OnOk, OnErr, Some, None};
+ghost use Rattle.std.specs.FinMap.{get, remove};
+ghost use Rattle.model.specs.declared.change.Change.TheVariants.{Put, Set, Remove, Wipe};
+ghost use Rattle.model.specs.Rows.{IsValid, keys_at, taken};
+ghost use Rattle.model.specs.Effect.{first_taken, patched, patched_value, outcome, effect, inverse};
+ghost use Rattle.indexes.specs.Content.{Keeps, unique_columns};
+ghost use Rattle.change.specs.Inverse.{edits_of, CanPutBack};
+ghost use Rattle.change.specs.Applied.{AreTables, Answers, IsSound, IfDone, room_after, without};
+
+use crate::inverse::{Inverse, Wiped, unwipe_all};
+use indexes::Tables;
+use model::{Change, ColumnPatch, Key, OutOfMemory, Patch, Row, TableId, Value};
+use rows::RowView;
+use std::alloc::{AllocError, Global};
+
+/// What came of a change that was not refused.
+#[derive(Drop)]
+pub enum Applied {
+    /// The tables were changed, and this takes it back.
+    Done(Inverse),
+    /// No row stands at the key, and nothing was changed.
+    Skipped,
+}
+
+/// Why a change was refused. The tables are as they were before it.
+#[derive(Clone, Copy, Debug, PartialEq, Eq)]
+pub enum Clash {
+    /// The row agrees with another in a key: 0 is the primary key, 1 upwards the unique keys in the
+    /// catalog's order. The least that clashes is named.
+    Unique { table: TableId, key: usize },
+    /// The row has a null in its primary key.
+    NullKey { table: TableId },
+    /// The system had no memory for it.
+    OutOfMemory,
+}
+
+impl From<OutOfMemory> for Clash {
+    ghost use Rattle.change.specs.declared.outcome.Clash.TheVariants.{OutOfMemory as NoMemory};
+
+    ghost from_gives = { λ _ e. e ≡ NoMemory };
+
+    fn from(_e: OutOfMemory) -> Clash {
+        Clash::OutOfMemory
+    }
+}
+
+impl From<AllocError> for Clash {
+    ghost use Rattle.change.specs.declared.outcome.Clash.TheVariants.{OutOfMemory as NoMemory};
+
+    ghost from_gives = { λ _ e. e ≡ NoMemory };
+
+    fn from(_e: AllocError) -> Clash {
+        Clash::OutOfMemory
+    }
+}
+
+/// Applies a change to the tables.
+pub fn apply(alloc: Global, t: &mut Tables, c: &Change) -> Result<Applied, Clash>
+    requires { AreTables t.old.schema c.now }
+    ensures answer { Answers (outcome t.old.schema t.old.rows c.now) result }
+    ensures ok { OnOk result (t.new.rows ≡ effect t.old.schema t.old.rows c.now) }
+    ensures err { OnErr result (t.new.rows ≡ t.old.rows) }
+    ensures inverse { IfDone result (λ i. edits_of i ≡ inverse t.old.schema t.old.rows c.now) }
+    ensures can_put_back { IfDone result (λ i. CanPutBack t.new i) }
+    ensures room { Keeps t.old.room (room_after t.new.room result) }
+    ensures schema { t.new.schema ≡ t.old.schema }
+{
+    // What is known of the tables is told here: they are valid, and have room for their rows.
+    let _tables = t.len();
+    match c {
+        Change::Put { table, row } => put(t, *table, row),
+        Change::Set { table, key, patch } => set(alloc, t, *table, key, patch),
+        Change::Remove { table, key } => remove(t, *table, key),
+        Change::Wipe { tables } => wipe(alloc, t, tables.ids()),
+    }
+}
+
+/// A row comes into its table.
+fn put(t: &mut Tables, table: TableId, row: &Row) -> Result<Applied, Clash>
+    requires known { table < length t.old.schema }
+    requires sound { IsSound t.old }
+    ensures answer { Answers (outcome t.old.schema t.old.rows (Put table row.now)) result }
+    ensures ok { OnOk result (t.new.rows ≡ effect t.old.schema t.old.rows (Put table row.now)) }
+    ensures err { OnErr result (t.new.rows ≡ t.old.rows) }
+    ensures inverse { IfDone result (λ i. edits_of i ≡ inverse t.old.schema t.old.rows (Put table row.now)) }
+    ensures can_put_back { IfDone result (λ i. CanPutBack t.new i) }
+    ensures room { Keeps t.old.room (room_after t.new.room result) }
+    ensures schema { t.new.schema ≡ t.old.schema }
+{
+    let Some(key) = t.key_of(table, row)? else {
+        return Err(Clash::NullKey { table });
+    };
+    if t.get(table, &key).is_some() {
+        return Err(Clash::Unique { table, key: 0 });
+    }
+    if let Some(number) = first_clash(t, table, row, None)? {
+        return Err(Clash::Unique { table, key: number });
+    }
+    let stands_at = key.copy()?;
+    t.put(table, key, row.copy()?)?;
+    Ok(Applied::Done(Inverse::Take {
+        table,
+        key: stands_at,
+    }))
+}
+
+/// The row at a key is patched; one that isn't there is skipped.
+fn set(
+    alloc: Global,
+    t: &mut Tables,
+    table: TableId,
+    key: &Key,
+    patch: &Patch,
+) -> Result<Applied, Clash>
+    requires known { table < length t.old.schema }
+    requires sound { IsSound t.old }
+    ensures answer { Answers (outcome t.old.schema t.old.rows (Set table key.now patch.now)) result }
+    ensures ok { OnOk result (t.new.rows ≡ effect t.old.schema t.old.rows (Set table key.now patch.now)) }
+    ensures err { OnErr result (t.new.rows ≡ t.old.rows) }
+    ensures inverse { IfDone result (λ i. edits_of i ≡ inverse t.old.schema t.old.rows (Set table key.now patch.now)) }
+    ensures can_put_back { IfDone result (λ i. CanPutBack t.new i) }
+    ensures room { Keeps t.old.room (room_after t.new.room result) }
+    ensures schema { t.new.schema ≡ t.old.schema }
+{
+    let row = match t.get(table, key) {
+        None => return Ok(Applied::Skipped),
+        Some(old) => patched_row(alloc, &old, patch)?,
+    };
+    let Some(new_key) = t.key_of(table, &row)? else {
+        return Err(Clash::NullKey { table });
+    };
+    if is_key_held(t, table, &new_key, key) {
+        return Err(Clash::Unique { table, key: 0 });
+    }
+    if let Some(number) = first_clash(t, table, &row, Some(key))? {
+        return Err(Clash::Unique { table, key: number });
+    }
+    let stands_at = new_key.copy()?;
+    let stood_at = key.copy()?;
+    let old = t.replace(table, key, new_key, row)?;
+    Ok(Applied::Done(Inverse::Replace {
+        table,
+        new_key: stands_at,
+        key: stood_at,
+        row: old,
+    }))
+}
+
+/// The row at a key goes; one that isn't there is skipped.
+fn remove(t: &mut Tables, table: TableId, key: &Key) -> Result<Applied, Clash>
+    requires known { table < length t.old.schema }
+    requires sound { IsSound t.old }
+    ensures answer { Answers (outcome t.old.schema t.old.rows (Remove table key.now)) result }
+    ensures ok { OnOk result (t.new.rows ≡ effect t.old.schema t.old.rows (Remove table key.now)) }
+    ensures err { OnErr result (t.new.rows ≡ t.old.rows) }
+    ensures inverse { IfDone result (λ i. edits_of i ≡ inverse t.old.schema t.old.rows (Remove table key.now)) }
+    ensures can_put_back { IfDone result (λ i. CanPutBack t.new i) }
+    ensures room { Keeps t.old.room (room_after t.new.room result) }
+    ensures schema { t.new.schema ≡ t.old.schema }
+{
+    if t.get(table, key).is_none() {
+        return Ok(Applied::Skipped);
+    }
+    let key = key.copy()?;
+    let row = t.remove(table, &key);
+    Ok(Applied::Done(Inverse::Put { table, key, row }))
+}
+
+/// Tables are emptied, one after another.
+fn wipe(alloc: Global, t: &mut Tables, tables: &[TableId]) -> Result<Applied, Clash>
+    requires known { AreTables t.old.schema (Wipe tables.now) }
+    requires sound { IsSound t.old }
+    ensures answer { Answers (outcome t.old.schema t.old.rows (Wipe tables.now)) result }
+    ensures ok { OnOk result (t.new.rows ≡ effect t.old.schema t.old.rows (Wipe tables.now)) }
+    ensures err { OnErr result (t.new.rows ≡ t.old.rows) }
+    ensures inverse { IfDone result (λ i. edits_of i ≡ inverse t.old.schema t.old.rows (Wipe tables.now)) }
+    ensures can_put_back { IfDone result (λ i. CanPutBack t.new i) }
+    ensures room { Keeps t.old.room (room_after t.new.room result) }
+    ensures schema { t.new.schema ≡ t.old.schema }
+{
+    let mut wiped = Vec::with_capacity(alloc, tables.len())?;
+    for table in tables {
+        match t.wipe(*table) {
+            Ok(contents) => wiped.push_reserved(Wiped {
+                table: *table,
+                contents,
+            }),
+            Err(e) => {
+                unwipe_all(t, wiped);
+                return Err(e.into());
+            }
+        }
+    }
+    Ok(Applied::Done(Inverse::Unwipe { wiped }))
+}
+
+/// The row after an update. A column past the patch's end is kept.
+fn patched_row(alloc: Global, old: &RowView<'_>, patch: &Patch) -> Result<Row, OutOfMemory>
+    ensures { IfOk result (λ row. row ≡ patched patch.now old.now) }
+{
+    let row = old.to_row()?;
+    let olds = row.values();
+    let patches = patch.columns();
+    let mut values = Vec::with_capacity(alloc, olds.len())?;
+    for column in 0..olds.len() {
+        let value = if column < patches.len() {
+            patched_value(&patches[column], &olds[column])?
+        } else {
+            copy_value(&olds[column])?
+        };
+        values.push(value)?;
+    }
+    Ok(Row::from_values(values))
+}
+
+/// A column after an update.
+fn patched_value(patch: &ColumnPatch, old: &Option<Value>) -> Result<Option<Value>, OutOfMemory>
+    ensures { IfOk result (λ value. value ≡ patched_value patch.now old.now) }
+{
+    match patch {
+        ColumnPatch::Keep => copy_value(old),
+        ColumnPatch::Null => Ok(None),
+        ColumnPatch::Value(value) => Ok(Some(value.copy()?)),
+    }
+}
+
+/// An equal value, or null.
+fn copy_value(old: &Option<Value>) -> Result<Option<Value>, OutOfMemory>
+    ensures { IfOk result (λ value. value ≡ old.now) }
+{
+    match old {
+        None => Ok(None),
+        Some(value) => Ok(Some(value.copy()?)),
+    }
+}
+
+/// The least unique key in which the row agrees with one that stands at another key than `except`.
+fn first_clash(
+    t: &Tables,
+    table: TableId,
+    row: &Row,
+    except: Option<&Key>,
+) -> Result<Option<usize>, OutOfMemory>
+    requires known { table < length t.now.schema }
+    requires sound { IsSound t.now }
+    ensures { IfOk result (λ number. number ≡ first_taken (without t.now.rows table except.entry) table row.now 1 (keys_at t.now.schema table).uniques) }
+{
+    for index in 0..t.unique_count(table) {
+        let number = index + 1;
+        if let Some(values) = t.unique_values(table, number, row)? {
+            if are_values_held(t, table, number, &values, except) {
+                return Ok(Some(number));
+            }
+        }
+    }
+    Ok(None)
+}
+
+/// Whether a row stands at this key, and the key isn't `except`.
+fn is_key_held(t: &Tables, table: TableId, key: &Key, except: &Key) -> bool
+    requires { table < length t.now.schema }
+    ensures { result ≡ is_some (get (remove t.now.rows (table, except.now)) (table, key.now)) }
+{
+    *key != *except && t.get(table, key).is_some()
+}
+
+/// Whether a row that stands at another key than `except` has these values of a unique key.
+fn are_values_held(
+    t: &Tables,
+    table: TableId,
+    number: usize,
+    values: &Key,
+    except: Option<&Key>,
+) -> bool
+    requires known { table < length t.now.schema }
+    requires sound { IsSound t.now }
+    requires number { (1 ≤ number) × (number ≤ length (keys_at t.now.schema table).uniques) }
+    ensures { result ≡ taken (without t.now.rows table except.entry) table (unique_columns t.now.schema table number) values.now }
+{
+    match t.find_unique(table, number, values) {
+        None => false,
+        Some(holder) => match except {
+            None => true,
+            Some(key) => *holder != *key,
+        },
+    }
+}

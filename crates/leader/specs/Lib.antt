@@ -1,0 +1,4 @@
+pub mod Text
+pub mod Work
+pub mod WorkInside
+pub mod Named

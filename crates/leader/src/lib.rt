@@ -1,0 +1,32 @@
+#![tactic(auto)]
+
+// From a replication stream to exact tables.
+//
+// A run reads frames from a source, takes each item in stream order, and leaves the tables, the
+// journal of commits, the position and why it ended. Changes of a transaction between Begin and
+// Commit are applied as they come; those of a streamed transaction are kept by the session and
+// applied at its Stream Commit, so commits keep the stream's order. Whatever ends a run, the work of
+// open transactions is undone before it is answered: the tables are those of the commits.
+//
+//   run       reads, admits and applies
+//   work      the tables with the changes of one open transaction in them, and what takes these back
+//   outcome   what a run is given and what it leaves; the journal; the clock
+//   end       why a run ended
+//   printing  the report: the rows, the position and the end as text
+//
+// A status update goes to the sink after each commit, and after each keepalive that wants a reply
+// (PostgreSQL manual: Streaming Replication Protocol, Standby status update).
+//
+// It stands on `frames` for the stream, `session` for what its messages ask for, `change` and `undo`
+// for the tables, and `catalog` for their names.
+mod end;
+mod outcome;
+mod printing;
+mod run;
+mod tables_named;
+mod work;
+
+pub use end::End;
+pub use outcome::{Clock, Config, Entry, Outcome};
+pub use printing::report;
+pub use run::run_spooled;

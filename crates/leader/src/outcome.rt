@@ -1,0 +1,45 @@
+// What a run is given, and what it leaves.
+use crate::end::End;
+use frames::Lsn;
+use indexes::Tables;
+use model::Change;
+use savepoint::Xid;
+
+/// The limits of a run.
+#[derive(Clone, Copy, Debug, PartialEq, Eq)]
+pub struct Config {
+    /// How many workers apply streamed transactions: 0 to 16.
+    pub workers: usize,
+    /// The slots of a worker's ring: 1 to 1024.
+    pub ring: usize,
+    /// The payload bytes that spooled transactions may take.
+    pub spool: u64,
+}
+
+/// A committed transaction.
+#[derive(Debug, Drop)]
+pub struct Entry {
+    pub xid: Xid,
+    /// Its surviving changes in order, skipped ones too.
+    pub changes: Vec<Change>,
+    /// Where its commit stands in the publisher's log.
+    pub commit: Lsn,
+    /// Where the log goes on behind it.
+    pub end: Lsn,
+}
+
+/// What a run leaves.
+#[derive(Drop)]
+pub struct Outcome {
+    pub tables: Tables,
+    /// The commits, in order.
+    pub journal: Vec<Entry>,
+    /// The end LSN of the last commit, or 0.
+    pub position: Lsn,
+    pub end: End,
+}
+
+/// A clock: microseconds since 2000-01-01.
+pub trait Clock {
+    fn micros(&mut self) -> i64;
+}

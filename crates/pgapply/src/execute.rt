@@ -1,0 +1,81 @@
+// What each command runs on what it opened.
+use catalog::{Catalog, CatalogFault};
+use frames::{Sink, Source};
+use indexes::Tables;
+use leader::{Clock, Config, End, report, run_spooled};
+use std::alloc::Global;
+
+/// How a command ended.
+#[derive(Clone, Copy, Debug, PartialEq, Eq)]
+pub struct Ended {
+    /// The exit status.
+    pub status: u8,
+    /// The line for standard error, empty for none.
+    pub line: &'static str,
+}
+
+const OUT_OF_MEMORY: Ended = Ended {
+    status: 4,
+    line: "pgapply: out of memory",
+};
+
+/// Reads the catalog, runs the stream from empty tables and appends the report to `out`.
+///
+/// `spooled` asks that each streamed transaction is applied at its commit, which is so for now in any case.
+pub fn execute<R: Source + Drop, W: Sink + Drop, C: Clock + Drop>(
+    alloc: Global,
+    _spooled: bool,
+    config: &Config,
+    catalog: &[u8],
+    reader: R,
+    writer: W,
+    clock: C,
+    out: &mut Vec<u8>,
+) -> Ended {
+    let catalog = match read_catalog(alloc, catalog) {
+        Ok(catalog) => catalog,
+        Err(fault) => return refused(fault),
+    };
+    let Ok(start) = Tables::of_definitions(alloc, catalog.tables()) else {
+        return OUT_OF_MEMORY;
+    };
+    let outcome = run_spooled(alloc, reader, writer, &catalog, start, config, clock);
+    match report(alloc, &outcome, &catalog, out) {
+        Ok(()) => Ended {
+            status: status_of(outcome.end),
+            line: "",
+        },
+        Err(_) => OUT_OF_MEMORY,
+    }
+}
+
+fn read_catalog(alloc: Global, bytes: &[u8]) -> Result<Catalog, CatalogFault> {
+    match std::str::from_utf8(bytes) {
+        Ok(text) => Catalog::read(alloc, text),
+        Err(_) => Err(CatalogFault::NotToml),
+    }
+}
+
+fn refused(fault: CatalogFault) -> Ended {
+    let line = match fault {
+        CatalogFault::NotToml => "pgapply: catalog NotToml",
+        CatalogFault::UnknownField => "pgapply: catalog UnknownField",
+        CatalogFault::DuplicateTable => "pgapply: catalog DuplicateTable",
+        CatalogFault::DuplicateColumn => "pgapply: catalog DuplicateColumn",
+        CatalogFault::NoPrimaryKey => "pgapply: catalog NoPrimaryKey",
+        CatalogFault::KeyColumnUnknown => "pgapply: catalog KeyColumnUnknown",
+        CatalogFault::BadDefault => "pgapply: catalog BadDefault",
+        CatalogFault::OverLimit => "pgapply: catalog OverLimit",
+        CatalogFault::OutOfMemory => return OUT_OF_MEMORY,
+    };
+    Ended { status: 1, line }
+}
+
+fn status_of(end: End) -> u8 {
+    match end {
+        End::Clean => 0,
+        End::Frame(_) | End::Msg(_) | End::Session(_) | End::Rel(_) => 2,
+        End::Unique { .. } | End::NullKey { .. } | End::HeldKey { .. } => 3,
+        End::OutOfMemory => 4,
+    }
+}

@@ -1,0 +1,64 @@
+-- The laws of undoing.
+--     content_undone_last, CanUndo_last, CanUndo_more      the newest inverse, apart from those before it
+--     CanUndo_keeps      with more room
+--     CanUndo_applied      what was just applied can be undone, and then what could be before it
+--     rows_undone      the rows of tables that are undone
+use Rattle.std.specs.Prelude.{◌≡◌, ℕ, List, [], ◌∷◌, ◌++◌, map, refl}
+use Rattle.std.proofs.Common.{sym, ◌∙◌, ap, subst}
+use Rattle.model.specs.declared.cell.Cell.{Cell}
+use Rattle.model.specs.Rows.{Rows, Schema}
+use Rattle.model.specs.Effect.{Edits, back, undone}
+use Rattle.indexes.specs.Content.{Content, Keeps}
+use Rattle.change.specs.declared.inverse.Inverse.{Inverse}
+use Rattle.change.specs.Inverse.{edits_of, room_back, CanPutBack}
+use Rattle.change.specs.InverseLaws.{room_back_keeps, CanPutBack_keeps}
+use Rattle.undo.specs.Undo.{content_back, content_undone, CanUndo}
+
+pub rows_undone : (t : Content) (is : List Inverse) → (content_undone t is).rows ≡ undone t.rows (map edits_of is)
+rows_undone t [] = refl
+rows_undone t (i ∷ is) = ap (λ (r : Rows). back r (edits_of i)) (rows_undone t is)
+
+pub content_undone_last : (t : Content) (is : List Inverse) (i : Inverse) → content_undone t (is ++ i ∷ []) ≡ content_undone (content_back t i) is
+content_undone_last t [] i = refl
+content_undone_last t (first ∷ is) i = ap (λ (u : Content). content_back u first) (content_undone_last t is i)
+
+pub CanUndo_last : (t : Content) (is : List Inverse) (i : Inverse) → CanUndo t (is ++ i ∷ []) → CanPutBack t i × CanUndo (content_back t i) is
+CanUndo_last t [] i can = (can.1, tt)
+CanUndo_last t (first ∷ is) i can =
+    let rest = CanUndo_last t is i can.0 in
+    (rest.0, (rest.1, subst (λ (u : Content). CanPutBack u first) (content_undone_last t is i) can.1))
+
+pub CanUndo_more : (t : Content) (is : List Inverse) (i : Inverse) → CanPutBack t i → CanUndo (content_back t i) is → CanUndo t (is ++ i ∷ [])
+CanUndo_more t [] i can rest = (tt, can)
+CanUndo_more t (first ∷ is) i can rest =
+    (CanUndo_more t is i can rest.0, subst (λ (u : Content). CanPutBack u first) (sym (content_undone_last t is i)) rest.1)
+
+-- ---- the same tables with more room
+
+pub schema_undone : (t : Content) (is : List Inverse) → (content_undone t is).schema ≡ t.schema
+schema_undone t [] = refl
+schema_undone t (i ∷ is) = schema_undone t is
+
+module _ (t more : Content) (schema : t.schema ≡ more.schema) (rows : t.rows ≡ more.rows) (keeps : Keeps t.room more.room) where
+  pub same_rows_undone : (is : List Inverse) → (content_undone t is).rows ≡ (content_undone more is).rows
+  same_rows_undone [] = rows
+  same_rows_undone (i ∷ is) = ap (λ (r : Rows). back r (edits_of i)) (same_rows_undone is)
+
+  pub room_undone_keeps : (is : List Inverse) → Keeps (content_undone t is).room (content_undone more is).room
+  room_undone_keeps [] = keeps
+  room_undone_keeps (i ∷ is) = room_back_keeps (content_undone t is).room (content_undone more is).room i (room_undone_keeps is)
+
+  pub CanUndo_keeps : (is : List Inverse) → CanUndo t is → CanUndo more is
+  CanUndo_keeps [] can = tt
+  CanUndo_keeps (i ∷ is) can = (
+    CanUndo_keeps is can.0,
+    CanPutBack_keeps (content_undone t is) (content_undone more is) i (schema_undone t is ∙ schema ∙ sym (schema_undone more is)) (same_rows_undone is) (room_undone_keeps is) can.1,
+  )
+
+-- ---- one more change
+
+-- a change was applied, and its inverse takes it back: so can all be
+pub CanUndo_applied : (old new : Content) (is : List Inverse) (i : Inverse) → new.schema ≡ old.schema → back new.rows (edits_of i) ≡ old.rows
+    → Keeps old.room (room_back new.room i) → CanPutBack new i → CanUndo old is → CanUndo new (is ++ i ∷ [])
+CanUndo_applied old new is i schema rows keeps can before =
+    CanUndo_more new is i can (CanUndo_keeps old (content_back new i) (sym schema) (sym rows) keeps is before)

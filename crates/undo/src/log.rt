@@ -1,0 +1,144 @@
+// The log of a transaction's inverses.
+ghost use Rattle.std.specs.Prelude.{◌≡◌, ◌+◌, ◌-◌, ◌<◌, ◌≤◌, [], ◌∷◌, ◌++◌, length, take, drop, map, OnOk, vec_len, vec_capacity, Contains};
+ghost use Rattle.model.specs.declared.cell.Cell.{Cell};
+ghost use Rattle.model.specs.Effect.{undone};
+ghost use Rattle.indexes.specs.Content.{Keeps};
+ghost use Rattle.change.specs.Inverse.{edits_of, IsKnown};
+ghost use Rattle.undo.specs.Undo.{content_undone, CanUndo, AreKnownAll, cells_settled, all_settled};
+
+use change::{Inverse, put_back};
+use indexes::Tables;
+use model::OutOfMemory;
+use std::alloc::Global;
+use std::marker::Model;
+
+/// What takes back a transaction's changes, oldest first. A clause sees the list of them, and how
+/// many more there is room for.
+#[derive(Drop)]
+pub struct UndoLog {
+    inverses: Vec<Inverse>,
+}
+
+impl Model for UndoLog {
+    ghost use Rattle.std.specs.Prelude.{◌-◌, vec_len, vec_capacity};
+    ghost use Rattle.undo.specs.Undo.{Log};
+
+    ghost Value = { Log };
+
+    ghost use Rattle.undo.specs.LogCode.{log_code};
+
+    ghost coded = { log_code };
+
+    ghost view = { λ l. record { inverses = l.inverses.items; room = vec_capacity l.inverses - vec_len l.inverses } };
+}
+
+impl UndoLog {
+    /// An empty log. It takes no memory.
+    pub fn new(alloc: Global) -> UndoLog
+        ensures { result ≡ record { inverses = []; room = 0 } }
+    {
+        UndoLog {
+            inverses: Vec::new(alloc),
+        }
+    }
+
+    /// Makes room for one more inverse. A refusal changes nothing.
+    pub fn reserve(&mut self) -> Result<(), OutOfMemory>
+        ensures inverses { self.new.inverses ≡ self.old.inverses }
+        ensures ok { OnOk result (0 < self.new.room) }
+        ensures room { self.old.room ≤ self.new.room }
+    {
+        self.inverses.reserve(1)?;
+        Ok(())
+    }
+
+    /// Adds the inverse of a change that was applied, into room that was made before. It takes no
+    /// memory.
+    pub fn push_reserved(&mut self, inverse: Inverse)
+        requires { 0 < self.old.room }
+        ensures inverses { self.new.inverses ≡ self.old.inverses ++ inverse ∷ [] }
+        ensures room { self.new.room + 1 ≡ self.old.room }
+    {
+        self.inverses.push_reserved(inverse);
+    }
+
+    /// How many inverses there are: where `undo_to` can come back to.
+    pub fn mark(&self) -> usize
+        ensures { result ≡ length self.now.inverses }
+    {
+        self.inverses.len()
+    }
+
+    /// Takes back the changes since a mark, the newest first. It takes no memory.
+    ///
+    /// The tables need not be as the last of them left them: others may have changed them at other
+    /// places. What the caller owes is that each inverse can be put back once those after it are.
+    pub fn undo_to(&mut self, t: &mut Tables, mark: usize)
+        requires mark { mark ≤ length self.old.inverses }
+        requires can { CanUndo t.old (drop mark self.old.inverses) }
+        ensures rows { t.new.rows ≡ undone t.old.rows (map edits_of (drop mark self.old.inverses)) }
+        ensures left { self.new.inverses ≡ take mark self.old.inverses }
+        ensures room { Keeps (content_undone t.old (drop mark self.old.inverses)).room t.new.room }
+        ensures schema { t.new.schema ≡ t.old.schema }
+        ensures log_room { self.new.room + mark ≡ self.old.room + length self.old.inverses }
+    {
+        undo_last(&mut self.inverses, t, mark);
+    }
+
+    /// Gives up what the changes can be taken back with: the empty slots of their keys. It is for a
+    /// commit. No row changes, and it takes no memory.
+    pub fn settle(&self, t: &mut Tables)
+        requires { AreKnownAll t.old.schema self.now.inverses }
+        ensures rows { t.new.rows ≡ t.old.rows }
+        ensures schema { t.new.schema ≡ t.old.schema }
+        ensures others { (c : Cell) → ¬ Contains (all_settled t.old.schema self.now.inverses) c → Contains t.old.room c → Contains t.new.room c }
+    {
+        settle_all(self.inverses.as_slice(), t);
+    }
+}
+
+fn undo_last(inverses: &mut Vec<Inverse>, t: &mut Tables, mark: usize)
+    requires mark { mark ≤ vec_len inverses.old }
+    requires can { CanUndo t.old (drop mark inverses.old.items) }
+    ensures rows { t.new.rows ≡ undone t.old.rows (map edits_of (drop mark inverses.old.items)) }
+    ensures left { inverses.new.items ≡ take mark inverses.old.items }
+    ensures room { Keeps (content_undone t.old (drop mark inverses.old.items)).room t.new.room }
+    ensures schema { t.new.schema ≡ t.old.schema }
+    ensures len { vec_len inverses.new ≡ mark }
+    ensures capacity { vec_capacity inverses.new ≡ vec_capacity inverses.old }
+{
+    while inverses.len() > mark {
+        let inverse = inverses.pop().unwrap();
+        put_back(t, inverse);
+    }
+}
+
+fn settle_all(inverses: &[Inverse], t: &mut Tables)
+    requires { AreKnownAll t.old.schema inverses.now }
+    ensures rows { t.new.rows ≡ t.old.rows }
+    ensures schema { t.new.schema ≡ t.old.schema }
+    ensures others { (c : Cell) → ¬ Contains (all_settled t.old.schema inverses.now) c → Contains t.old.room c → Contains t.new.room c }
+{
+    for inverse in inverses {
+        settle_one(inverse, t);
+    }
+}
+
+/// The slots that a row left behind when it went.
+fn settle_one(inverse: &Inverse, t: &mut Tables)
+    requires { IsKnown t.old.schema inverse.now }
+    ensures rows { t.new.rows ≡ t.old.rows }
+    ensures schema { t.new.schema ≡ t.old.schema }
+    ensures others { (c : Cell) → ¬ Contains (cells_settled t.old.schema inverse.now) c → Contains t.old.room c → Contains t.new.room c }
+{
+    match inverse {
+        Inverse::Take { .. } | Inverse::Unwipe { .. } => {}
+        Inverse::Put { table, key, row } => t.settle(*table, key, row),
+        Inverse::Replace {
+            table,
+            key,
+            row,
+            ..
+        } => t.settle(*table, key, row),
+    }
+}
