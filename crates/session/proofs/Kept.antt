@@ -1,24 +1,30 @@
 -- What is kept of the open transactions, as one is opened, changed or closed.
-use Rattle.std.proofs.Common.{◌≡◌, ℕ, ◌+◌, ◌-◌, Bool, true, false, List, [], ◌∷◌, length, Option, Some, None, cond, refl, sym, ap, ◌∙◌, arith, ⊎_elim}
-use Rattle.std.specs.Prelude.{option_map, is_some, Result, Ok, Err, IsErrAnd}
+use Rattle.std.proofs.Common.{◌≡◌, ◌≢◌, ℕ, ◌+◌, ◌-◌, ◌<◌, ◌^◌, ◌==◌, Bool, true, false, List, [], ◌∷◌, ◌++◌, map as mapped, length, Option, Some, None, cond, refl, sym, ap, ◌∙◌, arith, ⊎_elim}
+use Rattle.std.specs.Prelude.{sum, option_map, is_some, Result, Ok, Err, IsErrAnd}
 use Rattle.std.specs.Ordering.{nat_cmp, eq_by_cmp}
 use Rattle.std.specs.Cmp.{nat_cmp_total}
 use Rattle.std.specs.BTreeMap.{BTreeMap, btree_map_len, get, is_at, Updates}
 use Rattle.std.specs.FinMap as map
-use Rattle.std.proofs.lemmas.Bool.{cases_Bool, cases_eq}
+use Rattle.std.proofs.lemmas.Bool.{cases_Bool, cases_eq, ne_eqb}
+use Rattle.std.proofs.lemmas.List.{map-append}
 use Rattle.std.proofs.lemmas.Bool.Decides.{nat_tests}
 use Rattle.session.specs.declared.transactions.Way.{Way as Keeping}
-use Rattle.session.specs.State.{Way, Direct, Worker, Spooled, Open, Transactions, Setting, has_worker, kept, working, spooled, spooled_by}
+use Rattle.session.specs.State.{Way, Direct, Worker, Spooled, Open, Transactions, Setting, has_worker, kept, kept_with, working, spooled, spooled_by}
+use Rattle.session.specs.State as state
 use Rattle.session.specs.declared.transactions.Transactions.{Transactions as OpenOnes}
 use Rattle.session.specs.declared.fault.SessionFault.{SessionFault}
 use Rattle.session.specs.declared.fault.SessionFault.TheVariants.{AlreadyOpen}
 use Rattle.session.specs.declared.fault.Refused.{Refused}
 use Rattle.session.specs.declared.fault.Refused.TheVariants.{Session}
 use Rattle.session.specs.declared.transactions.Way.TheVariants as keepings
-use Rattle.session.specs.Sized.{SizedItems}
+use Rattle.session.specs.Sized.{SizedItems, size_of, bytes_of}
+use Rattle.savepoint.specs.declared.item.Item.{Item}
+use Rattle.savepoint.specs.declared.item.Item.TheVariants.{Change, Touch, BackTo, Last}
+use Rattle.savepoint.specs.Savepoints.{before_first}
+use Rattle.session.proofs.Spools.{sum-push}
 use Rattle.session.specs.Table.{opened, room_fault}
-use Rattle.session.specs.Stands.{keeping_of, Keeps, IsOpened, IsStreamed}
-use Rattle.session.proofs.Totals.{total-insert_absent, total-remove}
+use Rattle.session.specs.Stands.{keeping_of, Keeps, IsOpened, IsStreamed, Survives, with_item, spool_fault}
+use Rattle.session.proofs.Totals.{total-insert_absent, total-insert, total-remove}
 
 -- what is kept of a transaction
 abbrev pub keeping : ℕ → Open → Keeping
@@ -129,6 +135,61 @@ Keeps-remove g old new m xid o kept some step less workers working_is spool spoo
   room = spool ∙ kept.room;
   spooled = let sums = spooled-remove m xid o some in omega (arith, sums, spooled_is, kept.spooled);
   fits = omega (arith, spooled_is, kept.fits);
+}
+
+-- ---- an item more
+
+keeping-append : (top : ℕ) (survivors items : SizedItems) (item : Item) (size : ℕ) → state.keeping top survivors (items ++ (item, size) ∷ []) ≡ kept_with top (state.keeping top survivors items) item size
+keeping-append top survivors [] item size = refl
+keeping-append top survivors (i ∷ items) item size = keeping-append top (kept_with top survivors i.0 i.1) items item size
+
+-- what survives once an item has come is what it leaves of those that survived
+pub kept-append : (top : ℕ) (items : SizedItems) (item : Item) (size : ℕ) → kept top (items ++ (item, size) ∷ []) ≡ kept_with top (kept top items) item size
+kept-append top items item size = keeping-append top [] items item size
+
+pub kept_with-survives : (top : ℕ) (survivors : SizedItems) (item : Item) (size : ℕ) → Survives item → kept_with top survivors item size ≡ survivors ++ (item, size) ∷ []
+kept_with-survives top survivors (Change sub c) size is = refl
+kept_with-survives top survivors (Touch sub) size is = refl
+kept_with-survives top survivors (BackTo sub) size is = absurd is
+kept_with-survives top survivors Last size is = absurd is
+
+-- what survives of a transaction once it got an item that drops none
+pub kept-taken : (top : ℕ) (items : SizedItems) (item : Item) (size : ℕ) → Survives item → kept top (items ++ (item, size) ∷ []) ≡ kept top items ++ (item, size) ∷ []
+kept-taken top items item size is = kept-append top items item size ∙ kept_with-survives top (kept top items) item size is
+
+pub kept-rolled_back : (top : ℕ) (items : SizedItems) (sub : ℕ) → sub ≢ top → kept top (items ++ (BackTo sub, 0) ∷ []) ≡ before_first sub (kept top items)
+kept-rolled_back top items sub apart = kept-append top items (BackTo sub) 0 ∙ rw (ne_eqb sub top apart)
+
+pub bytes_of-append : (items : SizedItems) (item : Item) (size : ℕ) → bytes_of (items ++ (item, size) ∷ []) ≡ bytes_of items + size
+bytes_of-append items item size =
+    let both : bytes_of (items ++ (item, size) ∷ []) ≡ sum (mapped size_of items ++ size ∷ []) = ap sum (map-append size_of items ((item, size) ∷ [])) in
+    let more = sum-push (mapped size_of items) size in
+    omega (arith, both, more)
+
+len-insert_present : (m : Transactions) (xid : ℕ) (o p : Open) → map.get m xid ≡ Some o → map.len (map.insert m xid p) ≡ map.len m
+len-insert_present m xid o p some = map.len-insert nat_cmp_total m xid p ∙ rw (ap is_some some)
+
+-- what is kept once a transaction has other items
+pub Keeps-change : (g : Setting) (old new : OpenOnes) (m : Transactions) (xid : ℕ) (o p : Open) → Keeps g old m → map.get m xid ≡ Some o → p.way ≡ o.way
+    → Updates nat_cmp old.ways new.ways xid (Some (keeping_of xid p.items p.way)) → btree_map_len new.ways ≡ btree_map_len old.ways
+    → new.workers ≡ old.workers → new.working ≡ old.working → new.spool ≡ old.spool
+    → new.spooled + spooled_by xid o.items o.way ≡ old.spooled + spooled_by xid p.items p.way → new.spooled < 2 ^ 64
+    → Keeps g new (map.insert m xid p)
+Keeps-change g old new m xid o p kept some way step same workers working_is spool spooled_is fits = record {
+  ways = WaysAre-insert old.ways new.ways m xid p kept.ways step;
+  count = same ∙ kept.count ∙ sym (len-insert_present m xid o p some);
+  workers = workers ∙ kept.workers;
+  working =
+      let less = working-remove m xid o some in
+      let more : working (map.insert m xid p) ≡ cond (has_worker p.way) 1 0 + working (map.remove m xid) = total-insert (λ (t : ℕ × Open). cond (has_worker t.1.way) 1 0) m xid p in
+      let one : cond {A = ℕ} (has_worker p.way) 1 0 ≡ cond (has_worker o.way) 1 0 = ap (λ w. cond {A = ℕ} (has_worker w) 1 0) way in
+      omega (arith, less, more, one, working_is, kept.working);
+  room = spool ∙ kept.room;
+  spooled =
+      let less = spooled-remove m xid o some in
+      let more : spooled (map.insert m xid p) ≡ spooled_by xid p.items p.way + spooled (map.remove m xid) = total-insert (λ (t : ℕ × Open). spooled_by t.0 t.1.items t.1.way) m xid p in
+      omega (arith, less, more, spooled_is, kept.spooled);
+  fits = fits;
 }
 
 -- ---- no transaction

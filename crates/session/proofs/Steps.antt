@@ -1,7 +1,9 @@
 -- What the session stands for after a message.
-use Rattle.std.proofs.Common.{◌≡◌, ◌≢◌, ℕ, ◌<◌, ◌≤◌, ◌++◌, ◌∷◌, if◌then◌else◌, Bool, true, false, [], Some, None, refl, sym, ap, subst, ◌∙◌}
+use Rattle.std.proofs.Common.{◌≡◌, ◌≢◌, ℕ, ◌<◌, ◌≤◌, ◌++◌, ◌∷◌, if◌then◌else◌, Bool, true, false, length, [], Option, Some, None, refl, sym, ap, subst, ◌∙◌, ⊎_elim}
 use Rattle.std.specs.Prelude.{Result, Ok, Err, IsErrAnd, IfSome, nat_lt}
-use Rattle.std.specs.Ordering.{nat_cmp}
+use Rattle.std.specs.Ordering.{nat_cmp, eq_by_cmp}
+use Rattle.std.specs.Cmp.{nat_cmp_total}
+use Rattle.std.proofs.lemmas.Bool.{cases_Bool}
 use Rattle.std.specs.BTreeMap.{get}
 use Rattle.std.specs.Arc.{arc_value}
 use Rattle.std.specs.FinMap as map
@@ -9,7 +11,7 @@ use Rattle.session.specs.declared.place.Place.{Place}
 use Rattle.session.specs.declared.place.Place.TheVariants.{Outside, Begun, Block}
 use Rattle.session.specs.declared.fault.SessionFault.{SessionFault}
 use Rattle.session.specs.declared.fault.Refused.{Refused}
-use Rattle.session.specs.declared.fault.Refused.TheVariants.{Session}
+use Rattle.session.specs.declared.fault.Refused.TheVariants.{Msg, Session, Rel, OutOfMemory}
 use Rattle.session.specs.declared.session.Session.{Session as Holder}
 use Rattle.session.specs.declared.step.Step.{Step}
 use Rattle.session.specs.declared.step.Step.TheVariants as steps
@@ -17,17 +19,17 @@ use Rattle.session.specs.declared.relations.Relations.{Relations as Learnt}
 use Rattle.messages.specs.declared.message.Begin.{Begin}
 use Rattle.relcache.specs.Published.{Relations}
 use Rattle.relcache.specs.Mapping.{resolved}
-use Rattle.session.specs.State.{Open, State, Setting, Way, Direct, Worker, Spooled, Committed, working}
+use Rattle.session.specs.State.{Open, Transactions, State, Setting, Way, Direct, Worker, Spooled, Committed, GoesAlone, begun_at, working}
 use Rattle.session.specs.Table.{Next, refuse, at, begins, opened, room_fault, unless_fault, leaves_block, opens, next_way, commits, closes, of_open}
 use Rattle.session.specs.Told.{Nothing, Opens, Commits, handed_out}
-use Rattle.session.specs.Stands.{way_if, Says, HandsOut, keeping_of, StandsFor, Keeps, Knows, IsFault, Follows, IsAdmitted}
+use Rattle.session.specs.Stands.{way_if, Says, HandsOut, keeping_of, StandsFor, Keeps, Knows, IsFault, IsCause, Follows, IsAdmitted}
 use Rattle.session.specs.Kept.{items_kept}
 use Rattle.session.specs.Sized.{SizedItems}
 use Rattle.savepoint.specs.declared.item.CommitInfo.{CommitInfo}
 use Rattle.session.specs.declared.transactions.Way.{Way as Keeping}
 use Rattle.session.specs.declared.fault.SessionFault.TheVariants.{UnknownTransaction, OldCommit}
 use Rattle.std.proofs.lemmas.Bool.{le-leb, lt-leb}
-use Rattle.session.proofs.Totals.{get-insert_same}
+use Rattle.session.proofs.Totals.{get-insert_same, same_key, ties_itself}
 use Rattle.session.proofs.Kept.{absent_from_room}
 
 -- what an error through `?` is
@@ -38,19 +40,63 @@ err_is (Err e) r is = ap Err is
 -- a refusal that changed nothing, where the table has it
 pub refused : (g : Setting) (v : Holder) (h : State) (next : Next) (result : Result Step Refused) (why : SessionFault) → StandsFor g v h → next ≡ refuse why → result ≡ Err (Session why) → Follows g v h next result
 refused g v h next (Ok s) why stands e is = cc
-refused g v h next (Err r) why stands e is = let same : r ≡ Session why = cc in record { stands = stands; cause = λ other. e ∙ ap Err (sym same) }
+refused g v h next (Err r) why stands e is = let same : r ≡ Session why = cc in record { stands = stands; cause = rw same e }
+
+-- a fault of opening is the table's, unless memory was refused
+fault_is_cause : (fault : Option SessionFault) (t : State) (next : Next) (r : Refused) → next ≡ unless_fault fault t → IsFault fault r → IsCause next r
+fault_is_cause fault t next (Msg f) e is = let why = is (λ m. cc) in let no : Msg f ≡ Session why.0 = why.2 in cc
+fault_is_cause fault t next (Session f) e is = let why = is (λ m. cc) in e ∙ ap (λ o. unless_fault o t) why.1 ∙ ap Err (sym why.2)
+fault_is_cause fault t next (Rel f) e is = let why = is (λ m. cc) in let no : Rel f ≡ Session why.0 = why.2 in cc
+fault_is_cause fault t next OutOfMemory e is = tt
 
 -- ---- outside of transactions
 
 at_outside : (place : Place) (outside : Next) (begun : ℕ → ℕ → Next) (block : ℕ → Next) → place ≡ Outside → at place outside begun block ≡ outside
 at_outside place outside begun block e = ap (λ p. at p outside begun block) e
 
--- relations that stay
-stays_known : (g : Setting) (v : Learnt) (h t : State) → t.relations ≡ h.relations → Knows g v h → Knows g v t
-stays_known g v h t same k = record {
-  learnt = k.learnt ∙ sym same;
-  mappings = λ oid. let P : Relations → Type 0 = λ r. IfSome (get nat_cmp v.mappings oid) (λ m. resolved g.catalog r oid ≡ Ok (arc_value m)) in subst P (sym same) (k.mappings oid);
-}
+-- ---- the transaction that goes directly
+
+-- with one more transaction open
+alone_insert : (p q : Place) (m : Transactions) (xid : ℕ) (o : Open) → GoesAlone p m → ((x : ℕ) → begun_at p ≡ Some x → begun_at q ≡ Some x) → (o.way ≡ Direct → begun_at q ≡ Some xid) → GoesAlone q (map.insert m xid o)
+alone_insert p q m xid o alone same here x other is_open direct =
+    ⊎_elim
+    (λ (tie : eq_by_cmp nat_cmp x xid ≡ true).
+    let key : x ≡ xid = same_key x xid tie in
+    let found : Some o ≡ Some other = sym (map.get-insert nat_cmp_total m xid o x ∙ rw tie) ∙ is_open in
+    let way : o.way ≡ Direct = ap (λ p. way_of o p) found ∙ direct in
+    here way ∙ ap Some (sym key))
+    (λ (apart : eq_by_cmp nat_cmp x xid ≡ false).
+    same x (alone x other (sym (map.get-insert nat_cmp_total m xid o x ∙ rw apart) ∙ is_open) direct))
+    (cases_Bool (eq_by_cmp nat_cmp x xid))
+  where
+    way_of : Open → Option Open → Way
+    way_of d None = d.way
+    way_of d (Some p) = p.way
+
+-- with a transaction closed, where it was the begun one or none was begun
+alone_remove : (p : Place) (m : Transactions) (xid : ℕ) → GoesAlone p m → ((x : ℕ) → begun_at p ≡ Some x → x ≡ xid) → GoesAlone Outside (map.remove m xid)
+alone_remove p m xid alone only x other is_open direct =
+    ⊎_elim
+    (λ (tie : eq_by_cmp nat_cmp x xid ≡ true).
+    let none : None ≡ Some other = sym (map.get-remove nat_cmp_total m xid x ∙ rw tie) ∙ is_open in cc)
+    (λ (apart : eq_by_cmp nat_cmp x xid ≡ false).
+    let key : x ≡ xid = only x (alone x other (sym (map.get-remove nat_cmp_total m xid x ∙ rw apart) ∙ is_open) direct) in
+    let tie : eq_by_cmp nat_cmp x xid ≡ true = rw key (ties_itself xid) in
+    let no : true ≡ false = sym tie ∙ apart in cc)
+    (cases_Bool (eq_by_cmp nat_cmp x xid))
+
+-- elsewhere, where the same is begun
+alone_at : (p q : Place) (m : Transactions) → GoesAlone p m → begun_at p ≡ begun_at q → GoesAlone q m
+alone_at p q m alone same x o is_open direct = sym same ∙ alone x o is_open direct
+
+none_begun : (p : Place) → p ≡ Outside → begun_at p ≡ None
+none_begun p e = ap begun_at e
+
+pub nothing_begun : (p : Place) (xid : ℕ) → p ≡ Outside → (x : ℕ) → begun_at p ≡ Some x → x ≡ xid
+nothing_begun p xid e x begun = let no : None ≡ Some x = sym (none_begun p e) ∙ begun in cc
+
+pub only_begun : (p : Place) (xid final : ℕ) → p ≡ Begun xid final → (x : ℕ) → begun_at p ≡ Some x → x ≡ xid
+only_begun p xid final e x begun = let same : Some xid ≡ Some x = sym (ap begun_at e) ∙ begun in cc
 
 -- the state once the transaction has begun
 abbrev pub begun : State → Begin → State
@@ -67,12 +113,16 @@ begins-admitted g v w h m b c stands outside opened_is place relations position 
   stands = record {
     place = place;
     here = rw (get-insert_same h.transactions m.xid (opened Direct)) refl;
+    alone =
+        let none = none_begun h.place (sym stands.place ∙ outside) in
+        alone_insert h.place (Begun m.xid m.final_lsn) h.transactions m.xid (opened Direct) stands.alone (λ x begun. let no : None ≡ Some x = sym none ∙ begun in cc) (λ direct. refl);
     transactions = opened_is.1;
-    relations = rw relations (stays_known g v.relations h (begun h m) refl stands.relations);
+    relations = rw relations stands.relations;
     position = position ∙ stands.position;
   };
   tells = record { absent = absent_from_room h.transactions m.xid opened_is.0; transactions = refl; position = refl; past = refl };
   says = refl;
+  of_tables = tt;
 }
 
 pub begins-refused : (g : Setting) (v w : Holder) (h : State) (m : Begin) (b : ℕ → ℕ → Next) (c : ℕ → Next) (result : Result Step Refused) (r : Refused) → StandsFor g v h → v.place ≡ Outside
@@ -86,13 +136,12 @@ begins-refused g v w h m b c (Err e) r stands outside kept place relations posit
       stands = record {
         place = place ∙ stands.place;
         here = stands.here;
+        alone = stands.alone;
         transactions = kept.0;
         relations = rw relations stands.relations;
         position = position ∙ stands.position;
       };
-      cause = λ other.
-          let why = kept.1 (λ memory. other (same ∙ memory)) in
-          at_outside h.place (begins h m) b c (sym stands.place ∙ outside) ∙ ap (λ o. unless_fault o (begun h m)) why.1 ∙ ap Err (sym (same ∙ why.2));
+      cause = rw same (fault_is_cause (room_fault h.transactions m.xid) (begun h m) (at h.place (begins h m) b c) r (at_outside h.place (begins h m) b c (sym stands.place ∙ outside)) kept.1);
     }
 
 -- ---- in a block
@@ -107,12 +156,14 @@ stops-admitted g v w h xid a b stands block place transactions relations positio
   stands = record {
     place = place;
     here = tt;
+    alone = alone_at h.place Outside h.transactions stands.alone (ap begun_at (sym stands.place ∙ block));
     transactions = rw transactions stands.transactions;
-    relations = rw relations (stays_known g v.relations h (leaves_block h) refl stands.relations);
+    relations = rw relations stands.relations;
     position = position ∙ stands.position;
   };
   tells = record { transactions = refl; position = refl; past = refl };
   says = refl;
+  of_tables = tt;
 }
 
 -- ---- a streamed transaction
@@ -138,11 +189,11 @@ said xid false = refl
 abbrev pub streamed : State → ℕ → Way → State
 streamed h xid way = record h { place = Block xid; transactions = map.insert h.transactions xid (opened way) }
 
-pub opens-admitted : (g : Setting) (v w : Holder) (h : State) (xid : ℕ) (got : Bool) (step : Step) → StandsFor g v h
+pub opens-admitted : (g : Setting) (v w : Holder) (h : State) (xid : ℕ) (got : Bool) (step : Step) → StandsFor g v h → h.place ≡ Outside
     → (room_fault h.transactions xid ≡ None) × (got ≡ nat_lt (working h.transactions) g.workers) × Keeps g w.transactions (map.insert h.transactions xid (opened (way_if got)))
     → w.place ≡ Block xid → w.relations ≡ v.relations → w.position ≡ v.position → step ≡ step_if xid got
     → IsAdmitted g w h (opens h xid (next_way g h) (Block xid)) step
-opens-admitted g v w h xid got step stands kept place relations position is = record {
+opens-admitted g v w h xid got step stands outside kept place relations position is = record {
   state = streamed h xid (way_if got);
   told = Opens xid (way_if got);
   stepped =
@@ -151,12 +202,14 @@ opens-admitted g v w h xid got step stands kept place relations position is = re
   stands = record {
     place = place;
     here = rw (get-insert_same h.transactions xid (opened (way_if got))) (not_direct got);
+    alone = alone_insert h.place (Block xid) h.transactions xid (opened (way_if got)) stands.alone (λ x begun. let no : None ≡ Some x = sym (none_begun h.place outside) ∙ begun in cc) (λ direct. absurd (not_direct got direct));
     transactions = kept.2;
-    relations = rw relations (stays_known g v.relations h (streamed h xid (way_if got)) refl stands.relations);
+    relations = rw relations stands.relations;
     position = position ∙ stands.position;
   };
   tells = record { absent = absent_from_room h.transactions xid kept.0; transactions = refl; position = refl; past = refl };
   says = rw is (said xid got);
+  of_tables = tt;
 }
 
 pub opens-refused : (g : Setting) (v w : Holder) (h : State) (xid : ℕ) (result : Result Step Refused) (r : Refused) → StandsFor g v h
@@ -170,13 +223,12 @@ opens-refused g v w h xid (Err e) r stands kept place relations position is =
       stands = record {
         place = place ∙ stands.place;
         here = stands.here;
+        alone = stands.alone;
         transactions = kept.0;
         relations = rw relations stands.relations;
         position = position ∙ stands.position;
       };
-      cause = λ other.
-          let why = kept.1 (λ memory. other (same ∙ memory)) in
-          ap (λ o. unless_fault o (streamed h xid (next_way g h))) why.1 ∙ ap Err (sym (same ∙ why.2));
+      cause = rw same (fault_is_cause (room_fault h.transactions xid) (streamed h xid (next_way g h)) (opens h xid (next_way g h) (Block xid)) r refl kept.1);
     }
 
 -- ---- commits
@@ -204,22 +256,24 @@ closes-new h xid commit end o some lt = ap (λ p. of_open p (λ q. closes h xid 
 
 pub closes-admitted : (g : Setting) (v w : Holder) (h : State) (xid commit end : ℕ) (way : Keeping) (step : Step) → StandsFor g v h
     → (o : Open) × (map.get h.transactions xid ≡ Some o) × (way ≡ keeping_of xid o.items o.way) × Keeps g w.transactions (map.remove h.transactions xid)
-    → h.position < end → w.place ≡ Outside → w.relations ≡ v.relations → w.position ≡ end
+    → ((x : ℕ) → begun_at h.place ≡ Some x → x ≡ xid) → h.position < end → w.place ≡ Outside → w.relations ≡ v.relations → w.position ≡ end
     → ((c : Committed) → c.xid ≡ xid → c.info ≡ record { commit = commit; end = end } → items_kept way ≡ handed_out c.xid c.way c.items → HandsOut c step)
     → IsAdmitted g w h (commits h xid commit end) step
-closes-admitted g v w h xid commit end way step stands was later place relations position hands = record {
+closes-admitted g v w h xid commit end way step stands was only later place relations position hands = record {
   state = closed h xid (record { commit = commit; end = end }) was.0;
   told = Commits (final xid (record { commit = commit; end = end }) was.0);
   stepped = closes-new h xid commit end was.0 was.1 later;
   stands = record {
     place = place;
     here = tt;
+    alone = alone_remove h.place h.transactions xid stands.alone only;
     transactions = was.3;
-    relations = rw relations (stays_known g v.relations h (closed h xid (record { commit = commit; end = end }) was.0) refl stands.relations);
+    relations = rw relations stands.relations;
     position = position;
   };
   tells = record { present = was.1; later = later; transactions = refl; position = refl; past = refl };
   says = hands (final xid (record { commit = commit; end = end }) was.0) refl refl (ap items_kept was.2 ∙ items_kept-keeping_of xid was.0.items was.0.way);
+  of_tables = tt;
 }
 
 -- ---- what holds in one place holds of the line
@@ -235,4 +289,4 @@ follows_same g v h next other result e follows = let P : Next → Type 0 = λ n.
 
 -- a message without effect
 pub stays : (g : Setting) (v : Holder) (h : State) (next : Next) → StandsFor g v h → next ≡ Ok h → IsAdmitted g v h next steps.Nothing
-stays g v h next stands e = record { state = h; told = Nothing; stepped = e; stands = stands; tells = record { transactions = refl; position = refl; past = refl }; says = refl }
+stays g v h next stands e = record { state = h; told = Nothing; stepped = e; stands = stands; tells = record { transactions = refl; position = refl; past = refl }; says = refl; of_tables = tt }

@@ -47,7 +47,7 @@ insert-remove {X} m k w = map.same_map nat_cmp_total nat_cmp-IsAntisymmetric _ _
     (cases_Bool (eq_by_cmp nat_cmp q k))
     ∙ sym (map.get-insert nat_cmp_total m k w q))
 
-insert_same : {X : Type 0} (m : FinMap nat_cmp X) (k : ℕ) (v : X) → map.get m k ≡ Some v → map.insert m k v ≡ m
+pub insert_same : {X : Type 0} (m : FinMap nat_cmp X) (k : ℕ) (v : X) → map.get m k ≡ Some v → map.insert m k v ≡ m
 insert_same {X} m k v has = map.same_map nat_cmp_total nat_cmp-IsAntisymmetric _ _ (λ q.
     map.get-insert nat_cmp_total m k v q
     ∙ ⊎_elim
@@ -55,7 +55,7 @@ insert_same {X} m k v has = map.same_map nat_cmp_total nat_cmp-IsAntisymmetric _
     (λ apart. rw apart)
     (cases_Bool (eq_by_cmp nat_cmp q k)))
 
-ties_itself : (n : ℕ) → eq_by_cmp nat_cmp n n ≡ true
+pub ties_itself : (n : ℕ) → eq_by_cmp nat_cmp n n ≡ true
 ties_itself n = grind (arith, nat_tests)
 
 get-remove_same : {X : Type 0} (m : FinMap nat_cmp X) (k : ℕ) → map.get (map.remove m k) k ≡ None
@@ -63,6 +63,15 @@ get-remove_same m k = map.get-remove nat_cmp_total m k k ∙ rw (ties_itself k)
 
 pub get-insert_same : {X : Type 0} (m : FinMap nat_cmp X) (k : ℕ) (v : X) → map.get (map.insert m k v) k ≡ Some v
 get-insert_same m k v = map.get-insert nat_cmp_total m k v k ∙ rw (ties_itself k)
+
+pub insert-insert : {X : Type 0} (m : FinMap nat_cmp X) (k : ℕ) (v w : X) → map.insert (map.insert m k v) k w ≡ map.insert m k w
+insert-insert {X} m k v w = map.same_map nat_cmp_total nat_cmp-IsAntisymmetric _ _ (λ q.
+    map.get-insert nat_cmp_total (map.insert m k v) k w q
+    ∙ ⊎_elim
+    (λ same. rw same)
+    (λ apart. rw apart (map.get-insert nat_cmp_total m k v q ∙ rw apart))
+    (cases_Bool (eq_by_cmp nat_cmp q k))
+    ∙ sym (map.get-insert nat_cmp_total m k w q))
 
 -- ---- sums
 

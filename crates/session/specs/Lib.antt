@@ -3,6 +3,8 @@ pub mod State
 pub mod Table
 pub mod Lawful
 pub mod Told
+pub mod Named
+pub mod Refusals
 pub mod Stands
 pub mod Kept
 pub use Rattle.messages.specs.Messages

@@ -3,7 +3,7 @@
 --     Committed      what a commit made final
 --     State, start      what all messages so far have left; what there is before the first
 --     Setting      what a session is given: workers, room for spools, the catalog
-use Rattle.std.specs.Prelude.{◌≡◌, ◌≢◌, ℕ, ◌==◌, Bool, true, false, List, [], ◌∷◌, ◌++◌, count_by, sum_by, IsSomeAnd, if◌then◌else◌}
+use Rattle.std.specs.Prelude.{◌≡◌, ◌≢◌, ℕ, ◌==◌, Bool, true, false, List, [], ◌∷◌, ◌++◌, Option, Some, None, count_by, sum_by, IsSomeAnd, if◌then◌else◌}
 use Rattle.std.specs.Ordering.{nat_cmp}
 use Rattle.std.specs.FinMap as map
 use Rattle.std.specs.FinMap.{FinMap}
@@ -115,3 +115,13 @@ abbrev pub IsHere : Place → Transactions → Type 0
 IsHere Outside transactions = Unit {0}
 IsHere (Begun xid final) transactions = IsSomeAnd (map.get transactions xid) (λ o. o.way ≡ Direct)
 IsHere (Block xid) transactions = IsSomeAnd (map.get transactions xid) (λ o. o.way ≢ Direct)
+
+-- the transaction that was begun
+abbrev pub begun_at : Place → Option ℕ
+begun_at Outside = None
+begun_at (Begun xid final) = Some xid
+begun_at (Block xid) = None
+
+-- No open transaction but the one that was begun goes directly.
+abbrev pub GoesAlone : Place → Transactions → Type 0
+GoesAlone place transactions = (xid : ℕ) (o : Open) → map.get transactions xid ≡ Some o → o.way ≡ Direct → begun_at place ≡ Some xid

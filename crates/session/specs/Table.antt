@@ -69,10 +69,12 @@ next_way g s = if nat_lt (working s.transactions) g.workers then Worker else Spo
 abbrev pub begins : State → Begin → Next
 begins s m = opens s m.xid Direct (Begun m.xid m.final_lsn)
 
+-- a further block of an open transaction
+abbrev pub goes_on : State → ℕ → Next
+goes_on s xid = if is_open s xid then Ok (record s { place = Block xid }) else refuse UnknownTransaction
+
 abbrev pub streams : Setting → State → StreamStart → Next
-streams g s m =
-    if m.is_first then opens s m.xid (next_way g s) (Block m.xid)
-    else (if is_open s m.xid then Ok (record s { place = Block m.xid }) else refuse UnknownTransaction)
+streams g s m = if m.is_first then opens s m.xid (next_way g s) (Block m.xid) else goes_on s m.xid
 
 abbrev pub leaves_block : State → State
 leaves_block s = record s { place = Outside }

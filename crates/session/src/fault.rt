@@ -1,6 +1,7 @@
 // Why a message is refused.
 ghost use Rattle.std.specs.Prelude.{◌≡◌};
 ghost use Rattle.session.specs.declared.fault.Refused.TheVariants as refused;
+ghost use Rattle.session.specs.Refusals.{of_message, of_relation};
 
 use messages::MsgFault;
 use model::OutOfMemory;
@@ -57,6 +58,8 @@ pub enum Refused {
 }
 
 impl From<MsgFault> for Refused {
+    ghost from_gives = { λ fault e. e ≡ of_message fault };
+
     fn from(fault: MsgFault) -> Refused {
         match fault {
             MsgFault::OutOfMemory => Refused::OutOfMemory,
@@ -66,6 +69,8 @@ impl From<MsgFault> for Refused {
 }
 
 impl From<RelFault> for Refused {
+    ghost from_gives = { λ fault e. e ≡ of_relation fault };
+
     fn from(fault: RelFault) -> Refused {
         match fault {
             RelFault::OutOfMemory => Refused::OutOfMemory,

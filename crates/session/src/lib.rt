@@ -24,6 +24,7 @@
 // It stands on `messages`, which reads payloads, `relcache`, which learns relations and plans rows,
 // and `savepoint`, which has the items of transactions and cuts them at savepoints.
 mod fault;
+pub mod laws;
 mod place;
 mod relations;
 mod session;

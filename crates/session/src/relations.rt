@@ -18,12 +18,15 @@ pub struct Relations {
 }
 
 impl Relations {
-    ghost use Rattle.session.specs.State.{Setting, start};
-    ghost use Rattle.session.specs.Stands.{Knows};
+    ghost use Rattle.std.specs.Prelude.{◌≡◌, []};
+    ghost use Rattle.relcache.specs.Published.{Relations as Learnings, learnt as with_learnt};
+    ghost use Rattle.session.specs.State.{Setting, State};
+    ghost use Rattle.session.specs.Table.{row_change, truncate_change};
+    ghost use Rattle.session.specs.Stands.{Knows, IsLearnt, IsTableFound, IsPlanned};
 
     /// None yet. It takes no memory.
     pub(crate) fn new(alloc: Global) -> Relations
-        ensures { (g : Setting) → Knows g result start }
+        ensures { (g : Setting) → Knows g result [] }
     {
         Relations {
             alloc,
@@ -34,7 +37,10 @@ impl Relations {
 
     /// Learns a relation, in the place of the one that its OID named before. Refused for memory, it
     /// changes nothing.
-    pub(crate) fn learn(&mut self, relation: &Relation) -> Result<(), RelFault> {
+    pub(crate) fn learn(&mut self, relation: &Relation) -> Result<(), RelFault>
+        ensures { (g : Setting) (relations : Learnings) → Knows g self.old relations
+            → IsLearnt g self.new relations (with_learnt relations relation.now) result }
+    {
         self.learnt.learn(relation)?;
         self.mappings.remove(&relation.oid);
         Ok(())
@@ -46,7 +52,10 @@ impl Relations {
         catalog: &Catalog,
         oid: Oid,
         row: &RowMessage,
-    ) -> Result<Change, RelFault> {
+    ) -> Result<Change, RelFault>
+        ensures { (g : Setting) (h : State) → g.catalog ≡ catalog.now → Knows g self.old h.relations
+            → IsPlanned g self.new h.relations (row_change g h oid row.now) result }
+    {
         if let Some(mapping) = self.mappings.get(&oid) {
             return plan(self.alloc, mapping, row);
         }
@@ -57,7 +66,10 @@ impl Relations {
     }
 
     /// The change of a truncate of these relations.
-    pub(crate) fn wipe(&mut self, catalog: &Catalog, oids: &[Oid]) -> Result<Change, RelFault> {
+    pub(crate) fn wipe(&mut self, catalog: &Catalog, oids: &[Oid]) -> Result<Change, RelFault>
+        ensures { (g : Setting) (h : State) → g.catalog ≡ catalog.now → Knows g self.old h.relations
+            → IsPlanned g self.new h.relations (truncate_change g h oids.now) result }
+    {
         let mut tables = Vec::new(self.alloc);
         for oid in oids {
             tables.push(self.table(catalog, *oid)?)?;
@@ -68,7 +80,10 @@ impl Relations {
     }
 
     /// The table of a relation.
-    fn table(&mut self, catalog: &Catalog, oid: Oid) -> Result<TableId, RelFault> {
+    fn table(&mut self, catalog: &Catalog, oid: Oid) -> Result<TableId, RelFault>
+        ensures { (g : Setting) (relations : Learnings) → g.catalog ≡ catalog.now → Knows g self.old relations
+            → IsTableFound g self.new relations oid result }
+    {
         if let Some(mapping) = self.mappings.get(&oid) {
             return Ok(mapping.table());
         }

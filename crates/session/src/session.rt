@@ -1,5 +1,5 @@
 // The session, one function a message.
-ghost use Rattle.std.specs.Prelude.{◌≡◌, Ok};
+ghost use Rattle.std.specs.Prelude.{◌≡◌, ◌≢◌, ◌^◌, ◌<◌, true, ℕ, length};
 ghost use Rattle.session.specs.Kept.{items_kept};
 
 use crate::fault::{Refused, SessionFault};
@@ -28,11 +28,13 @@ pub struct Session {
 }
 
 impl Session {
-    ghost use Rattle.session.specs.State.{Setting, State, start};
+    ghost use Rattle.std.specs.FinMap as map;
+    ghost use Rattle.session.specs.State.{Setting, State, Open, start, begun_at};
     ghost use Rattle.session.specs.Table as table;
-    ghost use Rattle.session.specs.Stands.{StandsFor, Follows};
+    ghost use Rattle.session.specs.Stands.{StandsFor, Follows, IsAdmitted, IsChangeOf, IsOfTables, Survives, Takes};
     ghost use Rattle.session.specs.declared.fault.SessionFault.TheVariants as faults;
     ghost use Rattle.session.specs.declared.place.Place.TheVariants as places;
+    ghost use Rattle.messages.specs.declared.message.Message.TheVariants as messages;
 
     /// The session at the start of a stream, with so many workers, whose spools may keep so many
     /// bytes of payloads. It takes no memory.
@@ -59,10 +61,21 @@ impl Session {
         alloc: Global,
         catalog: &Catalog,
         payload: &Bytes,
-    ) -> Result<Step, Refused> {
+    ) -> Result<Step, Refused>
+        ensures { (g : Setting) (h : State) → g.catalog ≡ catalog.now → StandsFor g self.old h
+            → Takes g self.new h payload.now result }
+    {
         let in_block = matches!(self.place, Place::Block(_));
-        let size = payload.len() as u64;
-        match decode(alloc, payload, in_block)? {
+        let message = decode(alloc, payload, in_block)?;
+        self.message(catalog, message, payload.len() as u64)
+    }
+
+    /// Takes a message whose payload has so many bytes.
+    fn message(&mut self, catalog: &Catalog, message: Message, size: u64) -> Result<Step, Refused>
+        ensures { (g : Setting) (h : State) → g.catalog ≡ catalog.now → StandsFor g self.old h
+            → Follows g self.new h (table.step g h size message) result }
+    {
+        match message {
             Message::Begin(m) => self.begin(&m),
             Message::Commit(m) => self.commit(&m),
             Message::Origin(_) => self.origin(),
@@ -127,7 +140,10 @@ impl Session {
 
     // ---- streamed transactions
 
-    fn stream_start(&mut self, m: &StreamStart) -> Result<Step, Refused> {
+    fn stream_start(&mut self, m: &StreamStart) -> Result<Step, Refused>
+        ensures { (g : Setting) (h : State) → StandsFor g self.old h
+            → Follows g self.new h (table.at h.place (table.streams g h m.now) (λ _ _. table.refuse faults.NestedBegin) (λ _. table.refuse faults.BlockOpen)) result }
+    {
         match self.place {
             Place::Outside => {
                 if m.is_first {
@@ -165,9 +181,12 @@ impl Session {
         }
     }
 
-    fn stream_abort(&mut self, m: &StreamAbort) -> Result<Step, Refused> {
+    fn stream_abort(&mut self, m: &StreamAbort) -> Result<Step, Refused>
+        ensures { (g : Setting) (h : State) → StandsFor g self.old h
+            → Follows g self.new h (table.at h.place (Ok (table.aborts h m.now)) (λ _ _. table.refuse faults.NestedBegin) (λ _. table.refuse faults.BlockOpen)) result }
+    {
         match self.place {
-            Place::Outside => Ok(self.abort(m.xid, m.subtransaction)),
+            Place::Outside => Ok(self.abort(m)),
             Place::Begun { .. } => Err(SessionFault::NestedBegin.into()),
             Place::Block(_) => Err(SessionFault::BlockOpen.into()),
         }
@@ -191,16 +210,17 @@ impl Session {
         sub: Option<Xid>,
         relation: &Relation,
         size: u64,
-    ) -> Result<Step, Refused> {
+    ) -> Result<Step, Refused>
+        ensures { (g : Setting) (h : State) → StandsFor g self.old h
+            → Follows g self.new h (table.step g h size (messages.Relation sub relation.now)) result }
+    {
         match self.place {
             Place::Outside | Place::Begun { .. } => {
                 self.relations.learn(relation)?;
                 Ok(Step::Nothing)
             }
             Place::Block(xid) => {
-                self.transactions.check_spool(xid, size)?;
-                let sub = sub.unwrap_or(xid);
-                let step = self.take(xid, Item::Touch(sub), size)?;
+                let step = self.touch(xid, sub.unwrap_or(xid), size)?;
                 if let Err(fault) = self.relations.learn(relation) {
                     self.transactions.drop_last(xid);
                     return Err(fault.into());
@@ -210,15 +230,23 @@ impl Session {
         }
     }
 
-    fn type_name(&mut self, sub: Option<Xid>, size: u64) -> Result<Step, Refused> {
+    fn type_name(&mut self, sub: Option<Xid>, size: u64) -> Result<Step, Refused>
+        ensures { (g : Setting) (h : State) → StandsFor g self.old h
+            → Follows g self.new h (table.at h.place (Ok h) (λ _ _. Ok h) (λ xid. table.touches g h xid (table.named sub xid) size)) result }
+    {
         match self.place {
             Place::Outside | Place::Begun { .. } => Ok(Step::Nothing),
-            Place::Block(xid) => {
-                self.transactions.check_spool(xid, size)?;
-                let sub = sub.unwrap_or(xid);
-                self.take(xid, Item::Touch(sub), size)
-            }
+            Place::Block(xid) => self.touch(xid, sub.unwrap_or(xid), size),
         }
+    }
+
+    /// Takes an item that changes no row, in a block of its transaction.
+    fn touch(&mut self, xid: Xid, sub: Xid, size: u64) -> Result<Step, Refused>
+        ensures { (g : Setting) (h : State) → StandsFor g self.old h → h.place ≡ places.Block xid
+            → Follows g self.new h (table.touches g h xid sub size) result }
+    {
+        self.transactions.check_spool(xid, size)?;
+        self.take(xid, Item::Touch(sub), size)
     }
 
     fn row(
@@ -228,13 +256,19 @@ impl Session {
         oid: Oid,
         row: &RowMessage,
         size: u64,
-    ) -> Result<Step, Refused> {
+    ) -> Result<Step, Refused>
+        ensures { (g : Setting) (h : State) → g.catalog ≡ catalog.now → StandsFor g self.old h
+            → Follows g self.new h (table.change_line g h size sub (table.row_change g h oid row.now)) result }
+    {
         let (xid, sub) = self.change_of(sub, size)?;
         let change = self.relations.plan(catalog, oid, row)?;
         self.take(xid, Item::Change { sub, change }, size)
     }
 
-    fn truncate(&mut self, catalog: &Catalog, m: &Truncate, size: u64) -> Result<Step, Refused> {
+    fn truncate(&mut self, catalog: &Catalog, m: &Truncate, size: u64) -> Result<Step, Refused>
+        ensures { (g : Setting) (h : State) → g.catalog ≡ catalog.now → StandsFor g self.old h
+            → Follows g self.new h (table.change_line g h size m.now.xid (table.truncate_change g h m.now.relations)) result }
+    {
         let (xid, sub) = self.change_of(m.xid, size)?;
         let change = self.relations.wipe(catalog, m.relations.as_slice())?;
         self.take(xid, Item::Change { sub, change }, size)
@@ -242,7 +276,9 @@ impl Session {
 
     /// The transaction that a change belongs to and the subtransaction that it names, if it may be
     /// taken. Between Begin and Commit it names the transaction.
-    fn change_of(&self, sub: Option<Xid>, size: u64) -> Result<(Xid, Xid), SessionFault> {
+    fn change_of(&self, sub: Option<Xid>, size: u64) -> Result<(Xid, Xid), SessionFault>
+        ensures { (g : Setting) (h : State) → StandsFor g self.now h → IsChangeOf g h size sub result }
+    {
         match self.place {
             Place::Outside => Err(SessionFault::NotInTransaction),
             Place::Begun { xid, .. } => Ok((xid, xid)),
@@ -254,7 +290,11 @@ impl Session {
     }
 
     /// Takes an item of an open transaction.
-    fn take(&mut self, xid: Xid, item: Item, size: u64) -> Result<Step, Refused> {
+    fn take(&mut self, xid: Xid, item: Item, size: u64) -> Result<Step, Refused>
+        ensures { (g : Setting) (h : State) (o : Open) → StandsFor g self.old h → map.get h.transactions xid ≡ Some o
+            → table.has_room g h.transactions size o.way ≡ true → Survives item → IsOfTables (length g.catalog) item
+            → Follows g self.new h (Ok (table.gives h xid item size o)) result }
+    {
         match self.transactions.take(xid, item, size)? {
             Some(item) => Ok(Step::Item(xid, item)),
             None => Ok(Step::Nothing),
@@ -263,17 +303,9 @@ impl Session {
 
     // ---- opening and closing
 
-    fn check_open(&self, xid: Xid) -> Result<(), SessionFault> {
-        if self.transactions.contains(xid) {
-            Ok(())
-        } else {
-            Err(SessionFault::UnknownTransaction)
-        }
-    }
-
     /// Opens a streamed transaction and its first block.
     fn open(&mut self, xid: Xid) -> Result<Step, Refused>
-        ensures { (g : Setting) (h : State) → StandsFor g self.old h
+        ensures { (g : Setting) (h : State) → StandsFor g self.old h → h.place ≡ places.Outside
             → Follows g self.new h (table.opens h xid (table.next_way g h) (places.Block xid)) result }
     {
         let has_worker = self.transactions.stream(xid)?;
@@ -286,8 +318,13 @@ impl Session {
     }
 
     /// Opens a further block of a streamed transaction.
-    fn go_on(&mut self, xid: Xid) -> Result<Step, Refused> {
-        self.check_open(xid)?;
+    fn go_on(&mut self, xid: Xid) -> Result<Step, Refused>
+        ensures { (g : Setting) (h : State) → StandsFor g self.old h → h.place ≡ places.Outside
+            → Follows g self.new h (table.goes_on h xid) result }
+    {
+        if !self.transactions.contains(xid) {
+            return Err(SessionFault::UnknownTransaction.into());
+        }
         self.place = Place::Block(xid);
         Ok(Step::Nothing)
     }
@@ -295,6 +332,7 @@ impl Session {
     /// Commits a transaction. Nothing is begun afterwards.
     fn close(&mut self, xid: Xid, commit: Lsn, end: Lsn) -> Result<Step, Refused>
         ensures { (g : Setting) (h : State) → StandsFor g self.old h
+            → ((begun : ℕ) → begun_at h.place ≡ Some begun → begun ≡ xid)
             → Follows g self.new h (table.commits h xid commit end) result }
     {
         if self.transactions.contains(xid) && end <= self.position {
@@ -312,7 +350,11 @@ impl Session {
     }
 
     /// Rolls back a subtransaction, or the whole transaction if that is the one named.
-    fn abort(&mut self, xid: Xid, sub: Xid) -> Step {
+    fn abort(&mut self, m: &StreamAbort) -> Step
+        ensures { (g : Setting) (h : State) → StandsFor g self.old h → h.place ≡ places.Outside
+            → IsAdmitted g self.new h (Ok (table.aborts h m.now)) result }
+    {
+        let (xid, sub) = (m.xid, m.subtransaction);
         if !self.transactions.contains(xid) {
             Step::Nothing
         } else if sub == xid {

@@ -36,9 +36,13 @@ pub struct Transactions {
 impl Transactions {
     ghost use Rattle.std.specs.Prelude.{◌≡◌};
     ghost use Rattle.std.specs.FinMap as map;
-    ghost use Rattle.session.specs.State.{Setting, Transactions as OpenMap};
-    ghost use Rattle.session.specs.Stands.{Keeps, RoomIs, IsOpened, IsStreamed, IsClosed};
-    ghost use Rattle.session.specs.Table.{room_fault};
+    ghost use Rattle.std.specs.Prelude.{ℕ, ◌+◌, ◌≢◌, true, nat_le};
+    ghost use Rattle.savepoint.specs.declared.item.Item.{Item as AnyItem};
+    ghost use Rattle.savepoint.specs.declared.item.Item.TheVariants as items;
+    ghost use Rattle.session.specs.State.{Setting, Transactions as OpenMap, Open, spooled};
+    ghost use Rattle.session.specs.Stands.{Keeps, RoomIs, IsOpened, IsStreamed, IsClosed, IsItemTaken, Survives, spool_fault, with_item};
+    ghost use Rattle.session.specs.Kept.{is_spooled, is_spooled_open};
+    ghost use Rattle.session.specs.Table.{room_fault, has_room};
 
     /// No transaction. It takes no memory.
     pub(crate) fn new(alloc: Global, workers: usize, spool: u64) -> Transactions
@@ -62,7 +66,9 @@ impl Transactions {
     }
 
     /// Whether the transaction is open and spooled.
-    pub(crate) fn is_spooled(&self, xid: Xid) -> bool {
+    fn is_spooled(&self, xid: Xid) -> bool
+        ensures { (g : Setting) (m : OpenMap) → Keeps g self.now m → result ≡ is_spooled_open (map.get m xid) }
+    {
         matches!(self.ways.get(&xid), Some(Way::Spooled(_)))
     }
 
@@ -104,7 +110,9 @@ impl Transactions {
     }
 
     /// That an item of an open transaction, with a payload of so many bytes, may be taken.
-    pub(crate) fn check_spool(&self, xid: Xid, size: u64) -> Result<(), SessionFault> {
+    pub(crate) fn check_spool(&self, xid: Xid, size: u64) -> Result<(), SessionFault>
+        ensures { (g : Setting) (m : OpenMap) → Keeps g self.now m → RoomIs (spool_fault g m size (map.get m xid)) result }
+    {
         if self.is_spooled(xid) && !self.has_spool(size) {
             Err(SessionFault::SpoolFull)
         } else {
@@ -113,7 +121,9 @@ impl Transactions {
     }
 
     /// Whether the spools may keep so many bytes more.
-    fn has_spool(&self, size: u64) -> bool {
+    fn has_spool(&self, size: u64) -> bool
+        ensures { (g : Setting) (m : OpenMap) → Keeps g self.now m → result ≡ nat_le (spooled m + size) g.spool }
+    {
         match self.spooled.checked_add(size) {
             Some(spooled) => spooled <= self.spool,
             None => false,
@@ -127,7 +137,10 @@ impl Transactions {
         xid: Xid,
         item: Item,
         size: u64,
-    ) -> Result<Option<Item>, OutOfMemory> {
+    ) -> Result<Option<Item>, OutOfMemory>
+        ensures { (g : Setting) (m : OpenMap) (o : Open) → Keeps g self.old m → map.get m xid ≡ Some o
+            → has_room g m size o.way ≡ true → Survives item → IsItemTaken g self.new m xid o item size result }
+    {
         let Some(Way::Spooled(spool)) = self.ways.get_mut(&xid) else {
             return Ok(Some(item));
         };
@@ -136,8 +149,11 @@ impl Transactions {
         Ok(None)
     }
 
-    /// Drops the item that a spooled transaction kept last.
-    pub(crate) fn drop_last(&mut self, xid: Xid) {
+    /// Undoes that a transaction took its last item: a spooled one drops it.
+    pub(crate) fn drop_last(&mut self, xid: Xid)
+        ensures { (g : Setting) (m : OpenMap) (o : Open) (item : AnyItem) (size : ℕ) → map.get m xid ≡ Some o → Survives item
+            → Keeps g self.old (map.insert m xid (with_item o item size)) → Keeps g self.new m }
+    {
         if let Some(Way::Spooled(spool)) = self.ways.get_mut(&xid) {
             let freed = spool.pop();
             self.spooled = self.spooled.saturating_sub(freed);
@@ -145,7 +161,10 @@ impl Transactions {
     }
 
     /// Rolls a subtransaction back. It answers whether the transaction is spooled.
-    pub(crate) fn roll_back(&mut self, xid: Xid, sub: Xid) -> bool {
+    pub(crate) fn roll_back(&mut self, xid: Xid, sub: Xid) -> bool
+        ensures { (g : Setting) (m : OpenMap) (o : Open) → Keeps g self.old m → map.get m xid ≡ Some o → sub ≢ xid
+            → (result ≡ is_spooled o.way) × Keeps g self.new (map.insert m xid (with_item o (items.BackTo sub) 0)) }
+    {
         let Some(Way::Spooled(spool)) = self.ways.get_mut(&xid) else {
             return false;
         };

@@ -1,0 +1,25 @@
+// Laws of streams, each the contract of a function that does nothing.
+ghost use Rattle.std.specs.Prelude.{◌≡◌, ◌≢◌, ◌<◌, ℕ, List, slice_index};
+ghost use Rattle.messages.specs.declared.message.Message.{Message};
+ghost use Rattle.session.specs.declared.fault.Refused.{Refused as Refusal};
+ghost use Rattle.session.specs.declared.fault.Refused.TheVariants.{OutOfMemory};
+ghost use Rattle.session.specs.State.{Setting, State};
+ghost use Rattle.session.specs.Lawful.{Admits, IsRefusal, Leads};
+
+use messages::{one_fault, one_message};
+
+/// Payloads lead from a state to one state at most.
+pub fn one_state()
+    ensures { (g : Setting) (s : State) (payloads : List (List ℕ)) (t u : State) → Leads g s payloads t → Leads g s payloads u → t ≡ u }
+{
+    one_message();
+}
+
+/// What is admitted is not refused, but for memory.
+pub fn refused_or_admitted()
+    ensures { (g : Setting) (s : State) (payload : List ℕ) (m : Message) (t : State) (refused : Refusal) → ((i : ℕ) → slice_index payload i < 256)
+        → Admits g s payload m t → IsRefusal g s payload refused → refused ≢ OutOfMemory → ⊥ }
+{
+    one_message();
+    one_fault();
+}
