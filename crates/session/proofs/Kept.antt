@@ -1,11 +1,11 @@
 -- What is kept of the open transactions, as one is opened, changed or closed.
-use Rattle.std.proofs.Common.{◌≡◌, ◌≢◌, ℕ, ◌+◌, ◌-◌, ◌<◌, ◌^◌, ◌==◌, Bool, true, false, List, [], ◌∷◌, ◌++◌, map as mapped, length, Option, Some, None, cond, refl, sym, ap, ◌∙◌, arith, ⊎_elim}
-use Rattle.std.specs.Prelude.{sum, option_map, is_some, Result, Ok, Err, IsErrAnd}
+use Rattle.std.proofs.Common.{◌≡◌, ◌≢◌, ℕ, ◌+◌, ◌-◌, ◌<◌, ◌^◌, ◌==◌, Bool, true, false, List, [], ◌∷◌, ◌++◌, map as mapped, length, Option, Some, None, cond, refl, sym, ap, subst, ◌∙◌, ◌≤◌, if◌then◌else◌, arith, ⊎_elim}
+use Rattle.std.specs.Prelude.{sum, option_map, is_some, not, nat_le, IsSome, Result, Ok, Err, IsErrAnd}
 use Rattle.std.specs.Ordering.{nat_cmp, eq_by_cmp}
 use Rattle.std.specs.Cmp.{nat_cmp_total}
-use Rattle.std.specs.BTreeMap.{BTreeMap, btree_map_len, get, is_at, Updates}
+use Rattle.std.specs.BTreeMap.{BTreeMap, btree_map_len, get, is_at, Updates, WritesThrough}
 use Rattle.std.specs.FinMap as map
-use Rattle.std.proofs.lemmas.Bool.{cases_Bool, cases_eq, ne_eqb}
+use Rattle.std.proofs.lemmas.Bool.{cases_Bool, cases_eq, ne_eqb, leb-true}
 use Rattle.std.proofs.lemmas.List.{map-append}
 use Rattle.std.proofs.lemmas.Bool.Decides.{nat_tests}
 use Rattle.session.specs.declared.transactions.Way.{Way as Keeping}
@@ -13,7 +13,7 @@ use Rattle.session.specs.State.{Way, Direct, Worker, Spooled, Open, Transactions
 use Rattle.session.specs.State as state
 use Rattle.session.specs.declared.transactions.Transactions.{Transactions as OpenOnes}
 use Rattle.session.specs.declared.fault.SessionFault.{SessionFault}
-use Rattle.session.specs.declared.fault.SessionFault.TheVariants.{AlreadyOpen}
+use Rattle.session.specs.declared.fault.SessionFault.TheVariants.{AlreadyOpen, SpoolFull}
 use Rattle.session.specs.declared.fault.Refused.{Refused}
 use Rattle.session.specs.declared.fault.Refused.TheVariants.{Session}
 use Rattle.session.specs.declared.transactions.Way.TheVariants as keepings
@@ -21,10 +21,11 @@ use Rattle.session.specs.Sized.{SizedItems, size_of, bytes_of}
 use Rattle.savepoint.specs.declared.item.Item.{Item}
 use Rattle.savepoint.specs.declared.item.Item.TheVariants.{Change, Touch, BackTo, Last}
 use Rattle.savepoint.specs.Savepoints.{before_first}
-use Rattle.session.proofs.Spools.{sum-push}
-use Rattle.session.specs.Table.{opened, room_fault}
-use Rattle.session.specs.Stands.{keeping_of, Keeps, IsOpened, IsStreamed, Survives, with_item, spool_fault}
-use Rattle.session.proofs.Totals.{total-insert_absent, total-insert, total-remove}
+use Rattle.session.proofs.Spools.{sum-push, take-front}
+use Rattle.session.specs.Table.{opened, room_fault, has_room}
+use Rattle.session.specs.Stands.{keeping_of, Keeps, IsOpened, IsStreamed, Survives, given_back, spool_fault}
+use Rattle.session.specs.Kept.{is_spool, is_spooled, is_spooled_open, bytes_kept, kept_more, back_of, without_last, cut_back}
+use Rattle.session.proofs.Totals.{get-insert_same, insert-insert, insert_same, total-insert_absent, total-insert, total-remove}
 
 -- what is kept of a transaction
 abbrev pub keeping : ℕ → Open → Keeping
@@ -120,6 +121,7 @@ Keeps-insert g old new m xid way kept none step more workers working_is spool sp
   room = spool ∙ kept.room;
   spooled = let sums = spooled-insert m xid (opened way) none in omega (arith, sums, empty, spooled_is, kept.spooled);
   fits = omega (arith, spooled_is, kept.fits);
+  limit = omega (arith, spool, kept.limit);
 }
 
 -- what is kept once a transaction is closed
@@ -135,6 +137,7 @@ Keeps-remove g old new m xid o kept some step less workers working_is spool spoo
   room = spool ∙ kept.room;
   spooled = let sums = spooled-remove m xid o some in omega (arith, sums, spooled_is, kept.spooled);
   fits = omega (arith, spooled_is, kept.fits);
+  limit = omega (arith, spool, kept.limit);
 }
 
 -- ---- an item more
@@ -190,7 +193,126 @@ Keeps-change g old new m xid o p kept some way step same workers working_is spoo
       let more : spooled (map.insert m xid p) ≡ spooled_by xid p.items p.way + spooled (map.remove m xid) = total-insert (λ (t : ℕ × Open). spooled_by t.0 t.1.items t.1.way) m xid p in
       omega (arith, less, more, spooled_is, kept.spooled);
   fits = fits;
+  limit = omega (arith, spool, kept.limit);
 }
+
+-- ---- what is kept of one transaction, as it gets and drops items
+
+pub kept_value : (g : Setting) (v : OpenOnes) (m : Transactions) (xid : ℕ) (o : Open) → Keeps g v m → map.get m xid ≡ Some o → get nat_cmp v.ways xid ≡ Some (keeping_of xid o.items o.way)
+kept_value g v m xid o kept some = kept.ways xid ∙ ap (option_map (λ (p : Open). keeping_of xid p.items p.way)) some
+
+-- what was found of an open transaction is what is kept of it
+pub found_is : (g : Setting) (v : OpenOnes) (m : Transactions) (xid : ℕ) (o : Open) (k : Keeping) → Keeps g v m → map.get m xid ≡ Some o → Some k ≡ get nat_cmp v.ways xid → k ≡ keeping_of xid o.items o.way
+found_is g v m xid o k kept some found = let same : Some k ≡ Some (keeping_of xid o.items o.way) = found ∙ kept_value g v m xid o kept some in cc
+
+pub keeping_more : (xid : ℕ) (items : SizedItems) (item : Item) (size : ℕ) (way : Way) → Survives item → kept_more (keeping_of xid items way) item size ≡ keeping_of xid (items ++ (item, size) ∷ []) way
+keeping_more xid items item size Direct is = refl
+keeping_more xid items item size Worker is = refl
+keeping_more xid items item size Spooled is = ap keepings.Spooled (sym (kept-taken xid items item size is))
+
+pub keeping_less : (xid : ℕ) (items : SizedItems) (item : Item) (size : ℕ) (way : Way) → Survives item → without_last (keeping_of xid (items ++ (item, size) ∷ []) way) ≡ keeping_of xid items way
+keeping_less xid items item size Direct is = refl
+keeping_less xid items item size Worker is = refl
+keeping_less xid items item size Spooled is = ap (λ (s : SizedItems). without_last (keepings.Spooled s)) (kept-taken xid items item size is) ∙ ap keepings.Spooled (take-front (kept xid items) (item, size))
+
+pub keeping_cut : (xid : ℕ) (items : SizedItems) (sub : ℕ) (way : Way) → sub ≢ xid → cut_back sub (keeping_of xid items way) ≡ keeping_of xid (items ++ (BackTo sub, 0) ∷ []) way
+keeping_cut xid items sub Direct apart = refl
+keeping_cut xid items sub Worker apart = refl
+keeping_cut xid items sub Spooled apart = ap keepings.Spooled (sym (kept-rolled_back xid items sub apart))
+
+pub back_of-keeping : (xid : ℕ) (items : SizedItems) (item : Item) (way : Way) → back_of (keeping_of xid items way) item ≡ given_back way item
+back_of-keeping xid items item Direct = refl
+back_of-keeping xid items item Worker = refl
+back_of-keeping xid items item Spooled = refl
+
+pub bytes_kept-keeping : (xid : ℕ) (items : SizedItems) (way : Way) → bytes_kept (keeping_of xid items way) ≡ spooled_by xid items way
+bytes_kept-keeping xid items Direct = refl
+bytes_kept-keeping xid items Worker = refl
+bytes_kept-keeping xid items Spooled = refl
+
+pub is_spool-keeping : (xid : ℕ) (items : SizedItems) (way : Way) → is_spool (keeping_of xid items way) ≡ is_spooled way
+is_spool-keeping xid items Direct = refl
+is_spool-keeping xid items Worker = refl
+is_spool-keeping xid items Spooled = refl
+
+-- the bytes of an item more
+pub spooled_by-taken : (xid : ℕ) (items : SizedItems) (item : Item) (size : ℕ) (way : Way) → Survives item → spooled_by xid (items ++ (item, size) ∷ []) way ≡ spooled_by xid items way + cond (is_spooled way) size 0
+spooled_by-taken xid items item size Direct is = refl
+spooled_by-taken xid items item size Worker is = refl
+spooled_by-taken xid items item size Spooled is = ap bytes_of (kept-taken xid items item size is) ∙ bytes_of-append (kept xid items) item size
+
+is_some-given_back : (way : Way) (item : Item) → is_some (given_back way item) ≡ not (is_spooled way)
+is_some-given_back Direct item = refl
+is_some-given_back Worker item = refl
+is_some-given_back Spooled item = refl
+
+-- it is kept if and only if it is not given back
+pub kept_if_none : (way : Way) (item : Item) (back : Option Item) (none : Bool) → back ≡ given_back way item → is_some back ≡ not none → is_spooled way ≡ none
+kept_if_none way item back none is test = same_from_not (is_spooled way) none (sym (is_some-given_back way item) ∙ sym (ap is_some is) ∙ test)
+  where
+    same_from_not : (a b : Bool) → not a ≡ not b → a ≡ b
+    same_from_not true true e = refl
+    same_from_not true false e = cc
+    same_from_not false true e = cc
+    same_from_not false false e = refl
+
+pub nothing_spooled : (xid : ℕ) (items others : SizedItems) (way : Way) → is_spooled way ≡ false → spooled_by xid items way ≡ spooled_by xid others way
+nothing_spooled xid items others Direct e = refl
+nothing_spooled xid items others Worker e = refl
+nothing_spooled xid items others Spooled e = cc
+
+-- a spooled transaction's item has room for its payload
+pub room_within : (g : Setting) (m : Transactions) (size : ℕ) (way : Way) → has_room g m size way ≡ true → is_spooled way ≡ true → spooled m + size ≤ g.spool
+room_within g m size Direct room is = cc
+room_within g m size Worker room is = cc
+room_within g m size Spooled room is = leb-true (spooled m + size) g.spool room
+
+pub spool_fault-full : (g : Setting) (m : Transactions) (size : ℕ) (o : Option Open) → is_spooled_open o ≡ true → nat_le (spooled m + size) g.spool ≡ false → spool_fault g m size o ≡ Some SpoolFull
+spool_fault-full g m size None spools over = cc
+spool_fault-full g m size (Some o) spools over = by_way o.way spools
+  where
+    by_way : (way : Way) → is_spooled way ≡ true → (if has_room g m size way then None else Some SpoolFull) ≡ Some SpoolFull
+    by_way Direct is = cc
+    by_way Worker is = cc
+    by_way Spooled is = rw over
+
+pub spool_fault-room : (g : Setting) (m : Transactions) (size : ℕ) (o : Option Open) → nat_le (spooled m + size) g.spool ≡ true → spool_fault g m size o ≡ None
+spool_fault-room g m size None room = refl
+spool_fault-room g m size (Some o) room = by_way o.way
+  where
+    by_way : (way : Way) → (if has_room g m size way then None else Some SpoolFull) ≡ None
+    by_way Direct = refl
+    by_way Worker = refl
+    by_way Spooled = rw room
+
+pub spool_fault-free : (g : Setting) (m : Transactions) (size : ℕ) (o : Option Open) → is_spooled_open o ≡ false → spool_fault g m size o ≡ None
+spool_fault-free g m size None free = refl
+spool_fault-free g m size (Some o) free = by_way o.way free
+  where
+    by_way : (way : Way) → is_spooled way ≡ false → (if has_room g m size way then None else Some SpoolFull) ≡ None
+    by_way Direct is = refl
+    by_way Worker is = refl
+    by_way Spooled is = cc
+
+-- what is kept once something else was written for a transaction
+pub Keeps-written : (g : Setting) (old new : OpenOnes) (m : Transactions) (xid : ℕ) (o p : Open) (k : Keeping) → Keeps g old m → map.get m xid ≡ Some o → p.way ≡ o.way
+    → WritesThrough nat_cmp (nat_cmp xid) old.ways k new.ways → k ≡ keeping_of xid p.items p.way
+    → new.workers ≡ old.workers → new.working ≡ old.working → new.spool ≡ old.spool
+    → new.spooled + spooled_by xid o.items o.way ≡ old.spooled + spooled_by xid p.items p.way → new.spooled < 2 ^ 64
+    → Keeps g new (map.insert m xid p)
+Keeps-written g old new m xid o p k kept some way written is workers working_is spool spooled_is fits =
+    let there : IsSome (get nat_cmp old.ways xid) = ap is_some (kept_value g old m xid o kept some) in
+    Keeps-change g old new m xid o p kept some way (subst (λ (v : Keeping). Updates nat_cmp old.ways new.ways xid (Some v)) is (written.3 there)) written.2 workers working_is spool spooled_is fits
+
+-- what is kept once a transaction is again what it was
+pub Keeps-undone : (g : Setting) (old new : OpenOnes) (m : Transactions) (xid : ℕ) (o p : Open) (k : Keeping) → Keeps g old (map.insert m xid p) → map.get m xid ≡ Some o → o.way ≡ p.way
+    → WritesThrough nat_cmp (nat_cmp xid) old.ways k new.ways → k ≡ keeping_of xid o.items o.way
+    → new.workers ≡ old.workers → new.working ≡ old.working → new.spool ≡ old.spool
+    → new.spooled + spooled_by xid p.items p.way ≡ old.spooled + spooled_by xid o.items o.way → new.spooled < 2 ^ 64
+    → Keeps g new m
+Keeps-undone g old new m xid o p k kept some way written is workers working_is spool spooled_is fits =
+    let back : map.insert (map.insert m xid p) xid o ≡ m = insert-insert m xid p o ∙ insert_same m xid o some in
+    subst (λ (n : Transactions). Keeps g new n) back (Keeps-written g old new (map.insert m xid p) xid p o k kept (get-insert_same m xid p) way written is workers working_is spool spooled_is fits)
 
 -- ---- no transaction
 

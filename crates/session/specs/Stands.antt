@@ -49,6 +49,7 @@ pub record Keeps (g : Setting) (v : OpenOnes) (m : Transactions) : Type 0 where
   pub room : v.spool ≡ g.spool
   pub spooled : v.spooled ≡ spooled m
   pub fits : v.spooled < 2 ^ 64
+  pub limit : v.spool < 2 ^ 64
 
 -- Whether a transaction may be opened.
 abbrev pub RoomIs : Option SessionFault → Result (Unit {0}) SessionFault → Type 0

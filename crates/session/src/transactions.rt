@@ -20,6 +20,50 @@ pub enum Way {
     Spooled(Spool),
 }
 
+impl Way {
+    ghost use Rattle.std.specs.Prelude.{◌≡◌, ◌+◌, ◌<◌, ◌^◌, true, false, IfOk, OnErr, MatchOption};
+    ghost use Rattle.session.specs.Kept.{kept_more, back_of, without_last, cut_back, bytes_kept, is_spool};
+
+    /// Keeps an item of a spooled transaction, and gives any other back. Refused for memory, it
+    /// changes nothing.
+    fn keep(&mut self, item: Item, size: u64) -> Result<Option<Item>, OutOfMemory>
+        ensures ok { IfOk result (λ back. (self.new ≡ kept_more self.old item size) × (back ≡ back_of self.old item)) }
+        ensures err { OnErr result (self.new ≡ self.old) }
+    {
+        match self {
+            Way::Direct | Way::Worker => Ok(Some(item)),
+            Way::Spooled(spool) => {
+                spool.push(item, size)?;
+                Ok(None)
+            }
+        }
+    }
+
+    /// Drops the item that was kept last. It answers how many bytes of payload the item had.
+    fn drop_last(&mut self) -> u64
+        ensures rest { self.new ≡ without_last self.old }
+        ensures freed { result + bytes_kept self.new ≡ bytes_kept self.old }
+    {
+        match self {
+            Way::Direct | Way::Worker => 0,
+            Way::Spooled(spool) => spool.pop(),
+        }
+    }
+
+    /// Rolls a subtransaction back, if the items are kept. It answers how many bytes of payloads the
+    /// dropped ones had.
+    fn cut(&mut self, sub: Xid) -> Option<u64>
+        ensures rest { self.new ≡ cut_back sub self.old }
+        ensures freed { bytes_kept self.old < 2 ^ 64 → MatchOption result (is_spool self.old ≡ false)
+            (λ freed. (is_spool self.old ≡ true) × (freed + bytes_kept self.new ≡ bytes_kept self.old)) }
+    {
+        match self {
+            Way::Direct | Way::Worker => None,
+            Way::Spooled(spool) => Some(spool.cut(sub)),
+        }
+    }
+}
+
 /// The open transactions, and how much of the limits they use.
 #[derive(Drop)]
 pub struct Transactions {
@@ -141,12 +185,14 @@ impl Transactions {
         ensures { (g : Setting) (m : OpenMap) (o : Open) → Keeps g self.old m → map.get m xid ≡ Some o
             → has_room g m size o.way ≡ true → Survives item → IsItemTaken g self.new m xid o item size result }
     {
-        let Some(Way::Spooled(spool)) = self.ways.get_mut(&xid) else {
+        let Some(way) = self.ways.get_mut(&xid) else {
             return Ok(Some(item));
         };
-        spool.push(item, size)?;
-        self.spooled = self.spooled.saturating_add(size);
-        Ok(None)
+        let back = way.keep(item, size)?;
+        if back.is_none() {
+            self.spooled = self.spooled.saturating_add(size);
+        }
+        Ok(back)
     }
 
     /// Undoes that a transaction took its last item: a spooled one drops it.
@@ -154,8 +200,8 @@ impl Transactions {
         ensures { (g : Setting) (m : OpenMap) (o : Open) (item : AnyItem) (size : ℕ) → map.get m xid ≡ Some o → Survives item
             → Keeps g self.old (map.insert m xid (with_item o item size)) → Keeps g self.new m }
     {
-        if let Some(Way::Spooled(spool)) = self.ways.get_mut(&xid) {
-            let freed = spool.pop();
+        if let Some(way) = self.ways.get_mut(&xid) {
+            let freed = way.drop_last();
             self.spooled = self.spooled.saturating_sub(freed);
         }
     }
@@ -165,12 +211,16 @@ impl Transactions {
         ensures { (g : Setting) (m : OpenMap) (o : Open) → Keeps g self.old m → map.get m xid ≡ Some o → sub ≢ xid
             → (result ≡ is_spooled o.way) × Keeps g self.new (map.insert m xid (with_item o (items.BackTo sub) 0)) }
     {
-        let Some(Way::Spooled(spool)) = self.ways.get_mut(&xid) else {
+        let Some(way) = self.ways.get_mut(&xid) else {
             return false;
         };
-        let freed = spool.cut(sub);
-        self.spooled = self.spooled.saturating_sub(freed);
-        true
+        match way.cut(sub) {
+            Some(freed) => {
+                self.spooled = self.spooled.saturating_sub(freed);
+                true
+            }
+            None => false,
+        }
     }
 
     /// Closes a transaction. It answers what it was, if it was open.

@@ -18,4 +18,5 @@ returns c = λ g workers spool. record {
   room = sym spool;
   spooled = sym (ap (sum_by (λ (t : ℕ × Open). spooled_by t.0 t.1.items t.1.way)) entries-empty);
   fits = omega arith;
+  limit = omega arith;
 }
