@@ -41,7 +41,7 @@ tied x q e = grind (arith, nat_tests)
 apart : (x q : ℕ) → (x ≡ q → ⊥) → eq_by_cmp nat_cmp q x ≡ false
 apart x q ne = grind (arith, nat_tests)
 
-apart_at : (x q : ℕ) → (x ≡ q → ⊥) → is_at (nat_cmp x) q ≡ false
+pub apart_at : (x q : ℕ) → (x ≡ q → ⊥) → is_at (nat_cmp x) q ≡ false
 apart_at x q ne = grind (arith, nat_tests)
 
 pub WaysAre-insert : (old new : BTreeMap ℕ Keeping) (m : Transactions) (xid : ℕ) (o : Open) → WaysAre old m → Updates nat_cmp old new xid (Some (keeping_of xid o.items o.way)) → WaysAre new (map.insert m xid o)

@@ -1,4 +1,5 @@
 pub mod Spools
 pub mod Totals
 pub mod Kept
+pub mod Mappings
 pub mod Steps
