@@ -3,3 +3,4 @@ pub mod Totals
 pub mod Kept
 pub mod Mappings
 pub mod Steps
+pub mod Items

@@ -57,7 +57,7 @@ at_outside place outside begun block e = ap (λ p. at p outside begun block) e
 -- ---- the transaction that goes directly
 
 -- with one more transaction open
-alone_insert : (p q : Place) (m : Transactions) (xid : ℕ) (o : Open) → GoesAlone p m → ((x : ℕ) → begun_at p ≡ Some x → begun_at q ≡ Some x) → (o.way ≡ Direct → begun_at q ≡ Some xid) → GoesAlone q (map.insert m xid o)
+pub alone_insert : (p q : Place) (m : Transactions) (xid : ℕ) (o : Open) → GoesAlone p m → ((x : ℕ) → begun_at p ≡ Some x → begun_at q ≡ Some x) → (o.way ≡ Direct → begun_at q ≡ Some xid) → GoesAlone q (map.insert m xid o)
 alone_insert p q m xid o alone same here x other is_open direct =
     ⊎_elim
     (λ (tie : eq_by_cmp nat_cmp x xid ≡ true).
@@ -74,7 +74,7 @@ alone_insert p q m xid o alone same here x other is_open direct =
     way_of d (Some p) = p.way
 
 -- with a transaction closed, where it was the begun one or none was begun
-alone_remove : (p : Place) (m : Transactions) (xid : ℕ) → GoesAlone p m → ((x : ℕ) → begun_at p ≡ Some x → x ≡ xid) → GoesAlone Outside (map.remove m xid)
+pub alone_remove : (p : Place) (m : Transactions) (xid : ℕ) → GoesAlone p m → ((x : ℕ) → begun_at p ≡ Some x → x ≡ xid) → GoesAlone Outside (map.remove m xid)
 alone_remove p m xid alone only x other is_open direct =
     ⊎_elim
     (λ (tie : eq_by_cmp nat_cmp x xid ≡ true).
@@ -86,10 +86,10 @@ alone_remove p m xid alone only x other is_open direct =
     (cases_Bool (eq_by_cmp nat_cmp x xid))
 
 -- elsewhere, where the same is begun
-alone_at : (p q : Place) (m : Transactions) → GoesAlone p m → begun_at p ≡ begun_at q → GoesAlone q m
+pub alone_at : (p q : Place) (m : Transactions) → GoesAlone p m → begun_at p ≡ begun_at q → GoesAlone q m
 alone_at p q m alone same x o is_open direct = sym same ∙ alone x o is_open direct
 
-none_begun : (p : Place) → p ≡ Outside → begun_at p ≡ None
+pub none_begun : (p : Place) → p ≡ Outside → begun_at p ≡ None
 none_begun p e = ap begun_at e
 
 pub nothing_begun : (p : Place) (xid : ℕ) → p ≡ Outside → (x : ℕ) → begun_at p ≡ Some x → x ≡ xid
@@ -283,6 +283,9 @@ follows_outside g v h next b c result e follows = let P : Next → Type 0 = λ n
 
 pub follows_begun : (g : Setting) (v : Holder) (h : State) (xid final : ℕ) (a : Next) (next : ℕ → ℕ → Next) (c : ℕ → Next) (result : Result Step Refused) → h.place ≡ Begun xid final → Follows g v h (next xid final) result → Follows g v h (at h.place a next c) result
 follows_begun g v h xid final a next c result e follows = let P : Next → Type 0 = λ n. Follows g v h n result in subst P (sym (ap (λ p. at p a next c) e)) follows
+
+pub follows_block : (g : Setting) (v : Holder) (h : State) (xid : ℕ) (a : Next) (b : ℕ → ℕ → Next) (next : ℕ → Next) (result : Result Step Refused) → h.place ≡ Block xid → Follows g v h (next xid) result → Follows g v h (at h.place a b next) result
+follows_block g v h xid a b next result e follows = let P : Next → Type 0 = λ n. Follows g v h n result in subst P (sym (ap (λ p. at p a b next) e)) follows
 
 pub follows_same : (g : Setting) (v : Holder) (h : State) (next other : Next) (result : Result Step Refused) → other ≡ next → Follows g v h next result → Follows g v h other result
 follows_same g v h next other result e follows = let P : Next → Type 0 = λ n. Follows g v h n result in subst P (sym e) follows

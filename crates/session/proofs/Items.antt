@@ -1,0 +1,324 @@
+-- What the session stands for after the messages inside of transactions: items, relations, rollbacks.
+use Rattle.std.proofs.Common.{◌≡◌, ◌≢◌, ℕ, ◌+◌, ◌==◌, ◌++◌, ◌∷◌, [], Bool, true, false, length, Option, Some, None, if◌then◌else◌, refl, sym, ap, subst, ◌∙◌, ◌⊎◌, ⊎_elim}
+use Rattle.std.specs.Prelude.{Result, Ok, Err, IsSomeAnd, IsErrAnd, unwrap_or}
+use Rattle.std.specs.Ordering.{nat_cmp, eq_by_cmp}
+use Rattle.std.specs.Cmp.{nat_cmp_total}
+use Rattle.std.specs.FinMap as map
+use Rattle.std.proofs.lemmas.Bool.{cases_Bool}
+use Rattle.messages.specs.declared.message.StreamAbort.{StreamAbort}
+use Rattle.messages.specs.declared.relation.Relation.{Relation}
+use Rattle.model.specs.declared.change.Change.{Change as Alteration}
+use Rattle.relcache.specs.declared.fault.RelFault.{RelFault}
+use Rattle.relcache.specs.declared.fault.RelFault.TheVariants as faults
+use Rattle.relcache.specs.Answer.{IsFaultOf}
+use Rattle.relcache.specs.Published.{Relations, learnt}
+use Rattle.savepoint.specs.declared.item.Item.{Item}
+use Rattle.savepoint.specs.declared.item.Item.TheVariants.{Change, Touch, BackTo, Last}
+use Rattle.session.specs.declared.place.Place.{Place}
+use Rattle.session.specs.declared.place.Place.TheVariants.{Outside, Begun, Block}
+use Rattle.session.specs.declared.fault.SessionFault.{SessionFault}
+use Rattle.session.specs.declared.fault.SessionFault.TheVariants.{NotInTransaction, UnknownTransaction, SpoolFull}
+use Rattle.session.specs.declared.fault.Refused.{Refused}
+use Rattle.session.specs.declared.fault.Refused.TheVariants.{Session, Rel, OutOfMemory}
+use Rattle.session.specs.declared.fault.Refused.TheVariants as refused
+use Rattle.session.specs.declared.session.Session.{Session as Holder}
+use Rattle.session.specs.declared.step.Step.{Step}
+use Rattle.session.specs.declared.step.Step.TheVariants as steps
+use Rattle.session.specs.Refusals.{of_relation}
+use Rattle.session.specs.State.{Way, Direct, Worker, Spooled, Open, Transactions, State, Setting, IsHere, GoesAlone, begun_at}
+use Rattle.session.specs.Kept.{is_spooled}
+use Rattle.session.specs.Table.{Next, refuse, at, of_open, gives, has_room, touches, plans, changes, change_line, named, learns, goes_on, aborts, aborts_open}
+use Rattle.session.specs.Told.{Told, Nothing, Opens, Gives, Commits, Aborts, Tells}
+use Rattle.session.specs.Stands.{StandsFor, Keeps, Knows, Says, IsCause, IsOfTables, Follows, IsAdmitted, IsRefusedAs, IsChangeOf, spool_fault, with_item, given_back}
+use Rattle.session.proofs.Totals.{get-insert_same, same_key}
+use Rattle.session.proofs.Steps.{alone_insert, alone_remove, alone_at, none_begun, nothing_begun}
+
+-- ---- an open transaction
+
+some_and : {A : Type 0} (P : A → Type 0) (o : Option A) → IsSomeAnd o P → (x : A) × (o ≡ Some x) × P x
+some_and P None is = absurd is
+some_and P (Some x) is = (x, refl, is)
+
+-- the transaction of a block is open
+pub block_open : (h : State) (xid : ℕ) → h.place ≡ Block xid → IsHere h.place h.transactions → (o : Open) × (map.get h.transactions xid ≡ Some o) × (o.way ≢ Direct)
+block_open h xid e here = let P : Place → Type 0 = λ p. IsHere p h.transactions in some_and (λ o. o.way ≢ Direct) (map.get h.transactions xid) (subst P e here)
+
+-- the one that was begun is, and goes directly
+pub begun_open : (h : State) (xid final : ℕ) → h.place ≡ Begun xid final → IsHere h.place h.transactions → (o : Open) × (map.get h.transactions xid ≡ Some o) × (o.way ≡ Direct)
+begun_open h xid final e here = let P : Place → Type 0 = λ p. IsHere p h.transactions in some_and (λ o. o.way ≡ Direct) (map.get h.transactions xid) (subst P e here)
+
+-- an open transaction that keeps its way
+goes_still : (Q : Way → Type 0) (m : Transactions) (xid x : ℕ) (o p : Open) → map.get m xid ≡ Some o → p.way ≡ o.way → IsSomeAnd (map.get m x) (λ q. Q q.way) → IsSomeAnd (map.get (map.insert m xid p) x) (λ q. Q q.way)
+goes_still Q m xid x o p some way is =
+    ⊎_elim
+    (λ (tie : eq_by_cmp nat_cmp x xid ≡ true).
+    let key : x ≡ xid = same_key x xid tie in
+    let new : map.get (map.insert m xid p) x ≡ Some p = map.get-insert nat_cmp_total m xid p x ∙ rw tie in
+    let old : map.get m x ≡ Some o = ap (map.get m) key ∙ some in
+    let P : Option Open → Type 0 = λ q. IsSomeAnd q (λ r. Q r.way) in
+    let was : Q o.way = subst P old is in
+    let now : Q p.way = subst Q (sym way) was in
+    subst P (sym new) now)
+    (λ (apart : eq_by_cmp nat_cmp x xid ≡ false).
+    let new : map.get (map.insert m xid p) x ≡ map.get m x = map.get-insert nat_cmp_total m xid p x ∙ rw apart in
+    let P : Option Open → Type 0 = λ q. IsSomeAnd q (λ r. Q r.way) in
+    subst P (sym new) is)
+    (cases_Bool (eq_by_cmp nat_cmp x xid))
+
+here_still : (place : Place) (m : Transactions) (xid : ℕ) (o p : Open) → map.get m xid ≡ Some o → p.way ≡ o.way → IsHere place m → IsHere place (map.insert m xid p)
+here_still Outside m xid o p some way here = tt
+here_still (Begun x final) m xid o p some way here = goes_still (λ w. w ≡ Direct) m xid x o p some way here
+here_still (Block x) m xid o p some way here = goes_still (λ w. w ≢ Direct) m xid x o p some way here
+
+-- ---- an item
+
+-- what is answered to an item that is given back, or kept
+abbrev pub step_given : ℕ → Option Item → Step
+step_given xid None = steps.Nothing
+step_given xid (Some item) = steps.Item xid item
+
+says_given : (xid : ℕ) (way : Way) (item : Item) (size : ℕ) (back : Option Item) → back ≡ given_back way item → Says (Gives xid way item size) (step_given xid back)
+says_given xid Direct item size back is = ap (step_given xid) is
+says_given xid Worker item size back is = ap (step_given xid) is
+says_given xid Spooled item size back is = ap (step_given xid) is
+
+pub gives-admitted : (g : Setting) (v w : Holder) (h : State) (xid : ℕ) (o : Open) (item : Item) (size : ℕ) (back : Option Item) (next : Next) (step : Step) → StandsFor g v h → map.get h.transactions xid ≡ Some o → next ≡ Ok (gives h xid item size o)
+    → back ≡ given_back o.way item → Keeps g w.transactions (map.insert h.transactions xid (with_item o item size)) → IsOfTables (length g.catalog) item
+    → w.place ≡ v.place → w.relations ≡ v.relations → w.position ≡ v.position → step ≡ step_given xid back
+    → IsAdmitted g w h next step
+gives-admitted g v w h xid o item size back next step stands some e given kept of_tables place relations position is = record {
+  state = gives h xid item size o;
+  told = Gives xid o.way item size;
+  stepped = e;
+  stands = record {
+    place = place ∙ stands.place;
+    here = here_still h.place h.transactions xid o (with_item o item size) some refl stands.here;
+    alone = alone_insert h.place h.place h.transactions xid (with_item o item size) stands.alone (λ x begun. begun) (λ direct. stands.alone xid o some direct);
+    transactions = kept;
+    relations = rw relations stands.relations;
+    position = position ∙ stands.position;
+  };
+  tells = (o, refl, record { present = some; transactions = refl; position = refl; past = refl });
+  says = rw is (says_given xid o.way item size back given);
+  of_tables = of_tables;
+}
+
+-- ---- room
+
+pub has_room-none : (g : Setting) (m : Transactions) (size : ℕ) (found : Option Open) (o : Open) → found ≡ Some o → spool_fault g m size found ≡ None → has_room g m size o.way ≡ true
+has_room-none g m size found o some none = by_test (has_room g m size o.way) (sym (ap (spool_fault g m size) some) ∙ none)
+  where
+    by_test : (b : Bool) → (if b then None else Some SpoolFull) ≡ None → b ≡ true
+    by_test true e = refl
+    by_test false e = cc
+
+pub has_room-full : (g : Setting) (m : Transactions) (size : ℕ) (found : Option Open) (o : Open) (why : SessionFault) → found ≡ Some o → spool_fault g m size found ≡ Some why → (has_room g m size o.way ≡ false) × (why ≡ SpoolFull)
+has_room-full g m size found o why some full = by_test (has_room g m size o.way) (sym (ap (spool_fault g m size) some) ∙ full)
+  where
+    by_test : (b : Bool) → (if b then None else Some SpoolFull) ≡ Some why → (b ≡ false) × (why ≡ SpoolFull)
+    by_test true e = cc
+    by_test false e = (refl, cc)
+
+-- `touches`, by what is found of the transaction
+abbrev touches_by : Setting → State → ℕ → ℕ → ℕ → Option Open → Next
+touches_by g s xid sub size found = of_open found (λ o. if has_room g s.transactions size o.way then Ok (gives s xid (Touch sub) size o) else refuse SpoolFull)
+
+pub touches-taken : (g : Setting) (h : State) (xid sub size : ℕ) (o : Open) → map.get h.transactions xid ≡ Some o → has_room g h.transactions size o.way ≡ true → touches g h xid sub size ≡ Ok (gives h xid (Touch sub) size o)
+touches-taken g h xid sub size o some room = ap (touches_by g h xid sub size) some ∙ rw room
+
+pub touches-full : (g : Setting) (h : State) (xid sub size : ℕ) (o : Open) (why : SessionFault) → map.get h.transactions xid ≡ Some o → spool_fault g h.transactions size (map.get h.transactions xid) ≡ Some why → touches g h xid sub size ≡ refuse why
+touches-full g h xid sub size o why some full =
+    let fault = has_room-full g h.transactions size (map.get h.transactions xid) o why some full in
+    ap (touches_by g h xid sub size) some ∙ rw (fault.0, fault.1)
+
+-- ---- changes
+
+changes-room : (g : Setting) (h : State) (xid sub size : ℕ) (o : Open) (planned : Result Alteration RelFault) → map.get h.transactions xid ≡ Some o → has_room g h.transactions size o.way ≡ true → changes g h xid sub size planned ≡ plans planned (λ c. gives h xid (Change sub c) size o)
+changes-room g h xid sub size o planned some room = ap (λ f. of_open f (λ p. if has_room g h.transactions size p.way then plans planned (λ c. gives h xid (Change sub c) size p) else refuse SpoolFull)) some ∙ rw room
+
+changes-full : (g : Setting) (h : State) (xid sub size : ℕ) (o : Open) (why : SessionFault) (planned : Result Alteration RelFault) → map.get h.transactions xid ≡ Some o → spool_fault g h.transactions size (map.get h.transactions xid) ≡ Some why → changes g h xid sub size planned ≡ refuse why
+changes-full g h xid sub size o why planned some full =
+    let fault = has_room-full g h.transactions size (map.get h.transactions xid) o why some full in
+    ap (λ f. of_open f (λ p. if has_room g h.transactions size p.way then plans planned (λ c. gives h xid (Change sub c) size p) else refuse SpoolFull)) some ∙ rw (fault.0, fault.1)
+
+line_at : (g : Setting) (h : State) (size : ℕ) (sub : Option ℕ) (planned : Result Alteration RelFault) (place : Place) → h.place ≡ place
+    → change_line g h size sub planned ≡ at place (refuse NotInTransaction) (λ xid final. changes g h xid xid size planned) (λ xid. changes g h xid (named sub xid) size planned)
+line_at g h size sub planned place e = ap (λ p. at p (refuse NotInTransaction) (λ xid final. changes g h xid xid size planned) (λ xid. changes g h xid (named sub xid) size planned)) e
+
+pub line_outside : (g : Setting) (h : State) (size : ℕ) (sub : Option ℕ) (planned : Result Alteration RelFault) → h.place ≡ Outside → change_line g h size sub planned ≡ refuse NotInTransaction
+line_outside g h size sub planned e = line_at g h size sub planned Outside e
+
+pub line_begun : (g : Setting) (h : State) (size : ℕ) (sub : Option ℕ) (xid final : ℕ) (o : Open) (planned : Result Alteration RelFault) → h.place ≡ Begun xid final → map.get h.transactions xid ≡ Some o → has_room g h.transactions size o.way ≡ true
+    → change_line g h size sub planned ≡ plans planned (λ c. gives h xid (Change xid c) size o)
+line_begun g h size sub xid final o planned e some room = line_at g h size sub planned (Begun xid final) e ∙ changes-room g h xid xid size o planned some room
+
+pub line_block : (g : Setting) (h : State) (size : ℕ) (sub : Option ℕ) (xid : ℕ) (o : Open) (planned : Result Alteration RelFault) → h.place ≡ Block xid → map.get h.transactions xid ≡ Some o → has_room g h.transactions size o.way ≡ true
+    → change_line g h size sub planned ≡ plans planned (λ c. gives h xid (Change (named sub xid) c) size o)
+line_block g h size sub xid o planned e some room = line_at g h size sub planned (Block xid) e ∙ changes-room g h xid (named sub xid) size o planned some room
+
+pub line_full : (g : Setting) (h : State) (size : ℕ) (sub : Option ℕ) (xid : ℕ) (o : Open) (why : SessionFault) (planned : Result Alteration RelFault) → h.place ≡ Block xid → map.get h.transactions xid ≡ Some o → spool_fault g h.transactions size (map.get h.transactions xid) ≡ Some why
+    → change_line g h size sub planned ≡ refuse why
+line_full g h size sub xid o why planned e some full = line_at g h size sub planned (Block xid) e ∙ changes-full g h xid (named sub xid) size o why planned some full
+
+pub room_direct : (g : Setting) (m : Transactions) (size : ℕ) (way : Way) → way ≡ Direct → has_room g m size way ≡ true
+room_direct g m size Direct e = refl
+room_direct g m size Worker e = cc
+room_direct g m size Spooled e = cc
+
+pub IsChangeOf-refused : (g : Setting) (h : State) (size : ℕ) (sub : Option ℕ) (result : Result (ℕ × ℕ) SessionFault) (why : SessionFault) → IsErrAnd result (λ e. e ≡ why)
+    → ((planned : Result Alteration RelFault) → change_line g h size sub planned ≡ refuse why) → IsChangeOf g h size sub result
+IsChangeOf-refused g h size sub (Ok of) why is line = absurd is
+IsChangeOf-refused g h size sub (Err e) why is line = λ planned. rw is (line planned)
+
+-- a fault of planning is the table's, unless memory was refused
+pub fault_of_relation : (fault : RelFault) (planned : Result Alteration RelFault) (next : Next) → IsFaultOf planned fault → (planned ≡ Err fault → next ≡ Err (Rel fault)) → IsCause next (of_relation fault)
+fault_of_relation faults.UnknownRelation planned next is e = e (is (λ no. cc))
+fault_of_relation faults.TableMissing planned next is e = e (is (λ no. cc))
+fault_of_relation faults.ColumnMissing planned next is e = e (is (λ no. cc))
+fault_of_relation faults.KeyNotSent planned next is e = e (is (λ no. cc))
+fault_of_relation faults.ColumnCount planned next is e = e (is (λ no. cc))
+fault_of_relation faults.BadValue planned next is e = e (is (λ no. cc))
+fault_of_relation faults.NullKey planned next is e = e (is (λ no. cc))
+fault_of_relation faults.OutOfMemory planned next is e = tt
+
+-- a refusal after which the relations are known as before
+pub relation_refused : (g : Setting) (v w : Holder) (h : State) (next : Next) (result : Result Step Refused) (fault : RelFault) → StandsFor g v h → Knows g w.relations h.relations
+    → w.place ≡ v.place → w.transactions ≡ v.transactions → w.position ≡ v.position → IsErrAnd result (λ r. r ≡ of_relation fault) → IsCause next (of_relation fault)
+    → Follows g w h next result
+relation_refused g v w h next (Ok s) fault stands known place transactions position is cause = absurd is
+relation_refused g v w h next (Err r) fault stands known place transactions position is cause = record {
+  stands = record {
+    place = place ∙ stands.place;
+    here = stands.here;
+    alone = stands.alone;
+    transactions = rw transactions stands.transactions;
+    relations = known;
+    position = position ∙ stands.position;
+  };
+  cause = rw is cause;
+}
+
+-- the session once the relations are known anew
+pub stands_known : (g : Setting) (v w : Holder) (h : State) → StandsFor g v h → Knows g w.relations h.relations → w.place ≡ v.place → w.transactions ≡ v.transactions → w.position ≡ v.position → StandsFor g w h
+stands_known g v w h stands known place transactions position = record {
+  place = place ∙ stands.place;
+  here = stands.here;
+  alone = stands.alone;
+  transactions = rw transactions stands.transactions;
+  relations = known;
+  position = position ∙ stands.position;
+}
+
+-- ---- relations
+
+-- what is told does not speak of relations
+tells_learnt : (h t : State) (r : Relation) (told : Told) → Tells h t told → Tells h (learns t r) told
+tells_learnt h t r Nothing is = record { transactions = is.transactions; position = is.position; past = is.past }
+tells_learnt h t r (Opens xid way) is = record { absent = is.absent; transactions = is.transactions; position = is.position; past = is.past }
+tells_learnt h t r (Gives xid way item size) is = (is.0, is.1, record { present = is.2.present; transactions = is.2.transactions; position = is.2.position; past = is.2.past })
+tells_learnt h t r (Commits c) is = record { present = is.present; later = is.later; transactions = is.transactions; position = is.position; past = is.past }
+tells_learnt h t r (Aborts xid way) is = (is.0, is.1, record { present = is.2.present; transactions = is.2.transactions; position = is.2.position; past = is.2.past })
+
+-- outside of blocks
+abbrev pub IsAtRest : Place → Type 0
+IsAtRest place = (place ≡ Outside) ⊎ ((xid : ℕ) × (final : ℕ) × (place ≡ Begun xid final))
+
+pub at_rest : (place : Place) (next : Next) (block : ℕ → Next) → IsAtRest place → at place next (λ _ _. next) block ≡ next
+at_rest place next block is =
+    ⊎_elim
+    (λ (outside : place ≡ Outside). ap (λ p. at p next (λ _ _. next) block) outside)
+    (λ (begun : (xid : ℕ) × (final : ℕ) × (place ≡ Begun xid final)). ap (λ p. at p next (λ _ _. next) block) begun.2)
+    is
+
+pub learns-admitted : (g : Setting) (v w : Holder) (h : State) (r : Relation) (next : Next) → StandsFor g v h → next ≡ Ok (learns h r) → Knows g w.relations (learnt h.relations r)
+    → w.place ≡ v.place → w.transactions ≡ v.transactions → w.position ≡ v.position → IsAdmitted g w h next steps.Nothing
+learns-admitted g v w h r next stands e known place transactions position = record {
+  state = learns h r;
+  told = Nothing;
+  stepped = e;
+  stands = record {
+    place = place ∙ stands.place;
+    here = stands.here;
+    alone = stands.alone;
+    transactions = rw transactions stands.transactions;
+    relations = known;
+    position = position ∙ stands.position;
+  };
+  tells = record { transactions = refl; position = refl; past = refl };
+  says = refl;
+  of_tables = tt;
+}
+
+-- An item was taken that changes no row: the transaction is open, and has it now.
+pub record IsTouched (g : Setting) (h : State) (xid sub size : ℕ) (t : State) : Type 0 where
+  pub o : Open
+  pub present : map.get h.transactions xid ≡ Some o
+  pub room : has_room g h.transactions size o.way ≡ true
+  pub is : t ≡ gives h xid (Touch sub) size o
+
+pub is_touched : (g : Setting) (h : State) (xid sub size : ℕ) (t : State) → touches g h xid sub size ≡ Ok t → IsTouched g h xid sub size t
+is_touched g h xid sub size t e = from (map.get h.transactions xid) refl
+  where
+    room_of : (o : Open) (b : Bool) → (if b then Ok (gives h xid (Touch sub) size o) else refuse SpoolFull) ≡ Ok t → (b ≡ true) × (t ≡ gives h xid (Touch sub) size o)
+    room_of o true is = (refl, cc)
+    room_of o false is = cc
+    from : (f : Option Open) → map.get h.transactions xid ≡ f → IsTouched g h xid sub size t
+    from None none =
+        let no : refuse UnknownTransaction ≡ Ok t = sym (ap (touches_by g h xid sub size) none) ∙ e in
+        cc
+    from (Some o) some =
+        let test = room_of o (has_room g h.transactions size o.way) (sym (ap (touches_by g h xid sub size) some) ∙ e) in
+        record { o = o; present = some; room = test.0; is = test.1 }
+
+-- learning a relation does not change what is refused
+touches-learns_refused : (g : Setting) (h : State) (r : Relation) (xid sub size : ℕ) (why : Refused) → touches g h xid sub size ≡ Err why → touches g (learns h r) xid sub size ≡ Err why
+touches-learns_refused g h r xid sub size why e = from (map.get h.transactions xid) refl
+  where
+    room_of : (o : Open) (b : Bool) → (if b then Ok (gives h xid (Touch sub) size o) else refuse SpoolFull) ≡ Err why → (if b then Ok (gives (learns h r) xid (Touch sub) size o) else refuse SpoolFull) ≡ Err why
+    room_of o true is = cc
+    room_of o false is = is
+    from : (f : Option Open) → map.get h.transactions xid ≡ f → touches g (learns h r) xid sub size ≡ Err why
+    from None none = ap (touches_by g (learns h r) xid sub size) none ∙ sym (ap (touches_by g h xid sub size) none) ∙ e
+    from (Some o) some = ap (touches_by g (learns h r) xid sub size) some ∙ room_of o (has_room g h.transactions size o.way) (sym (ap (touches_by g h xid sub size) some) ∙ e)
+
+cause-learns : (g : Setting) (h : State) (r : Relation) (xid sub size : ℕ) (why : Refused) → IsCause (touches g h xid sub size) why → IsCause (touches g (learns h r) xid sub size) why
+cause-learns g h r xid sub size (refused.Msg f) is = is
+cause-learns g h r xid sub size (Session f) is = touches-learns_refused g h r xid sub size (Session f) is
+cause-learns g h r xid sub size (Rel f) is = touches-learns_refused g h r xid sub size (Rel f) is
+cause-learns g h r xid sub size OutOfMemory is = tt
+
+-- a relation message in a block that has no room
+pub relation_full : (g : Setting) (v : Holder) (h : State) (r : Relation) (xid sub size : ℕ) (a : Next) (b : ℕ → ℕ → Next) (next : ℕ → Next) (result : Result Step Refused) (why : Refused) → h.place ≡ Block xid
+    → next xid ≡ touches g (learns h r) xid sub size → IsRefusedAs g v h (touches g h xid sub size) why → result ≡ Err why → Follows g v h (at h.place a b next) result
+relation_full g v h r xid sub size a b next (Ok s) why block line refused is = cc
+relation_full g v h r xid sub size a b next (Err e) why block line refused is =
+    let same : e ≡ why = cc in
+    let P : Next → Type 0 = λ n. IsCause n why in
+    let whole : at h.place a b next ≡ touches g (learns h r) xid sub size = ap (λ p. at p a b next) block ∙ line in
+    record { stands = refused.stands; cause = rw same (subst P (sym whole) (cause-learns g h r xid sub size why refused.cause)) }
+
+-- a relation message in a block: the item is taken, and then the relation is learnt
+pub relation_taken : (g : Setting) (v w : Holder) (h : State) (r : Relation) (xid sub size : ℕ) (next : Next) (step : Step) → next ≡ touches g (learns h r) xid sub size → (taken : IsAdmitted g v h (touches g h xid sub size) step)
+    → Knows g w.relations (learnt h.relations r) → w.place ≡ v.place → w.transactions ≡ v.transactions → w.position ≡ v.position
+    → IsAdmitted g w h next step
+relation_taken g v w h r xid sub size next step line taken known place transactions position =
+    let touched = is_touched g h xid sub size taken.state taken.stepped in
+    record {
+      state = learns taken.state r;
+      told = taken.told;
+      stepped =
+          line
+          ∙ touches-taken g (learns h r) xid sub size touched.o touched.present touched.room
+          ∙ sym (ap (λ s. Ok (learns s r)) touched.is);
+      stands = record {
+        place = place ∙ taken.stands.place;
+        here = taken.stands.here;
+        alone = taken.stands.alone;
+        transactions = rw transactions taken.stands.transactions;
+        relations = rw touched.is known;
+        position = position ∙ taken.stands.position;
+      };
+      tells = tells_learnt h taken.state r taken.told taken.tells;
+      says = taken.says;
+      of_tables = taken.of_tables;
+    }
