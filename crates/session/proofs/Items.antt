@@ -4,7 +4,7 @@ use Rattle.std.specs.Prelude.{Result, Ok, Err, IsSomeAnd, IsErrAnd, unwrap_or}
 use Rattle.std.specs.Ordering.{nat_cmp, eq_by_cmp}
 use Rattle.std.specs.Cmp.{nat_cmp_total}
 use Rattle.std.specs.FinMap as map
-use Rattle.std.proofs.lemmas.Bool.{cases_Bool}
+use Rattle.std.proofs.lemmas.Bool.{cases_Bool, ne_eqb, eq-eqb}
 use Rattle.messages.specs.declared.message.StreamAbort.{StreamAbort}
 use Rattle.messages.specs.declared.relation.Relation.{Relation}
 use Rattle.model.specs.declared.change.Change.{Change as Alteration}
@@ -29,9 +29,10 @@ use Rattle.session.specs.State.{Way, Direct, Worker, Spooled, Open, Transactions
 use Rattle.session.specs.Kept.{is_spooled}
 use Rattle.session.specs.Table.{Next, refuse, at, of_open, gives, has_room, touches, plans, changes, change_line, named, learns, goes_on, aborts, aborts_open}
 use Rattle.session.specs.Told.{Told, Nothing, Opens, Gives, Commits, Aborts, Tells}
-use Rattle.session.specs.Stands.{StandsFor, Keeps, Knows, Says, IsCause, IsOfTables, Follows, IsAdmitted, IsRefusedAs, IsChangeOf, spool_fault, with_item, given_back}
+use Rattle.session.specs.Stands.{StandsFor, Keeps, Knows, Says, IsCause, IsOfTables, Follows, IsAdmitted, IsRefusedAs, IsChangeOf, spool_fault, with_item, given_back, Survives}
 use Rattle.session.proofs.Totals.{get-insert_same, same_key}
-use Rattle.session.proofs.Steps.{alone_insert, alone_remove, alone_at, none_begun, nothing_begun}
+use Rattle.session.proofs.Steps.{alone_insert, alone_remove, alone_at, none_begun, nothing_begun, stays}
+use Rattle.session.proofs.Kept.{present}
 
 -- ---- an open transaction
 
@@ -321,4 +322,100 @@ relation_taken g v w h r xid sub size next step line taken known place transacti
       tells = tells_learnt h taken.state r taken.told taken.tells;
       says = taken.says;
       of_tables = taken.of_tables;
+    }
+
+-- the session once the item is dropped again, since the relation was not learnt
+pub relation_undone : (g : Setting) (u v w : Holder) (h : State) (xid sub size : ℕ) (step : Step) → StandsFor g u h → (taken : IsAdmitted g v h (touches g h xid sub size) step)
+    → ((m : Transactions) (o : Open) (item : Item) (bytes : ℕ) → map.get m xid ≡ Some o → Survives item → Keeps g v.transactions (map.insert m xid (with_item o item bytes)) → Keeps g w.transactions m)
+    → Knows g w.relations taken.state.relations → w.place ≡ v.place → w.position ≡ v.position → StandsFor g w h
+relation_undone g u v w h xid sub size step was taken undoes known place position =
+    let touched = is_touched g h xid sub size taken.state taken.stepped in
+    let P : State → Type 0 = λ t. Keeps g v.transactions t.transactions in
+    let Q : State → Type 0 = λ t. Knows g w.relations t.relations in
+    record {
+      place = place ∙ taken.stands.place ∙ ap (λ t. t.place) touched.is;
+      here = was.here;
+      alone = was.alone;
+      transactions = undoes h.transactions touched.o (Touch sub) size touched.present tt (subst P touched.is taken.stands.transactions);
+      relations = subst Q touched.is known;
+      position = position ∙ taken.stands.position ∙ ap (λ t. t.position) touched.is;
+    }
+
+-- ---- rollbacks
+
+-- an abort, by what is found of the transaction
+aborts_found : (h : State) (m : StreamAbort) (found : Option Open) → map.get h.transactions m.xid ≡ found → aborts h m ≡ aborts_open h m found
+aborts_found h m found e = ap (aborts_open h m) e
+
+-- the abort of an unknown transaction
+pub aborts-unknown : (g : Setting) (v : Holder) (h : State) (m : StreamAbort) → StandsFor g v h → map.get h.transactions m.xid ≡ None → IsAdmitted g v h (Ok (aborts h m)) steps.Nothing
+aborts-unknown g v h m stands none = stays g v h (Ok (aborts h m)) stands (ap Ok (aborts_found h m None none))
+
+-- what is answered to the abort of a whole transaction
+abbrev pub step_dropped : ℕ → Bool → Step
+step_dropped xid true = steps.Nothing
+step_dropped xid false = steps.Abort xid
+
+says_dropped : (xid : ℕ) (way : Way) → Says (Aborts xid way) (step_dropped xid (is_spooled way))
+says_dropped xid Direct = refl
+says_dropped xid Worker = refl
+says_dropped xid Spooled = refl
+
+pub drops-admitted : (g : Setting) (v w : Holder) (h : State) (m : StreamAbort) (o : Open) (step : Step) → StandsFor g v h → h.place ≡ Outside → map.get h.transactions m.xid ≡ Some o → m.subtransaction ≡ m.xid
+    → Keeps g w.transactions (map.remove h.transactions m.xid) → w.place ≡ v.place → w.relations ≡ v.relations → w.position ≡ v.position → step ≡ step_dropped m.xid (is_spooled o.way)
+    → IsAdmitted g w h (Ok (aborts h m)) step
+drops-admitted g v w h m o step stands outside some whole kept place relations position is = record {
+  state = record h { transactions = map.remove h.transactions m.xid };
+  told = Aborts m.xid o.way;
+  stepped = ap Ok (aborts_found h m (Some o) some ∙ rw (eq-eqb m.subtransaction m.xid whole));
+  stands = record {
+    place = place ∙ stands.place;
+    here = let P : Place → Type 0 = λ p. IsHere p (map.remove h.transactions m.xid) in subst P (sym outside) tt;
+    alone = alone_at Outside h.place (map.remove h.transactions m.xid) (alone_remove h.place h.transactions m.xid stands.alone (nothing_begun h.place m.xid outside)) (sym (none_begun h.place outside));
+    transactions = kept;
+    relations = rw relations stands.relations;
+    position = position ∙ stands.position;
+  };
+  tells = (o, refl, record { present = some; transactions = refl; position = refl; past = refl });
+  says = rw is (says_dropped m.xid o.way);
+  of_tables = tt;
+}
+
+-- the rollback of a subtransaction is an item
+pub aborts-back : (h : State) (m : StreamAbort) (o : Open) → map.get h.transactions m.xid ≡ Some o → m.subtransaction ≢ m.xid → aborts h m ≡ gives h m.xid (BackTo m.subtransaction) 0 o
+aborts-back h m o some part = aborts_found h m (Some o) some ∙ rw (ne_eqb m.subtransaction m.xid part)
+
+pub given_back-kept : (way : Way) (item : Item) → is_spooled way ≡ true → None ≡ given_back way item
+given_back-kept Direct item e = cc
+given_back-kept Worker item e = cc
+given_back-kept Spooled item e = refl
+
+pub given_back-free : (way : Way) (item : Item) → is_spooled way ≡ false → Some item ≡ given_back way item
+given_back-free Direct item e = refl
+given_back-free Worker item e = refl
+given_back-free Spooled item e = cc
+
+-- ---- further blocks
+
+pub goes_on-admitted : (g : Setting) (v w : Holder) (h : State) (xid : ℕ) → StandsFor g v h → h.place ≡ Outside → map.contains_key h.transactions xid ≡ true
+    → w.place ≡ Block xid → w.transactions ≡ v.transactions → w.relations ≡ v.relations → w.position ≡ v.position → IsAdmitted g w h (goes_on h xid) steps.Nothing
+goes_on-admitted g v w h xid stands outside is_open place transactions relations position =
+    let o = present h.transactions xid is_open in
+    let streamed : o.0.way ≢ Direct = λ direct. let no : None ≡ Some xid = sym (none_begun h.place outside) ∙ stands.alone xid o.0 o.1 direct in cc in
+    let P : Option Open → Type 0 = λ f. IsSomeAnd f (λ p. p.way ≢ Direct) in
+    record {
+      state = record h { place = Block xid };
+      told = Nothing;
+      stepped = rw is_open;
+      stands = record {
+        place = place;
+        here = subst P (sym o.1) streamed;
+        alone = alone_at h.place (Block xid) h.transactions stands.alone (none_begun h.place outside);
+        transactions = rw transactions stands.transactions;
+        relations = rw relations stands.relations;
+        position = position ∙ stands.position;
+      };
+      tells = record { transactions = refl; position = refl; past = refl };
+      says = refl;
+      of_tables = tt;
     }

@@ -375,3 +375,10 @@ present m xid e = from (map.get m xid) e
     from : (o : Option Open) → is_some o ≡ true → (p : Open) × (o ≡ Some p)
     from None e = cc
     from (Some o) e = (o, refl)
+
+pub absent : (m : Transactions) (xid : ℕ) → map.contains_key m xid ≡ false → map.get m xid ≡ None
+absent m xid e = from (map.get m xid) e
+  where
+    from : (o : Option Open) → is_some o ≡ false → o ≡ None
+    from None e = refl
+    from (Some o) e = cc

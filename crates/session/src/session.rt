@@ -354,18 +354,21 @@ impl Session {
         ensures { (g : Setting) (h : State) → StandsFor g self.old h → h.place ≡ places.Outside
             → IsAdmitted g self.new h (Ok (table.aborts h m.now)) result }
     {
-        let (xid, sub) = (m.xid, m.subtransaction);
-        if !self.transactions.contains(xid) {
-            Step::Nothing
-        } else if sub == xid {
-            match self.transactions.close(xid) {
-                None | Some(Way::Spooled(_)) => Step::Nothing,
-                Some(Way::Direct | Way::Worker) => Step::Abort(xid),
+        if m.subtransaction == m.xid {
+            let Some(way) = self.transactions.close(m.xid) else {
+                return Step::Nothing;
+            };
+            if way.is_spooled() {
+                Step::Nothing
+            } else {
+                Step::Abort(m.xid)
             }
-        } else if self.transactions.roll_back(xid, sub) {
+        } else if !self.transactions.contains(m.xid) {
+            Step::Nothing
+        } else if self.transactions.roll_back(m.xid, m.subtransaction) {
             Step::Nothing
         } else {
-            Step::Item(xid, Item::BackTo(sub))
+            Step::Item(m.xid, Item::BackTo(m.subtransaction))
         }
     }
 }

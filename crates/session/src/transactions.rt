@@ -24,6 +24,13 @@ impl Way {
     ghost use Rattle.std.specs.Prelude.{◌≡◌, ◌+◌, ◌<◌, ◌^◌, true, false, IfOk, OnErr, MatchOption};
     ghost use Rattle.session.specs.Kept.{kept_more, back_of, without_last, cut_back, bytes_kept, is_spool};
 
+    /// Whether the items are kept until the commit.
+    pub(crate) fn is_spooled(&self) -> bool
+        ensures { result ≡ is_spool self.now }
+    {
+        matches!(self, Way::Spooled(_))
+    }
+
     /// Keeps an item of a spooled transaction, and gives any other back. Refused for memory, it
     /// changes nothing.
     fn keep(&mut self, item: Item, size: u64) -> Result<Option<Item>, OutOfMemory>

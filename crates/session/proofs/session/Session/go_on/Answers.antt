@@ -1,0 +1,16 @@
+use Rattle.std.proofs.Common.{◌≡◌, sym, ap, ◌∙◌, refl, true, false}
+use Rattle.std.specs.FinMap as map
+use Rattle.session.proofs.Items.{goes_on-admitted}
+use Rattle.session.proofs.session.Session.go_on.Goals as goal
+
+pub returns-then-not-contains : goal.returns-then-not-contains
+returns-then-not-contains c = λ g h stands outside.
+    let closed : map.contains_key h.transactions c.args.xid ≡ false = sym (c.contains.ensures g h.transactions stands.transactions) ∙ c.if-not-contains.true in
+    record {
+      stands = record { place = stands.place; here = stands.here; alone = stands.alone; transactions = stands.transactions; relations = stands.relations; position = stands.position };
+      cause = rw c.into.ensures (rw closed refl);
+    }
+
+pub returns : goal.returns
+returns c = λ g h stands outside.
+    goes_on-admitted g c.args.self.now _ h c.args.xid stands outside (sym (c.contains.ensures g h.transactions stands.transactions) ∙ c.if-not-contains.false) refl refl refl refl
