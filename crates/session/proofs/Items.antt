@@ -1,6 +1,6 @@
 -- What the session stands for after the messages inside of transactions: items, relations, rollbacks.
-use Rattle.std.proofs.Common.{◌≡◌, ◌≢◌, ℕ, ◌+◌, ◌==◌, ◌++◌, ◌∷◌, [], Bool, true, false, length, Option, Some, None, if◌then◌else◌, refl, sym, ap, subst, ◌∙◌, ◌⊎◌, ⊎_elim}
-use Rattle.std.specs.Prelude.{Result, Ok, Err, IsSomeAnd, IsErrAnd, unwrap_or}
+use Rattle.std.proofs.Common.{◌≡◌, ◌≢◌, ℕ, Bool, true, false, length, Option, Some, None, if◌then◌else◌, refl, sym, ap, subst, ◌∙◌, ◌⊎◌, ⊎_elim}
+use Rattle.std.specs.Prelude.{Result, Ok, Err, IsSomeAnd, IsErrAnd}
 use Rattle.std.specs.Ordering.{nat_cmp, eq_by_cmp}
 use Rattle.std.specs.Cmp.{nat_cmp_total}
 use Rattle.std.specs.FinMap as map
@@ -11,9 +11,9 @@ use Rattle.model.specs.declared.change.Change.{Change as Alteration}
 use Rattle.relcache.specs.declared.fault.RelFault.{RelFault}
 use Rattle.relcache.specs.declared.fault.RelFault.TheVariants as faults
 use Rattle.relcache.specs.Answer.{IsFaultOf}
-use Rattle.relcache.specs.Published.{Relations, learnt}
+use Rattle.relcache.specs.Published.{learnt}
 use Rattle.savepoint.specs.declared.item.Item.{Item}
-use Rattle.savepoint.specs.declared.item.Item.TheVariants.{Change, Touch, BackTo, Last}
+use Rattle.savepoint.specs.declared.item.Item.TheVariants.{Change, Touch, BackTo}
 use Rattle.session.specs.declared.place.Place.{Place}
 use Rattle.session.specs.declared.place.Place.TheVariants.{Outside, Begun, Block}
 use Rattle.session.specs.declared.fault.SessionFault.{SessionFault}
@@ -25,12 +25,12 @@ use Rattle.session.specs.declared.session.Session.{Session as Holder}
 use Rattle.session.specs.declared.step.Step.{Step}
 use Rattle.session.specs.declared.step.Step.TheVariants as steps
 use Rattle.session.specs.Refusals.{of_relation}
-use Rattle.session.specs.State.{Way, Direct, Worker, Spooled, Open, Transactions, State, Setting, IsHere, GoesAlone, begun_at}
+use Rattle.session.specs.State.{Way, Direct, Worker, Spooled, Open, Transactions, State, Setting, IsHere}
 use Rattle.session.specs.Kept.{is_spooled}
 use Rattle.session.specs.Table.{Next, refuse, at, of_open, gives, has_room, touches, plans, changes, change_line, named, learns, goes_on, aborts, aborts_open}
 use Rattle.session.specs.Told.{Told, Nothing, Opens, Gives, Commits, Aborts, Tells}
 use Rattle.session.specs.Stands.{StandsFor, Keeps, Knows, Says, IsCause, IsOfTables, Follows, IsAdmitted, IsRefusedAs, IsChangeOf, spool_fault, with_item, given_back, Survives}
-use Rattle.session.proofs.Totals.{get-insert_same, same_key}
+use Rattle.session.proofs.Totals.{same_key}
 use Rattle.session.proofs.Steps.{alone_insert, alone_remove, alone_at, none_begun, nothing_begun, stays}
 use Rattle.session.proofs.Kept.{present}
 
@@ -263,6 +263,7 @@ is_touched g h xid sub size t e = from (map.get h.transactions xid) refl
     room_of : (o : Open) (b : Bool) → (if b then Ok (gives h xid (Touch sub) size o) else refuse SpoolFull) ≡ Ok t → (b ≡ true) × (t ≡ gives h xid (Touch sub) size o)
     room_of o true is = (refl, cc)
     room_of o false is = cc
+
     from : (f : Option Open) → map.get h.transactions xid ≡ f → IsTouched g h xid sub size t
     from None none =
         let no : refuse UnknownTransaction ≡ Ok t = sym (ap (touches_by g h xid sub size) none) ∙ e in
@@ -278,6 +279,7 @@ touches-learns_refused g h r xid sub size why e = from (map.get h.transactions x
     room_of : (o : Open) (b : Bool) → (if b then Ok (gives h xid (Touch sub) size o) else refuse SpoolFull) ≡ Err why → (if b then Ok (gives (learns h r) xid (Touch sub) size o) else refuse SpoolFull) ≡ Err why
     room_of o true is = cc
     room_of o false is = is
+
     from : (f : Option Open) → map.get h.transactions xid ≡ f → touches g (learns h r) xid sub size ≡ Err why
     from None none = ap (touches_by g (learns h r) xid sub size) none ∙ sym (ap (touches_by g h xid sub size) none) ∙ e
     from (Some o) some = ap (touches_by g (learns h r) xid sub size) some ∙ room_of o (has_room g h.transactions size o.way) (sym (ap (touches_by g h xid sub size) some) ∙ e)

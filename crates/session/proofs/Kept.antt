@@ -1,5 +1,5 @@
 -- What is kept of the open transactions, as one is opened, changed or closed.
-use Rattle.std.proofs.Common.{◌≡◌, ◌≢◌, ℕ, ◌+◌, ◌-◌, ◌<◌, ◌^◌, ◌==◌, Bool, true, false, List, [], ◌∷◌, ◌++◌, map as mapped, length, Option, Some, None, cond, refl, sym, ap, subst, ◌∙◌, ◌≤◌, if◌then◌else◌, arith, ⊎_elim}
+use Rattle.std.proofs.Common.{◌≡◌, ◌≢◌, ℕ, ◌+◌, ◌-◌, ◌<◌, ◌^◌, Bool, true, false, List, [], ◌∷◌, ◌++◌, map as mapped, length, Option, Some, None, cond, refl, sym, ap, subst, ◌∙◌, ◌≤◌, if◌then◌else◌, arith, ⊎_elim}
 use Rattle.std.specs.Prelude.{sum, option_map, is_some, not, nat_le, IsSome, Result, Ok, Err, IsErrAnd}
 use Rattle.std.specs.Ordering.{nat_cmp, eq_by_cmp}
 use Rattle.std.specs.Cmp.{nat_cmp_total}

@@ -4,3 +4,4 @@ pub mod Kept
 pub mod Mappings
 pub mod Steps
 pub mod Items
+pub mod Streams

@@ -1,8 +1,8 @@
 -- What is known of the relations and their mappings, as relations are learnt and used.
-use Rattle.std.proofs.Common.{◌≡◌, ℕ, ◌+◌, ◌<◌, ◌≤◌, true, false, List, [], ◌∷◌, ◌++◌, length, drop, get_or, Option, Some, None, cond, if◌then◌else◌, refl, sym, ap, subst, ◌∙◌, append_assoc, append-nil, arith, rules, ⊎_elim}
+use Rattle.std.proofs.Common.{◌≡◌, ℕ, ◌+◌, ◌<◌, ◌≤◌, true, false, List, [], ◌∷◌, ◌++◌, length, drop, get_or, Option, Some, None, cond, refl, sym, ap, ◌∙◌, append_assoc, append-nil, rules, ⊎_elim}
 use Rattle.std.specs.Prelude.{All, IfSome, IsErrAnd, Result, Ok, Err, nat_eq, ok_or}
 use Rattle.std.specs.Ordering.{nat_cmp}
-use Rattle.std.specs.BTreeMap.{BTreeMap, get, Updates}
+use Rattle.std.specs.BTreeMap.{get, Updates}
 use Rattle.std.specs.Arc.{arc_value}
 use Rattle.std.proofs.lemmas.Bool.{cases_Bool, cases_eq, ne_eqb, eqb-true}
 use Rattle.std.proofs.lemmas.List.{at_drop_more, at_drop_all}
@@ -11,7 +11,7 @@ use Rattle.messages.specs.declared.relation.Relation.{Relation}
 use Rattle.model.specs.Definition.{Definition}
 use Rattle.relcache.specs.declared.fault.RelFault.{RelFault}
 use Rattle.relcache.specs.Mapping.{Mapped, resolved, map_relation}
-use Rattle.relcache.specs.Published.{Published, Relations, learnt, published, relation_of}
+use Rattle.relcache.specs.Published.{Published, Relations, learnt, relation_of}
 use Rattle.relcache.specs.Steps.{◌>>=◌}
 use Rattle.relcache.specs.declared.fault.RelFault.TheVariants.{UnknownRelation}
 use Rattle.session.specs.declared.relations.Relations.{Relations as Learnt}
@@ -117,9 +117,9 @@ pub no_table : (g : Setting) (h : State) (v : Learnt) (oids : List ℕ) (i : ℕ
     → resolved g.catalog h.relations (get_or oids i 0) ≡ Err fault → truncate_change g h oids ≡ Err fault
 no_table g h v oids i tables fault has within refused =
     let all : tables_of g.catalog h.relations oids ≡ Err fault =
-        has.so_far
-        ∙ ap (tables_from tables) (at_drop_more (tables_of g.catalog h.relations) oids i 0 within)
-        ∙ ap (λ first. tables_from tables (tables_after first (tables_of g.catalog h.relations (drop (i + 1) oids)))) refused in
+    has.so_far
+    ∙ ap (tables_from tables) (at_drop_more (tables_of g.catalog h.relations) oids i 0 within)
+    ∙ ap (λ first. tables_from tables (tables_after first (tables_of g.catalog h.relations (drop (i + 1) oids)))) refused in
     rw all
 
 -- all of them have one

@@ -1,11 +1,9 @@
 -- What the session stands for after a message.
-use Rattle.std.proofs.Common.{◌≡◌, ◌≢◌, ℕ, ◌<◌, ◌≤◌, ◌++◌, ◌∷◌, if◌then◌else◌, Bool, true, false, length, [], Option, Some, None, refl, sym, ap, subst, ◌∙◌, ⊎_elim}
-use Rattle.std.specs.Prelude.{Result, Ok, Err, IsErrAnd, IfSome, nat_lt}
+use Rattle.std.proofs.Common.{◌≡◌, ◌≢◌, ℕ, ◌<◌, ◌≤◌, ◌++◌, ◌∷◌, if◌then◌else◌, Bool, true, false, [], Option, Some, None, refl, sym, ap, subst, ◌∙◌, ⊎_elim}
+use Rattle.std.specs.Prelude.{Result, Ok, Err, IsErrAnd, nat_lt}
 use Rattle.std.specs.Ordering.{nat_cmp, eq_by_cmp}
 use Rattle.std.specs.Cmp.{nat_cmp_total}
 use Rattle.std.proofs.lemmas.Bool.{cases_Bool}
-use Rattle.std.specs.BTreeMap.{get}
-use Rattle.std.specs.Arc.{arc_value}
 use Rattle.std.specs.FinMap as map
 use Rattle.session.specs.declared.place.Place.{Place}
 use Rattle.session.specs.declared.place.Place.TheVariants.{Outside, Begun, Block}
@@ -15,14 +13,11 @@ use Rattle.session.specs.declared.fault.Refused.TheVariants.{Msg, Session, Rel, 
 use Rattle.session.specs.declared.session.Session.{Session as Holder}
 use Rattle.session.specs.declared.step.Step.{Step}
 use Rattle.session.specs.declared.step.Step.TheVariants as steps
-use Rattle.session.specs.declared.relations.Relations.{Relations as Learnt}
 use Rattle.messages.specs.declared.message.Begin.{Begin}
-use Rattle.relcache.specs.Published.{Relations}
-use Rattle.relcache.specs.Mapping.{resolved}
 use Rattle.session.specs.State.{Open, Transactions, State, Setting, Way, Direct, Worker, Spooled, Committed, GoesAlone, begun_at, working}
 use Rattle.session.specs.Table.{Next, refuse, at, begins, opened, room_fault, unless_fault, leaves_block, opens, next_way, commits, closes, of_open}
 use Rattle.session.specs.Told.{Nothing, Opens, Commits, handed_out}
-use Rattle.session.specs.Stands.{way_if, Says, HandsOut, keeping_of, StandsFor, Keeps, Knows, IsFault, IsCause, Follows, IsAdmitted}
+use Rattle.session.specs.Stands.{way_if, Says, HandsOut, keeping_of, StandsFor, Keeps, IsFault, IsCause, Follows, IsAdmitted}
 use Rattle.session.specs.Kept.{items_kept}
 use Rattle.session.specs.Sized.{SizedItems}
 use Rattle.savepoint.specs.declared.item.CommitInfo.{CommitInfo}
@@ -293,3 +288,9 @@ follows_same g v h next other result e follows = let P : Next → Type 0 = λ n.
 -- a message without effect
 pub stays : (g : Setting) (v : Holder) (h : State) (next : Next) → StandsFor g v h → next ≡ Ok h → IsAdmitted g v h next steps.Nothing
 stays g v h next stands e = record { state = h; told = Nothing; stepped = e; stands = stands; tells = record { transactions = refl; position = refl; past = refl }; says = refl; of_tables = tt }
+
+-- what is the same in each place
+pub at_same : (place : Place) (next : Next) → at place next (λ _ _. next) (λ _. next) ≡ next
+at_same Outside next = refl
+at_same (Begun xid final) next = refl
+at_same (Block xid) next = refl

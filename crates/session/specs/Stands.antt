@@ -26,7 +26,7 @@ use Rattle.session.specs.declared.transactions.Transactions.{Transactions as Ope
 use Rattle.session.specs.declared.relations.Relations.{Relations as Learnt}
 use Rattle.session.specs.declared.session.Session.{Session as Holder}
 use Rattle.session.specs.Sized.{SizedItems}
-use Rattle.session.specs.State.{Way, Direct, Worker, Spooled, Open, Committed, Transactions, State, Setting, IsHere, GoesAlone, kept, kept_with, working, spooled}
+use Rattle.session.specs.State.{Way, Direct, Worker, Spooled, Open, Committed, Transactions, State, Setting, IsHere, GoesAlone, kept, working, spooled}
 use Rattle.session.specs.Table.{Next, refuse, plans, room_fault, opened, gives, has_room, change_line}
 use Rattle.session.specs.Told.{Told, Nothing, Opens, Gives, Commits, Aborts, Tells, handed_out}
 use Rattle.session.specs.Named.{AreNamed}

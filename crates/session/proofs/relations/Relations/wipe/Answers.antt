@@ -1,6 +1,5 @@
-use Rattle.std.proofs.Common.{◌≡◌, ◌<◌, arith, length, sym, ap, ◌∙◌, refl}
+use Rattle.std.proofs.Common.{◌≡◌, ◌<◌, arith, length, refl}
 use Rattle.std.specs.Prelude.{Ok}
-use Rattle.model.specs.declared.change.Change.TheVariants.{Wipe}
 use Rattle.session.specs.Table.{tables_of}
 use Rattle.session.proofs.Mappings.{HasTables-start, HasTables-next, IsPlanned-refused, no_table, all_tables}
 use Rattle.session.proofs.relations.Relations.wipe.Goals as goal

@@ -1,4 +1,4 @@
-use Rattle.std.proofs.Common.{◌≡◌, sym, ap, ◌∙◌}
+use Rattle.std.proofs.Common.{◌≡◌, sym, ◌∙◌}
 use Rattle.session.specs.declared.place.Place.TheVariants.{Begun, Block}
 use Rattle.session.proofs.Items.{block_open, begun_open, room_direct, line_begun, line_block, line_full, IsChangeOf-refused, has_room-none}
 use Rattle.session.proofs.session.Session.change_of.Goals as goal

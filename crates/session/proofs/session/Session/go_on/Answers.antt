@@ -1,4 +1,4 @@
-use Rattle.std.proofs.Common.{◌≡◌, sym, ap, ◌∙◌, refl, true, false}
+use Rattle.std.proofs.Common.{◌≡◌, sym, ◌∙◌, refl, false}
 use Rattle.std.specs.FinMap as map
 use Rattle.session.proofs.Items.{goes_on-admitted}
 use Rattle.session.proofs.session.Session.go_on.Goals as goal

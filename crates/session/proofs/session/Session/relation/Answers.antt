@@ -40,5 +40,5 @@ returns-in_default c = λ g h stands.
     let known = c.in_default.ensures g taken.state.relations taken.stands.relations in
     relation_taken g c.touch.new.self _ h c.args.relation.now c.in-Block.xid c.unwrap_or.result c.args.size _ c.in_ok-step-in-Block.step
     (ap (λ p. table.at p (Ok (table.learns h c.args.relation.now)) (λ _ _. Ok (table.learns h c.args.relation.now)) (λ xid. table.touches g (table.learns h c.args.relation.now) xid (table.named c.args.sub xid) c.args.size)) block
-        ∙ ap (λ sub. table.touches g (table.learns h c.args.relation.now) c.in-Block.xid sub c.args.size) (sym c.unwrap_or.ensures))
+    ∙ ap (λ sub. table.touches g (table.learns h c.args.relation.now) c.in-Block.xid sub c.args.size) (sym c.unwrap_or.ensures))
     taken (rw touched.is at known) refl refl refl

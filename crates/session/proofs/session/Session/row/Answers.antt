@@ -1,5 +1,4 @@
-use Rattle.std.proofs.Common.{◌≡◌, sym, ap, ◌∙◌, refl}
-use Rattle.std.specs.Prelude.{Ok, Err}
+use Rattle.std.proofs.Common.{ap, ◌∙◌, refl}
 use Rattle.session.specs.Table.{row_change, plans, gives}
 use Rattle.session.specs.Stands.{StandsFor}
 use Rattle.savepoint.specs.declared.item.Item.TheVariants.{Change}

@@ -1,4 +1,4 @@
-use Rattle.std.proofs.Common.{◌≡◌, sym, ap, ◌∙◌, refl}
+use Rattle.std.proofs.Common.{◌≡◌, sym, ◌∙◌, refl}
 use Rattle.session.specs.declared.place.Place.TheVariants.{Outside}
 use Rattle.session.specs.Table as table
 use Rattle.session.proofs.Steps.{follows_outside, follows_same}

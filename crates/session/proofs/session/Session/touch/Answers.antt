@@ -1,4 +1,3 @@
-use Rattle.std.proofs.Common.{refl}
 use Rattle.session.proofs.Steps.{refused, follows_same, err_is}
 use Rattle.session.proofs.Items.{block_open, touches-full, touches-taken, has_room-none}
 use Rattle.session.proofs.session.Session.touch.Goals as goal

@@ -1,4 +1,4 @@
-use Rattle.std.proofs.Common.{◌≡◌, sym, ap, ◌∙◌, refl}
+use Rattle.std.proofs.Common.{ap, ◌∙◌, refl}
 use Rattle.session.specs.Table.{truncate_change, plans, gives}
 use Rattle.savepoint.specs.declared.item.Item.TheVariants.{Change}
 use Rattle.session.proofs.Steps.{follows_same}

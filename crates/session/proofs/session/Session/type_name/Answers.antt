@@ -1,6 +1,5 @@
-use Rattle.std.proofs.Common.{◌≡◌, sym, ap, subst, ◌∙◌}
-use Rattle.session.specs.declared.place.Place.{Place}
-use Rattle.session.specs.declared.place.Place.TheVariants.{Outside, Begun, Block}
+use Rattle.std.proofs.Common.{◌≡◌, sym, subst, ◌∙◌}
+use Rattle.session.specs.declared.place.Place.TheVariants.{Block}
 use Rattle.session.proofs.Steps.{stays, follows_block}
 use Rattle.session.proofs.Items.{at_rest, IsAtRest}
 use Rattle.session.proofs.session.Session.type_name.Goals as goal

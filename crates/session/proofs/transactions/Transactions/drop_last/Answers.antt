@@ -1,8 +1,8 @@
-use Rattle.std.proofs.Common.{◌≡◌, ℕ, ◌+◌, ◌<◌, ◌^◌, sym, ap, subst, ◌∙◌, arith, refl, Some, None}
+use Rattle.std.proofs.Common.{◌≡◌, ◌+◌, ◌<◌, ◌^◌, ap, ◌∙◌, arith, refl, Some, None}
 use Rattle.std.specs.FinMap as map
-use Rattle.session.specs.State.{Transactions as OpenMap, Open, spooled_by}
+use Rattle.session.specs.State.{Open, spooled_by}
 use Rattle.session.specs.Kept.{without_last, bytes_kept}
-use Rattle.session.specs.Stands.{keeping_of, with_item, Keeps}
+use Rattle.session.specs.Stands.{keeping_of, with_item}
 use Rattle.session.proofs.Totals.{get-insert_same}
 use Rattle.session.proofs.Kept.{found_is, kept_value, keeping_less, bytes_kept-keeping, spooled-remove, Keeps-undone}
 use Rattle.session.proofs.transactions.Transactions.drop_last.Goals as goal

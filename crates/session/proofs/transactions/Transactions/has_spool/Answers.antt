@@ -1,4 +1,4 @@
-use Rattle.std.proofs.Common.{◌≡◌, ◌<◌, ◌^◌, ◌+◌, sym, arith}
+use Rattle.std.proofs.Common.{◌+◌, sym, arith}
 use Rattle.std.proofs.lemmas.Bool.{lt-leb}
 use Rattle.session.specs.State.{spooled}
 use Rattle.session.proofs.transactions.Transactions.has_spool.Goals as goal

@@ -1,8 +1,8 @@
-use Rattle.std.proofs.Common.{◌≡◌, ◌≢◌, ℕ, ◌+◌, ◌<◌, ◌≤◌, ◌^◌, sym, ap, ◌∙◌, arith, refl, true, false}
+use Rattle.std.proofs.Common.{◌≡◌, ◌+◌, ◌<◌, ◌^◌, sym, ap, ◌∙◌, arith, refl, false}
 use Rattle.savepoint.specs.declared.item.Item.TheVariants.{BackTo}
-use Rattle.session.specs.State.{Setting, Transactions as OpenMap, Open, spooled_by}
+use Rattle.session.specs.State.{Open, spooled_by}
 use Rattle.session.specs.Kept.{cut_back, bytes_kept, is_spool, is_spooled}
-use Rattle.session.specs.Stands.{Keeps, keeping_of, with_item}
+use Rattle.session.specs.Stands.{keeping_of, with_item}
 use Rattle.session.proofs.Kept.{found_is, keeping_cut, bytes_kept-keeping, is_spool-keeping, spooled-remove, nothing_spooled, Keeps-written}
 use Rattle.session.proofs.transactions.Transactions.roll_back.Goals as goal
 
@@ -18,8 +18,7 @@ returns-in-Some-cut c = λ g m o kept some apart.
     let fits : bytes_kept c.in-Some.way.now < 2 ^ 64 = omega (arith, before, all, kept.spooled, kept.fits) in
     let freed = c.in-Some-cut.ensures.freed fits in
     let spools : is_spool c.in-Some.way.now ≡ is_spooled o.way = ap is_spool was ∙ is_spool-keeping xid o.items o.way in
-    let less = c.saturating_sub-self.ensures in
-    (
+    let less = c.saturating_sub-self.ensures in (
       sym freed.0 ∙ spools,
       Keeps-written g c.args.self.now _ m xid o p c.cut.new.self kept some refl (c.get_mut.follows.holds c.cut.new.self) is refl refl refl (omega (arith, less, freed.1, before, after, all, kept.spooled)) (omega (arith, less, kept.fits)),
     )
@@ -36,8 +35,7 @@ returns-in-None c = λ g m o kept some apart.
     let fits : bytes_kept c.in-Some.way.now < 2 ^ 64 = omega (arith, before, all, kept.spooled, kept.fits) in
     let none = c.in-None.ensures.freed fits in
     let spools : is_spool c.in-Some.way.now ≡ is_spooled o.way = ap is_spool was ∙ is_spool-keeping xid o.items o.way in
-    let direct : false ≡ is_spooled o.way = sym none ∙ spools in
-    (
+    let direct : false ≡ is_spooled o.way = sym none ∙ spools in (
       direct,
       Keeps-written g c.args.self.now _ m xid o p c.cut.new.self kept some refl (c.get_mut.follows.holds c.cut.new.self) is refl refl refl (ap (λ n. c.args.self.now.spooled + n) (nothing_spooled xid o.items p.items o.way (sym direct))) kept.fits,
     )

@@ -1,5 +1,4 @@
-use Rattle.std.proofs.Common.{◌≡◌, ℕ, ◌++◌, ◌∷◌, [], cond, sym, ap, ◌∙◌, arith, refl, true, false}
-use Rattle.session.specs.State.{spooled_by}
+use Rattle.std.proofs.Common.{◌≡◌, cond, ap, ◌∙◌, arith, refl, true, false}
 use Rattle.session.specs.Kept.{kept_more, back_of, is_spooled}
 use Rattle.session.specs.Stands.{keeping_of, given_back, with_item}
 use Rattle.session.proofs.Kept.{found_is, keeping_more, back_of-keeping, spooled_by-taken, kept_if_none, room_within, Keeps-written}
@@ -13,8 +12,7 @@ returns c = λ g m o kept some room survives.
     let is : c.keep.new.self ≡ keeping_of xid (with_item o c.args.item c.args.size).items o.way = c.in_ok-back.ensures.ok.0 ∙ ap (λ k. kept_more k c.args.item c.args.size) was ∙ keeping_more xid o.items c.args.item c.args.size o.way survives in
     let back : c.in_ok-back.back ≡ given_back o.way c.args.item = c.in_ok-back.ensures.ok.1 ∙ ap (λ k. back_of k c.args.item) was ∙ back_of-keeping xid o.items c.args.item o.way in
     let more = spooled_by-taken xid o.items c.args.item c.args.size o.way survives in
-    let keeps : is_spooled o.way ≡ c.is_none.result = kept_if_none o.way c.args.item c.in_ok-back.back c.is_none.result back c.is_none.ensures in
-    (
+    let keeps : is_spooled o.way ≡ c.is_none.result = kept_if_none o.way c.args.item c.in_ok-back.back c.is_none.result back c.is_none.ensures in (
       back,
       elim c.if-is_none.branch [
         | then-is_none w ↦
