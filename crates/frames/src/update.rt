@@ -1,6 +1,6 @@
 // Status updates, which tell the server how far its log was written, flushed and applied here.
 ghost use Rattle.std.specs.Prelude.{◌≡◌, ◌≢◌, ◌⊎◌, ◌++◌, Err, IsOkUnless, IfErr, IfOk, OnOk, OnErr};
-ghost use Rattle.std.specs.Io.KnownBytes.{Appends};
+ghost use Rattle.std.specs.Io.KnownBytes.{Appends, Keeps};
 ghost use Rattle.frames.specs.Status.{status_frame};
 ghost use Rattle.frames.specs.Wire.{spelled32, spelled64};
 ghost use Rattle.frames.specs.Device.{HasFailed};
@@ -59,13 +59,14 @@ pub fn write_status(s: &Status, out: &mut Vec<u8>) -> Result<(), FrameFault>
 }
 
 /// Sends the frame of a status update, in as many writes as the sink needs. It is refused where the sink fails, or
-/// memory; how much went out then is not said.
+/// memory. How much went out is not said where the sink failed; where memory was refused, nothing did.
 pub fn send_status<W: Sink>(alloc: Global, s: &Status, w: &mut W) -> Result<(), FrameFault>
     ensures ok { OnOk result
         (Appends (W.contents w.old) (W.contents w.new) (status_frame s.now)) }
     ensures only { IfErr result
         (λ fault. (fault ≡ FrameFault.Device) ⊎ (fault ≡ FrameFault.OutOfMemory)) }
     ensures device { result ≡ Err FrameFault.Device → HasFailed (W.failures w.old) (W.failures w.new) }
+    ensures memory { result ≡ Err FrameFault.OutOfMemory → Keeps (W.contents w.old) (W.contents w.new) }
     ensures works { result ≢ Err FrameFault.Device → W.failures w.new ≡ W.failures w.old }
 {
     let frame = status_frame(alloc, s)?;

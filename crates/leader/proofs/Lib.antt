@@ -1,1 +1,8 @@
-pub mod Working
+mod Working
+mod States
+mod Begun
+mod Taking
+mod Ending
+mod Handling
+mod Running
+mod Reading

@@ -1,4 +1,9 @@
 pub mod Text
 pub mod Work
 pub mod WorkInside
-pub mod Named
+pub mod Commits
+pub mod Progress
+pub mod Clock
+pub mod Ends
+pub mod Run
+pub mod Applier

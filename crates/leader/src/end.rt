@@ -1,12 +1,16 @@
 // How a run ended.
+ghost use Rattle.std.specs.Prelude.{◌≡◌};
+ghost use Rattle.leader.specs.Ends.{end_of_frame, end_of_refusal, end_of_clash};
+ghost use Rattle.leader.specs.declared.end.End.TheVariants as ends;
+
 use change::Clash;
 use frames::FrameFault;
 use messages::MsgFault;
-use model::TableId;
+use model::{OutOfMemory, TableId};
 use relcache::RelFault;
 use savepoint::Xid;
 use session::{Refused, SessionFault};
-use std::alloc::{AllocError, AllocFailed};
+use std::alloc::AllocError;
 
 /// Why a run ended. All open work was undone before.
 #[derive(Clone, Copy, Debug, PartialEq, Eq)]
@@ -32,6 +36,8 @@ pub enum End {
 }
 
 impl From<FrameFault> for End {
+    ghost from_gives = { λ fault e. e ≡ end_of_frame fault };
+
     fn from(fault: FrameFault) -> End {
         match fault {
             FrameFault::OutOfMemory => End::OutOfMemory,
@@ -41,6 +47,8 @@ impl From<FrameFault> for End {
 }
 
 impl From<Refused> for End {
+    ghost from_gives = { λ refused e. e ≡ end_of_refusal refused };
+
     fn from(refused: Refused) -> End {
         match refused {
             Refused::Msg(fault) => End::Msg(fault),
@@ -52,6 +60,8 @@ impl From<Refused> for End {
 }
 
 impl From<Clash> for End {
+    ghost from_gives = { λ clash e. e ≡ end_of_clash clash };
+
     fn from(clash: Clash) -> End {
         match clash {
             Clash::Unique { table, key } => End::Unique { table, key },
@@ -61,14 +71,18 @@ impl From<Clash> for End {
     }
 }
 
-impl From<AllocError> for End {
-    fn from(_error: AllocError) -> End {
+impl From<OutOfMemory> for End {
+    ghost from_gives = { λ _ e. e ≡ ends.OutOfMemory };
+
+    fn from(_error: OutOfMemory) -> End {
         End::OutOfMemory
     }
 }
 
-impl<T: Drop> From<AllocFailed<T>> for End {
-    fn from(_error: AllocFailed<T>) -> End {
+impl From<AllocError> for End {
+    ghost from_gives = { λ _ e. e ≡ ends.OutOfMemory };
+
+    fn from(_error: AllocError) -> End {
         End::OutOfMemory
     }
 }

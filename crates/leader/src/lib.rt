@@ -8,7 +8,8 @@
 // applied at its Stream Commit, so commits keep the stream's order. Whatever ends a run, the work of
 // open transactions is undone before it is answered: the tables are those of the commits.
 //
-//   run       reads, admits and applies
+//   run       reads the items of a stream, and sends status updates
+//   applier   what each item does
 //   work      the tables with the changes of one open transaction in them, and what takes these back
 //   outcome   what a run is given and what it leaves; the journal; the clock
 //   end       why a run ended
@@ -19,11 +20,11 @@
 //
 // It stands on `frames` for the stream, `session` for what its messages ask for, `change` and `undo`
 // for the tables, and `catalog` for their names.
+mod applier;
 mod end;
 mod outcome;
 mod printing;
 mod run;
-mod tables_named;
 mod work;
 
 pub use end::End;

@@ -1,4 +1,7 @@
 // What a run is given, and what it leaves.
+ghost use Rattle.std.specs.Prelude.{ℤ, Option, List, [], ◌∷◌};
+ghost use Rattle.leader.specs.Clock.{Ticks};
+
 use crate::end::End;
 use frames::Lsn;
 use indexes::Tables;
@@ -41,5 +44,10 @@ pub struct Outcome {
 
 /// A clock: microseconds since 2000-01-01.
 pub trait Clock {
-    fn micros(&mut self) -> i64;
+    /// The times that it has answered, where it tells them. The system's clock doesn't.
+    ghost told: { Self → Option (List ℤ) };
+
+    /// The time now.
+    fn micros(&mut self) -> i64
+        ensures { Ticks (told self.old) (told self.new) (result ∷ []) };
 }

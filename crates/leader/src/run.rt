@@ -1,19 +1,20 @@
 // A run without threads.
+ghost use Rattle.std.specs.Prelude.{◌≡◌, ℕ, Option, List, [], map, OnOk};
+ghost use Rattle.model.specs.Rows.{Rows, keys_of};
+ghost use Rattle.frames.specs.declared.item.CopyItem.{CopyItem as Item};
+ghost use Rattle.frames.specs.Reads.{HasRead};
+ghost use Rattle.session.specs.State.{Setting};
+ghost use Rattle.leader.specs.Progress.{beginning};
+ghost use Rattle.leader.specs.Applier.{IsUnderWay, IsAt, HasCome, Answers, HandlesKept, IsRunOver, end_of};
+ghost use Rattle.leader.specs.Run.{Devices, devices, IsRun};
+
+use crate::applier::Applier;
 use crate::end::End;
-use crate::outcome::{Clock, Config, Entry, Outcome};
-use crate::tables_named::are_tables;
-use crate::work::Work;
-use bytes::Bytes;
+use crate::outcome::{Clock, Config, Outcome};
 use catalog::Catalog;
-use change::Clash;
-use frames::{CopyItem, FrameFault, Frames, Lsn, Sink, Source, Status, send_status};
+use frames::{CopyItem, Frames, Sink, Source, Status, send_status};
 use indexes::Tables;
-use model::Change;
-use relcache::RelFault;
-use savepoint::{CommitInfo, Item, Xid};
-use session::{Session, Step};
 use std::alloc::Global;
-use std::mem;
 
 /// Reads the stream to its end and applies its transactions one after another, a streamed one at its
 /// commit. Open work is undone before the answer.
@@ -27,158 +28,118 @@ pub fn run_spooled<R: Source + Drop, W: Sink + Drop, C: Clock + Drop>(
     start: Tables,
     config: &Config,
     clock: C,
-) -> Outcome {
+) -> Outcome
+    requires { start.schema ≡ map keys_of catalog.now }
+    ensures { (after : Devices) × IsRun (record { workers = 0; spool = config.now.spool; catalog = catalog.now }) start.rows
+        (devices (R.remaining reader) (W.contents writer) (C.told clock) (R.failures reader) (W.failures writer)) after result }
+{
     let mut reader = reader;
-    let mut applier = Applier {
+    let mut writer = writer;
+    let mut clock = clock;
+    run_over(
         alloc,
+        &mut reader,
+        &mut writer,
         catalog,
-        work: Work::new(alloc, start),
-        changes: Vec::new(alloc),
-        journal: Vec::new(alloc),
-        position: 0,
-        written: 0,
-        session: Session::new(alloc, 0, config.spool),
-        writer,
-        clock,
-    };
-    let end = match applier.read(&mut reader) {
+        start,
+        config,
+        &mut clock,
+    )
+}
+
+/// `run_spooled` over devices that are used again afterwards.
+pub fn run_over<R: Source, W: Sink, C: Clock>(
+    alloc: Global,
+    reader: &mut R,
+    writer: &mut W,
+    catalog: &Catalog,
+    start: Tables,
+    config: &Config,
+    clock: &mut C,
+) -> Outcome
+    requires { start.schema ≡ map keys_of catalog.now }
+    ensures { IsRun (record { workers = 0; spool = config.now.spool; catalog = catalog.now }) start.rows
+        (devices (R.remaining reader.old) (W.contents writer.old) (C.told clock.old) (R.failures reader.old) (W.failures writer.old))
+        (devices (R.remaining reader.new) (W.contents writer.new) (C.told clock.new) (R.failures reader.new) (W.failures writer.new)) result }
+{
+    let mut applier = Applier::new(alloc, catalog, start, config.spool);
+    let end = match read_all(alloc, reader, writer, clock, &mut applier) {
         Ok(()) => End::Clean,
         Err(end) => end,
     };
     applier.leave(end)
 }
 
-#[derive(Drop)]
-struct Applier<'a, W: Sink + Drop, C: Clock + Drop> {
+/// Handles the items of a stream until it ends or an item ends the run.
+fn read_all<R: Source, W: Sink, C: Clock>(
     alloc: Global,
-    catalog: &'a Catalog,
-    work: Work,
-    /// The changes of the transaction that is open in the tables.
-    changes: Vec<Change>,
-    journal: Vec<Entry>,
-    position: Lsn,
-    /// The greatest LSN so far.
-    written: Lsn,
-    session: Session,
-    writer: W,
-    clock: C,
+    reader: &mut R,
+    writer: &mut W,
+    clock: &mut C,
+    applier: &mut Applier<'_>,
+) -> Result<(), End>
+    requires { IsUnderWay applier.old }
+    ensures { (g : Setting) (rows : Rows) → IsAt g rows applier.old beginning → IsRunOver g rows
+        (devices (R.remaining reader.old) (W.contents writer.old) (C.told clock.old) (R.failures reader.old) (W.failures writer.old))
+        (devices (R.remaining reader.new) (W.contents writer.new) (C.told clock.new) (R.failures reader.new) (W.failures writer.new))
+        applier.new (end_of result) }
+{
+    let mut frames = Frames::new(alloc);
+    'pulls: loop {
+        let pulled = frames.pull(reader);
+        handle_kept(alloc, &mut frames, writer, clock, applier)?;
+        if !pulled? {
+            frames.finish()?;
+            return Ok(());
+        }
+    }
 }
 
-impl<W: Sink + Drop, C: Clock + Drop> Applier<'_, W, C> {
-    fn read<R: Source>(&mut self, reader: &mut R) -> Result<(), End> {
-        let mut frames = Frames::new(self.alloc);
-        for _ in 0..u64::MAX {
-            let pulled = frames.pull(reader);
-            if self.handle_all(&mut frames)? {
-                return Ok(());
-            }
-            if !pulled? {
-                frames.finish()?;
-                return Ok(());
-            }
-        }
-        Err(End::Frame(FrameFault::Device))
+/// Handles the items that were read and are kept.
+fn handle_kept<W: Sink, C: Clock>(
+    alloc: Global,
+    frames: &mut Frames,
+    writer: &mut W,
+    clock: &mut C,
+    applier: &mut Applier<'_>,
+) -> Result<(), End>
+    requires { IsUnderWay applier.old }
+    ensures under_way { OnOk result (IsUnderWay applier.new) }
+    ensures none { OnOk result (frames.new.items ≡ []) }
+    ensures ending { frames.new.ending ≡ frames.old.ending }
+    ensures kept { (g : Setting) (rows : Rows) (old : Devices) (unread : Option (List ℕ)) (failures : ℕ) (bytes : List ℕ) (handled : List Item) →
+        HasCome g rows old (devices unread (W.contents writer.old) (C.told clock.old) failures (W.failures writer.old)) applier.old handled →
+        HasRead bytes handled frames.old →
+        HandlesKept g rows old (devices unread (W.contents writer.new) (C.told clock.new) failures (W.failures writer.new)) applier.new bytes frames.new result }
+{
+    while let Some(item) = frames.next() {
+        answer(alloc, item, writer, clock, applier)?;
     }
+    Ok(())
+}
 
-    /// Handles the items that were read. It answers whether the stream is over.
-    fn handle_all(&mut self, frames: &mut Frames) -> Result<bool, End> {
-        for _ in 0..u64::MAX {
-            let Some(item) = frames.next() else {
-                return Ok(false);
-            };
-            if self.handle(item)? {
-                return Ok(true);
-            }
-        }
-        Ok(false)
-    }
-
-    /// Handles one item. It answers whether the stream is over.
-    fn handle(&mut self, item: CopyItem) -> Result<bool, End> {
-        match item {
-            CopyItem::Wal {
-                start,
-                end,
-                payload,
-            } => {
-                self.written = self.written.max(start).max(end);
-                self.take_message(&payload)?;
-                Ok(false)
-            }
-            CopyItem::Keepalive { end, reply } => {
-                self.written = self.written.max(end);
-                if reply {
-                    self.tell_status()?;
-                }
-                Ok(false)
-            }
-            CopyItem::Done => Ok(true),
-        }
-    }
-
-    fn take_message(&mut self, payload: &Bytes) -> Result<(), End> {
-        match self.session.admit(self.alloc, self.catalog, payload)? {
-            Step::Item(_, item) => self.take_item(item),
-            Step::Commit(xid, info, items) => {
-                for item in items {
-                    self.take_item(item)?;
-                }
-                self.commit(xid, info)
-            }
-            Step::Nothing | Step::Begin(_) | Step::Open(_) | Step::Abort(_) => Ok(()),
-        }
-    }
-
-    fn take_item(&mut self, item: Item) -> Result<(), End> {
-        match item {
-            Item::Change { sub: _, change } => self.take_change(change),
-            Item::Touch(_) | Item::BackTo(_) | Item::Last => Ok(()),
-        }
-    }
-
-    fn take_change(&mut self, change: Change) -> Result<(), End> {
-        // The session hands on changes of the catalog's tables alone, and the tables are the catalog's.
-        if !are_tables(self.work.table_count(), &change) {
-            return Err(End::Rel(RelFault::TableMissing));
-        }
-        self.work.apply(self.alloc, &change)?;
-        self.changes.push(change)?;
-        Ok(())
-    }
-
-    /// The transaction's changes stand from here on.
-    fn commit(&mut self, xid: Xid, info: CommitInfo) -> Result<(), End> {
-        let changes = mem::replace(&mut self.changes, Vec::new(self.alloc));
-        self.journal.push(Entry {
-            xid,
-            changes,
-            commit: info.commit,
-            end: info.end,
-        })?;
-        self.work.settle(self.alloc);
-        self.position = info.end;
-        self.written = self.written.max(info.end);
-        self.tell_status()
-    }
-
-    fn tell_status(&mut self) -> Result<(), End> {
+/// Handles an item, and sends a status update if one is due.
+fn answer<W: Sink, C: Clock>(
+    alloc: Global,
+    item: CopyItem,
+    writer: &mut W,
+    clock: &mut C,
+    applier: &mut Applier<'_>,
+) -> Result<(), End>
+    requires { IsUnderWay applier.old }
+    ensures under_way { OnOk result (IsUnderWay applier.new) }
+    ensures answer { (g : Setting) (rows : Rows) (old : Devices) (unread : Option (List ℕ)) (failures : ℕ) (handled : List Item) →
+        HasCome g rows old (devices unread (W.contents writer.old) (C.told clock.old) failures (W.failures writer.old)) applier.old handled →
+        Answers g rows old (devices unread (W.contents writer.new) (C.told clock.new) failures (W.failures writer.new)) applier.new handled item result }
+{
+    if applier.handle(item)? {
         let status = Status {
-            written: self.written,
-            flushed: self.position,
-            applied: self.position,
-            clock: self.clock.micros(),
+            written: applier.written(),
+            flushed: applier.position(),
+            applied: applier.position(),
+            clock: clock.micros(),
         };
-        send_status(self.alloc, &status, &mut self.writer)?;
-        Ok(())
+        send_status(alloc, &status, writer)?;
     }
-
-    /// Undoes open work, and answers what is left.
-    fn leave(self, end: End) -> Outcome {
-        Outcome {
-            tables: self.work.undo(),
-            journal: self.journal,
-            position: self.position,
-            end,
-        }
-    }
+    Ok(())
 }

@@ -1,23 +1,31 @@
 // The tables while work is open in them.
-ghost use Rattle.std.specs.Prelude.{◌≡◌, ◌<◌, OnOk, IfErr, IsTrue, length};
-ghost use Rattle.model.specs.Effect.{effect};
+ghost use Rattle.std.specs.Prelude.{◌≡◌, ◌<◌, [], ◌∷◌, ◌++◌, OnOk, OnErr, IfErr, All, length, map};
+ghost use Rattle.model.specs.Effect.{effect, undone};
 ghost use Rattle.change.specs.Applied.{AreTables};
-ghost use Rattle.leader.specs.Work.{PassesHere, Refuses};
+ghost use Rattle.change.specs.Inverse.{edits_of};
+ghost use Rattle.undo.specs.Undo.{CanUndo};
+ghost use Rattle.savepoint.specs.Survivors.{changes_of};
+ghost use Rattle.session.specs.Named.{AreNamed};
+ghost use Rattle.session.specs.Stands.{IsOfTables};
+ghost use Rattle.leader.specs.Work.{Passes, IsClear, Refuses, IsRefusedIn, rows_now};
 
 use change::{Applied, Clash, apply};
 use indexes::Tables;
 use model::Change;
+use savepoint::Item;
 use std::alloc::Global;
 use std::marker::Model;
+use std::mem;
 use undo::UndoLog;
 
 /// Tables with the changes of one open transaction in them, and what takes these back.
 ///
-/// A clause sees the rows now, and the rows without the open work.
+/// A clause sees the rows without the open work, and the changes that are open.
 #[derive(Drop)]
 pub struct Work {
     tables: Tables,
     undo: UndoLog,
+    changes: Vec<Change>,
 }
 
 impl Model for Work {
@@ -27,62 +35,76 @@ impl Model for Work {
 
     ghost coded = { standing_code };
 
-    ghost use Rattle.leader.specs.WorkInside.{standing_of, IsUndoable};
+    ghost use Rattle.leader.specs.WorkInside.{standing_of, HasWork};
 
     ghost view = { standing_of };
 
-    ghost invariant = { IsUndoable };
+    ghost invariant = { HasWork };
 }
 
 impl Work {
     /// The tables, with no work open.
     pub fn new(alloc: Global, tables: Tables) -> Work
-        ensures schema { result.schema ≡ tables.schema }
-        ensures rows { result.rows ≡ tables.rows }
-        ensures base { result.base ≡ tables.rows }
+        ensures { result ≡ record { schema = tables.schema; base = tables.rows; changes = [] } }
     {
         Work {
             tables,
             undo: UndoLog::new(alloc),
+            changes: Vec::new(alloc),
         }
     }
 
-    /// How many tables there are.
-    pub fn table_count(&self) -> usize
-        ensures { result ≡ length self.now.schema }
+    /// Applies a change as open work. A refusal leaves all as it was.
+    pub fn apply(&mut self, alloc: Global, change: Change) -> Result<(), Clash>
+        requires { AreNamed (length self.old.schema) change }
+        ensures passes { OnOk result (Passes self.old.schema (rows_now self.old) change) }
+        ensures ok { OnOk result (self.new ≡ record self.old { changes = self.old.changes ++ change ∷ [] }) }
+        ensures refused { IfErr result (Refuses self.old.schema (rows_now self.old) change) }
+        ensures err { OnErr result (self.new ≡ self.old) }
     {
-        self.tables.len()
+        self.changes.reserve(1)?;
+        apply_logged(alloc, &mut self.tables, &mut self.undo, &change)?;
+        self.changes.push_reserved(change);
+        Ok(())
     }
 
-    /// Applies a change as open work. A refusal leaves the rows.
-    pub fn apply(&mut self, alloc: Global, change: &Change) -> Result<(), Clash>
-        requires { AreTables self.old.schema change.now }
-        ensures ok { OnOk result (PassesHere self.old.schema self.old.rows change.now
-            × (self.new.rows ≡ effect self.old.schema self.old.rows change.now)) }
-        ensures err { IfErr result (λ clash. Refuses self.old.schema self.old.rows change.now clash
-            × (self.new.rows ≡ self.old.rows)) }
+    /// Applies an item's change, if it has one, as open work. A refusal leaves all as it was.
+    pub fn take(&mut self, alloc: Global, item: Item) -> Result<(), Clash>
+        requires { IsOfTables (length self.old.schema) item }
+        ensures clear { OnOk result (IsClear self.old.schema (rows_now self.old) (changes_of (item ∷ []))) }
+        ensures ok { OnOk result (self.new ≡ record self.old { changes = self.old.changes ++ changes_of (item ∷ []) }) }
+        ensures refused { IfErr result (IsRefusedIn self.old.schema (rows_now self.old) (changes_of (item ∷ []))) }
+        ensures err { OnErr result (self.new ≡ self.old) }
+    {
+        match item {
+            Item::Change { sub: _, change } => self.apply(alloc, change),
+            Item::Touch(_) | Item::BackTo(_) | Item::Last => Ok(()),
+        }
+    }
+
+    /// Applies the changes of items in turn, as open work. A refusal leaves the rows without the open work.
+    pub fn take_all(&mut self, alloc: Global, items: Vec<Item>) -> Result<(), Clash>
+        requires { All (IsOfTables (length self.old.schema)) items.items }
+        ensures clear { OnOk result (IsClear self.old.schema (rows_now self.old) (changes_of items.items)) }
+        ensures ok { OnOk result (self.new ≡ record self.old { changes = self.old.changes ++ changes_of items.items }) }
+        ensures refused { IfErr result (IsRefusedIn self.old.schema (rows_now self.old) (changes_of items.items)) }
         ensures base { self.new.base ≡ self.old.base }
         ensures schema { self.new.schema ≡ self.old.schema }
     {
-        self.undo.reserve()?;
-        match apply(alloc, &mut self.tables, change) {
-            Ok(Applied::Done(inverse)) => {
-                self.undo.push_reserved(inverse);
-                Ok(())
-            }
-            Ok(Applied::Skipped) => Ok(()),
-            Err(clash) => Err(clash),
+        for item in items {
+            self.take(alloc, item)?;
         }
+        Ok(())
     }
 
-    /// The open work stands from here on.
-    pub fn settle(&mut self, alloc: Global)
-        ensures rows { self.new.rows ≡ self.old.rows }
-        ensures base { self.new.base ≡ self.old.rows }
-        ensures schema { self.new.schema ≡ self.old.schema }
+    /// The open work stands from here on. It answers its changes.
+    pub fn settle(&mut self, alloc: Global) -> Vec<Change>
+        ensures changes { result.items ≡ self.old.changes }
+        ensures settled { self.new ≡ record { schema = self.old.schema; base = rows_now self.old; changes = [] } }
     {
         self.undo.settle(&mut self.tables);
         self.undo = UndoLog::new(alloc);
+        mem::replace(&mut self.changes, Vec::new(alloc))
     }
 
     /// Undoes the open work, and gives the tables back. It takes no memory.
@@ -93,8 +115,37 @@ impl Work {
         let Work {
             mut tables,
             mut undo,
+            changes: _,
         } = self;
         undo.undo_to(&mut tables, 0);
         tables
+    }
+}
+
+/// Applies a change, and logs what takes it back. A refusal changes no row.
+fn apply_logged(
+    alloc: Global,
+    tables: &mut Tables,
+    undo: &mut UndoLog,
+    change: &Change,
+) -> Result<(), Clash>
+    requires tables { AreTables tables.old.schema change.now }
+    requires can_undo { CanUndo tables.old undo.old.inverses }
+    ensures passes { OnOk result (Passes tables.old.schema tables.old.rows change.now) }
+    ensures ok { OnOk result (tables.new.rows ≡ effect tables.old.schema tables.old.rows change.now) }
+    ensures refused { IfErr result (Refuses tables.old.schema tables.old.rows change.now) }
+    ensures err { OnErr result (tables.new.rows ≡ tables.old.rows) }
+    ensures base { undone tables.new.rows (map edits_of undo.new.inverses) ≡ undone tables.old.rows (map edits_of undo.old.inverses) }
+    ensures schema { tables.new.schema ≡ tables.old.schema }
+    ensures can_undo { CanUndo tables.new undo.new.inverses }
+{
+    undo.reserve()?;
+    match apply(alloc, tables, change) {
+        Ok(Applied::Done(inverse)) => {
+            undo.push_reserved(inverse);
+            Ok(())
+        }
+        Ok(Applied::Skipped) => Ok(()),
+        Err(clash) => Err(clash),
     }
 }

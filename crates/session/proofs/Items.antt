@@ -25,11 +25,11 @@ use Rattle.session.specs.declared.session.Session.{Session as Holder}
 use Rattle.session.specs.declared.step.Step.{Step}
 use Rattle.session.specs.declared.step.Step.TheVariants as steps
 use Rattle.session.specs.Refusals.{of_relation}
-use Rattle.session.specs.State.{Way, Direct, Worker, Spooled, Open, Transactions, State, Setting, IsHere}
+use Rattle.session.specs.State.{Way, Direct, Worker, Spooled, Open, Transactions, State, Setting, IsHere, GoesAlone, begun_at}
 use Rattle.session.specs.Kept.{is_spooled}
 use Rattle.session.specs.Table.{Next, refuse, at, of_open, gives, has_room, touches, plans, changes, change_line, named, learns, goes_on, aborts, aborts_open}
-use Rattle.session.specs.Told.{Told, Nothing, Opens, Gives, Commits, Aborts, Tells}
-use Rattle.session.specs.Stands.{StandsFor, Keeps, Knows, Says, IsCause, IsOfTables, Follows, IsAdmitted, IsRefusedAs, IsChangeOf, spool_fault, with_item, given_back, Survives}
+use Rattle.session.specs.Told.{Told, Nothing, Opens, Gives, Commits, Aborts, Tells, IsChange}
+use Rattle.session.specs.Stands.{StandsFor, Keeps, Knows, Says, IsCause, IsOfTables, IsWithin, Follows, IsAdmitted, IsRefusedAs, IsChangeOf, spool_fault, with_item, given_back, Survives}
 use Rattle.session.proofs.Totals.{same_key}
 use Rattle.session.proofs.Steps.{alone_insert, alone_remove, alone_at, none_begun, nothing_begun, stays}
 use Rattle.session.proofs.Kept.{present}
@@ -83,11 +83,25 @@ says_given xid Direct item size back is = ap (step_given xid) is
 says_given xid Worker item size back is = ap (step_given xid) is
 says_given xid Spooled item size back is = ap (step_given xid) is
 
+within_given : (g : Setting) (xid : ℕ) (way : Way) (item : Item) (size : ℕ) → IsOfTables (length g.catalog) item → (way ≡ Direct → IsChange item) → IsWithin g (Gives xid way item size)
+within_given g xid Direct item size of_tables directly = (of_tables, directly refl)
+within_given g xid Worker item size of_tables directly = of_tables
+within_given g xid Spooled item size of_tables directly = of_tables
+
+within_dropped : (g : Setting) (xid : ℕ) (way : Way) → way ≢ Direct → IsWithin g (Aborts xid way)
+within_dropped g xid Direct streamed = streamed refl
+within_dropped g xid Worker streamed = tt
+within_dropped g xid Spooled streamed = tt
+
+-- where no transaction is begun, none goes directly
+pub none_direct : (place : Place) (m : Transactions) (xid : ℕ) (o : Open) → begun_at place ≡ None → GoesAlone place m → map.get m xid ≡ Some o → o.way ≢ Direct
+none_direct place m xid o none alone some direct = let no : None ≡ Some xid = sym none ∙ alone xid o some direct in cc
+
 pub gives-admitted : (g : Setting) (v w : Holder) (h : State) (xid : ℕ) (o : Open) (item : Item) (size : ℕ) (back : Option Item) (next : Next) (step : Step) → StandsFor g v h → map.get h.transactions xid ≡ Some o → next ≡ Ok (gives h xid item size o)
-    → back ≡ given_back o.way item → Keeps g w.transactions (map.insert h.transactions xid (with_item o item size)) → IsOfTables (length g.catalog) item
+    → back ≡ given_back o.way item → Keeps g w.transactions (map.insert h.transactions xid (with_item o item size)) → IsOfTables (length g.catalog) item → (o.way ≡ Direct → IsChange item)
     → w.place ≡ v.place → w.relations ≡ v.relations → w.position ≡ v.position → step ≡ step_given xid back
     → IsAdmitted g w h next step
-gives-admitted g v w h xid o item size back next step stands some e given kept of_tables place relations position is = record {
+gives-admitted g v w h xid o item size back next step stands some e given kept of_tables directly place relations position is = record {
   state = gives h xid item size o;
   told = Gives xid o.way item size;
   stepped = e;
@@ -101,7 +115,7 @@ gives-admitted g v w h xid o item size back next step stands some e given kept o
   };
   tells = (o, refl, record { present = some; transactions = refl; position = refl; past = refl });
   says = rw is (says_given xid o.way item size back given);
-  of_tables = of_tables;
+  within = within_given g xid o.way item size of_tables directly;
 }
 
 -- ---- room
@@ -217,7 +231,7 @@ tells_learnt : (h t : State) (r : Relation) (told : Told) → Tells h t told →
 tells_learnt h t r Nothing is = record { transactions = is.transactions; position = is.position; past = is.past }
 tells_learnt h t r (Opens xid way) is = record { absent = is.absent; transactions = is.transactions; position = is.position; past = is.past }
 tells_learnt h t r (Gives xid way item size) is = (is.0, is.1, record { present = is.2.present; transactions = is.2.transactions; position = is.2.position; past = is.2.past })
-tells_learnt h t r (Commits c) is = record { present = is.present; later = is.later; transactions = is.transactions; position = is.position; past = is.past }
+tells_learnt h t r (Commits c) is = record { present = is.present; later = is.later; outside = is.outside; transactions = is.transactions; position = is.position; past = is.past }
 tells_learnt h t r (Aborts xid way) is = (is.0, is.1, record { present = is.2.present; transactions = is.2.transactions; position = is.2.position; past = is.2.past })
 
 -- outside of blocks
@@ -247,7 +261,7 @@ learns-admitted g v w h r next stands e known place transactions position = reco
   };
   tells = record { transactions = refl; position = refl; past = refl };
   says = refl;
-  of_tables = tt;
+  within = tt;
 }
 
 -- An item was taken that changes no row: the transaction is open, and has it now.
@@ -323,7 +337,7 @@ relation_taken g v w h r xid sub size next step line taken known place transacti
       };
       tells = tells_learnt h taken.state r taken.told taken.tells;
       says = taken.says;
-      of_tables = taken.of_tables;
+      within = taken.within;
     }
 
 -- the session once the item is dropped again, since the relation was not learnt
@@ -380,7 +394,7 @@ drops-admitted g v w h m o step stands outside some whole kept place relations p
   };
   tells = (o, refl, record { present = some; transactions = refl; position = refl; past = refl });
   says = rw is (says_dropped m.xid o.way);
-  of_tables = tt;
+  within = within_dropped g m.xid o.way (none_direct h.place h.transactions m.xid o (none_begun h.place outside) stands.alone some);
 }
 
 -- the rollback of a subtransaction is an item
@@ -419,5 +433,5 @@ goes_on-admitted g v w h xid stands outside is_open place transactions relations
       };
       tells = record { transactions = refl; position = refl; past = refl };
       says = refl;
-      of_tables = tt;
+      within = tt;
     }

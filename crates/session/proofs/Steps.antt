@@ -1,5 +1,5 @@
 -- What the session stands for after a message.
-use Rattle.std.proofs.Common.{◌≡◌, ◌≢◌, ℕ, ◌<◌, ◌≤◌, ◌++◌, ◌∷◌, if◌then◌else◌, Bool, true, false, [], Option, Some, None, refl, sym, ap, subst, ◌∙◌, ⊎_elim}
+use Rattle.std.proofs.Common.{arith, ◌≡◌, ◌≢◌, ℕ, ◌<◌, ◌≤◌, ◌++◌, ◌∷◌, if◌then◌else◌, Bool, true, false, [], Option, Some, None, refl, sym, ap, subst, ◌∙◌, ⊎_elim}
 use Rattle.std.specs.Prelude.{Result, Ok, Err, IsErrAnd, nat_lt}
 use Rattle.std.specs.Ordering.{nat_cmp, eq_by_cmp}
 use Rattle.std.specs.Cmp.{nat_cmp_total}
@@ -16,8 +16,9 @@ use Rattle.session.specs.declared.step.Step.TheVariants as steps
 use Rattle.messages.specs.declared.message.Begin.{Begin}
 use Rattle.session.specs.State.{Open, Transactions, State, Setting, Way, Direct, Worker, Spooled, Committed, GoesAlone, begun_at, working}
 use Rattle.session.specs.Table.{Next, refuse, at, begins, opened, room_fault, unless_fault, leaves_block, opens, next_way, commits, closes, of_open}
+use Rattle.std.proofs.lemmas.Bool.{ltb-true}
 use Rattle.session.specs.Told.{Nothing, Opens, Commits, handed_out}
-use Rattle.session.specs.Stands.{way_if, Says, HandsOut, keeping_of, StandsFor, Keeps, IsFault, IsCause, Follows, IsAdmitted}
+use Rattle.session.specs.Stands.{way_if, Says, HandsOut, keeping_of, StandsFor, Keeps, IsFault, IsCause, IsWithin, Follows, IsAdmitted}
 use Rattle.session.specs.Kept.{items_kept}
 use Rattle.session.specs.Sized.{SizedItems}
 use Rattle.savepoint.specs.declared.item.CommitInfo.{CommitInfo}
@@ -117,7 +118,7 @@ begins-admitted g v w h m b c stands outside opened_is place relations position 
   };
   tells = record { absent = absent_from_room h.transactions m.xid opened_is.0; transactions = refl; position = refl; past = refl };
   says = refl;
-  of_tables = tt;
+  within = tt;
 }
 
 pub begins-refused : (g : Setting) (v w : Holder) (h : State) (m : Begin) (b : ℕ → ℕ → Next) (c : ℕ → Next) (result : Result Step Refused) (r : Refused) → StandsFor g v h → v.place ≡ Outside
@@ -158,7 +159,7 @@ stops-admitted g v w h xid a b stands block place transactions relations positio
   };
   tells = record { transactions = refl; position = refl; past = refl };
   says = refl;
-  of_tables = tt;
+  within = tt;
 }
 
 -- ---- a streamed transaction
@@ -184,6 +185,11 @@ said xid false = refl
 abbrev pub streamed : State → ℕ → Way → State
 streamed h xid way = record h { place = Block xid; transactions = map.insert h.transactions xid (opened way) }
 
+-- a worker is given only where there are any
+within_opened : (g : Setting) (n xid : ℕ) (got : Bool) → got ≡ nat_lt n g.workers → IsWithin g (Opens xid (way_if got))
+within_opened g n xid true e = let free : n < g.workers = ltb-true n g.workers (sym e) in omega arith
+within_opened g n xid false e = tt
+
 pub opens-admitted : (g : Setting) (v w : Holder) (h : State) (xid : ℕ) (got : Bool) (step : Step) → StandsFor g v h → h.place ≡ Outside
     → (room_fault h.transactions xid ≡ None) × (got ≡ nat_lt (working h.transactions) g.workers) × Keeps g w.transactions (map.insert h.transactions xid (opened (way_if got)))
     → w.place ≡ Block xid → w.relations ≡ v.relations → w.position ≡ v.position → step ≡ step_if xid got
@@ -204,7 +210,7 @@ opens-admitted g v w h xid got step stands outside kept place relations position
   };
   tells = record { absent = absent_from_room h.transactions xid kept.0; transactions = refl; position = refl; past = refl };
   says = rw is (said xid got);
-  of_tables = tt;
+  within = within_opened g (working h.transactions) xid got kept.1;
 }
 
 pub opens-refused : (g : Setting) (v w : Holder) (h : State) (xid : ℕ) (result : Result Step Refused) (r : Refused) → StandsFor g v h
@@ -266,9 +272,9 @@ closes-admitted g v w h xid commit end way step stands was only later place rela
     relations = rw relations stands.relations;
     position = position;
   };
-  tells = record { present = was.1; later = later; transactions = refl; position = refl; past = refl };
+  tells = record { present = was.1; later = later; outside = refl; transactions = refl; position = refl; past = refl };
   says = hands (final xid (record { commit = commit; end = end }) was.0) refl refl (ap items_kept was.2 ∙ items_kept-keeping_of xid was.0.items was.0.way);
-  of_tables = tt;
+  within = tt;
 }
 
 -- ---- what holds in one place holds of the line
@@ -287,7 +293,7 @@ follows_same g v h next other result e follows = let P : Next → Type 0 = λ n.
 
 -- a message without effect
 pub stays : (g : Setting) (v : Holder) (h : State) (next : Next) → StandsFor g v h → next ≡ Ok h → IsAdmitted g v h next steps.Nothing
-stays g v h next stands e = record { state = h; told = Nothing; stepped = e; stands = stands; tells = record { transactions = refl; position = refl; past = refl }; says = refl; of_tables = tt }
+stays g v h next stands e = record { state = h; told = Nothing; stepped = e; stands = stands; tells = record { transactions = refl; position = refl; past = refl }; says = refl; within = tt }
 
 -- what is the same in each place
 pub at_same : (place : Place) (next : Next) → at place next (λ _ _. next) (λ _. next) ≡ next

@@ -55,7 +55,7 @@ takes_spelled g v h payload inside size m (Ok answer) spelled here long follows 
       stands = follows.stands;
       tells = follows.tells;
       says = follows.says;
-      of_tables = follows.of_tables;
+      within = follows.within;
     }
 takes_spelled g v h payload inside size m (Err r) spelled here long follows =
     let P : Bool → Type 0 = λ b. Spelled payload b m in

@@ -28,7 +28,7 @@ use Rattle.session.specs.declared.session.Session.{Session as Holder}
 use Rattle.session.specs.Sized.{SizedItems}
 use Rattle.session.specs.State.{Way, Direct, Worker, Spooled, Open, Committed, Transactions, State, Setting, IsHere, GoesAlone, kept, working, spooled}
 use Rattle.session.specs.Table.{Next, refuse, plans, room_fault, opened, gives, has_room, change_line}
-use Rattle.session.specs.Told.{Told, Nothing, Opens, Gives, Commits, Aborts, Tells, handed_out}
+use Rattle.session.specs.Told.{Told, Nothing, Opens, Gives, Commits, Aborts, Tells, IsChange, handed_out}
 use Rattle.session.specs.Named.{AreNamed}
 use Rattle.session.specs.Lawful.{Admits, IsRefusal}
 
@@ -179,13 +179,20 @@ IsOfTables count (Touch sub) = Unit {0}
 IsOfTables count (BackTo sub) = Unit {0}
 IsOfTables count Last = Unit {0}
 
--- an item that is given names tables of the catalog alone
-abbrev pub AreOfTables : ℕ → Told → Type 0
-AreOfTables count Nothing = Unit {0}
-AreOfTables count (Opens xid way) = Unit {0}
-AreOfTables count (Gives xid way item size) = IsOfTables count item
-AreOfTables count (Commits c) = Unit {0}
-AreOfTables count (Aborts xid way) = Unit {0}
+-- What is told keeps to the setting: a worker is given only where there are any, an item names tables of the catalog
+-- alone, a transaction that goes directly gets changes alone and is never dropped.
+abbrev pub IsWithin : Setting → Told → Type 0
+IsWithin g Nothing = Unit {0}
+IsWithin g (Opens xid Direct) = Unit {0}
+IsWithin g (Opens xid Worker) = 0 < g.workers
+IsWithin g (Opens xid Spooled) = Unit {0}
+IsWithin g (Gives xid Direct item size) = IsOfTables (length g.catalog) item × IsChange item
+IsWithin g (Gives xid Worker item size) = IsOfTables (length g.catalog) item
+IsWithin g (Gives xid Spooled item size) = IsOfTables (length g.catalog) item
+IsWithin g (Commits c) = Unit {0}
+IsWithin g (Aborts xid Direct) = ⊥
+IsWithin g (Aborts xid Worker) = Unit {0}
+IsWithin g (Aborts xid Spooled) = Unit {0}
 
 -- A message was admitted: the table has the next state, and the answer says what it tells.
 pub record IsAdmitted (g : Setting) (v : Holder) (h : State) (next : Next) (answer : Step) : Type 0 where
@@ -195,7 +202,7 @@ pub record IsAdmitted (g : Setting) (v : Holder) (h : State) (next : Next) (answ
   pub stands : StandsFor g v state
   pub tells : Tells h state told
   pub says : Says told answer
-  pub of_tables : AreOfTables (length g.catalog) told
+  pub within : IsWithin g told
 
 -- what the table has where a message is refused; memory may be refused at any time
 abbrev pub IsCause : Next → Refused → Type 0
@@ -232,7 +239,7 @@ pub record IsTaken (g : Setting) (v : Holder) (h : State) (payload : List ℕ) (
   pub stands : StandsFor g v state
   pub tells : Tells h state told
   pub says : Says told answer
-  pub of_tables : AreOfTables (length g.catalog) told
+  pub within : IsWithin g told
 
 -- The payload was turned away for this cause, and the state stays.
 pub record IsTurnedAway (g : Setting) (v : Holder) (h : State) (payload : List ℕ) (refused : Refused) : Type 0 where

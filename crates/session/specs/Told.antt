@@ -2,6 +2,8 @@
 use Rattle.std.specs.Prelude.{◌≡◌, ℕ, ◌<◌, List, [], ◌∷◌, ◌++◌, map, Some, None}
 use Rattle.std.specs.FinMap as map
 use Rattle.savepoint.specs.declared.item.Item.{Item}
+use Rattle.savepoint.specs.declared.item.Item.TheVariants.{Change, Touch, BackTo, Last}
+use Rattle.session.specs.declared.place.Place.TheVariants.{Outside}
 use Rattle.session.specs.Sized.{item_of}
 use Rattle.session.specs.State.{Way, Direct, Worker, Spooled, Open, Committed, State, kept}
 use Rattle.session.specs.Table.{opened}
@@ -33,10 +35,18 @@ pub record IsGiving (s t : State) (xid : ℕ) (item : Item) (size : ℕ) (o : Op
   pub position : t.position ≡ s.position
   pub past : t.past ≡ s.past
 
--- The transaction commits, past the last commit.
+-- The item is a change.
+abbrev pub IsChange : Item → Type 0
+IsChange (Change sub c) = Unit {0}
+IsChange (Touch sub) = ⊥
+IsChange (BackTo sub) = ⊥
+IsChange Last = ⊥
+
+-- The transaction commits, past the last commit, and none is begun afterwards.
 pub record IsCommitting (s t : State) (c : Committed) : Type 0 where
   pub present : map.get s.transactions c.xid ≡ Some (record { way = c.way; items = c.items })
   pub later : s.position < c.info.end
+  pub outside : t.place ≡ Outside
   pub transactions : t.transactions ≡ map.remove s.transactions c.xid
   pub position : t.position ≡ c.info.end
   pub past : t.past ≡ s.past ++ c ∷ []

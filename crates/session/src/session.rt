@@ -30,6 +30,8 @@ pub struct Session {
 impl Session {
     ghost use Rattle.std.specs.FinMap as map;
     ghost use Rattle.session.specs.State.{Setting, State, Open, start, begun_at};
+    ghost use Rattle.session.specs.State.{Direct};
+    ghost use Rattle.session.specs.Told.{IsChange};
     ghost use Rattle.session.specs.Table as table;
     ghost use Rattle.session.specs.Stands.{StandsFor, Follows, IsAdmitted, IsChangeOf, IsOfTables, Survives, Takes};
     ghost use Rattle.session.specs.declared.fault.SessionFault.TheVariants as faults;
@@ -292,7 +294,7 @@ impl Session {
     /// Takes an item of an open transaction.
     fn take(&mut self, xid: Xid, item: Item, size: u64) -> Result<Step, Refused>
         ensures { (g : Setting) (h : State) (o : Open) → StandsFor g self.old h → map.get h.transactions xid ≡ Some o
-            → table.has_room g h.transactions size o.way ≡ true → Survives item → IsOfTables (length g.catalog) item
+            → table.has_room g h.transactions size o.way ≡ true → Survives item → IsOfTables (length g.catalog) item → (o.way ≡ Direct → IsChange item)
             → Follows g self.new h (Ok (table.gives h xid item size o)) result }
     {
         match self.transactions.take(xid, item, size)? {

@@ -3,7 +3,8 @@ use Rattle.std.specs.Prelude.{Ok}
 use Rattle.savepoint.specs.declared.item.Item.TheVariants.{BackTo}
 use Rattle.session.specs.Kept.{is_spool, is_spooled}
 use Rattle.session.proofs.Kept.{present, absent, is_spool-keeping}
-use Rattle.session.proofs.Items.{aborts-unknown, drops-admitted, step_dropped, aborts-back, gives-admitted, given_back-kept, given_back-free}
+use Rattle.session.proofs.Items.{aborts-unknown, drops-admitted, step_dropped, aborts-back, gives-admitted, given_back-kept, given_back-free, none_direct}
+use Rattle.session.proofs.Steps.{none_begun}
 use Rattle.session.proofs.session.Session.abort.Goals as goal
 
 pub returns-in_default : goal.returns-in_default
@@ -34,7 +35,7 @@ returns-then-roll_back c = λ g h stands outside.
     let o = present h.transactions m.xid (sym (c.contains.ensures g h.transactions stands.transactions) ∙ c.if-not-contains.false) in
     let part : m.subtransaction ≢ m.xid = c.if-m.false in
     let back = c.roll_back.ensures g h.transactions o.0 stands.transactions o.1 part in
-    gives-admitted g c.args.self.now _ h m.xid o.0 (BackTo m.subtransaction) 0 None _ _ stands o.1 (ap Ok (aborts-back h m o.0 o.1 part)) (given_back-kept o.0.way (BackTo m.subtransaction) (sym back.0 ∙ c.if-roll_back.true)) back.1 tt refl refl refl refl
+    gives-admitted g c.args.self.now _ h m.xid o.0 (BackTo m.subtransaction) 0 None _ _ stands o.1 (ap Ok (aborts-back h m o.0 o.1 part)) (given_back-kept o.0.way (BackTo m.subtransaction) (sym back.0 ∙ c.if-roll_back.true)) back.1 tt (λ direct. absurd (none_direct h.place h.transactions m.xid o.0 (none_begun h.place outside) stands.alone o.1 direct)) refl refl refl refl
 
 pub returns : goal.returns
 returns c = λ g h stands outside.
@@ -42,4 +43,4 @@ returns c = λ g h stands outside.
     let o = present h.transactions m.xid (sym (c.contains.ensures g h.transactions stands.transactions) ∙ c.if-not-contains.false) in
     let part : m.subtransaction ≢ m.xid = c.if-m.false in
     let back = c.roll_back.ensures g h.transactions o.0 stands.transactions o.1 part in
-    gives-admitted g c.args.self.now _ h m.xid o.0 (BackTo m.subtransaction) 0 (Some (BackTo m.subtransaction)) _ _ stands o.1 (ap Ok (aborts-back h m o.0 o.1 part)) (given_back-free o.0.way (BackTo m.subtransaction) (sym back.0 ∙ c.if-roll_back.false)) back.1 tt refl refl refl refl
+    gives-admitted g c.args.self.now _ h m.xid o.0 (BackTo m.subtransaction) 0 (Some (BackTo m.subtransaction)) _ _ stands o.1 (ap Ok (aborts-back h m o.0 o.1 part)) (given_back-free o.0.way (BackTo m.subtransaction) (sym back.0 ∙ c.if-roll_back.false)) back.1 tt (λ direct. absurd (none_direct h.place h.transactions m.xid o.0 (none_begun h.place outside) stands.alone o.1 direct)) refl refl refl refl

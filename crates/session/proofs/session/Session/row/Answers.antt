@@ -19,4 +19,4 @@ returns c = λ g h same stands.
     let planned = c.in_ok-change.ensures g h same stands.relations in
     let mid : StandsFor g record c.args.self.now { relations = c.plan.new.self } h = stands_known g c.args.self.now _ h stands planned.2 refl refl refl in
     follows_same g _ h _ _ c.take.result (of.3 (row_change g h c.args.oid c.args.row.now) ∙ ap (λ p. plans p (λ d. gives h c.in_ok-xid.xid (Change c.in_ok-xid.sub d) c.args.size of.0)) planned.0)
-    (c.take.ensures g h of.0 mid of.1 of.2 tt planned.1)
+    (c.take.ensures g h of.0 mid of.1 of.2 tt planned.1 (λ direct. tt))

@@ -17,4 +17,4 @@ returns c = λ g h same stands.
     let of = c.in_ok-xid.ensures g h stands in
     let planned = rw c.as_slice.ensures.value at (c.in_ok-change.ensures g h same stands.relations) in
     follows_same g _ h _ _ c.take.result (of.3 (truncate_change g h c.args.m.now.relations) ∙ ap (λ p. plans p (λ d. gives h c.in_ok-xid.xid (Change c.in_ok-xid.sub d) c.args.size of.0)) planned.0)
-    (c.take.ensures g h of.0 (stands_known g c.args.self.now _ h stands planned.2 refl refl refl) of.1 of.2 tt planned.1)
+    (c.take.ensures g h of.0 (stands_known g c.args.self.now _ h stands planned.2 refl refl refl) of.1 of.2 tt planned.1 (λ direct. tt))

@@ -1,0 +1,88 @@
+-- What handling an item leaves of a run.
+use Rattle.std.proofs.Common.{◌≡◌, ℕ, Bool, true, false, List, [], ◌∷◌, ◌++◌, refl, sym, ap, subst, ◌∙◌, append-nil, arith, inl, inr}
+use Rattle.std.specs.Prelude.{Result, Ok, Err, max, MatchResult}
+use Rattle.model.specs.Rows.{Rows}
+use Rattle.frames.specs.declared.item.CopyItem.{CopyItem}
+use Rattle.frames.specs.declared.item.CopyItem.TheVariants.{Wal, Keepalive, Done}
+use Rattle.session.specs.State.{State, Setting}
+use Rattle.leader.specs.declared.applier.Applier.{Applier}
+use Rattle.leader.specs.declared.end.End.{End}
+use Rattle.leader.specs.Progress.{Progress, Handles, due, commits_from}
+use Rattle.leader.specs.Applier.{HasCommits, IsAt, EndsAt, TakesMessage, HasTaken, HandlesItem, HasHandled, EndsByItem}
+
+-- the same with a greater position seen
+abbrev pub with_seen : Progress → ℕ → Progress
+with_seen p seen = record { state = p.state; seen = seen; updates = p.updates }
+
+-- what is kept, but for the greatest position
+pub record IsSameBut (a b : Applier) : Type 0 where
+  pub catalog : b.catalog ≡ a.catalog
+  pub session : b.session ≡ a.session
+  pub work : b.work ≡ a.work
+  pub journal : b.journal.items ≡ a.journal.items
+  pub position : b.position ≡ a.position
+
+pub IsAt-seen : (g : Setting) (rows : Rows) (a b : Applier) (p : Progress) (seen : ℕ) → IsAt g rows a p → IsSameBut a b → b.written ≡ max seen p.state.position → IsAt g rows b (with_seen p seen)
+IsAt-seen g rows a b p seen at same written = record {
+  workers = at.workers;
+  catalog = at.catalog ∙ rw same.catalog;
+  session = rw same.session at.session;
+  served = at.served;
+  commits = record {
+    schema = rw same.work at.commits.schema;
+    base = rw same.work at.commits.base;
+    journal = rw same.journal at.commits.journal;
+    position = same.position ∙ at.commits.position;
+  };
+  reached = at.reached;
+  begun = rw same.work at.begun;
+  clear = at.clear;
+  seen = written;
+}
+
+-- a message was taken, or ended the run
+pub handled_wal : (g : Setting) (rows : Rows) (b : Applier) (p : Progress) (first last : ℕ) (payload : List ℕ) (result : Result Bool End) → TakesMessage g rows b (with_seen p (max (max p.seen first) last)) payload result → HandlesItem g rows b p (Wal first last payload) result
+handled_wal g rows b p first last payload (Ok is_commit) taken = record {
+  progress = taken.progress;
+  handles = (taken.message, taken.admits, taken.seen, taken.updates ∙ ap (λ c. p.updates ++ due c taken.progress.state taken.progress.seen) taken.commits);
+  updates = taken.updates;
+  at = taken.at;
+}
+handled_wal g rows b p first last payload (Err end) (inl ends) = inl (ends first last)
+handled_wal g rows b p first last payload (Err end) (inr (m, s, admits, none, ends)) =
+    inr (
+      record { state = s; seen = max (max p.seen first) last; updates = p.updates },
+      (m, admits, refl, sym (append-nil p.updates) ∙ ap (λ c. p.updates ++ due c s (max (max p.seen first) last)) (sym none)),
+      refl,
+      ends,
+    )
+
+pub handled_keepalive : (g : Setting) (rows : Rows) (b : Applier) (p : Progress) (last : ℕ) (reply : Bool) → IsAt g rows b (with_seen p (max p.seen last)) → HasHandled g rows b p (Keepalive last reply) reply
+handled_keepalive g rows b p last reply at =
+    let q : Progress = record { state = p.state; seen = max p.seen last; updates = p.updates ++ due reply p.state (max p.seen last) } in
+    record {
+      progress = q;
+      handles = (refl, refl, refl);
+      updates = refl;
+      at = record {
+        workers = at.workers;
+        catalog = at.catalog;
+        session = at.session;
+        served = at.served;
+        commits = at.commits;
+        reached = at.reached;
+        begun = at.begun;
+        clear = at.clear;
+        seen = at.seen;
+      };
+    }
+
+pub handled_done : (g : Setting) (rows : Rows) (b : Applier) (p : Progress) → IsAt g rows b p → HasHandled g rows b p Done false
+handled_done g rows b p at = record { progress = p; handles = refl; updates = sym (append-nil p.updates); at = at }
+
+-- the greatest position of the log once positions more were seen
+pub seen_two : (written seen position first last : ℕ) → written ≡ max seen position → max (max written first) last ≡ max (max (max seen first) last) position
+seen_two written seen position first last e = omega arith
+
+pub seen_one : (written seen position last : ℕ) → written ≡ max seen position → max written last ≡ max (max seen last) position
+seen_one written seen position last e = omega arith

@@ -1,0 +1,67 @@
+-- The transactions that a session's state tells of, and their changes.
+--     Transaction, commits      each commit of the past, with the changes of its items that survived
+--     committed      the changes of all commits, in commit order
+--     last_end      the position that they reach
+--     begun, done      the changes so far of the transaction that was begun; all changes
+use Rattle.std.specs.Prelude.{ℕ, List, [], ◌∷◌, ◌++◌, map, flat_map, Option, Some, None}
+use Rattle.std.specs.FinMap as finite
+use Rattle.model.specs.declared.change.Change.{Change}
+use Rattle.savepoint.specs.Survivors.{survivors, changes_of}
+use Rattle.session.specs.declared.place.Place.{Place}
+use Rattle.session.specs.declared.place.Place.TheVariants.{Outside, Begun, Block}
+use Rattle.session.specs.Sized.{SizedItems, item_of}
+use Rattle.session.specs.State.{Open, Committed, State, Transactions}
+use Rattle.leader.specs.declared.outcome.Entry.{Entry}
+
+-- a committed transaction
+pub record Transaction : Type 0 where
+  pub xid : ℕ
+  -- those that survived its rollbacks, in order
+  pub changes : List Change
+  pub commit : ℕ
+  pub end : ℕ
+
+-- an entry of a journal, without where it lies in memory
+abbrev pub transaction_of : Entry → Transaction
+transaction_of e = record { xid = e.xid; changes = e.changes.items; commit = e.commit; end = e.end }
+
+-- the changes of a transaction's items that survive
+abbrev pub surviving_changes : ℕ → SizedItems → List Change
+surviving_changes xid items = changes_of (survivors xid (map item_of items))
+
+abbrev pub transaction : Committed → Transaction
+transaction c = record { xid = c.xid; changes = surviving_changes c.xid c.items; commit = c.info.commit; end = c.info.end }
+
+-- the commits so far, in order
+abbrev pub commits : State → List Transaction
+commits s = map transaction s.past
+
+abbrev pub changes_in : List Transaction → List Change
+changes_in transactions = flat_map (λ (t : Transaction). t.changes) transactions
+
+-- the changes of all commits so far, in commit order
+abbrev pub committed : State → List Change
+committed s = changes_in (commits s)
+
+abbrev pub open_changes : ℕ → Option Open → List Change
+open_changes xid None = []
+open_changes xid (Some o) = surviving_changes xid o.items
+
+abbrev pub begun_in : Place → Transactions → List Change
+begun_in Outside transactions = []
+begun_in (Begun xid final) transactions = open_changes xid (finite.get transactions xid)
+begun_in (Block xid) transactions = []
+
+-- the changes so far of the transaction between Begin and Commit, if there is one
+abbrev pub begun : State → List Change
+begun s = begun_in s.place s.transactions
+
+-- what was done: the commits, and then the transaction that was begun
+abbrev pub done : State → List Change
+done s = committed s ++ begun s
+
+-- the end of the last commit, or 0 before the first
+abbrev pub last_end : List Committed → ℕ
+last_end [] = 0
+last_end (c ∷ []) = c.info.end
+last_end (c ∷ d ∷ past) = last_end (d ∷ past)

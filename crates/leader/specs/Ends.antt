@@ -1,0 +1,24 @@
+-- The end that a fault of each layer makes.
+use Rattle.frames.specs.declared.fault.FrameFault.{FrameFault}
+use Rattle.frames.specs.declared.fault.FrameFault.TheVariants as frames
+use Rattle.session.specs.declared.fault.Refused.{Refused}
+use Rattle.session.specs.declared.fault.Refused.TheVariants as refusals
+use Rattle.change.specs.declared.outcome.Clash.{Clash}
+use Rattle.change.specs.declared.outcome.Clash.TheVariants as clashes
+use Rattle.leader.specs.declared.end.End.{End}
+use Rattle.leader.specs.declared.end.End.TheVariants.{Frame, Msg, Session, Rel, Unique, NullKey, OutOfMemory}
+
+abbrev pub end_of_frame : FrameFault → End
+end_of_frame frames.OutOfMemory = OutOfMemory
+end_of_frame fault = Frame fault
+
+abbrev pub end_of_refusal : Refused → End
+end_of_refusal (refusals.Msg fault) = Msg fault
+end_of_refusal (refusals.Session fault) = Session fault
+end_of_refusal (refusals.Rel fault) = Rel fault
+end_of_refusal refusals.OutOfMemory = OutOfMemory
+
+abbrev pub end_of_clash : Clash → End
+end_of_clash (clashes.Unique table key) = Unique table key
+end_of_clash (clashes.NullKey table) = NullKey table
+end_of_clash clashes.OutOfMemory = OutOfMemory
