@@ -6,4 +6,5 @@ pub mod Steps
 pub mod Tabling
 pub mod Gather
 pub mod Cells
+pub mod Walking
 pub mod Seen

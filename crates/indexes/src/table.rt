@@ -1,5 +1,5 @@
 // One table: its rows, and an index for each unique key.
-ghost use Rattle.std.specs.Prelude.{◌≡◌, ◌≢◌, ◌+◌, ◌-◌, ◌<◌, ◌≤◌, IfOk, OnOk, OnErr, IfSome, IfNone, IsSome, Some, None, length};
+ghost use Rattle.std.specs.Prelude.{◌≡◌, ◌≢◌, ◌+◌, ◌-◌, ◌<◌, ◌≤◌, IfOk, OnOk, OnErr, IfSome, IfNone, IsSome, Some, None, length, ◌^◌};
 ghost use Rattle.std.specs.FinMap as finite;
 ghost use Rattle.std.specs.List.{AllByRecursion, Contains};
 ghost use Rattle.model.specs.Rows.{values_in, keys_of};
@@ -10,7 +10,7 @@ ghost use Rattle.indexes.specs.Table.{Spot, IsSound, HasValues, NoClash, KeepsSp
 use crate::columns::values_of;
 use crate::unique::{Unique, copy_numbers, reserve_each, set_each, settle_each};
 use model::{Key, OutOfMemory, Row, TableDef};
-use rows::{OrderedRows, RowView};
+use rows::{OrderedRows, RowView, Walk};
 use std::alloc::Global;
 use std::marker::Model;
 
@@ -98,8 +98,11 @@ impl Table {
         self.rows.get(key)
     }
 
-    /// The rows, in key order.
-    pub fn walk(&self) -> Result<Vec<RowView<'_>>, OutOfMemory> {
+    /// The rows, in key order. It takes no memory.
+    pub fn walk(&self) -> Walk<'_>
+        ensures rows { result ≡ finite.values self.now.rows }
+        ensures fits { length result < 2 ^ 63 }
+    {
         self.rows.walk()
     }
 

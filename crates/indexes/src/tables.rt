@@ -1,5 +1,5 @@
 // All tables of a catalog.
-ghost use Rattle.std.specs.Prelude.{◌≡◌, ◌≢◌, ℕ, ◌<◌, ◌≤◌, IfOk, OnOk, OnErr, IfSome, IsSome, Some, None, length, map, is_some};
+ghost use Rattle.std.specs.Prelude.{◌≡◌, ◌≢◌, ℕ, ◌<◌, ◌≤◌, IfOk, OnOk, OnErr, IfSome, IsSome, Some, None, length, map, is_some, ◌^◌};
 ghost use Rattle.std.specs.List.{Contains};
 ghost use Rattle.std.specs.FinMap as finite;
 ghost use Rattle.model.specs.declared.key.Key.{Key as AnyKey};
@@ -8,13 +8,14 @@ ghost use Rattle.model.specs.declared.cell.Cell.{Cell};
 ghost use Rattle.model.specs.declared.cell.Cell.TheVariants.{Row as RowCell};
 ghost use Rattle.model.specs.Cells.{cells_of};
 ghost use Rattle.model.specs.Rows.{IsValid, keys_at, keys_of, key_of, values_in, taken};
+ghost use Rattle.model.specs.TableRows.{rows_of_table};
 ghost use Rattle.model.specs.Effect.{first_taken};
 ghost use Rattle.indexes.specs.Table.{cells_in};
 ghost use Rattle.indexes.specs.Content.{Keeps, HasRoom, unique_columns, table_of, IsTable, SameElsewhere, SameRoomElsewhere};
 
 use crate::table::Table;
 use model::{Key, OutOfMemory, Row, TableDef};
-use rows::RowView;
+use rows::{RowView, Walk};
 use std::alloc::Global;
 use std::marker::Model;
 use std::mem;
@@ -94,12 +95,13 @@ impl Tables {
         self.tables[table].unique_count()
     }
 
-    /// The rows of a table, in key order.
-    pub fn walk(&self, table: usize) -> Result<Vec<RowView<'_>>, OutOfMemory>
+    /// The rows of a table, in key order. It takes no memory.
+    pub fn walk(&self, table: usize) -> Walk<'_>
         requires { table < length self.now.schema }
+        ensures rows { result ≡ rows_of_table self.now.rows table }
+        ensures fits { length result < 2 ^ 63 }
     {
-        let own = &self.tables[table];
-        own.walk()
+        self.tables[table].walk()
     }
 
     /// A row's primary key; none if a value of it is null.
