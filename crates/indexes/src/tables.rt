@@ -13,12 +13,11 @@ ghost use Rattle.model.specs.Effect.{first_taken};
 ghost use Rattle.indexes.specs.Table.{cells_in};
 ghost use Rattle.indexes.specs.Content.{Keeps, HasRoom, unique_columns, table_of, IsTable, SameElsewhere, SameRoomElsewhere};
 
-use crate::table::Table;
+use crate::table::{Contents, Table};
 use model::{Key, OutOfMemory, Row, TableDef};
 use rows::{RowView, Walk};
 use std::alloc::Global;
 use std::marker::Model;
-use std::mem;
 
 /// The tables of a catalog, in its order. A clause sees their keys' columns, all rows by table and
 /// key, and the cells that there is room for.
@@ -43,25 +42,6 @@ impl Model for Tables {
     ghost invariant = { λ a. AllSound a.tables.items };
 }
 
-/// A table's whole content, moved out of it. A clause sees it as a table by itself.
-#[derive(Drop)]
-pub struct Contents {
-    table: Table,
-}
-
-impl Model for Contents {
-    ghost use Rattle.indexes.specs.Table.{TableContent, IsSound};
-    ghost use Rattle.indexes.specs.Codes.{table_code};
-
-    ghost Value = { TableContent };
-
-    ghost coded = { table_code };
-
-    ghost view = { λ a. a.table };
-
-    ghost invariant = { λ a. IsSound a.table };
-}
-
 impl Tables {
     /// Empty tables of these definitions.
     pub fn of_definitions(alloc: Global, definitions: &[TableDef]) -> Result<Tables, OutOfMemory>
@@ -71,6 +51,18 @@ impl Tables {
         let mut tables = Vec::new(alloc);
         for definition in definitions {
             tables.push(Table::of_definition(alloc, definition)?)?;
+        }
+        Ok(Tables { tables })
+    }
+
+    /// Equal tables.
+    pub fn copy(&self) -> Result<Tables, OutOfMemory>
+        ensures { IfOk result (λ copy. copy ≡ self.now) }
+    {
+        let alloc = *self.tables.allocator();
+        let mut tables = Vec::new(alloc);
+        for table in &self.tables {
+            tables.push(table.copy()?)?;
         }
         Ok(Tables { tables })
     }
@@ -219,10 +211,7 @@ impl Tables {
         ensures err { OnErr result (self.new ≡ self.old) }
     {
         let table = &mut self.tables[table];
-        let emptied = table.emptied()?;
-        Ok(Contents {
-            table: mem::replace(table, emptied),
-        })
+        table.wipe()
     }
 
     /// Takes a `put` back. It takes no memory.
@@ -280,7 +269,7 @@ impl Tables {
         ensures room_elsewhere { SameRoomElsewhere self.old.room self.new.room table }
     {
         let table = &mut self.tables[table];
-        *table = contents.table;
+        table.unwipe(contents);
     }
 
     /// Drops the slot of a key and the entries of a row's unique values, where they are empty. It

@@ -10,7 +10,7 @@ ghost use Rattle.rows.specs.Slots.{found, with_row_at, row_at, number_at, SameBe
 use crate::view::RowView;
 use crate::walk::Walk;
 use model::{Key, OutOfMemory, Row};
-use std::alloc::Global;
+use std::alloc::{AllocError, Global};
 use std::collections::BTreeMap;
 use std::marker::Model;
 use std::mem;
@@ -41,6 +41,17 @@ impl Slot {
             Some(row) => Some(RowView::of_row(row)),
             None => None,
         }
+    }
+}
+
+impl Clone for Slot {
+    ghost is_clone = { λ slot other. other ≡ slot };
+
+    fn clone(&self) -> Result<Slot, AllocError> {
+        Ok(Slot {
+            number: self.number,
+            row: self.row.clone()?,
+        })
     }
 }
 
@@ -178,6 +189,18 @@ impl OrderedRows {
         ensures fits { length result < 2 ^ 63 }
     {
         Walk::over(self.slots.values())
+    }
+
+    /// The same rows in the same slots.
+    pub fn copy(&self) -> Result<OrderedRows, OutOfMemory>
+        ensures { IfOk result (λ copy. copy ≡ self.now) }
+    {
+        Ok(OrderedRows {
+            slots: self.slots.clone()?,
+            keys: self.keys.clone()?,
+            next: self.next,
+            alloc: self.alloc,
+        })
     }
 
     /// Moves all rows and slots out. No row is copied, and it takes no memory.
