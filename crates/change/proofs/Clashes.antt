@@ -1,6 +1,6 @@
 -- The search for a key that clashes, against what is taken.
-use Rattle.std.specs.Prelude.{◌≡◌, ℕ, suc, ◌+◌, ◌-◌, ◌<◌, ◌≤◌, Bool, true, false, not, cond, if◌then◌else◌, List, [], ◌∷◌, Option, Some, None, length, drop, slice_get, unwrap_or, get_or, refl, IsSome, is_some, IsTrue, ◌↔◌}
-use Rattle.std.proofs.Common.{zero, sym, ◌∙◌, ap, subst, true≢false, inl, inr, arith, drop-cons, drop_of_length-le, add-one}
+use Rattle.std.specs.Prelude.{◌≡◌, ℕ, suc, ◌+◌, ◌-◌, ◌<◌, ◌≤◌, Bool, true, false, not, if◌then◌else◌, List, [], ◌∷◌, Option, Some, None, length, drop, slice_get, unwrap_or, refl, is_some}
+use Rattle.std.proofs.Common.{zero, sym, ◌∙◌, ap, true≢false, inl, inr, arith, drop-cons, drop_of_length-le, add-one}
 use Rattle.std.specs.Ordering.{eq_by_cmp}
 use Rattle.std.specs.Borrow.{Bor}
 use Rattle.std.specs.FinMap.{get, remove}
@@ -12,7 +12,7 @@ use Rattle.model.specs.Key.{key_cmp}
 use Rattle.model.specs.Rows.{Place, Rows, Schema, keys_at, values_in, taken, IsValid}
 use Rattle.model.specs.Effect.{is_taken, first_taken}
 use Rattle.model.specs.EditLaws.{is_place, place_is, place_cases, same_place, get_remove_same, get_remove_other}
-use Rattle.model.specs.TakenLaws.{TakenBy, taken_by_row, row_of_taken}
+use Rattle.model.specs.TakenLaws.{taken_by_row, row_of_taken}
 use Rattle.model.specs.ValidLaws.{part_remove}
 use Rattle.indexes.specs.Content.{unique_columns}
 use Rattle.change.specs.Applied.{without}

@@ -2,22 +2,20 @@
 use Rattle.std.specs.Prelude.{◌≡◌, ℕ, ◌<◌, Bool, true, false, cond, if◌then◌else◌, List, Option, Some, None, length, IsSome, is_some, not, refl}
 use Rattle.std.proofs.Common.{sym, ◌∙◌, ap, subst, true≢false, inl, inr}
 use Rattle.std.specs.FinMap as map_of
-use Rattle.std.specs.FinMap.{get, insert, remove, get-empty}
-use Rattle.std.proofs.lemmas.Bool.{cases_Bool}
+use Rattle.std.specs.FinMap.{get, insert, remove}
 use Rattle.model.specs.declared.key.Key.{Key}
 use Rattle.model.specs.declared.row.Row.{Row}
 use Rattle.model.specs.declared.change.Change.{Change}
-use Rattle.model.specs.declared.change.Change.TheVariants.{Put as PutRow, Set, Remove, Wipe}
+use Rattle.model.specs.declared.change.Change.TheVariants.{Put as PutRow, Set, Remove}
 use Rattle.model.specs.declared.change.ColumnPatch.{ColumnPatch}
-use Rattle.model.specs.Rows.{Place, Rows, Schema, place_cmp, place_cmp_total, keys_at, key_of, IsValid}
-use Rattle.model.specs.Exact.{place_cmp_exact}
-use Rattle.model.specs.Effect.{Edits, overlay, stood, one_edit, Outcome, Done, Skip, Clashes, Conflict, Unique, NullKey, placed, placed_at, unless_taken, patched, replaced, removed, outcome, effect, inverse, back, first_taken}
+use Rattle.model.specs.Rows.{Place, Rows, Schema, keys_at, key_of, IsValid}
+use Rattle.model.specs.Effect.{Edits, one_edit, Done, Clashes, Unique, placed, placed_at, unless_taken, patched, replaced, removed, outcome, effect, inverse, back, first_taken}
 use Rattle.model.specs.EditLaws.{same_edits, is_place, same_place, place_is, place_cases, get_insert_same, get_insert_other, get_remove_same, get_remove_other, get_edit, get_one_edit, overlay_one, overlay_two, stood_one, stood_two}
-use Rattle.model.specs.EffectLaws.{placed_null, placed_there, placed_taken, placed_free, effect_of, inverse_of, back_of_inverse}
-use Rattle.indexes.specs.Content.{Content, Keeps, HasRoom}
+use Rattle.model.specs.EffectLaws.{placed_free, effect_of, inverse_of, back_of_inverse}
+use Rattle.indexes.specs.Content.{Content, Keeps}
 use Rattle.change.specs.Applied.{IsSound}
 use Rattle.change.specs.declared.inverse.Inverse.{Inverse}
-use Rattle.change.specs.declared.inverse.Inverse.TheVariants.{Take, Put, Replace, Unwipe}
+use Rattle.change.specs.declared.inverse.Inverse.TheVariants.{Take, Put, Replace}
 use Rattle.change.specs.Inverse.{edits_of, IsKnown, AsLeft, HasItsRoom, CanPutBack}
 
 -- once it is put back the rows are as before, so they are valid

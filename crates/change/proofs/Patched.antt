@@ -1,10 +1,9 @@
 -- A patched row, column by column.
-use Rattle.std.specs.Prelude.{◌≡◌, ℕ, suc, ◌+◌, ◌<◌, ◌≤◌, List, [], ◌∷◌, ◌++◌, Option, Some, None, length, take, get_or, slice_get, unwrap_or, refl}
+use Rattle.std.specs.Prelude.{◌≡◌, ℕ, suc, ◌+◌, ◌<◌, ◌≤◌, List, [], ◌∷◌, ◌++◌, Option, None, length, take, get_or, refl}
 use Rattle.std.proofs.Common.{zero, sym, ◌∙◌, ap, arith, take-suc, add-one, take_all}
 use Rattle.model.specs.declared.value.Value.{Value}
 use Rattle.model.specs.declared.row.Row.{Row}
 use Rattle.model.specs.declared.change.ColumnPatch.{ColumnPatch}
-use Rattle.model.specs.declared.change.ColumnPatch.TheVariants.{Keep}
 use Rattle.model.specs.Effect.{patched, patched_value}
 
 pub length_patched : (ps : List ColumnPatch) (row : Row) → length (patched ps row) ≡ length row

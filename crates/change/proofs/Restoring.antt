@@ -1,23 +1,20 @@
 -- What the restoring calls need, and what they leave, where an inverse can be put back.
-use Rattle.std.specs.Prelude.{◌≡◌, ℕ, ◌==◌, not, Bool, true, false, cond, filter, List, [], ◌∷◌, ◌++◌, Option, Some, None, map, option_to_list}
+use Rattle.std.specs.Prelude.{◌≡◌, ℕ, ◌==◌, not, Bool, true, false, filter, List, [], ◌∷◌, ◌++◌, Option, Some, None, map, option_to_list}
 use Rattle.std.proofs.Common.{sym, ◌∙◌, ap, subst, refl, append-nil, inl, inr}
-use Rattle.std.specs.declared.cmp.Ordering.TheVariants.{Equal}
 use Rattle.std.proofs.lemmas.List.Elements.{Contains-append_cases}
-use Rattle.std.specs.FinMap.{get, insert, remove, retain_keys, get-retain_keys}
+use Rattle.std.specs.FinMap.{insert, remove}
 use Rattle.model.specs.declared.key.Key.{Key}
 use Rattle.model.specs.declared.row.Row.{Row}
 use Rattle.model.specs.declared.cell.Cell.{Cell}
-use Rattle.model.specs.Rows.{Place, Rows, Schema, place_cmp, IsValid, keys_at, key_of}
-use Rattle.model.specs.Exact.{place_cmp_exact}
-use Rattle.model.specs.Effect.{Edits, first_taken, back, undone, one_edit}
+use Rattle.model.specs.Rows.{Rows, Schema, IsValid, keys_at, key_of}
+use Rattle.model.specs.Effect.{first_taken, back, undone}
 use Rattle.model.specs.EditLaws.{overlay_one, overlay_two}
 use Rattle.model.specs.ValidLaws.{own_key_of_valid, free_of_valid}
 use Rattle.indexes.specs.Content.{Content, Keeps, IsTable, SameElsewhere, SameRoomElsewhere, table_of}
 use Rattle.indexes.specs.Table.{cells_in}
 use Rattle.change.specs.declared.inverse.Wiped.{Wiped}
-use Rattle.change.specs.declared.inverse.Inverse.{Inverse}
-use Rattle.change.specs.declared.inverse.Inverse.TheVariants.{Take, Put, Replace, Unwipe}
-use Rattle.change.specs.Inverse.{standing, HasNoRows, is_elsewhere, room_with, room_unwiped, AreEmpty, AreKnown, CanUnwipe, CanPutBack, edits_of}
+use Rattle.change.specs.declared.inverse.Inverse.TheVariants.{Put, Replace}
+use Rattle.change.specs.Inverse.{standing, HasNoRows, is_elsewhere, room_with, room_unwiped, AreEmpty, AreKnown, CanUnwipe, CanPutBack}
 use Rattle.change.specs.EditsLaws.{back_standing, number_is_not}
 use Rattle.change.specs.InverseLaws.{filter_contains, unwiped_last, known_last, empty_last, room_unwiped_last, room_unwiped_keeps}
 

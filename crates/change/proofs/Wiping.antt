@@ -1,13 +1,11 @@
 -- Tables that are emptied one after another.
 use Rattle.std.specs.Prelude.{◌≡◌, ℕ, ◌+◌, ◌<◌, ◌≤◌, ◌==◌, Bool, true, false, cond, not, ◌||◌, filter, List, [], ◌∷◌, ◌++◌, Option, Some, None, map, length, take, get_or, Contains, refl}
-use Rattle.std.specs.List.{list_any}
-use Rattle.std.proofs.Common.{zero, suc, arith, sym, ◌∙◌, ap, subst, inl, inr, take-suc, take_all, add-one}
+use Rattle.std.proofs.Common.{zero, suc, arith, sym, ◌∙◌, ap, subst, take-suc, take_all, add-one}
 use Rattle.std.proofs.Common.{Vec, Global}
 use Rattle.std.specs.FinMap.{get-empty}
 use Rattle.model.specs.Rows.{place_cmp}
 use Rattle.std.proofs.lemmas.List.Elements.{Contains-append_left, Contains-append_right}
 use Rattle.std.specs.FinMap.{get}
-use Rattle.model.specs.declared.key.Key.{Key}
 use Rattle.model.specs.declared.row.Row.{Row}
 use Rattle.model.specs.declared.cell.Cell.{Cell}
 use Rattle.model.specs.declared.change.Change.TheVariants.{Wipe}
@@ -19,7 +17,7 @@ use Rattle.indexes.specs.Content.{Content, Keeps, IsTable, SameElsewhere, SameRo
 use Rattle.indexes.specs.Table.{cells_in}
 use Rattle.change.specs.declared.inverse.Wiped.{Wiped}
 use Rattle.change.specs.declared.inverse.Inverse.TheVariants.{Unwipe}
-use Rattle.change.specs.Edits.{over, together}
+use Rattle.change.specs.Edits.{together}
 use Rattle.change.specs.EditsLaws.{or_else, get_over, as_edit, get_standing_at, get_standing_other, back_standing, number_is, number_is_not}
 use Rattle.change.specs.Inverse.{standing, HasNoRows, is_elsewhere, room_with, room_unwiped, AreKnown, AreEmpty, CanUnwipe, CanPutBack}
 use Rattle.change.specs.InverseLaws.{standing_last, unwiped_last, room_unwiped_last, known_more, empty_more, contains_filter, room_unwiped_keeps}

@@ -15,7 +15,7 @@ use Rattle.model.specs.declared.cell.Cell.{Cell}
 use Rattle.model.specs.declared.change.Change.{Change}
 use Rattle.model.specs.declared.change.Change.TheVariants.{Put, Set, Remove, Wipe}
 use Rattle.model.specs.Rows.{Rows, Schema, IsValid}
-use Rattle.model.specs.Effect.{Outcome, Done, Skip, Clashes, Conflict, Unique, NullKey}
+use Rattle.model.specs.Effect.{Outcome, Done, Skip, Clashes, Unique, NullKey}
 use Rattle.change.specs.declared.inverse.Inverse.{Inverse}
 use Rattle.change.specs.declared.outcome.Applied.{Applied}
 use Rattle.change.specs.declared.outcome.Applied.TheVariants.{Done as DoneWith, Skipped}

@@ -1,6 +1,6 @@
 -- Edits over edits.
 --     over, together      the edits of one, and those of the other where it has none; of a list, where the first has the say
-use Rattle.std.specs.Prelude.{◌≡◌, ℕ, List, [], ◌∷◌, Option, Some, None, map}
+use Rattle.std.specs.Prelude.{List, [], ◌∷◌, Option}
 use Rattle.std.specs.FinMap as map_of
 use Rattle.model.specs.declared.row.Row.{Row}
 use Rattle.model.specs.Rows.{Place}

@@ -1,20 +1,17 @@
 -- The laws of edits over edits, and of the rows of an emptied table as edits.
 --     get_over, back_together      what is edited at a place; edits together put back are the edits put back from the last on
 --     get_standing, back_standing      what an emptied table held, place by place; put back
-use Rattle.std.specs.Prelude.{◌≡◌, ℕ, ◌==◌, not, Bool, true, false, cond, List, [], ◌∷◌, ◌++◌, Option, Some, None, map, is_some, unwrap_or, refl}
+use Rattle.std.specs.Prelude.{◌≡◌, ℕ, ◌==◌, Bool, true, false, cond, List, [], ◌∷◌, Option, Some, None, map, unwrap_or, refl}
 use Rattle.std.proofs.Common.{sym, ◌∙◌, ap, subst, true≢false, rules, inl, inr}
-use Rattle.std.specs.Ordering.{nat_cmp, eq_by_cmp, ordering_then, is_eq}
-use Rattle.std.specs.Cmp.{nat_cmp_total, eq_by_cmp_equiv, tied_itself}
-use Rattle.std.specs.declared.cmp.Ordering.{Ordering}
-use Rattle.std.specs.declared.cmp.Ordering.TheVariants.{Less, Equal, Greater}
-use Rattle.std.specs.FinMap as map_of
-use Rattle.std.specs.FinMap.{FinMap, get, entries, find, get-entries, get-from_entries, get-retain_keys, get-empty}
+use Rattle.std.specs.Ordering.{eq_by_cmp, ordering_then, is_eq}
+use Rattle.std.specs.Cmp.{nat_cmp_total, tied_itself}
+use Rattle.std.specs.FinMap.{get, entries, find, get-entries, get-from_entries}
 use Rattle.std.proofs.lemmas.Bool.{cases_Bool}
 use Rattle.model.specs.declared.key.Key.{Key}
 use Rattle.model.specs.declared.row.Row.{Row}
 use Rattle.model.specs.Key.{key_cmp}
 use Rattle.model.specs.Rows.{Place, Rows, place_cmp, place_cmp_total}
-use Rattle.model.specs.Effect.{Edits, overlay, back, undone}
+use Rattle.model.specs.Effect.{Edits, back, undone}
 use Rattle.model.specs.EditLaws.{is_place, place_is, same_rows, get_overlay, get_edit, overlay_empty}
 use Rattle.indexes.specs.Content.{IsTable, SameElsewhere}
 use Rattle.change.specs.declared.inverse.Wiped.{Wiped}

@@ -3,13 +3,13 @@
 --     AsLeft      the tables are where the inverse alters them as its change left them
 --     HasItsRoom, room_back      the room that an inverse needs; the room that is there once it is put back
 --     CanUnwipe, CanPutBack      when tables can get back what they held, and a change be taken back
-use Rattle.std.specs.Prelude.{◌≡◌, ℕ, ◌<◌, ◌==◌, not, Bool, filter, List, [], ◌∷◌, ◌++◌, Option, Some, None, map, length, IsSome}
+use Rattle.std.specs.Prelude.{◌≡◌, ℕ, ◌<◌, ◌==◌, not, Bool, filter, List, [], ◌∷◌, ◌++◌, Some, None, map, length, IsSome}
 use Rattle.std.specs.FinMap as map_of
-use Rattle.std.specs.FinMap.{FinMap, get, remove, entries}
+use Rattle.std.specs.FinMap.{get, remove, entries}
 use Rattle.model.specs.declared.key.Key.{Key}
 use Rattle.model.specs.declared.row.Row.{Row}
 use Rattle.model.specs.declared.cell.Cell.{Cell}
-use Rattle.model.specs.Rows.{Place, Rows, Schema, keys_at, IsValid}
+use Rattle.model.specs.Rows.{Rows, Schema, keys_at, IsValid}
 use Rattle.model.specs.Effect.{Edits, one_edit, back, undone}
 use Rattle.indexes.specs.Content.{Content, HasRoom, table_of}
 use Rattle.indexes.specs.Table.{cells_in}

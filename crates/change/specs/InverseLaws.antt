@@ -2,19 +2,19 @@
 --     CanUnwipe_last, unwiped_last, ..      the last table that was emptied, apart from those before it
 --     room_unwiped_keeps, room_back_keeps, CanPutBack_keeps      with more room
 --     back_unwipe      what stood where a wipe altered the tables, put back
-use Rattle.std.specs.Prelude.{◌≡◌, ℕ, ◌<◌, ◌==◌, not, Bool, true, false, cond, List, [], ◌∷◌, ◌++◌, Option, Some, None, map, length, Contains, filter, refl}
+use Rattle.std.specs.Prelude.{◌≡◌, Bool, true, false, cond, List, [], ◌∷◌, ◌++◌, map, Contains, filter, refl}
 use Rattle.std.proofs.Common.{sym, ◌∙◌, ap, subst, inl, inr, ◌⊎◌, arith}
 use Rattle.std.proofs.lemmas.List.Elements.{Contains-append_left, Contains-append_right, Contains-append_cases, Contains-push, Contains-push_cases}
 use Rattle.model.specs.declared.cell.Cell.{Cell}
-use Rattle.model.specs.Rows.{Place, Rows, Schema, IsValid}
+use Rattle.model.specs.Rows.{Rows, Schema, IsValid}
 use Rattle.model.specs.Effect.{Edits, back, undone}
 use Rattle.model.specs.EffectLaws.{undone_append}
-use Rattle.indexes.specs.Content.{Content, Keeps, HasRoom, table_of}
+use Rattle.indexes.specs.Content.{Content, Keeps}
 use Rattle.indexes.specs.Table.{cells_in}
 use Rattle.change.specs.declared.inverse.Wiped.{Wiped}
 use Rattle.change.specs.declared.inverse.Inverse.{Inverse}
 use Rattle.change.specs.declared.inverse.Inverse.TheVariants.{Take, Put, Replace, Unwipe}
-use Rattle.change.specs.Inverse.{standing, HasNoRows, BelongsTo, is_elsewhere, room_with, room_unwiped, room_back, AreEmpty, AreKnown, CanUnwipe, IsKnown, AsLeft, HasItsRoom, edits_of, CanPutBack}
+use Rattle.change.specs.Inverse.{standing, HasNoRows, BelongsTo, is_elsewhere, room_with, room_unwiped, room_back, AreEmpty, AreKnown, IsKnown, AsLeft, HasItsRoom, edits_of, CanPutBack}
 use Rattle.change.specs.Edits.{together}
 use Rattle.change.specs.EditsLaws.{back_together}
 

@@ -4,6 +4,8 @@ pub mod Room
 pub mod Indexing
 pub mod Steps
 pub mod Tabling
+pub mod Copying
 pub mod Gather
 pub mod Cells
+pub mod Walking
 pub mod Seen

@@ -3,7 +3,7 @@ use Rattle.std.specs.Prelude.{◌≡◌, ◌≢◌, ℕ, suc, ◌<◌, true, fal
 use Rattle.std.proofs.Common.{zero, sym, ◌∙◌, ap, subst, inl, inr, arith}
 use Rattle.std.specs.List.{Contains, AllByRecursion}
 use Rattle.std.specs.Borrow.{Bor}
-use Rattle.std.specs.FinMap.{FinMap, get, insert, remove, empty, from_entries, entries, len-empty, len-entries}
+use Rattle.std.specs.FinMap.{FinMap, get, insert, remove, empty, from_entries, entries, values, len-empty, len-entries}
 use Rattle.std.proofs.lemmas.Option.{slice_get-get_or}
 use Rattle.model.specs.declared.key.Key.{Key}
 use Rattle.model.specs.declared.row.Row.{Row as Record}
@@ -13,12 +13,14 @@ use Rattle.model.specs.Key.{key_cmp}
 use Rattle.model.specs.Rows.{TableKeys, place_cmp, values_in, key_of, keys_at, taken, IsValid}
 use Rattle.model.specs.Cells.{cells_of}
 use Rattle.model.specs.Effect.{first_taken}
+use Rattle.model.specs.TableRows.{rows_of_table}
 use Rattle.model.specs.TakenLaws.{taken_by_row, row_of_taken}
 use Rattle.indexes.specs.Table.{Spot, TableContent, spots_of, KeepsSpots, NoClash, HasValues, IsSound, unique_at, cell_at, cells_in}
 use Rattle.indexes.specs.Content.{Content, Keeps, HasRoom, unique_columns, IsTable, SameElsewhere, SameRoomElsewhere, table_of}
 use Rattle.indexes.specs.Gathered.{placed, rows_of, cells_from, schema_of, gathered, AllSound, IsNew}
 use Rattle.indexes.proofs.Elements.{contains_elem, elem_contains, elem_map, elem_of_map}
 use Rattle.indexes.proofs.Gather.{get_is, keys_is, get_without, set_there, rows_inserted, rows_removed, rows_replaced, rows_same, get_there, get_elsewhere, no_clash, schema_after, table_at, valid, TableAt}
+use Rattle.indexes.proofs.Walking.{rows_of_table-gathered}
 use Rattle.indexes.proofs.Cells.{cells_are, has_room, room_has, room_after, room_elsewhere, room_of_table, room_of_new}
 
 schema_length : (ts : List TableContent) → length (schema_of ts) ≡ length ts
@@ -39,6 +41,9 @@ module _ (ts : List TableContent) (seen : Content) (v : gathered ts ≡ seen) (i
 
   pub seen_get : (key : Key) → get seen.rows (i, key) ≡ get t.rows key
   seen_get key = ap (λ (s : Content). get s.rows (i, key)) (sym v) ∙ get_is ts i t at key
+
+  pub seen_rows : rows_of_table seen.rows i ≡ values t.rows
+  seen_rows = ap (λ (s : Content). rows_of_table s.rows i) (sym v) ∙ rows_of_table-gathered ts i t at
 
   pub seen_without : (old key : Key) → get (remove seen.rows (i, old)) (i, key) ≡ get (remove t.rows old) key
   seen_without old key = ap (λ (s : Content). get (remove s.rows (i, old)) (i, key)) (sym v) ∙ get_without ts i t at old key

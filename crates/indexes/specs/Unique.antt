@@ -78,6 +78,10 @@ EachHasSlot row uniques = (k : ℕ) (d : Unique) → k < length uniques → HasS
 abbrev pub HasNone : Unique → Type 0
 HasNone unique = unique.entries.entries ≡ []
 
+-- its columns and entries alone, however they lie in memory
+abbrev pub plain : Unique → List ℕ × List (Key × Option ℕ)
+plain unique = (unique.columns.items, unique.entries.entries)
+
 -- the columns of each
 abbrev pub columns_of : List Unique → List (List ℕ)
 columns_of uniques = map (λ u. u.columns.items) uniques

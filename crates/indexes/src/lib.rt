@@ -22,5 +22,5 @@ pub mod table;
 pub mod tables;
 mod unique;
 
-pub use table::Table;
-pub use tables::{Contents, Tables};
+pub use table::{Contents, Table};
+pub use tables::Tables;

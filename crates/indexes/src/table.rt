@@ -1,5 +1,5 @@
 // One table: its rows, and an index for each unique key.
-ghost use Rattle.std.specs.Prelude.{◌≡◌, ◌≢◌, ◌+◌, ◌-◌, ◌<◌, ◌≤◌, IfOk, OnOk, OnErr, IfSome, IfNone, IsSome, Some, None, length};
+ghost use Rattle.std.specs.Prelude.{◌≡◌, ◌≢◌, ◌+◌, ◌-◌, ◌<◌, ◌≤◌, IfOk, OnOk, OnErr, IfSome, IfNone, IsSome, Some, None, length, ◌^◌};
 ghost use Rattle.std.specs.FinMap as finite;
 ghost use Rattle.std.specs.List.{AllByRecursion, Contains};
 ghost use Rattle.model.specs.Rows.{values_in, keys_of};
@@ -8,11 +8,12 @@ ghost use Rattle.model.specs.declared.key.Key.{Key as AnyKey};
 ghost use Rattle.indexes.specs.Table.{Spot, IsSound, HasValues, NoClash, KeepsSpots, spots_of, unique_at};
 
 use crate::columns::values_of;
-use crate::unique::{Unique, copy_numbers, reserve_each, set_each, settle_each};
+use crate::unique::{Unique, copy_each, copy_numbers, reserve_each, set_each, settle_each};
 use model::{Key, OutOfMemory, Row, TableDef};
-use rows::{OrderedRows, RowView};
+use rows::{OrderedRows, RowView, Walk};
 use std::alloc::Global;
 use std::marker::Model;
+use std::mem;
 
 /// One table: rows with a primary key and unique keys. A clause sees its keys' columns, its rows by
 /// their keys, and its room.
@@ -40,6 +41,25 @@ impl Model for Table {
     ghost invariant = { λ a. IsIndexed a.primary.items a.rows a.uniques.items };
 }
 
+/// A table's whole content, moved out of it. A clause sees it as a table by itself.
+#[derive(Drop)]
+pub struct Contents {
+    table: Table,
+}
+
+impl Model for Contents {
+    ghost use Rattle.indexes.specs.Table.{TableContent, IsSound};
+    ghost use Rattle.indexes.specs.Codes.{table_code};
+
+    ghost Value = { TableContent };
+
+    ghost coded = { table_code };
+
+    ghost view = { λ a. a.table };
+
+    ghost invariant = { λ a. IsSound a.table };
+}
+
 impl Table {
     /// The empty table of a definition.
     pub fn of_definition(alloc: Global, definition: &TableDef) -> Result<Table, OutOfMemory>
@@ -55,8 +75,20 @@ impl Table {
         Ok(Table::empty(alloc, primary, uniques))
     }
 
-    /// An empty table with the same keys.
-    pub fn emptied(&self) -> Result<Table, OutOfMemory>
+    /// An equal table.
+    pub fn copy(&self) -> Result<Table, OutOfMemory>
+        ensures { IfOk result (λ copy. copy ≡ self.now) }
+    {
+        Ok(Table {
+            primary: copy_numbers(self.alloc, self.primary.as_slice())?,
+            uniques: copy_each(self.alloc, self.uniques.as_slice())?,
+            rows: self.rows.copy()?,
+            alloc: self.alloc,
+        })
+    }
+
+    // An empty table with the same keys.
+    fn emptied(&self) -> Result<Table, OutOfMemory>
         ensures keys { IfOk result (λ table. table.keys ≡ self.now.keys) }
         ensures empty { IfOk result (λ table. table.rows ≡ finite.empty) }
         ensures sound { IfOk result IsSound }
@@ -86,7 +118,10 @@ impl Table {
 
     /// How many unique keys it has.
     pub fn unique_count(&self) -> usize
-        ensures { result ≡ length self.now.keys.uniques }
+        ensures count { result ≡ length self.now.keys.uniques }
+
+        // Each row stands at its own key, no two agree in a unique key, and there is room for what they fill.
+        ensures sound { IsSound self.now }
     {
         self.uniques.len()
     }
@@ -98,8 +133,11 @@ impl Table {
         self.rows.get(key)
     }
 
-    /// The rows, in key order.
-    pub fn walk(&self) -> Result<Vec<RowView<'_>>, OutOfMemory> {
+    /// The rows, in key order. It takes no memory.
+    pub fn walk(&self) -> Walk<'_>
+        ensures rows { result ≡ finite.values self.now.rows }
+        ensures fits { length result < 2 ^ 63 }
+    {
         self.rows.walk()
     }
 
@@ -144,7 +182,7 @@ impl Table {
         reserve_each(self.alloc, &mut self.uniques, row)
     }
 
-    /// Puts a row back at its key, where there is room for it. It takes no memory.
+    /// Takes a `remove` back: puts a row at its key, where there is room for it. It takes no memory.
     pub fn put_back(&mut self, key: &Key, row: Row)
         requires own_key { values_in self.old.keys.primary row ≡ Some key.now }
         requires free { finite.get self.old.rows key.now ≡ None }
@@ -231,6 +269,44 @@ impl Table {
     {
         self.reserve(new_key, &row)?;
         Ok(self.replace_back(key, new_key, row))
+    }
+
+    /// All rows go, moved out with their room: none is copied. A refusal changes nothing.
+    pub fn wipe(&mut self) -> Result<Contents, OutOfMemory>
+        ensures keys { self.new.keys ≡ self.old.keys }
+        ensures empty { OnOk result (self.new.rows ≡ finite.empty) }
+        ensures out { IfOk result (λ contents. contents ≡ self.old) }
+        ensures err { OnErr result (self.new ≡ self.old) }
+        ensures sound { IsSound self.new }
+    {
+        // That it is sound is told here.
+        let _count = self.unique_count();
+        let emptied = self.emptied()?;
+        Ok(Contents {
+            table: mem::replace(self, emptied),
+        })
+    }
+
+    /// Takes a `put` back: the row at a key goes. It takes no memory.
+    pub fn take_back(&mut self, key: &Key)
+        requires { IsSome (finite.get self.old.rows key.now) }
+        ensures keys { self.new.keys ≡ self.old.keys }
+        ensures rows { self.new.rows ≡ finite.remove self.old.rows key.now }
+        ensures kept { KeepsSpots self.old.room self.new.room }
+        ensures sound { IsSound self.new }
+    {
+        self.remove(key);
+    }
+
+    /// Takes a `wipe` back: moves the content in again, in place of an empty table of the same keys.
+    /// It takes no memory.
+    pub fn unwipe(&mut self, contents: Contents)
+        requires keys { contents.keys ≡ self.old.keys }
+        requires empty { (key : AnyKey) → finite.get self.old.rows key ≡ None }
+        ensures back { self.new ≡ contents }
+        ensures sound { IsSound self.new }
+    {
+        *self = contents.table;
     }
 
     /// Drops the slot of a key and the entries of a row's unique values, where they are empty. It

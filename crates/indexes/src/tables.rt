@@ -1,5 +1,5 @@
 // All tables of a catalog.
-ghost use Rattle.std.specs.Prelude.{◌≡◌, ◌≢◌, ℕ, ◌<◌, ◌≤◌, IfOk, OnOk, OnErr, IfSome, IsSome, Some, None, length, map, is_some};
+ghost use Rattle.std.specs.Prelude.{◌≡◌, ◌≢◌, ℕ, ◌<◌, ◌≤◌, IfOk, OnOk, OnErr, IfSome, IsSome, Some, None, length, map, is_some, ◌^◌};
 ghost use Rattle.std.specs.List.{Contains};
 ghost use Rattle.std.specs.FinMap as finite;
 ghost use Rattle.model.specs.declared.key.Key.{Key as AnyKey};
@@ -8,16 +8,16 @@ ghost use Rattle.model.specs.declared.cell.Cell.{Cell};
 ghost use Rattle.model.specs.declared.cell.Cell.TheVariants.{Row as RowCell};
 ghost use Rattle.model.specs.Cells.{cells_of};
 ghost use Rattle.model.specs.Rows.{IsValid, keys_at, keys_of, key_of, values_in, taken};
+ghost use Rattle.model.specs.TableRows.{rows_of_table};
 ghost use Rattle.model.specs.Effect.{first_taken};
 ghost use Rattle.indexes.specs.Table.{cells_in};
 ghost use Rattle.indexes.specs.Content.{Keeps, HasRoom, unique_columns, table_of, IsTable, SameElsewhere, SameRoomElsewhere};
 
-use crate::table::Table;
+use crate::table::{Contents, Table};
 use model::{Key, OutOfMemory, Row, TableDef};
-use rows::RowView;
+use rows::{RowView, Walk};
 use std::alloc::Global;
 use std::marker::Model;
-use std::mem;
 
 /// The tables of a catalog, in its order. A clause sees their keys' columns, all rows by table and
 /// key, and the cells that there is room for.
@@ -42,25 +42,6 @@ impl Model for Tables {
     ghost invariant = { λ a. AllSound a.tables.items };
 }
 
-/// A table's whole content, moved out of it. A clause sees it as a table by itself.
-#[derive(Drop)]
-pub struct Contents {
-    table: Table,
-}
-
-impl Model for Contents {
-    ghost use Rattle.indexes.specs.Table.{TableContent, IsSound};
-    ghost use Rattle.indexes.specs.Codes.{table_code};
-
-    ghost Value = { TableContent };
-
-    ghost coded = { table_code };
-
-    ghost view = { λ a. a.table };
-
-    ghost invariant = { λ a. IsSound a.table };
-}
-
 impl Tables {
     /// Empty tables of these definitions.
     pub fn of_definitions(alloc: Global, definitions: &[TableDef]) -> Result<Tables, OutOfMemory>
@@ -70,6 +51,18 @@ impl Tables {
         let mut tables = Vec::new(alloc);
         for definition in definitions {
             tables.push(Table::of_definition(alloc, definition)?)?;
+        }
+        Ok(Tables { tables })
+    }
+
+    /// Equal tables.
+    pub fn copy(&self) -> Result<Tables, OutOfMemory>
+        ensures { IfOk result (λ copy. copy ≡ self.now) }
+    {
+        let alloc = *self.tables.allocator();
+        let mut tables = Vec::new(alloc);
+        for table in &self.tables {
+            tables.push(table.copy()?)?;
         }
         Ok(Tables { tables })
     }
@@ -94,12 +87,13 @@ impl Tables {
         self.tables[table].unique_count()
     }
 
-    /// The rows of a table, in key order.
-    pub fn walk(&self, table: usize) -> Result<Vec<RowView<'_>>, OutOfMemory>
+    /// The rows of a table, in key order. It takes no memory.
+    pub fn walk(&self, table: usize) -> Walk<'_>
         requires { table < length self.now.schema }
+        ensures rows { result ≡ rows_of_table self.now.rows table }
+        ensures fits { length result < 2 ^ 63 }
     {
-        let own = &self.tables[table];
-        own.walk()
+        self.tables[table].walk()
     }
 
     /// A row's primary key; none if a value of it is null.
@@ -217,10 +211,7 @@ impl Tables {
         ensures err { OnErr result (self.new ≡ self.old) }
     {
         let table = &mut self.tables[table];
-        let emptied = table.emptied()?;
-        Ok(Contents {
-            table: mem::replace(table, emptied),
-        })
+        table.wipe()
     }
 
     /// Takes a `put` back. It takes no memory.
@@ -278,7 +269,7 @@ impl Tables {
         ensures room_elsewhere { SameRoomElsewhere self.old.room self.new.room table }
     {
         let table = &mut self.tables[table];
-        *table = contents.table;
+        table.unwipe(contents);
     }
 
     /// Drops the slot of a key and the entries of a row's unique values, where they are empty. It

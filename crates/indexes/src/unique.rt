@@ -1,10 +1,10 @@
 // The index of a unique key.
-ghost use Rattle.std.specs.Prelude.{◌≡◌, IfOk, OnOk, IsSome, None, false};
+ghost use Rattle.std.specs.Prelude.{◌≡◌, map, IfOk, OnOk, IsSome, None, false};
 ghost use Rattle.std.specs.Ordering.{eq_by_cmp};
 ghost use Rattle.model.specs.Key.{key_cmp};
 ghost use Rattle.model.specs.declared.key.Key.{Key as AnyKey};
 ghost use Rattle.indexes.specs.Columns.{present};
-ghost use Rattle.indexes.specs.Unique.{HasNone, held, entry_at, with_number, KeepsEntries, HasEntry, SetsEntry, SettlesEntry, KeepsSlots, HasSlot, Sets, Settles, EachStep, EachHasSlot};
+ghost use Rattle.indexes.specs.Unique.{plain, HasNone, held, entry_at, with_number, KeepsEntries, HasEntry, SetsEntry, SettlesEntry, KeepsSlots, HasSlot, Sets, Settles, EachStep, EachHasSlot};
 
 use crate::columns::{Values, has_values, values_of};
 use model::{Key, OutOfMemory, Row};
@@ -28,6 +28,16 @@ impl Unique {
         Ok(Unique {
             columns: copy_numbers(alloc, columns)?,
             entries: BTreeMap::new(alloc),
+        })
+    }
+
+    // The index of the same unique key with the same entries.
+    fn copy(&self) -> Result<Unique, OutOfMemory>
+        ensures { IfOk result (λ copy. plain copy ≡ plain self.now) }
+    {
+        Ok(Unique {
+            columns: self.columns.clone()?,
+            entries: self.entries.clone()?,
         })
     }
 
@@ -72,6 +82,17 @@ pub(crate) fn copy_numbers(alloc: Global, numbers: &[usize]) -> Result<Vec<usize
         copy.push(*number)?;
     }
     Ok(copy)
+}
+
+// Each index again, with the same entries.
+pub(crate) fn copy_each(alloc: Global, uniques: &[Unique]) -> Result<Vec<Unique>, OutOfMemory>
+    ensures { IfOk result (λ copies. map plain copies.items ≡ map plain uniques.now) }
+{
+    let mut copies = Vec::new(alloc);
+    for unique in uniques {
+        copies.push(unique.copy()?)?;
+    }
+    Ok(copies)
 }
 
 // An entry in each index for a row's values there.

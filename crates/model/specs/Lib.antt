@@ -2,6 +2,8 @@ pub mod Value
 pub mod Key
 pub mod Definition
 pub mod Rows
+pub mod SortedEntries
+pub mod TableRows
 pub mod Exact
 pub mod Effect
 pub mod EditLaws

@@ -12,7 +12,7 @@ use Rattle.model.specs.Rows.{Place, Rows, Schema, place_cmp, keys_at, values_in,
 use Rattle.model.specs.Effect.{is_taken, first_taken}
 use Rattle.model.specs.EditLaws.{is_place, place_cases, get_insert_same, get_insert_other, get_remove}
 use Rattle.std.proofs.lemmas.Bool.{cases_Bool}
-use Rattle.model.specs.TakenLaws.{TakenBy, not_taken_row, row_of_taken, first_taken_none, first_taken_free}
+use Rattle.model.specs.TakenLaws.{not_taken_row, row_of_taken, first_taken_none, first_taken_free}
 
 not_none : {X : Type 0} (x : X) → ¬ (None ≡ Some x)
 not_none x e = cc

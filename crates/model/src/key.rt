@@ -3,6 +3,7 @@ ghost use Rattle.std.specs.Prelude.{◌≡◌, IfOk};
 
 use crate::memory::OutOfMemory;
 use crate::value::Value;
+use std::alloc::AllocError;
 use std::cmp::Ordering;
 use std::marker::Model;
 
@@ -47,6 +48,16 @@ impl Key {
     pub fn copy(&self) -> Result<Key, OutOfMemory>
         ensures { IfOk result (λ k. k ≡ self.now) }
     {
+        Ok(self.clone()?)
+    }
+}
+
+impl Clone for Key {
+    ghost use Rattle.std.specs.Prelude.{◌≡◌};
+
+    ghost is_clone = { λ key other. other ≡ key };
+
+    fn clone(&self) -> Result<Key, AllocError> {
         Ok(Key {
             values: self.values.clone()?,
         })

@@ -3,6 +3,7 @@ ghost use Rattle.std.specs.Prelude.{◌≡◌, IfOk};
 
 use crate::memory::OutOfMemory;
 use crate::value::Value;
+use std::alloc::AllocError;
 use std::marker::Model;
 
 /// A row's values in the table's column order; `None` is null. A clause sees the list of them.
@@ -46,6 +47,16 @@ impl Row {
     pub fn copy(&self) -> Result<Row, OutOfMemory>
         ensures { IfOk result (λ r. r ≡ self.now) }
     {
+        Ok(self.clone()?)
+    }
+}
+
+impl Clone for Row {
+    ghost use Rattle.std.specs.Prelude.{◌≡◌};
+
+    ghost is_clone = { λ row other. other ≡ row };
+
+    fn clone(&self) -> Result<Row, AllocError> {
         Ok(Row {
             values: self.values.clone()?,
         })

@@ -1,5 +1,6 @@
 -- Slots, by what a look-up finds.
 use Rattle.std.specs.Prelude.{◌≡◌, ℕ, false, List, [], ◌∷◌, Option, Some, None}
+use Rattle.std.specs.List.{filter_map}
 use Rattle.std.specs.Map.{lookup}
 use Rattle.std.specs.FinMap as map
 use Rattle.std.specs.FinMap.{FinMap}
@@ -30,6 +31,10 @@ with_row rows key (Some row) = map.insert rows key row
 abbrev pub rows_in : List (Key × Slot) → FinMap key_cmp Row
 rows_in [] = map.empty
 rows_in (e ∷ es) = with_row (rows_in es) e.0 e.1.row
+
+-- the rows in slots, one after another
+abbrev pub rows_among : List Slot → List Row
+rows_among slots = filter_map (λ (s : Slot). s.row) slots
 
 -- the slots' numbers
 abbrev pub numbers_in : List (Key × Slot) → FinMap key_cmp ℕ

@@ -14,10 +14,13 @@
 //   store      the trait `RowStore`: what an index asks of a store, whichever way rows are kept
 //   ordered    `OrderedRows`, the first form: an ordered map of lists of values
 //   view       a row as it is read: column by column
+//   walk       `Walk`: the rows one after another
 pub mod ordered;
 pub mod store;
 pub mod view;
+pub mod walk;
 
 pub use ordered::OrderedRows;
 pub use store::RowStore;
 pub use view::{RowView, ValueRef};
+pub use walk::Walk;

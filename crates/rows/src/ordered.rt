@@ -1,5 +1,5 @@
 // Rows in an ordered map of slots.
-ghost use Rattle.std.specs.Prelude.{◌≡◌, ◌≢◌, ℕ, OnOk, OnErr, IfOk, IfSome, IfNone, IsSome, Some, None, false, is_some, if◌then◌else◌};
+ghost use Rattle.std.specs.Prelude.{◌≡◌, ◌≢◌, ℕ, OnOk, OnErr, IfOk, IfSome, IfNone, IsSome, Some, None, false, is_some, if◌then◌else◌, length, ◌<◌, ◌^◌};
 ghost use Rattle.std.specs.Ordering.{nat_cmp};
 ghost use Rattle.std.specs.FinMap as map;
 ghost use Rattle.std.specs.BTreeMap as tree;
@@ -8,15 +8,16 @@ ghost use Rattle.rows.specs.Kept.{KeepsSlots, IsNumbered, IsSlotted};
 ghost use Rattle.rows.specs.Slots.{found, with_row_at, row_at, number_at, SameBeside, without_empty, number_of_empty};
 
 use crate::view::RowView;
+use crate::walk::Walk;
 use model::{Key, OutOfMemory, Row};
-use std::alloc::Global;
+use std::alloc::{AllocError, Global};
 use std::collections::BTreeMap;
 use std::marker::Model;
 use std::mem;
 
 /// A place for a row. It keeps its number while it is there, filled or empty.
 #[derive(Drop)]
-struct Slot {
+pub(crate) struct Slot {
     number: u64,
     row: Option<Row>,
 }
@@ -33,13 +34,24 @@ pub struct OrderedRows {
 
 impl Slot {
     // The row in it, as it is read.
-    fn view(&self) -> Option<RowView<'_>>
+    pub(crate) fn view(&self) -> Option<RowView<'_>>
         ensures { result ≡ self.now.row }
     {
         match &self.row {
             Some(row) => Some(RowView::of_row(row)),
             None => None,
         }
+    }
+}
+
+impl Clone for Slot {
+    ghost is_clone = { λ slot other. other ≡ slot };
+
+    fn clone(&self) -> Result<Slot, AllocError> {
+        Ok(Slot {
+            number: self.number,
+            row: self.row.clone()?,
+        })
     }
 }
 
@@ -171,15 +183,24 @@ impl OrderedRows {
         drop_slot(&mut self.slots, &mut self.keys, key);
     }
 
-    /// The rows, in key order.
-    pub fn walk(&self) -> Result<Vec<RowView<'_>>, OutOfMemory> {
-        let mut rows = Vec::new(self.alloc);
-        for slot in self.slots.values() {
-            if let Some(row) = slot.view() {
-                rows.push(row)?;
-            }
-        }
-        Ok(rows)
+    /// The rows, in key order. It takes no memory.
+    pub fn walk(&self) -> Walk<'_>
+        ensures rows { result ≡ map.values self.now.rows }
+        ensures fits { length result < 2 ^ 63 }
+    {
+        Walk::over(self.slots.values())
+    }
+
+    /// The same rows in the same slots.
+    pub fn copy(&self) -> Result<OrderedRows, OutOfMemory>
+        ensures { IfOk result (λ copy. copy ≡ self.now) }
+    {
+        Ok(OrderedRows {
+            slots: self.slots.clone()?,
+            keys: self.keys.clone()?,
+            next: self.next,
+            alloc: self.alloc,
+        })
     }
 
     /// Moves all rows and slots out. No row is copied, and it takes no memory.

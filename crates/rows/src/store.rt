@@ -1,10 +1,11 @@
 // What tables ask of a store of rows, whichever way it keeps them.
-ghost use Rattle.std.specs.Prelude.{◌≡◌, OnOk, OnErr, IsSome, is_some, if◌then◌else◌};
+ghost use Rattle.std.specs.Prelude.{◌≡◌, OnOk, OnErr, IsSome, is_some, if◌then◌else◌, length, ◌<◌, ◌^◌};
 ghost use Rattle.std.specs.FinMap as map;
 ghost use Rattle.rows.specs.Kept.{Kept, KeepsSlots};
 
 use crate::ordered::OrderedRows;
 use crate::view::RowView;
+use crate::walk::Walk;
 use model::{Key, OutOfMemory, Row};
 
 /// A store of rows by primary key. `put` alone may be refused, and then changes no row; the other
@@ -41,6 +42,11 @@ pub trait RowStore: Drop {
         ensures rows { (kept self.new).rows ≡ (kept self.old).rows }
         ensures slots { (kept self.new).slots ≡ (if is_some (map.get (kept self.old).rows key.now) then (kept self.old).slots else map.remove (kept self.old).slots key.now) };
 
+    /// The rows, in key order.
+    fn walk(&self) -> Walk<'_>
+        ensures rows { result ≡ map.values (kept self.now).rows }
+        ensures fits { length result < 2 ^ 63 };
+
     /// Moves all rows and slots out. No row is copied.
     fn wipe(&mut self) -> Self
     where
@@ -70,6 +76,10 @@ impl RowStore for OrderedRows {
 
     fn settle(&mut self, key: &Key) {
         OrderedRows::settle(self, key);
+    }
+
+    fn walk(&self) -> Walk<'_> {
+        OrderedRows::walk(self)
     }
 
     fn wipe(&mut self) -> OrderedRows {

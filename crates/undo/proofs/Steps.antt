@@ -1,6 +1,6 @@
 -- One inverse is put back, the newest.
-use Rattle.std.specs.Prelude.{◌≡◌, ◌≢◌, ℕ, ◌+◌, ◌≤◌, ◌<◌, ◌⊎◌, get_or, Contains, List, [], ◌∷◌, ◌++◌, Option, Some, None, map, length, take, drop, option_to_list}
-use Rattle.std.proofs.Common.{zero, suc, refl, sym, ◌∙◌, ap, subst, arith, length-append, inl, inr, add-one, drop-cons, take-suc}
+use Rattle.std.specs.Prelude.{◌≡◌, ◌≢◌, ℕ, ◌+◌, ◌≤◌, ◌<◌, ◌⊎◌, get_or, Contains, List, [], ◌∷◌, ◌++◌, Option, Some, map, length, take, drop, option_to_list}
+use Rattle.std.proofs.Common.{zero, suc, refl, sym, ◌∙◌, ap, subst, arith, inl, inr, add-one, drop-cons, take-suc}
 use Rattle.std.proofs.lemmas.List.Elements.{Contains-append_left, Contains-append_right, Contains-append_cases, Contains-push}
 use Rattle.model.specs.declared.cell.Cell.{Cell}
 use Rattle.model.specs.Rows.{Rows, Schema}

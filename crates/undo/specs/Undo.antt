@@ -3,12 +3,12 @@
 --     content_back, content_undone      the tables with an inverse put back; with all of a list, the last of them first
 --     CanUndo      each inverse can be put back once those after it are
 --     cells_settled      the cells whose empty slots a log gives up
-use Rattle.std.specs.Prelude.{◌≡◌, ℕ, ◌<◌, List, [], ◌∷◌, ◌++◌, map, length}
+use Rattle.std.specs.Prelude.{ℕ, List, [], ◌∷◌, ◌++◌}
 use Rattle.model.specs.declared.cell.Cell.{Cell}
 use Rattle.model.specs.declared.cell.Cell.TheVariants.{Row}
 use Rattle.model.specs.Rows.{Schema}
 use Rattle.model.specs.Cells.{cells_of}
-use Rattle.model.specs.Effect.{Edits, back}
+use Rattle.model.specs.Effect.{back}
 use Rattle.indexes.specs.Content.{Content}
 use Rattle.change.specs.declared.inverse.Inverse.{Inverse}
 use Rattle.change.specs.declared.inverse.Inverse.TheVariants.{Take, Put, Replace, Unwipe}

@@ -3,11 +3,10 @@
 --     CanUndo_keeps      with more room
 --     CanUndo_applied      what was just applied can be undone, and then what could be before it
 --     rows_undone      the rows of tables that are undone
-use Rattle.std.specs.Prelude.{◌≡◌, ℕ, List, [], ◌∷◌, ◌++◌, map, refl}
+use Rattle.std.specs.Prelude.{◌≡◌, List, [], ◌∷◌, ◌++◌, map, refl}
 use Rattle.std.proofs.Common.{sym, ◌∙◌, ap, subst}
-use Rattle.model.specs.declared.cell.Cell.{Cell}
-use Rattle.model.specs.Rows.{Rows, Schema}
-use Rattle.model.specs.Effect.{Edits, back, undone}
+use Rattle.model.specs.Rows.{Rows}
+use Rattle.model.specs.Effect.{back, undone}
 use Rattle.indexes.specs.Content.{Content, Keeps}
 use Rattle.change.specs.declared.inverse.Inverse.{Inverse}
 use Rattle.change.specs.Inverse.{edits_of, room_back, CanPutBack}

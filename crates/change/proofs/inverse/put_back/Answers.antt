@@ -1,4 +1,4 @@
-use Rattle.std.proofs.Common.{◌≡◌, Some, None, sym, ◌∙◌, ap, subst}
+use Rattle.std.proofs.Common.{Some, None, sym, ◌∙◌, ap, subst}
 use Rattle.model.specs.Effect.{back}
 use Rattle.model.specs.EditLaws.{overlay_one, overlay_two}
 use Rattle.change.specs.Inverse.{CanPutBack, edits_of}

@@ -1,9 +1,8 @@
-use Rattle.std.proofs.Common.{◌≡◌, ℕ, List, [], ◌∷◌, ◌++◌, sym, ◌∙◌, ap, subst, map, arith}
+use Rattle.std.proofs.Common.{◌≡◌, List, [], ◌∙◌, subst, arith}
 use Rattle.std.proofs.lemmas.Grind.{common_steps}
 use Rattle.indexes.specs.Content.{Keeps}
-use Rattle.model.specs.Effect.{undone}
 use Rattle.change.specs.declared.inverse.Wiped.{Wiped}
-use Rattle.change.specs.Inverse.{standing, room_unwiped, AreKnown, AreEmpty}
+use Rattle.change.specs.Inverse.{room_unwiped, AreKnown, AreEmpty}
 use Rattle.change.specs.InverseLaws.{known_last, empty_last}
 use Rattle.change.proofs.Restoring.{last_of, unwiped_rows, unwiped_room, unwiped_can}
 use Rattle.change.proofs.inverse.unwipe_all.Goals as goal

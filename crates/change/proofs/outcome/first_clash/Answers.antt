@@ -1,9 +1,9 @@
-use Rattle.std.proofs.Common.{◌≡◌, ◌+◌, ◌<◌, length, false, arith, sym, ◌∙◌, ap}
+use Rattle.std.proofs.Common.{◌≡◌, ◌+◌, ◌<◌, length, false, arith, sym, ◌∙◌}
 use Rattle.model.specs.Rows.{keys_at, values_in}
 use Rattle.model.specs.Effect.{is_taken}
 use Rattle.indexes.specs.Content.{unique_columns}
 use Rattle.change.specs.Applied.{without}
-use Rattle.change.proofs.Clashes.{first_taken_found, first_taken_passed, first_taken_end, taken_of_values, taken_of_none, columns_at}
+use Rattle.change.proofs.Clashes.{first_taken_found, first_taken_passed, taken_of_values, taken_of_none, columns_at}
 use Rattle.change.proofs.outcome.first_clash.Goals as goal
 use Rattle.change.proofs.outcome.first_clash.Goals.{in-Some+else-are_values_held, in_default}
 

@@ -1,4 +1,4 @@
-use Rattle.std.proofs.Common.{◌≡◌, ◌<◌, ◌≤◌, length, take, None, List, [], ◌∷◌, ◌++◌, sym, ◌∙◌, ap, arith, get_or}
+use Rattle.std.proofs.Common.{◌≡◌, ◌<◌, ◌≤◌, length, None, [], ◌∷◌, ◌++◌, ◌∙◌, ap, arith, get_or}
 use Rattle.model.specs.Effect.{patched}
 use Rattle.change.proofs.Patched.{column_patched, column_kept, take_more, all_columns, within_patched}
 use Rattle.change.proofs.outcome.patched_row.Goals as goal

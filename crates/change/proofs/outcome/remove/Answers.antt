@@ -1,9 +1,8 @@
-use Rattle.std.proofs.Common.{sym, ◌∙◌}
+use Rattle.std.proofs.Common.{sym}
 use Rattle.model.specs.declared.change.Change.TheVariants.{Remove}
-use Rattle.model.specs.Effect.{Skip, removed}
+use Rattle.model.specs.Effect.{removed}
 use Rattle.model.specs.EffectLaws.{effect_skipped}
-use Rattle.std.proofs.Common.{ap, arith}
-use Rattle.std.proofs.lemmas.Grind.{common_steps}
+use Rattle.std.proofs.Common.{ap}
 use Rattle.change.proofs.Outcomes.{nothing_there, remove_ok, remove_inverse, remove_can}
 use Rattle.change.proofs.outcome.remove.Goals as goal
 

@@ -1,6 +1,4 @@
-use Rattle.std.proofs.Common.{◌≡◌, ◌+◌, ◌<◌, ◌≤◌, length, take, List, [], ◌∷◌, sym, ◌∙◌, ap, subst, refl, arith, get_or}
-use Rattle.std.proofs.lemmas.Grind.{common_steps}
-use Rattle.change.specs.declared.inverse.Wiped.{Wiped}
+use Rattle.std.proofs.Common.{◌+◌, ◌<◌, ◌≤◌, length, take, [], sym, subst, arith, get_or}
 use Rattle.indexes.specs.Content.{Content, Keeps}
 use Rattle.model.specs.Rows.{Schema}
 use Rattle.change.specs.Inverse.{room_unwiped}

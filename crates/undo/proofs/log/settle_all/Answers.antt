@@ -1,4 +1,4 @@
-use Rattle.std.proofs.Common.{◌<◌, length, sym, ◌∙◌, ap, subst, arith}
+use Rattle.std.proofs.Common.{◌<◌, length, ◌∙◌, subst, arith}
 use Rattle.std.proofs.Common.{Contains}
 use Rattle.undo.specs.Undo.{cells_settled}
 use Rattle.model.specs.Rows.{Schema}

@@ -1,4 +1,4 @@
-use Rattle.std.proofs.Common.{sym, ap, subst, Contains}
+use Rattle.std.proofs.Common.{sym, subst, Contains}
 use Rattle.model.specs.declared.cell.Cell.{Cell}
 use Rattle.model.specs.declared.cell.Cell.TheVariants.{Row}
 use Rattle.model.specs.Cells.{cells_of}

@@ -1,4 +1,4 @@
-use Rattle.std.proofs.Common.{◌≡◌, ◌≤◌, length, drop, List, [], ◌∷◌, ◌++◌, sym, ◌∙◌, ap, subst, arith, length-append, drop_of_length-le}
+use Rattle.std.proofs.Common.{◌≡◌, ◌≤◌, length, drop, List, [], ◌∷◌, ◌++◌, ◌∙◌, ap, subst, arith, length-append, drop_of_length-le}
 use Rattle.change.specs.declared.inverse.Inverse.{Inverse}
 use Rattle.indexes.specs.Content.{Keeps}
 use Rattle.undo.specs.Undo.{content_undone}

@@ -1,4 +1,4 @@
-use Rattle.std.proofs.Common.{◌∙◌, ap, subst}
+use Rattle.std.proofs.Common.{sym, ◌∙◌, ap, subst}
 use Rattle.std.specs.Prelude.{slice_set}
 use Rattle.std.specs.FinMap.{get}
 use Rattle.indexes.specs.Table.{TableContent, cells_in}
@@ -8,6 +8,24 @@ use Rattle.indexes.proofs.Seen as seen
 use Rattle.indexes.proofs.Gather.{sound_after}
 use Rattle.indexes.proofs.tables.Tables.unwipe.Goals as goal
 
+pub unwipe-requires-clause-keys : goal.unwipe-requires-clause-keys
+unwipe-requires-clause-keys c =
+    let ts = c.self.inside.tables.items in
+    let v = c.self.view_is in
+    let i = c.args.table in
+    let t = c.index_mut-table.result.now in
+    let at = seen.table_there ts c.args.self.now v i c.requires.known t c.index_mut-table.ensures.value in
+    c.requires.keys ∙ seen.seen_keys ts c.args.self.now v i t at
+
+pub unwipe-requires-clause-empty : goal.unwipe-requires-clause-empty
+unwipe-requires-clause-empty c =
+    let ts = c.self.inside.tables.items in
+    let v = c.self.view_is in
+    let i = c.args.table in
+    let t = c.index_mut-table.result.now in
+    let at = seen.table_there ts c.args.self.now v i c.requires.known t c.index_mut-table.ensures.value in
+    λ key. sym (seen.seen_get ts c.args.self.now v i t at key) ∙ c.requires.empty key
+
 pub invariant_of-self : goal.invariant_of-self
 invariant_of-self c =
     let ts = c.self.inside.tables.items in
@@ -15,7 +33,7 @@ invariant_of-self c =
     let i = c.args.table in
     let t = c.index_mut-table.result.now in
     let at = seen.table_there ts c.args.self.now v i c.requires.known t c.index_mut-table.ensures.value in
-    sound_after ts i t c.contents.inside.table at c.self.invariant c.contents.invariant
+    sound_after ts i t c.unwipe.new.self at c.self.invariant c.unwipe.ensures.sound
 
 pub returns-clause-schema : goal.returns-clause-schema
 returns-clause-schema c =
@@ -24,7 +42,7 @@ returns-clause-schema c =
     let i = c.args.table in
     let t = c.index_mut-table.result.now in
     let at = seen.table_there ts c.args.self.now v i c.requires.known t c.index_mut-table.ensures.value in
-    seen.schema_stays ts c.args.self.now v i t at c.contents.inside.table (ap (λ (s : TableContent). s.keys) c.contents.view_is ∙ c.requires.keys ∙ seen.seen_keys ts c.args.self.now v i t at)
+    seen.schema_stays ts c.args.self.now v i t at c.unwipe.new.self (ap (λ (s : TableContent). s.keys) c.unwipe.ensures.back ∙ c.requires.keys ∙ seen.seen_keys ts c.args.self.now v i t at)
 
 pub returns-clause-rows : goal.returns-clause-rows
 returns-clause-rows c =
@@ -33,7 +51,7 @@ returns-clause-rows c =
     let i = c.args.table in
     let t = c.index_mut-table.result.now in
     let at = seen.table_there ts c.args.self.now v i c.requires.known t c.index_mut-table.ensures.value in
-    λ key. seen.new_get ts c.args.self.now v i t at c.contents.inside.table key ∙ ap (λ (s : TableContent). get s.rows key) c.contents.view_is
+    λ key. seen.new_get ts c.args.self.now v i t at c.unwipe.new.self key ∙ ap (λ (s : TableContent). get s.rows key) c.unwipe.ensures.back
 
 pub returns-clause-elsewhere : goal.returns-clause-elsewhere
 returns-clause-elsewhere c =
@@ -42,7 +60,7 @@ returns-clause-elsewhere c =
     let i = c.args.table in
     let t = c.index_mut-table.result.now in
     let at = seen.table_there ts c.args.self.now v i c.requires.known t c.index_mut-table.ensures.value in
-    seen.elsewhere ts c.args.self.now v i t at c.contents.inside.table
+    seen.elsewhere ts c.args.self.now v i t at c.unwipe.new.self
 
 pub returns-clause-room : goal.returns-clause-room
 returns-clause-room c =
@@ -51,7 +69,7 @@ returns-clause-room c =
     let i = c.args.table in
     let t = c.index_mut-table.result.now in
     let at = seen.table_there ts c.args.self.now v i c.requires.known t c.index_mut-table.ensures.value in
-    subst (λ (s : TableContent). Keeps (cells_in i s) (cells_from 0 (slice_set ts i c.contents.inside.table))) c.contents.view_is (seen.new_room ts c.args.self.now v i t at c.contents.inside.table)
+    subst (λ (s : TableContent). Keeps (cells_in i s) (cells_from 0 (slice_set ts i c.unwipe.new.self))) c.unwipe.ensures.back (seen.new_room ts c.args.self.now v i t at c.unwipe.new.self)
 
 pub returns-clause-room_elsewhere : goal.returns-clause-room_elsewhere
 returns-clause-room_elsewhere c =
@@ -60,4 +78,4 @@ returns-clause-room_elsewhere c =
     let i = c.args.table in
     let t = c.index_mut-table.result.now in
     let at = seen.table_there ts c.args.self.now v i c.requires.known t c.index_mut-table.ensures.value in
-    seen.same_room_elsewhere ts c.args.self.now v i t at c.contents.inside.table
+    seen.same_room_elsewhere ts c.args.self.now v i t at c.unwipe.new.self
