@@ -56,8 +56,10 @@ pub struct ReadSource<R> {
 }
 
 impl<R: Read> ReadSource<R> {
+    /// A source that has read nothing yet.
     pub fn new(reader: R) -> ReadSource<R>
         ensures bytes { ⟦<ReadSource<R> as Source>⟧.remaining result ≡ R.remaining reader }
+        ensures reads { ⟦<ReadSource<R> as Source>⟧.reads_left result ≡ u64.MAX }
         ensures failures { ⟦<ReadSource<R> as Source>⟧.failures result ≡ 0 }
     {
         ReadSource {
@@ -103,6 +105,7 @@ pub struct WriteSink<W> {
 }
 
 impl<W: Write> WriteSink<W> {
+    /// A sink that has written nothing yet.
     pub fn new(writer: W) -> WriteSink<W>
         ensures bytes { ⟦<WriteSink<W> as Sink>⟧.contents result ≡ W.contents writer }
         ensures failures { ⟦<WriteSink<W> as Sink>⟧.failures result ≡ 0 }

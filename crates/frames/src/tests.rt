@@ -115,13 +115,21 @@ fn read_pieces(
 
 #[test]
 fn frames_that_are_refused(rt: HostRuntime) -> Result<(), Fail> {
-    let cases: [(&[u8], Result<(), FrameFault>); 14] = [
+    let cases: [(&[u8], Result<(), FrameFault>); 17] = [
         (b"d\x00\x00\x00\x04", Err(FrameFault::BadLength)),
         (b"d\x80\x00\x00\x00", Err(FrameFault::BadLength)),
         (b"c\x00\x00\x00\x05", Err(FrameFault::BadLength)),
         (b"d\x00\x00\x00\x05w", Err(FrameFault::BadLength)),
         (
             b"d\x00\x00\x00\x15k\0\0\0\0\0\0\0\x02\0\0\0\0\0\0\0\0",
+            Err(FrameFault::BadLength),
+        ),
+        (
+            b"d\x00\x00\x00\x17k\0\0\0\0\0\0\0\x02\0\0\0\0\0\0\0\0\x01\0",
+            Err(FrameFault::BadLength),
+        ),
+        (
+            b"d\x00\x00\x00\x1cw\0\0\0\0\0\0\0\0\0\0\0\0\0\0\0\0\0\0\0\0\0\0\0",
             Err(FrameFault::BadLength),
         ),
         (b"d\x04\x00\x00\x01", Err(FrameFault::TooLarge)),
@@ -132,7 +140,8 @@ fn frames_that_are_refused(rt: HostRuntime) -> Result<(), Fail> {
         (b"E\x00\x00\x00\x05", Err(FrameFault::Truncated)),
         (b"d\x00\x00\x00\x05x", Err(FrameFault::UnknownCopyTag)),
         (b"N\x00\x00\x00\x04", Ok(())),
-        (b"c\x00\x00\x00\x04XXXXXXX", Ok(())),
+        (b"S\x00\x00\x00\x06a\0", Ok(())),
+        (b"c\x00\x00\x00\x04further", Ok(())),
     ];
     for (bytes, want) in &cases {
         for size in [1, bytes.len()] {
@@ -291,13 +300,14 @@ impl Sink for Narrow {
     }
 }
 
+// The update of the stream's commit, with the clock at 5.
+const UPDATE: &[u8] = b"\
+    d\x00\x00\x00\x26r\0\0\0\0\0\0\x01\x20\0\0\0\0\0\0\x01\x20\0\0\0\0\0\0\x01\x20\0\0\0\0\0\0\0\x05\0";
+
 #[test]
 fn status_updates(rt: HostRuntime) -> Result<(), Fail> {
     let cases: [(Lsn, &[u8]); 2] = [
-        (
-            0x120,
-            b"d\x00\x00\x00\x26r\0\0\0\0\0\0\x01\x20\0\0\0\0\0\0\x01\x20\0\0\0\0\0\0\x01\x20\0\0\0\0\0\0\0\x05\0",
-        ),
+        (0x120, UPDATE),
         (
             0x200,
             b"d\x00\x00\x00\x26r\0\0\0\0\0\0\x02\x00\0\0\0\0\0\0\x01\x20\0\0\0\0\0\0\x01\x20\0\0\0\0\0\0\0\x05\0",
@@ -314,21 +324,44 @@ fn status_updates(rt: HostRuntime) -> Result<(), Fail> {
         out.push(7)?;
         assert_eq!(rt; write_status(&status, &mut out), Ok(()));
         assert_eq!(rt; out.as_slice().split_at(1).1, want);
-        for fails_at in [0, 12, 13] {
+        for (fails_at, taken) in [(0, 0), (12, 36), (13, 39)] {
             let mut sink = Narrow {
                 taken: Vec::new(rt.alloc()),
                 fails_at,
                 failures: 0,
             };
-            let want = if fails_at < 13 {
+            let answer = if fails_at < 13 {
                 Err(FrameFault::Device)
             } else {
                 Ok(())
             };
-            assert_eq!(rt; send_status(rt.alloc(), &status, &mut sink), want);
+            assert_eq!(rt; send_status(rt.alloc(), &status, &mut sink), answer);
+            assert_eq!(rt; Some(sink.taken.as_slice()), want.get(..taken));
         }
         let mut sink = WriteSink::new(Vec::new(rt.alloc()));
         assert_eq!(rt; send_status(rt.alloc(), &status, &mut sink), Ok(()));
     }
     Ok(())
+}
+
+// Where memory is refused, a status update is not written, and what was written before stays.
+#[test]
+fn status_updates_where_memory_is_refused(rt: HostRuntime) {
+    let status = Status {
+        written: 0x120,
+        flushed: 0x120,
+        applied: 0x120,
+        clock: 5,
+    };
+    let mut out = Vec::new(rt.alloc());
+    for _ in 0..3 {
+        let before = out.len();
+        if let Err(fault) = write_status(&status, &mut out) {
+            assert_eq!(rt; fault, FrameFault::OutOfMemory);
+            assert_eq!(rt; out.len(), before);
+        }
+    }
+    for frame in out.chunks(UPDATE.len()) {
+        assert_eq!(rt; frame, UPDATE);
+    }
 }

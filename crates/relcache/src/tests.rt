@@ -321,3 +321,31 @@ fn ints_are_read_within_64_bits(rt: HostRuntime) -> Result<(), Fail> {
     }
     Ok(())
 }
+
+/// Where memory is refused it is said by its name, and nothing changes. With ample memory it isn't refused.
+#[test]
+fn answers_where_memory_is_refused(rt: HostRuntime) -> Result<(), Fail> {
+    let alloc = rt.alloc();
+    let tables = Catalog::read(alloc, ACCOUNTS)?;
+    let r = relation(&rt, alloc, PUBLIC, &[("id", true), ("email", false)])?;
+    let new = tuple(&rt, alloc, &[Some("1"), Some("a")])?;
+    let mut cache = RelCache::new(alloc);
+    if let Err(fault) = cache.learn(&r) {
+        assert_eq!(rt; fault, RelFault::OutOfMemory);
+        let unknown = cache.resolve(alloc, &tables, ACCOUNTS_OID);
+        assert_eq!(rt; unknown.err(), Some(RelFault::UnknownRelation));
+        return Ok(());
+    }
+    let m = match cache.resolve(alloc, &tables, ACCOUNTS_OID) {
+        Ok(m) => m,
+        Err(fault) => {
+            assert_eq!(rt; fault, RelFault::OutOfMemory);
+            return Ok(());
+        }
+    };
+    match plan(alloc, &m, &RowMessage::Update { old: None, new }) {
+        Ok(change) => assert!(rt; matches!(change, Change::Set { table: 0, .. })),
+        Err(fault) => assert_eq!(rt; fault, RelFault::OutOfMemory),
+    }
+    Ok(())
+}
