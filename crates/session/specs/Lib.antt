@@ -10,6 +10,7 @@ pub mod Kept
 pub use Rattle.messages.specs.Messages
 pub use Rattle.relcache.specs.Mapping
 pub use Rattle.relcache.specs.Planning
+pub use Rattle.relcache.specs.Fits
 pub use Rattle.relcache.specs.Published
 pub use Rattle.savepoint.specs.Savepoints
 pub use Rattle.savepoint.specs.Survivors

@@ -15,11 +15,14 @@
 // commit. To find a transaction takes a look-up among the open ones, to keep an item the work of
 // one, and a cut the work of the items that it drops.
 //
-// `specs/Stands` says when what is kept stands for a state of the table. By their contracts Begin,
-// Commit, Stream Stop, Stream Commit, Origin and a transaction's first block take it from one state of
-// the table to the next, or are refused as the table refuses them; and a spool keeps just the items
-// that survive, with their bytes. Items, rollbacks, aborts and further blocks are proved safe and
-// total.
+// `specs/Stands` says when what is kept stands for a state of the table. By its contract `admit` takes
+// the session from one state of the table to the next: an answer tells exactly what the message that
+// the payload spells does there, and a change that it gives names tables of the catalog alone. A
+// refusal is the fault that stands in the payload, or the table's own, or says that memory was refused,
+// and the session then stands for what it stood for before. An item that the spools have no room for is
+// refused, and the commit of a spooled transaction hands out the items that survive its rollbacks.
+// `laws` has what follows of whole streams: payloads lead to one state at most, and what is admitted is
+// not refused, but for memory.
 //
 // It stands on `messages`, which reads payloads, `relcache`, which learns relations and plans rows,
 // and `savepoint`, which has the items of transactions and cuts them at savepoints.
@@ -30,6 +33,8 @@ mod relations;
 mod session;
 mod spool;
 mod step;
+#[cfg(test)]
+mod tests;
 mod transactions;
 
 pub use fault::{Refused, SessionFault};
