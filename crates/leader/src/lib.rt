@@ -18,6 +18,12 @@
 // A status update goes to the sink after each commit, and after each keepalive that wants a reply
 // (PostgreSQL manual: Streaming Replication Protocol, Standby status update).
 //
+// `specs/Run` says what a run leaves: the items that it handled are a beginning of those of the bytes,
+// each lawful after those before it, up to the first cause of an end; the journal is the commits among
+// them, and the tables are their surviving changes applied in commit order. `run_over` ensures it, from
+// the public contracts of the layers below alone: an item leads from what the run keeps for one
+// progress to what it keeps for the next (`specs/Applier`).
+//
 // It stands on `frames` for the stream, `session` for what its messages ask for, `change` and `undo`
 // for the tables, and `catalog` for their names.
 mod applier;
@@ -30,4 +36,4 @@ mod work;
 pub use end::End;
 pub use outcome::{Clock, Config, Entry, Outcome};
 pub use printing::report;
-pub use run::run_spooled;
+pub use run::{run_over, run_spooled};

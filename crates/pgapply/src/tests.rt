@@ -1,6 +1,7 @@
 // What the program prints of whole streams. The expected texts come from outside: worked by hand from
 // the rules, before the program was.
 mod cases;
+mod devices;
 
 use crate::execute::{Ended, execute};
 use crate::options;

@@ -1,0 +1,229 @@
+// How streams come: in pieces, cut short, from a source or to a sink that fails; and catalogs that are refused.
+use super::{CATALOG, CONFIG, Kept, Pieces, Stopped, framed, printed};
+use crate::execute::{Ended, execute};
+use std::alloc::Global;
+use std::test::Fail;
+
+/// B(900,0/100), the relation, I(1,a,n) and C(0/100,0/120).
+const ONE_INSERT: [&str; 4] = [
+    "420000000000000100000000000000000000000384",
+    "52000040017075626c6963006163636f756e7473006400030169640000000017ffffffff00656d61696c0000000019ffffffff006e6f74650000000019ffffffff",
+    "49000040014e000374000000013174000000016174000000016e",
+    "4300000000000000010000000000000001200000000000000000",
+];
+
+const REPORT: &str = "table public.accounts 1\n1|a|n\nposition 0/120\nend 0 Clean\n";
+
+/// The status update after the commit, with the clock at 5.
+const UPDATE: &str = "6400000026720000000000000120000000000000012000000000000001200000000000000005\
+    00";
+
+/// A keepalive at 0/200 that wants a reply, and the status update that answers it.
+const KEEPALIVE: &str = "64000000166b0000000000000200000000000000000001";
+
+const REPLY: &str = "6400000026720000000000000200000000000000012000000000000001200000000000000005\
+    00";
+
+/// S(700,1), the relation, 700:I(1,a,n), E and c(700,0/200,0/220).
+const STREAMED: [&str; 5] = [
+    "53000002bc01",
+    "52000002bc000040017075626c6963006163636f756e7473006400030169640000000017ffffffff00656d61696c0000000019ffffffff006e6f74650000000019ffffffff",
+    "49000002bc000040014e000374000000013174000000016174000000016e",
+    "45",
+    "63000002bc00000000000000020000000000000002200000000000000000",
+];
+
+#[test]
+fn pieces_of_each_length(rt: HostRuntime) -> Result<(), Fail> {
+    let stream = framed(rt.alloc(), &ONE_INSERT)?;
+    assert_eq!(rt; stream.len(), 258);
+    for size in 1..=stream.len() {
+        let (ended, out, _) = printed(rt.alloc(), stream.as_slice(), size, &CONFIG);
+        assert_eq!(rt; out.as_slice(), REPORT.as_bytes(), "pieces of {size}");
+        assert_eq!(rt; ended.status, 0);
+    }
+    Ok(())
+}
+
+#[test]
+fn updates_after_a_commit_and_a_keepalive(rt: HostRuntime) -> Result<(), Fail> {
+    let mut stream = framed(rt.alloc(), &ONE_INSERT)?;
+    let keepalive = hex::decode(rt.alloc(), KEEPALIVE)?;
+    stream.extend_from_slice(keepalive.as_slice())?;
+    let (ended, out, written) = printed(rt.alloc(), stream.as_slice(), usize::MAX, &CONFIG);
+    assert_eq!(rt; out.as_slice(), REPORT.as_bytes());
+    assert_eq!(rt; ended.status, 0);
+    let mut updates = hex::decode(rt.alloc(), UPDATE)?;
+    let reply = hex::decode(rt.alloc(), REPLY)?;
+    updates.extend_from_slice(reply.as_slice())?;
+    assert_eq!(rt; written.as_slice(), updates.as_slice());
+    Ok(())
+}
+
+/// Whether a frame of the stream ends at this place.
+fn is_edge(stream: &[u8], place: usize) -> bool {
+    let mut rest = stream;
+    let mut at = 0usize;
+    for _ in 0..=stream.len() {
+        if at >= place {
+            return at == place;
+        }
+        let Some(length) = rest.get(4) else {
+            return false;
+        };
+        let frame = usize::from(*length).saturating_add(1);
+        at = at.saturating_add(frame);
+        rest = rest.get(frame..).unwrap_or(&[]);
+    }
+    false
+}
+
+#[test]
+fn a_streamed_transaction_cut_at_each_byte(rt: HostRuntime) -> Result<(), Fail> {
+    let stream = framed(rt.alloc(), &STREAMED)?;
+    for cut in 0..=stream.len() {
+        let (ended, out, _) = printed(rt.alloc(), &stream[..cut], usize::MAX, &CONFIG);
+        let want = if cut == stream.len() {
+            "table public.accounts 1\n1|a|n\nposition 0/220\nend 0 Clean\n"
+        } else if is_edge(stream.as_slice(), cut) {
+            "table public.accounts 0\nposition 0/0\nend 0 Clean\n"
+        } else {
+            "table public.accounts 0\nposition 0/0\nend 1 Frame Truncated\n"
+        };
+        assert_eq!(rt; out.as_slice(), want.as_bytes(), "cut at {cut}");
+        assert_eq!(rt; ended.status, if is_edge(stream.as_slice(), cut) { 0 } else { 2 });
+    }
+    Ok(())
+}
+
+/// A sink that fails at each write.
+#[derive(Drop)]
+struct Broken {
+    failures: u64,
+}
+
+impl frames::Sink for Broken {
+    ghost use Rattle.std.specs.Prelude.{None};
+
+    ghost contents = { λ _. None };
+
+    ghost failures = { λ b. b.failures };
+
+    fn write_some(&mut self, _buf: &[u8]) -> Result<usize, frames::Failed> {
+        self.failures = self.failures.saturating_add(1);
+        Err(frames::Failed)
+    }
+}
+
+/// What is printed of a stream by devices that fail: the source at this read.
+fn printed_by(
+    alloc: Global,
+    stream: &[u8],
+    reads_before_failure: u64,
+    out: &mut Vec<u8>,
+) -> Ended {
+    let reader = Pieces {
+        bytes: stream,
+        size: 40,
+        reads_before_failure,
+        failures: 0,
+    };
+    execute(
+        alloc,
+        true,
+        &CONFIG,
+        CATALOG.as_bytes(),
+        reader,
+        Broken { failures: 0 },
+        Stopped(5),
+        out,
+    )
+}
+
+#[test]
+fn devices_that_fail(rt: HostRuntime) -> Result<(), Fail> {
+    let stream = framed(rt.alloc(), &ONE_INSERT)?;
+    // 258 bytes in pieces of 40: the commit's frame is whole with the seventh.
+    for read in 0..7 {
+        let mut out = Vec::new(rt.alloc());
+        let ended = printed_by(rt.alloc(), stream.as_slice(), read, &mut out);
+        let want = "table public.accounts 0\nposition 0/0\nend 1 Frame Device\n";
+        assert_eq!(rt; out.as_slice(), want.as_bytes(), "read {read}");
+        assert_eq!(rt; ended.status, 2);
+    }
+    // The commit stands where its update can't be sent.
+    let mut out = Vec::new(rt.alloc());
+    let ended = printed_by(rt.alloc(), stream.as_slice(), u64::MAX, &mut out);
+    let want = "table public.accounts 1\n1|a|n\nposition 0/120\nend 1 Frame Device\n";
+    assert_eq!(rt; out.as_slice(), want.as_bytes());
+    assert_eq!(rt; ended.status, 2);
+    Ok(())
+}
+
+#[test]
+fn catalogs_that_are_refused(rt: HostRuntime) -> Result<(), Fail> {
+    let cases: [(&[u8], &str); 4] = [
+        (b"\xff", "pgapply: catalog NotToml"),
+        (b"[[table]", "pgapply: catalog NotToml"),
+        (b"tables = 1\n", "pgapply: catalog UnknownField"),
+        (
+            b"[[table]]\nnamespace = \"a\"\nname = \"b\"\n[[table.column]]\nname = \"c\"\ntype = \"int\"\n",
+            "pgapply: catalog NoPrimaryKey",
+        ),
+    ];
+    for (catalog, line) in &cases {
+        let mut out = Vec::new(rt.alloc());
+        let mut written = Vec::new(rt.alloc());
+        let reader = Pieces {
+            bytes: &[],
+            size: 1,
+            reads_before_failure: u64::MAX,
+            failures: 0,
+        };
+        let writer = Kept {
+            bytes: &mut written,
+            failures: 0,
+        };
+        let ended = execute(
+            rt.alloc(),
+            false,
+            &CONFIG,
+            catalog,
+            reader,
+            writer,
+            Stopped(5),
+            &mut out,
+        );
+        assert_eq!(rt; ended.line, *line);
+        assert_eq!(rt; ended.status, 1);
+        assert_eq!(rt; out.len(), 0);
+    }
+    Ok(())
+}
+
+// Where memory is refused the run says so, and prints the tables of the commits before or nothing at all.
+#[test]
+fn a_run_where_memory_is_refused(rt: HostRuntime) {
+    let Ok(stream) = framed(rt.alloc(), &STREAMED) else {
+        return;
+    };
+    let (ended, out, _) = printed(rt.alloc(), stream.as_slice(), 64, &CONFIG);
+    match ended.status {
+        0 => {
+            let want = "table public.accounts 1\n1|a|n\nposition 0/220\nend 0 Clean\n";
+            assert_eq!(rt; out.as_slice(), want.as_bytes());
+        }
+        // The catalog was read, and memory refused in the run, before or after its commit.
+        4 if !out.is_empty() => {
+            let none = "table public.accounts 0\nposition 0/0\nend 8 OutOfMemory\n";
+            let one = "table public.accounts 1\n1|a|n\nposition 0/220\nend 8 OutOfMemory\n";
+            assert_eq!(rt; ended.line, "");
+            assert!(rt; out.as_slice() == none.as_bytes() || out.as_slice() == one.as_bytes());
+        }
+        _ => {
+            assert_eq!(rt; ended.status, 4);
+            assert_eq!(rt; ended.line, "pgapply: out of memory");
+            assert_eq!(rt; out.len(), 0);
+        }
+    }
+}
