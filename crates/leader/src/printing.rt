@@ -52,14 +52,13 @@ fn push_table(
     if table >= tables.len() {
         return Ok(());
     }
-    let rows = tables.walk(table)?;
     text.extend_from_slice(b"table ")?;
     push_name(text, definition)?;
     text.push(b' ')?;
-    push_number(text, rows.len() as u64)?;
+    push_number(text, tables.walk(table).count() as u64)?;
     text.push(b'\n')?;
-    for row in &rows {
-        push_row(text, row)?;
+    for row in tables.walk(table) {
+        push_row(text, &row)?;
     }
     Ok(())
 }

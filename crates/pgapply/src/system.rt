@@ -26,6 +26,10 @@ impl<'a, H: Host> SystemClock<'a, H> {
 }
 
 impl<H: Host> Clock for SystemClock<'_, H> {
+    ghost use Rattle.std.specs.Prelude.{None};
+
+    ghost told = { λ _. None };
+
     fn micros(&mut self) -> i64 {
         match self.since_epoch() {
             Some(since) => i64::try_from(since.as_micros()).unwrap_or(0),

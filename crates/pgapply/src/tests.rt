@@ -79,6 +79,10 @@ impl Sink for Kept<'_> {
 struct Stopped(i64);
 
 impl Clock for Stopped {
+    ghost use Rattle.std.specs.Prelude.{None};
+
+    ghost told = { λ _. None };
+
     fn micros(&mut self) -> i64 {
         self.0
     }
