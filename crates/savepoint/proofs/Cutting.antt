@@ -11,7 +11,7 @@ use Rattle.savepoint.specs.declared.item.Item.TheVariants.{Change, Touch, BackTo
 use Rattle.savepoint.specs.Survivors.{is_of, before_savepoint}
 use Rattle.savepoint.specs.Savepoints.{mark_at, before_mark, noted, noted_by, marking, savepoints, before_first}
 
-none_from : {A : Type 0} (o : Option A) → is_some o ≡ false → o ≡ None
+pub none_from : {A : Type 0} (o : Option A) → is_some o ≡ false → o ≡ None
 none_from None e = refl
 none_from (Some x) e = cc
 
@@ -29,10 +29,10 @@ mark_at-append_unmarked sub (m ∷ marks) more e =
     let rest = mark_at-append_unmarked sub marks more in
     grind (arith, common_steps)
 
-before_mark-named : {M : Type 0} (sub : ℕ) (m : ℕ × M) (marks : List (ℕ × M)) → (m.0 == sub) ≡ true → before_mark sub (m ∷ marks) ≡ []
+pub before_mark-named : {M : Type 0} (sub : ℕ) (m : ℕ × M) (marks : List (ℕ × M)) → (m.0 == sub) ≡ true → before_mark sub (m ∷ marks) ≡ []
 before_mark-named {M} sub m marks e = take_while-cons (λ (n : ℕ × M). not (n.0 == sub)) m marks ∙ rw e
 
-before_mark-other : {M : Type 0} (sub : ℕ) (m : ℕ × M) (marks : List (ℕ × M)) → (m.0 == sub) ≡ false → before_mark sub (m ∷ marks) ≡ m ∷ before_mark sub marks
+pub before_mark-other : {M : Type 0} (sub : ℕ) (m : ℕ × M) (marks : List (ℕ × M)) → (m.0 == sub) ≡ false → before_mark sub (m ∷ marks) ≡ m ∷ before_mark sub marks
 before_mark-other {M} sub m marks e = take_while-cons (λ (n : ℕ × M). not (n.0 == sub)) m marks ∙ rw e
 
 -- past a mark of another subtransaction
@@ -55,7 +55,7 @@ before_mark-append_unmarked sub (m ∷ marks) more e =
     (λ other. before_mark-other sub m (marks ++ more) other ∙ ap (λ ms. m ∷ ms) (before_mark-append_unmarked sub marks more (marked_past sub m marks false other e)))
     (cases_Bool (m.0 == sub))
 
-before_mark-unmarked : {M : Type 0} (sub : ℕ) (marks : List (ℕ × M)) → is_some (mark_at sub marks) ≡ false → before_mark sub marks ≡ marks
+pub before_mark-unmarked : {M : Type 0} (sub : ℕ) (marks : List (ℕ × M)) → is_some (mark_at sub marks) ≡ false → before_mark sub marks ≡ marks
 before_mark-unmarked sub [] e = refl
 before_mark-unmarked sub (m ∷ marks) e =
     ⊎_elim
@@ -73,16 +73,16 @@ pub before_mark-noted_same : {M : Type 0} (sub : ℕ) (mark : M) (marks : List (
 before_mark-noted_same {M} sub mark marks e = rw e (before_mark-append_unmarked sub marks ((sub, mark) ∷ []) e ∙ rw (before_mark-named sub (sub, mark) [] (eq-eqb sub sub refl)) (append-nil marks))
 
 -- a mark that is there stays, whatever is noted
-mark_at-noted_marked : {M : Type 0} (sub named : ℕ) (mark : M) (marks : List (ℕ × M)) → is_some (mark_at sub marks) ≡ true → mark_at sub (noted named mark marks) ≡ mark_at sub marks
+pub mark_at-noted_marked : {M : Type 0} (sub named : ℕ) (mark : M) (marks : List (ℕ × M)) → is_some (mark_at sub marks) ≡ true → mark_at sub (noted named mark marks) ≡ mark_at sub marks
 mark_at-noted_marked sub named mark marks e =
     ⊎_elim (λ has. rw has) (λ none. rw none (mark_at-append_marked sub marks ((named, mark) ∷ []) e)) (cases_Bool (is_some (mark_at named marks)))
 
-before_mark-noted_marked : {M : Type 0} (sub named : ℕ) (mark : M) (marks : List (ℕ × M)) → is_some (mark_at sub marks) ≡ true → before_mark sub (noted named mark marks) ≡ before_mark sub marks
+pub before_mark-noted_marked : {M : Type 0} (sub named : ℕ) (mark : M) (marks : List (ℕ × M)) → is_some (mark_at sub marks) ≡ true → before_mark sub (noted named mark marks) ≡ before_mark sub marks
 before_mark-noted_marked sub named mark marks e =
     ⊎_elim (λ has. rw has) (λ none. rw none (before_mark-append_marked sub marks ((named, mark) ∷ []) e)) (cases_Bool (is_some (mark_at named marks)))
 
 -- a mark of another leaves it unmarked
-unmarked_noted_other : {M : Type 0} (sub named : ℕ) (mark : M) (marks : List (ℕ × M)) → (named == sub) ≡ false → is_some (mark_at sub marks) ≡ false → is_some (mark_at sub (noted named mark marks)) ≡ false
+pub unmarked_noted_other : {M : Type 0} (sub named : ℕ) (mark : M) (marks : List (ℕ × M)) → (named == sub) ≡ false → is_some (mark_at sub marks) ≡ false → is_some (mark_at sub (noted named mark marks)) ≡ false
 unmarked_noted_other {M} sub named mark marks other e =
     ⊎_elim (λ has. rw has e) (λ none. rw none (ap is_some (mark_at-append_unmarked sub marks ((named, mark) ∷ []) e) ∙ rw other)) (cases_Bool (is_some (mark_at named marks)))
 

@@ -147,7 +147,7 @@ HasPlaces-pop {M} old new marks sub mark h step = record { named = named; found 
         let ne : sub ≡ other → ⊥ = λ same. let at : Some place ≡ Some (length (subs_of marks)) = sym was ∙ ap (get nat_cmp old) (sym same) ∙ last in let equal = same_Some place (length (subs_of marks)) at in omega arith in
         get_apart old new sub _ other step ne ∙ was
 
-take-take : {A : Type 0} (m n : ℕ) (xs : List A) → m ≤ n → take m (take n xs) ≡ take m xs
+pub take-take : {A : Type 0} (m n : ℕ) (xs : List A) → m ≤ n → take m (take n xs) ≡ take m xs
 take-take zero n xs le = grind (arith, common_steps)
 take-take (suc m) zero xs le = absurd (omega arith)
 take-take (suc m) (suc n) [] le = refl

@@ -1,3 +1,4 @@
 pub mod Places
 pub mod Indexed
 pub mod Cutting
+pub mod Marked

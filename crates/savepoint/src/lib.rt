@@ -16,11 +16,22 @@
 // its first item stands, and a cut to it leaves the items before that one and their savepoints. Its
 // lemmas are for whoever keeps items or their effects beside the marks.
 //
-// It stands on `model` alone.
+// `TxRecord` is what an open transaction keeps: the items that survive, the mark of each savepoint,
+// and the undo log of its changes. Its `cut` leaves the survivors of the definition, and `roll_back`
+// undoes the changes that it drops as well. Room for an item and its inverse is made before the
+// change is tried, and for a mark when it is set, so a rollback takes no memory.
+//
+//   item         `Item`, `Mark`, and what a commit says
+//   savepoints   `Savepoints`: marks in the order in which they were set, found by subtransaction
+//   record       `TxRecord`
+//
+// It stands on `undo` for the log, and on `model` for the changes.
 mod item;
+mod record;
 mod savepoints;
 
 pub use item::{CommitInfo, Item, Lsn, Mark, Xid};
+pub use record::TxRecord;
 pub use savepoints::Savepoints;
 
 #[cfg(test)]

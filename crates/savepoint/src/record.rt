@@ -1,0 +1,216 @@
+// What an open transaction has done and can take back.
+ghost use Rattle.std.specs.Prelude.{◌≡◌, ℕ, [], ◌∷◌, ◌++◌, ◌<◌, ◌≤◌, length, map, None, IfSome, OnOk, OnErr, Contains, option_to_list};
+ghost use Rattle.model.specs.declared.cell.Cell.{Cell};
+ghost use Rattle.model.specs.Effect.{undone};
+ghost use Rattle.indexes.specs.Content.{Keeps};
+ghost use Rattle.change.specs.Inverse.{edits_of};
+ghost use Rattle.undo.specs.Undo.{content_undone, CanUndo, AreKnownAll, all_settled};
+ghost use Rattle.savepoint.specs.declared.item.Item.TheVariants.{Change as ChangeItem, Touch, BackTo};
+ghost use Rattle.savepoint.specs.Survivors.{after_item};
+ghost use Rattle.savepoint.specs.Savepoints.{mark_at, before_mark};
+ghost use Rattle.savepoint.specs.Record.{noted_unless_top, IsNoted, AreNamed, AreAllNamed, inverses_since, inverses_before};
+
+use crate::item::{Item, Mark, Xid};
+use crate::savepoints::Savepoints;
+use change::Inverse;
+use indexes::Tables;
+use model::{Change, OutOfMemory};
+use std::alloc::Global;
+use std::marker::Model;
+use undo::UndoLog;
+
+// Where a savepoint stands: how many items come before it, and its mark.
+#[derive(Clone, Copy, Debug, PartialEq, Eq)]
+struct Place {
+    items: usize,
+    mark: Mark,
+}
+
+/// What an open transaction has done that no rollback has dropped: its items, the marks of its
+/// subtransactions, and the inverses of its changes.
+#[derive(Drop)]
+pub struct TxRecord {
+    top: Xid,
+    survivors: Vec<Item>,
+    savepoints: Savepoints<Place>,
+    undo: UndoLog,
+}
+
+impl Model for TxRecord {
+    ghost use Rattle.savepoint.specs.Record.{Record};
+
+    ghost Value = { Record };
+
+    ghost use Rattle.savepoint.specs.RecordCode.{record_code};
+
+    ghost coded = { record_code };
+
+    ghost use Rattle.savepoint.specs.RecordInside.{record_in, IsMarked};
+
+    ghost view = { record_in };
+
+    ghost invariant = { λ r. IsMarked r.top r.survivors.items r.savepoints r.undo.inverses };
+}
+
+impl TxRecord {
+    /// Nothing done yet. It takes no memory.
+    pub fn new(alloc: Global, top: Xid) -> TxRecord
+        ensures empty { result ≡ record { top = top; survivors = []; marks = []; log = record { inverses = []; room = 0 }; room = 0 } }
+        ensures named { AreAllNamed result }
+    {
+        TxRecord {
+            top,
+            survivors: Vec::new(alloc),
+            savepoints: Savepoints::new(alloc),
+            undo: UndoLog::new(alloc),
+        }
+    }
+
+    /// Sets a savepoint here for a subtransaction that has none, with how much is held. The top
+    /// transaction needs none. A refusal changes nothing.
+    pub fn note(&mut self, sub: Xid, held: usize) -> Result<(), OutOfMemory>
+        ensures noted { OnOk result (IsNoted self.new sub) }
+        ensures named { AreAllNamed self.old → AreNamed self.new sub }
+        ensures ok { OnOk result (self.new ≡ record self.old { marks = noted_unless_top self.old.top sub (record { undo = length self.old.log.inverses; held = held }) self.old.marks }) }
+        ensures err { OnErr result (self.new ≡ self.old) }
+    {
+        if sub == self.top {
+            return Ok(());
+        }
+        let mark = Mark {
+            undo: self.undo.mark(),
+            held,
+        };
+        let items = self.survivors.len();
+        self.savepoints.note(sub, Place { items, mark })
+    }
+
+    /// The mark of a subtransaction's savepoint, if it has one.
+    pub fn mark_of(&self, sub: Xid) -> Option<Mark>
+        ensures mark { result ≡ mark_at sub self.now.marks }
+
+        // There is as much to undo as it says, and the top transaction has none.
+        ensures within { IfSome result (λ mark. mark.undo ≤ length self.now.log.inverses) }
+        ensures top { mark_at self.now.top self.now.marks ≡ None }
+    {
+        let place = self.savepoints.mark_of(sub)?;
+        Some(place.mark)
+    }
+
+    /// Drops a subtransaction's savepoint, all later ones and all later items: those survive that
+    /// stand before its first item. Without such a savepoint nothing is dropped. What the dropped
+    /// changes did is for `roll_back` to undo. It takes no memory.
+    pub fn cut(&mut self, sub: Xid)
+        ensures survivors { self.new.survivors ≡ after_item self.old.top self.old.survivors (BackTo sub) }
+        ensures marks { self.new.marks ≡ before_mark sub self.old.marks }
+        ensures named { AreNamed self.old sub → AreAllNamed self.new }
+        ensures log { self.new.log ≡ self.old.log }
+        ensures top { self.new.top ≡ self.old.top }
+        ensures room { self.old.room ≤ self.new.room }
+    {
+        if let Some(place) = self.savepoints.cut(sub) {
+            self.survivors.truncate(place.items);
+        }
+    }
+
+    /// Rolls a subtransaction back: undoes the changes from its savepoint on, the newest first, and
+    /// drops the savepoint, all later ones and all later items. The answer is its mark, if it has
+    /// one. It takes no memory.
+    ///
+    /// What the caller owes is that each inverse can be put back once those after it are.
+    pub fn roll_back(&mut self, t: &mut Tables, sub: Xid) -> Option<Mark>
+        requires { CanUndo t.old (inverses_since sub self.old) }
+        ensures mark { result ≡ mark_at sub self.old.marks }
+        ensures survivors { self.new.survivors ≡ after_item self.old.top self.old.survivors (BackTo sub) }
+        ensures marks { self.new.marks ≡ before_mark sub self.old.marks }
+        ensures named { AreNamed self.old sub → AreAllNamed self.new }
+        ensures inverses { self.new.log.inverses ≡ inverses_before sub self.old }
+        ensures top { self.new.top ≡ self.old.top }
+        ensures rows { t.new.rows ≡ undone t.old.rows (map edits_of (inverses_since sub self.old)) }
+        ensures schema { t.new.schema ≡ t.old.schema }
+        ensures room { Keeps (content_undone t.old (inverses_since sub self.old)).room t.new.room }
+    {
+        let place = self.savepoints.cut(sub)?;
+        self.survivors.truncate(place.items);
+        self.undo.undo_to(t, place.mark.undo);
+        Some(place.mark)
+    }
+
+    /// Makes room for one more item and its inverse. A refusal changes nothing but room.
+    pub fn reserve(&mut self) -> Result<(), OutOfMemory>
+        ensures same { self.new ≡ record self.old { log = record { inverses = self.old.log.inverses; room = self.new.log.room }; room = self.new.room } }
+        ensures ok { OnOk result ((0 < self.new.room) × (0 < self.new.log.room)) }
+    {
+        self.survivors.reserve(1)?;
+        self.undo.reserve()
+    }
+
+    /// Adds a change that was done, with its inverse, or one that was skipped and has none, into room
+    /// that was made before. It takes no memory.
+    ///
+    /// Its subtransaction has a savepoint, and each other that has one was named by an item since.
+    pub fn keep_change(&mut self, sub: Xid, change: Change, inverse: Option<Inverse>)
+        requires room { (0 < self.old.room) × (0 < self.old.log.room) }
+        requires noted { IsNoted self.old sub }
+        requires named { AreNamed self.old sub }
+        ensures survivors { self.new.survivors ≡ self.old.survivors ++ ChangeItem sub change ∷ [] }
+        ensures inverses { self.new.log.inverses ≡ self.old.log.inverses ++ option_to_list inverse }
+        ensures marks { self.new.marks ≡ self.old.marks }
+        ensures named { AreAllNamed self.new }
+        ensures top { self.new.top ≡ self.old.top }
+    {
+        self.survivors.push_reserved(Item::Change { sub, change });
+        if let Some(inverse) = inverse {
+            self.undo.push_reserved(inverse);
+        }
+    }
+
+    /// Adds a relation or type message, into room that was made before. It takes no memory.
+    ///
+    /// Its subtransaction has a savepoint, and each other that has one was named by an item since.
+    pub fn keep_touch(&mut self, sub: Xid)
+        requires room { 0 < self.old.room }
+        requires noted { IsNoted self.old sub }
+        requires named { AreNamed self.old sub }
+        ensures survivors { self.new.survivors ≡ self.old.survivors ++ Touch sub ∷ [] }
+        ensures marks { self.new.marks ≡ self.old.marks }
+        ensures named { AreAllNamed self.new }
+        ensures log { self.new.log ≡ self.old.log }
+        ensures top { self.new.top ≡ self.old.top }
+    {
+        self.survivors.push_reserved(Item::Touch(sub));
+    }
+
+    /// The items that no rollback has dropped, in order.
+    pub fn survivors(&self) -> &[Item]
+        ensures { result.now ≡ self.now.survivors }
+    {
+        self.survivors.as_slice()
+    }
+
+    /// Undoes all changes, the newest first. It is for an abort, and takes no memory.
+    ///
+    /// What the caller owes is that each inverse can be put back once those after it are.
+    pub fn undo_all(self, t: &mut Tables)
+        requires { CanUndo t.old self.log.inverses }
+        ensures rows { t.new.rows ≡ undone t.old.rows (map edits_of self.log.inverses) }
+        ensures schema { t.new.schema ≡ t.old.schema }
+        ensures room { Keeps (content_undone t.old self.log.inverses).room t.new.room }
+    {
+        let mut undo = self.undo;
+        undo.undo_to(t, 0);
+    }
+
+    /// Gives up what its changes can be taken back with, and hands out the items. It is for a
+    /// commit. No row changes, and it takes no memory.
+    pub fn settle(self, t: &mut Tables) -> Vec<Item>
+        requires { AreKnownAll t.old.schema self.log.inverses }
+        ensures items { result.items ≡ self.survivors }
+        ensures rows { t.new.rows ≡ t.old.rows }
+        ensures schema { t.new.schema ≡ t.old.schema }
+        ensures others { (c : Cell) → ¬ Contains (all_settled t.old.schema self.log.inverses) c → Contains t.old.room c → Contains t.new.room c }
+    {
+        self.undo.settle(t);
+        self.survivors
+    }
+}
