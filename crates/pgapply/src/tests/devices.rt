@@ -33,6 +33,10 @@ const STREAMED: [&str; 5] = [
     "63000002bc00000000000000020000000000000002200000000000000000",
 ];
 
+/// The same, each payload in an XLogData frame.
+const STREAMED_FRAMES: &str =
+    "64000000237700000000000000000000000000000000000000000000000053000002bc0164000000627700000000000000000000000000000000000000000000000052000002bc000040017075626c6963006163636f756e7473006400030169640000000017ffffffff00656d61696c0000000019ffffffff006e6f74650000000019ffffffff640000003b7700000000000000000000000000000000000000000000000049000002bc000040014e000374000000013174000000016174000000016e640000001e7700000000000000000000000000000000000000000000000045640000003b7700000000000000000000000000000000000000000000000063000002bc00000000000000020000000000000002200000000000000000";
+
 #[test]
 fn pieces_of_each_length(rt: HostRuntime) -> Result<(), Fail> {
     let stream = framed(rt.alloc(), &ONE_INSERT)?;
@@ -91,7 +95,14 @@ fn a_streamed_transaction_cut_at_each_byte(rt: HostRuntime) -> Result<(), Fail> 
             "table public.accounts 0\nposition 0/0\nend 1 Frame Truncated\n"
         };
         assert_eq!(rt; out.as_slice(), want.as_bytes(), "cut at {cut}");
-        assert_eq!(rt; ended.status, if is_edge(stream.as_slice(), cut) { 0 } else { 2 });
+        assert_eq!(rt;
+            ended.status,
+            if is_edge(stream.as_slice(), cut) {
+                0
+            } else {
+                2
+            }
+        );
     }
     Ok(())
 }
@@ -116,12 +127,7 @@ impl frames::Sink for Broken {
 }
 
 /// What is printed of a stream by devices that fail: the source at this read.
-fn printed_by(
-    alloc: Global,
-    stream: &[u8],
-    reads_before_failure: u64,
-    out: &mut Vec<u8>,
-) -> Ended {
+fn printed_by(alloc: Global, stream: &[u8], reads_before_failure: u64, out: &mut Vec<u8>) -> Ended {
     let reader = Pieces {
         bytes: stream,
         size: 40,
@@ -204,7 +210,7 @@ fn catalogs_that_are_refused(rt: HostRuntime) -> Result<(), Fail> {
 // Where memory is refused the run says so, and prints the tables of the commits before or nothing at all.
 #[test]
 fn a_run_where_memory_is_refused(rt: HostRuntime) {
-    let Ok(stream) = framed(rt.alloc(), &STREAMED) else {
+    let Ok(stream) = hex::decode(rt.alloc(), STREAMED_FRAMES) else {
         return;
     };
     let (ended, out, _) = printed(rt.alloc(), stream.as_slice(), 64, &CONFIG);
