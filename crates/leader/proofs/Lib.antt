@@ -6,3 +6,4 @@ mod Ending
 mod Handling
 mod Running
 mod Reading
+mod ReportLoops

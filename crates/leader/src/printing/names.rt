@@ -1,10 +1,15 @@
 // The names of faults, as the end line prints them.
+ghost use Rattle.std.specs.Prelude.{◌≡◌};
+ghost use Rattle.leader.specs.Report.{frame_fault_name, message_fault_name, session_fault_name, relation_fault_name};
+
 use frames::FrameFault;
 use messages::MsgFault;
 use relcache::RelFault;
 use session::SessionFault;
 
-pub fn frame_fault(fault: FrameFault) -> &'static str {
+pub fn frame_fault(fault: FrameFault) -> &'static str
+    ensures { result.now ≡ frame_fault_name fault }
+{
     match fault {
         FrameFault::UnknownFrame => "UnknownFrame",
         FrameFault::BadLength => "BadLength",
@@ -17,7 +22,9 @@ pub fn frame_fault(fault: FrameFault) -> &'static str {
     }
 }
 
-pub fn message_fault(fault: MsgFault) -> &'static str {
+pub fn message_fault(fault: MsgFault) -> &'static str
+    ensures { result.now ≡ message_fault_name fault }
+{
     match fault {
         MsgFault::UnknownTag => "UnknownTag",
         MsgFault::Short => "Short",
@@ -32,7 +39,9 @@ pub fn message_fault(fault: MsgFault) -> &'static str {
     }
 }
 
-pub fn session_fault(fault: SessionFault) -> &'static str {
+pub fn session_fault(fault: SessionFault) -> &'static str
+    ensures { result.now ≡ session_fault_name fault }
+{
     match fault {
         SessionFault::NotInTransaction => "NotInTransaction",
         SessionFault::NestedBegin => "NestedBegin",
@@ -47,7 +56,9 @@ pub fn session_fault(fault: SessionFault) -> &'static str {
     }
 }
 
-pub fn relation_fault(fault: RelFault) -> &'static str {
+pub fn relation_fault(fault: RelFault) -> &'static str
+    ensures { result.now ≡ relation_fault_name fault }
+{
     match fault {
         RelFault::UnknownRelation => "UnknownRelation",
         RelFault::TableMissing => "TableMissing",
