@@ -1,5 +1,5 @@
 // Status updates, which tell the server how far its log was written, flushed and applied here.
-ghost use Rattle.std.specs.Prelude.{◌≡◌, ◌≢◌, ◌⊎◌, ◌++◌, Err, IsOkUnless, IfErr, IfOk, OnOk, OnErr};
+ghost use Rattle.std.specs.Prelude.{ℕ, List, ◌≡◌, ◌≢◌, ◌⊎◌, ◌++◌, Err, IsOkUnless, IfErr, IfOk, OnOk, OnErr};
 ghost use Rattle.std.specs.Io.KnownBytes.{Appends, Keeps};
 ghost use Rattle.frames.specs.Status.{status_frame};
 ghost use Rattle.frames.specs.Wire.{spelled32, spelled64};
@@ -59,13 +59,14 @@ pub fn write_status(s: &Status, out: &mut Vec<u8>) -> Result<(), FrameFault>
 }
 
 /// Sends the frame of a status update, in as many writes as the sink needs. It is refused where the sink fails, or
-/// memory. How much went out is not said where the sink failed; where memory was refused, nothing did.
+/// memory. Where the sink failed a beginning of the frame went out, where memory was refused nothing.
 pub fn send_status<W: Sink>(alloc: Global, s: &Status, w: &mut W) -> Result<(), FrameFault>
     ensures ok { OnOk result
         (Appends (W.contents w.old) (W.contents w.new) (status_frame s.now)) }
     ensures only { IfErr result
         (λ fault. (fault ≡ FrameFault.Device) ⊎ (fault ≡ FrameFault.OutOfMemory)) }
     ensures device { result ≡ Err FrameFault.Device → HasFailed (W.failures w.old) (W.failures w.new) }
+    ensures part { result ≡ Err FrameFault.Device → (sent : List ℕ) × (rest : List ℕ) × (status_frame s.now ≡ sent ++ rest) × Appends (W.contents w.old) (W.contents w.new) sent }
     ensures memory { result ≡ Err FrameFault.OutOfMemory → Keeps (W.contents w.old) (W.contents w.new) }
     ensures works { result ≢ Err FrameFault.Device → W.failures w.new ≡ W.failures w.old }
 {

@@ -121,7 +121,7 @@ sent_frame old new updates times frames.TooLarge sent = sent
 sent_frame old new updates times frames.Truncated sent = sent
 sent_frame old new updates times frames.UnknownCopyTag sent = sent
 sent_frame old new updates times frames.ServerError sent = sent
-sent_frame old new updates times frames.Device sent = tt
+sent_frame old new updates times frames.Device sent = inl sent
 sent_frame old new updates times frames.OutOfMemory sent = sent
 
 -- all updates were sent, whatever ends the run
@@ -173,14 +173,17 @@ stopped g rows old new a b handled item (Err e) end come (inr (q, handles, same,
 
 -- the update could not be sent
 pub unsent : (g : Setting) (rows : Rows) (old mid new : Devices) (a b : Applier) (handled : List CopyItem) (item : CopyItem) (time : ℤ) (result : Result (Unit {0}) End) (fault : FrameFault) (come : HasCome g rows old mid a handled) → HasHandled g rows b come.progress item true
-    → Ticks mid.times new.times (time ∷ []) → (fault ≡ frames.Device) ⊎ (fault ≡ frames.OutOfMemory) → (fault ≡ frames.Device → HasFailed mid.write_failures new.write_failures) → (fault ≡ frames.OutOfMemory → Keeps mid.sent new.sent)
+    → Ticks mid.times new.times (time ∷ []) → (fault ≡ frames.Device) ⊎ (fault ≡ frames.OutOfMemory) → (fault ≡ frames.Device → HasFailed mid.write_failures new.write_failures) → (fault ≡ frames.OutOfMemory → Keeps mid.sent new.sent) → (fault ≡ frames.Device → (part : List ℕ) × Appends mid.sent new.sent part)
     → IsErrAnd result (λ e. e ≡ end_of_frame fault) → Answers g rows old new b handled item result
-unsent g rows old mid new a b handled item time (Ok u) fault come h ticks kind failed kept is = absurd is
-unsent g rows old mid new a b handled item time (Err e) fault come h ticks (inl device) failed kept is =
+unsent g rows old mid new a b handled item time (Ok u) fault come h ticks kind failed kept part is = absurd is
+unsent g rows old mid new a b handled item time (Err e) fault come h ticks (inl device) failed kept part is =
     let ts = come.told.times in
     let u = update h.progress.state h.progress.seen in
     let is_device : e ≡ ends.Frame frames.Device = is ∙ ap end_of_frame device in
     let counted : length (ts ++ time ∷ []) ≡ length h.progress.updates = length-append ts (time ∷ []) ∙ ap (λ n. n + 1) come.told.counted ∙ sym (length-append come.progress.updates (u ∷ [])) ∙ ap length (sym h.updates) in
+    let went = part device in
+    let all : status_bytes come.progress.updates (ts ++ time ∷ []) ≡ status_bytes come.progress.updates ts = status_bytes-longer come.progress.updates ts (time ∷ []) come.told.counted in
+    let began : Appends old.sent new.sent (status_bytes come.progress.updates (ts ++ time ∷ []) ++ went.0) = subst (λ bs. Appends old.sent new.sent (bs ++ went.0)) (sym all) (Appends-trans old.sent mid.sent new.sent (status_bytes come.progress.updates ts) went.0 come.told.sent went.1) in
     let fails : HasFailed old.write_failures new.write_failures = subst (λ n. HasFailed n new.write_failures) come.told.works (failed device) in
     inr (λ more.
     subst (StopsAt g rows old new b (handled ++ item ∷ []) more) (sym is_device)
@@ -193,9 +196,9 @@ unsent g rows old mid new a b handled item time (Err e) fault come h ticks (inl 
       times = ts ++ time ∷ [];
       told = Ticks-trans old.times mid.times new.times ts (time ∷ []) come.told.told ticks;
       counted = counted;
-      sent = tt;
+      sent = inr (went.0, (come.progress.updates, u, h.updates, began));
     }))
-unsent g rows old mid new a b handled item time (Err e) fault come h ticks (inr memory) failed kept is =
+unsent g rows old mid new a b handled item time (Err e) fault come h ticks (inr memory) failed kept part is =
     let ts = come.told.times in
     let u = update h.progress.state h.progress.seen in
     let is_memory : e ≡ ends.OutOfMemory = is ∙ ap end_of_frame memory in
@@ -212,5 +215,5 @@ unsent g rows old mid new a b handled item time (Err e) fault come h ticks (inr 
       times = ts ++ time ∷ [];
       told = Ticks-trans old.times mid.times new.times ts (time ∷ []) come.told.told ticks;
       counted = counted;
-      sent = inr (come.progress.updates, u, h.updates, before);
+      sent = inr (come.progress.updates, u, h.updates, subst (Appends old.sent new.sent) (sym (append-nil (status_bytes come.progress.updates (ts ++ time ∷ [])))) before);
     }))

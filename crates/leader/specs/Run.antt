@@ -107,12 +107,16 @@ IsClearUnless g rows s (ends.Unique table key) = IsClear (schema_of g) rows (com
 IsClearUnless g rows s (ends.NullKey table) = IsClear (schema_of g) rows (committed s)
 IsClearUnless g rows s end = IsClear (schema_of g) rows (done s)
 
--- The status updates that were sent: all; where a device failed, nothing is said of the last; where memory was refused,
--- the last may be missing.
+-- All status updates but the last were sent, and these bytes after them.
+abbrev pub IsSentBut : Option (List ℕ) → Option (List ℕ) → List Update → List ℤ → List ℕ → Type 0
+IsSentBut old new updates times part =
+    (before : List Update) × (last : Update) × (updates ≡ before ++ last ∷ []) × Appends old new (status_bytes before times ++ part)
+
+-- The status updates that were sent: all; where a device failed, perhaps the last in part; where memory was refused,
+-- perhaps all but the last.
 abbrev pub IsSent : Option (List ℕ) → Option (List ℕ) → List Update → List ℤ → End → Type 0
-IsSent old new updates times (ends.Frame Device) = Unit {0}
-IsSent old new updates times ends.OutOfMemory =
-    Appends old new (status_bytes updates times) ⊎ ((before : List Update) × (last : Update) × (updates ≡ before ++ last ∷ []) × Appends old new (status_bytes before times))
+IsSent old new updates times (ends.Frame Device) = Appends old new (status_bytes updates times) ⊎ ((part : List ℕ) × IsSentBut old new updates times part)
+IsSent old new updates times ends.OutOfMemory = Appends old new (status_bytes updates times) ⊎ IsSentBut old new updates times []
 IsSent old new updates times end = Appends old new (status_bytes updates times)
 
 -- A run from these rows, over the bytes that the reader gave: `handled` are the items of the bytes up to the first cause
