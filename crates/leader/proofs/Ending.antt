@@ -73,22 +73,34 @@ pub clashed_on : (g : Setting) (rows : Rows) (a b : Applier) (p : Progress) (pay
     → IsRefusedIn a.work.schema (rows_now a.work) cs clash → EndsByMessage g rows b p payload (end_of_clash clash)
 clashed_on g rows a b p payload m t cs clashes.OutOfMemory at admits on same refused = out_of_memory g rows a b p payload at same
 clashed_on g rows a b p payload m t cs (clashes.Unique table key) at admits on same refused =
-    inr (m, t, admits, not_committed p.state t on.past, λ more.
-    record {
-      commits = stays g rows a b p.state t at.commits on.past same;
-      clear = subst (λ s. IsClear (schema_of g) rows s) (sym (committed_kept p.state t on.past)) (committed_clear g rows a p at);
-      cause = inl (subst (λ cs'. IsRefusedIn (schema_of g) rows cs' (clashes.Unique table key)) (sym (done_more g p.state t cs on)) (refused_behind g rows a p cs (clashes.Unique table key) at refused));
-    })
+    inr (
+      m,
+      t,
+      admits,
+      not_committed p.state t on.past,
+      λ more.
+          record {
+            commits = stays g rows a b p.state t at.commits on.past same;
+            clear = subst (λ s. IsClear (schema_of g) rows s) (sym (committed_kept p.state t on.past)) (committed_clear g rows a p at);
+            cause = inl (subst (λ cs'. IsRefusedIn (schema_of g) rows cs' (clashes.Unique table key)) (sym (done_more g p.state t cs on)) (refused_behind g rows a p cs (clashes.Unique table key) at refused));
+          },
+    )
   where
     committed_kept : (s u : State) → u.past ≡ s.past → committed u ≡ committed s
     committed_kept s u e = rw e
 clashed_on g rows a b p payload m t cs (clashes.NullKey table) at admits on same refused =
-    inr (m, t, admits, not_committed p.state t on.past, λ more.
-    record {
-      commits = stays g rows a b p.state t at.commits on.past same;
-      clear = subst (λ s. IsClear (schema_of g) rows s) (sym (committed_kept p.state t on.past)) (committed_clear g rows a p at);
-      cause = inl (subst (λ cs'. IsRefusedIn (schema_of g) rows cs' (clashes.NullKey table)) (sym (done_more g p.state t cs on)) (refused_behind g rows a p cs (clashes.NullKey table) at refused));
-    })
+    inr (
+      m,
+      t,
+      admits,
+      not_committed p.state t on.past,
+      λ more.
+          record {
+            commits = stays g rows a b p.state t at.commits on.past same;
+            clear = subst (λ s. IsClear (schema_of g) rows s) (sym (committed_kept p.state t on.past)) (committed_clear g rows a p at);
+            cause = inl (subst (λ cs'. IsRefusedIn (schema_of g) rows cs' (clashes.NullKey table)) (sym (done_more g p.state t cs on)) (refused_behind g rows a p cs (clashes.NullKey table) at refused));
+          },
+    )
   where
     committed_kept : (s u : State) → u.past ≡ s.past → committed u ≡ committed s
     committed_kept s u e = rw e

@@ -92,13 +92,13 @@ come_told g rows old mid new a b handled item time written flushed applied come 
       lawful = Leads-more g beginning p h.progress handled item come.lawful h.handles;
       at = h.at;
       told = subst (HasTold old new) (sym h.updates)
-      (record {
-        times = ts ++ time ∷ [];
-        told = Ticks-trans old.times mid.times new.times ts (time ∷ []) come.told.told ticks;
-        counted = length-append ts (time ∷ []) ∙ ap (λ n. n + 1) come.told.counted ∙ sym (length-append p.updates (u ∷ []));
-        sent = subst (Appends old.sent new.sent) (sym (status_bytes-push p.updates ts u time come.told.counted)) (Appends-trans old.sent mid.sent new.sent (status_bytes p.updates ts) (frame_at u time) come.told.sent frame);
-        works = works ∙ come.told.works;
-      });
+          (record {
+            times = ts ++ time ∷ [];
+            told = Ticks-trans old.times mid.times new.times ts (time ∷ []) come.told.told ticks;
+            counted = length-append ts (time ∷ []) ∙ ap (λ n. n + 1) come.told.counted ∙ sym (length-append p.updates (u ∷ []));
+            sent = subst (Appends old.sent new.sent) (sym (status_bytes-push p.updates ts u time come.told.counted)) (Appends-trans old.sent mid.sent new.sent (status_bytes p.updates ts) (frame_at u time) come.told.sent frame);
+            works = works ∙ come.told.works;
+          });
     }
 
 -- ---- an item ended the run

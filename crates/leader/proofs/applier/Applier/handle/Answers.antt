@@ -13,7 +13,7 @@ take_message-requires c =
       c.requires.1,
       with_seen p (max (max p.seen c.in-Wal.start) c.in-Wal.end),
       IsAt-seen c.requires.0 c.requires.1 c.args.self.now _ p (max (max p.seen c.in-Wal.start) c.in-Wal.end) at (record { catalog = refl; session = refl; work = refl; journal = refl; position = refl })
-      (c.max-self.ensures ∙ ap (λ n. max n c.in-Wal.end) c.max.ensures ∙ seen_two c.args.self.now.written p.seen p.state.position c.in-Wal.start c.in-Wal.end at.seen),
+          (c.max-self.ensures ∙ ap (λ n. max n c.in-Wal.end) c.max.ensures ∙ seen_two c.args.self.now.written p.seen p.state.position c.in-Wal.start c.in-Wal.end at.seen),
     )
 
 pub returns-in-Wal : goal.returns-in-Wal
