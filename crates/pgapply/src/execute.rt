@@ -1,4 +1,9 @@
 // What each command runs on what it opened.
+ghost use Rattle.std.specs.Prelude.{◌≡◌, ◌≢◌, IfOk, IfErr};
+ghost use Rattle.catalog.specs.declared.fault.CatalogFault.TheVariants as faults;
+ghost use Rattle.leader.specs.Run.{devices};
+ghost use Rattle.pgapply.specs.Ending.{Says, IsCatalog, IsFault, Executes, end_status, fault_status, fault_line};
+
 use catalog::{Catalog, CatalogFault};
 use frames::{Sink, Source};
 use indexes::Tables;
@@ -31,7 +36,11 @@ pub fn execute<R: Source + Drop, W: Sink + Drop, C: Clock + Drop>(
     writer: W,
     clock: C,
     out: &mut Vec<u8>,
-) -> Ended {
+) -> Ended
+    ensures { Executes catalog.now config.now.spool
+        (devices (R.remaining reader) (W.contents writer) (C.told clock) (R.failures reader) (W.failures writer))
+        out.old.items out.new.items result }
+{
     let catalog = match read_catalog(alloc, catalog) {
         Ok(catalog) => catalog,
         Err(fault) => return refused(fault),
@@ -49,14 +58,19 @@ pub fn execute<R: Source + Drop, W: Sink + Drop, C: Clock + Drop>(
     }
 }
 
-fn read_catalog(alloc: Global, bytes: &[u8]) -> Result<Catalog, CatalogFault> {
+fn read_catalog(alloc: Global, bytes: &[u8]) -> Result<Catalog, CatalogFault>
+    ensures catalog { IfOk result (IsCatalog bytes.now) }
+    ensures fault { IfErr result (λ e. e ≢ faults.OutOfMemory → IsFault bytes.now e) }
+{
     match std::str::from_utf8(bytes) {
         Ok(text) => Catalog::read(alloc, text),
         Err(_) => Err(CatalogFault::NotToml),
     }
 }
 
-fn refused(fault: CatalogFault) -> Ended {
+fn refused(fault: CatalogFault) -> Ended
+    ensures { Says result (fault_status fault) (fault_line fault) }
+{
     let line = match fault {
         CatalogFault::NotToml => "pgapply: catalog NotToml",
         CatalogFault::UnknownField => "pgapply: catalog UnknownField",
@@ -71,7 +85,9 @@ fn refused(fault: CatalogFault) -> Ended {
     Ended { status: 1, line }
 }
 
-fn status_of(end: End) -> u8 {
+fn status_of(end: End) -> u8
+    ensures { result ≡ end_status end }
+{
     match end {
         End::Clean => 0,
         End::Frame(_) | End::Msg(_) | End::Session(_) | End::Rel(_) => 2,

@@ -1,0 +1,86 @@
+-- How a command ends: its exit status, its line for standard error, and what it appended.
+use Rattle.std.specs.Prelude.{◌≡◌, ℕ, List, [], ◌++◌, ◌⊎◌, Ok, Err, IsUtf8, codes}
+use Rattle.std.specs.FinMap as finite
+use Rattle.catalog.specs.Definition.{Definition}
+use Rattle.catalog.specs.Catalog.{catalog_of}
+use Rattle.catalog.specs.declared.fault.CatalogFault.{CatalogFault}
+use Rattle.catalog.specs.declared.fault.CatalogFault.TheVariants.{NotToml, UnknownField, DuplicateTable, DuplicateColumn, NoPrimaryKey, KeyColumnUnknown, BadDefault, OverLimit, OutOfMemory}
+use Rattle.leader.specs.declared.end.End.{End}
+use Rattle.leader.specs.declared.end.End.TheVariants as ends
+use Rattle.leader.specs.declared.outcome.Outcome.{Outcome}
+use Rattle.leader.specs.Run.{Devices, IsRun}
+use Rattle.leader.specs.Report.{report_text}
+use Rattle.pgapply.specs.declared.execute.Ended.{Ended}
+
+-- ---- what is said
+
+abbrev pub Says : Ended → ℕ → List ℕ → Type 0
+Says ended status line = (ended.status ≡ status) × (ended.line.now ≡ line)
+
+-- the status of a run's end
+abbrev pub end_status : End → ℕ
+end_status ends.Clean = 0
+end_status (ends.Frame fault) = 2
+end_status (ends.Msg fault) = 2
+end_status (ends.Session fault) = 2
+end_status (ends.Rel fault) = 2
+end_status (ends.Unique table key) = 3
+end_status (ends.NullKey table) = 3
+end_status (ends.HeldKey xid holder) = 3
+end_status ends.OutOfMemory = 4
+
+abbrev pub memory_line : List ℕ
+memory_line = codes "pgapply: out of memory"
+
+-- the status and the line of a catalog's fault
+abbrev pub fault_status : CatalogFault → ℕ
+fault_status OutOfMemory = 4
+fault_status fault = 1
+
+abbrev pub fault_line : CatalogFault → List ℕ
+fault_line NotToml = codes "pgapply: catalog NotToml"
+fault_line UnknownField = codes "pgapply: catalog UnknownField"
+fault_line DuplicateTable = codes "pgapply: catalog DuplicateTable"
+fault_line DuplicateColumn = codes "pgapply: catalog DuplicateColumn"
+fault_line NoPrimaryKey = codes "pgapply: catalog NoPrimaryKey"
+fault_line KeyColumnUnknown = codes "pgapply: catalog KeyColumnUnknown"
+fault_line BadDefault = codes "pgapply: catalog BadDefault"
+fault_line OverLimit = codes "pgapply: catalog OverLimit"
+fault_line OutOfMemory = memory_line
+
+-- ---- what the catalog's bytes are
+
+abbrev pub IsCatalog : List ℕ → List Definition → Type 0
+IsCatalog bytes definitions = IsUtf8 bytes × (catalog_of bytes ≡ Ok definitions)
+
+-- Bytes that are no text are no TOML.
+abbrev pub IsFault : List ℕ → CatalogFault → Type 0
+IsFault bytes fault = (¬ IsUtf8 bytes × (fault ≡ NotToml)) ⊎ (IsUtf8 bytes × (catalog_of bytes ≡ Err fault))
+
+-- ---- how a command ends
+
+-- The catalog is refused, and nothing was appended.
+pub record IsRefused (bytes old new : List ℕ) (ended : Ended) : Type 0 where
+  pub fault : CatalogFault
+  pub faulty : IsFault bytes fault
+  pub said : Says ended (fault_status fault) (fault_line fault)
+  pub nothing : new ≡ old
+
+-- The stream was run from empty tables, and the report of what it left was appended.
+pub record HasReported (bytes : List ℕ) (spool : ℕ) (given : Devices) (old new : List ℕ) (ended : Ended) : Type 0 where
+  pub definitions : List Definition
+  pub catalog : IsCatalog bytes definitions
+  pub outcome : Outcome
+  pub left : Devices
+  pub run : IsRun (record { workers = 0; spool = spool; catalog = definitions }) finite.empty given left outcome
+  pub report : new ≡ old ++ report_text definitions outcome.tables.rows outcome.position outcome.end
+  pub said : Says ended (end_status outcome.end) []
+
+-- Memory was refused, and nothing was appended.
+pub record HasNoMemory (old new : List ℕ) (ended : Ended) : Type 0 where
+  pub said : Says ended 4 memory_line
+  pub nothing : new ≡ old
+
+abbrev pub Executes : List ℕ → ℕ → Devices → List ℕ → List ℕ → Ended → Type 0
+Executes bytes spool given old new ended =
+    IsRefused bytes old new ended ⊎ HasReported bytes spool given old new ended ⊎ HasNoMemory old new ended
