@@ -18,7 +18,7 @@ const SPOOL: u64 = 1 << 30;
 const ACCOUNTS: &str =
     "52000040017075626c6963006163636f756e7473006400030169640000000017ffffffff00656d61696c0000000019ffffffff006e6f74650000000019ffffffff";
 
-pub static CASES: [Case; 25] = [
+pub static CASES: [Case; 27] = [
     // B(900,0/100) R I(1,a,n) I(2,b,NULL) I(3,NULL,) C(0/100,0/120)
     Case {
         name: "nulls and empty texts",
@@ -435,5 +435,40 @@ pub static CASES: [Case; 25] = [
         spool: 128,
         report: "table public.accounts 0\nposition 0/0\nend 3 Session SpoolFull\n",
         status: 2,
+    },
+    // S(700,1) 711:R 711:I(1,a,n) E A(700,711) S(700,0) 700:I(2,b,n) E c(700,0/200,0/220)
+    Case {
+        name: "a relation that first names a subtransaction, which is rolled back",
+        payloads: &[
+            "53000002bc01",
+            "52000002c7000040017075626c6963006163636f756e7473006400030169640000000017ffffffff00656d61696c0000000019ffffffff006e6f74650000000019ffffffff",
+            "49000002c7000040014e000374000000013174000000016174000000016e",
+            "45",
+            "41000002bc000002c700000000000000000000000000000000",
+            "53000002bc00",
+            "49000002bc000040014e000374000000013274000000016274000000016e",
+            "45",
+            "63000002bc00000000000000020000000000000002200000000000000000",
+        ],
+        spool: SPOOL,
+        report: "table public.accounts 1\n2|b|n\nposition 0/220\nend 0 Clean\n",
+        status: 0,
+    },
+    // S(700,1) E A(700,712) S(700,0) 700:R 700:I(1,a,n) E c(700,0/200,0/220)
+    Case {
+        name: "an empty block, and the rollback of a subtransaction that was never named",
+        payloads: &[
+            "53000002bc01",
+            "45",
+            "41000002bc000002c800000000000000000000000000000000",
+            "53000002bc00",
+            "52000002bc000040017075626c6963006163636f756e7473006400030169640000000017ffffffff00656d61696c0000000019ffffffff006e6f74650000000019ffffffff",
+            "49000002bc000040014e000374000000013174000000016174000000016e",
+            "45",
+            "63000002bc00000000000000020000000000000002200000000000000000",
+        ],
+        spool: SPOOL,
+        report: "table public.accounts 1\n1|a|n\nposition 0/220\nend 0 Clean\n",
+        status: 0,
     },
 ];

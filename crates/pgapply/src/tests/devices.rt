@@ -64,6 +64,47 @@ fn updates_after_a_commit_and_a_keepalive(rt: HostRuntime) -> Result<(), Fail> {
     Ok(())
 }
 
+/// The update that answers a keepalive at 0/200 inside of a block, and the one after the commit at 0/220.
+const REPLY_IN_BLOCK: &str =
+    "640000002672000000000000020000000000000000000000000000000000000000000000000500";
+
+const UPDATE_AT_220: &str =
+    "640000002672000000000000022000000000000002200000000000000220000000000000000500";
+
+#[test]
+fn a_keepalive_inside_of_a_block(rt: HostRuntime) -> Result<(), Fail> {
+    let mut stream = framed(rt.alloc(), &STREAMED[..2])?;
+    let keepalive = hex::decode(rt.alloc(), KEEPALIVE)?;
+    stream.extend_from_slice(keepalive.as_slice())?;
+    let rest = framed(rt.alloc(), &STREAMED[2..])?;
+    stream.extend_from_slice(rest.as_slice())?;
+    let (_, out, written) = printed(rt.alloc(), stream.as_slice(), usize::MAX, &CONFIG);
+    let want = "table public.accounts 1\n1|a|n\nposition 0/220\nend 0 Clean\n";
+    assert_eq!(rt; out.as_slice(), want.as_bytes());
+    let mut updates = hex::decode(rt.alloc(), REPLY_IN_BLOCK)?;
+    let update = hex::decode(rt.alloc(), UPDATE_AT_220)?;
+    updates.extend_from_slice(update.as_slice())?;
+    assert_eq!(rt; written.as_slice(), updates.as_slice());
+    Ok(())
+}
+
+/// The update after the commit at 0/220 of a stream whose greatest position is 0/500.
+const UPDATE_AT_500: &str =
+    "640000002672000000000000050000000000000002200000000000000220000000000000000500";
+
+// The first frame's start is 0/500, and the positions of those after it are 0.
+#[test]
+fn positions_that_fall(rt: HostRuntime) -> Result<(), Fail> {
+    let mut stream = framed(rt.alloc(), &STREAMED)?;
+    if let Some(byte) = stream.get_mut(12) {
+        *byte = 5;
+    }
+    let (_, _, written) = printed(rt.alloc(), stream.as_slice(), usize::MAX, &CONFIG);
+    let update = hex::decode(rt.alloc(), UPDATE_AT_500)?;
+    assert_eq!(rt; written.as_slice(), update.as_slice());
+    Ok(())
+}
+
 /// Whether a frame of the stream ends at this place.
 fn is_edge(stream: &[u8], place: usize) -> bool {
     let mut rest = stream;
