@@ -361,7 +361,7 @@ fn orders_and_copies_values(rt: HostRuntime) -> Result<(), Fail> {
         Value::Int(0),
     ]?);
     assert!(rt; key < longer && key.copy()? == key);
-    let row = Row::from_values(vec![in rt.alloc(); None, Some(Value::Int(1))]?);
+    let row = Row::from_values(vec![in rt.alloc(); None, Some(Value::Int(1))]?)?;
     assert!(rt; row.copy()?.values() == row.values());
     Ok(())
 }

@@ -211,7 +211,7 @@ fn patched_row(alloc: Global, old: &RowView<'_>, patch: &Patch) -> Result<Row, O
         };
         values.push(value)?;
     }
-    Ok(Row::from_values(values))
+    Row::from_values(values)
 }
 
 /// A column after an update.

@@ -40,6 +40,12 @@ pub(crate) fn values_of(
 ) -> Result<Option<Key>, OutOfMemory>
     ensures { IfOk result (λ key. key ≡ values_in columns.now row.now) }
 {
+    if let [column] = columns {
+        return match value_of(row, *column) {
+            Some(value) => Ok(Some(Key::from_value(value.copy()?))),
+            None => Ok(None),
+        };
+    }
     let mut values = Vec::new(alloc);
     for column in columns {
         match value_of(row, *column) {

@@ -1,5 +1,6 @@
 pub mod Value
 pub mod Key
+pub mod KeyCode
 pub mod Definition
 pub mod Rows
 pub mod SortedEntries

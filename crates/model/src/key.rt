@@ -1,16 +1,25 @@
 // The key of a row: its values in the columns of the primary key, or of a unique key.
-ghost use Rattle.std.specs.Prelude.{◌≡◌, IfOk};
+ghost use Rattle.std.specs.Prelude.{◌≡◌, [], ◌∷◌, IfOk};
 
 use crate::memory::OutOfMemory;
 use crate::value::Value;
 use std::alloc::AllocError;
 use std::cmp::Ordering;
 use std::marker::Model;
+use std::slice;
 
 /// Values in the order of a key's columns, none of them null. A clause sees the list of them.
 #[derive(Debug, Drop)]
 pub struct Key {
-    values: Vec<Value>,
+    values: Values,
+}
+
+// Most keys have one column. Its value lies in the key itself, so that a search in a tree of keys
+// follows no pointer to it.
+#[derive(Debug, Drop)]
+enum Values {
+    One(Value),
+    Many(Vec<Value>),
 }
 
 impl Model for Key {
@@ -19,48 +28,59 @@ impl Model for Key {
 
     ghost Value = { List Single };
 
-    ghost view = { λ k. k.values.items };
+    ghost use Rattle.model.specs.KeyCode.{values_in};
+
+    ghost view = { λ k. values_in k.values };
 }
 
 impl Key {
+    /// The key with this value alone. It takes no memory.
+    pub fn from_value(value: Value) -> Key
+        ensures { result ≡ value ∷ [] }
+    {
+        Key {
+            values: Values::One(value),
+        }
+    }
+
     /// The key with these values. It takes no memory.
     pub fn from_values(values: Vec<Value>) -> Key
         ensures { result ≡ values.items }
     {
-        Key { values }
+        Key {
+            values: Values::Many(values),
+        }
     }
 
     /// Its values, in the order of the key's columns.
     pub fn values(&self) -> &[Value]
         ensures { result.now ≡ self.now }
     {
-        self.values.as_slice()
-    }
-
-    /// Its values, given back. It takes no memory.
-    pub fn into_values(self) -> Vec<Value>
-        ensures { result.items ≡ self }
-    {
-        self.values
+        match &self.values {
+            Values::One(value) => slice::from_ref(value),
+            Values::Many(values) => values.as_slice(),
+        }
     }
 
     /// An equal key.
     pub fn copy(&self) -> Result<Key, OutOfMemory>
         ensures { IfOk result (λ k. k ≡ self.now) }
     {
-        Ok(self.clone()?)
+        match &self.values {
+            Values::One(value) => Ok(Key::from_value(value.copy()?)),
+            Values::Many(values) => Ok(Key::from_values(values.clone()?)),
+        }
     }
 }
 
 impl Clone for Key {
-    ghost use Rattle.std.specs.Prelude.{◌≡◌};
-
     ghost is_clone = { λ key other. other ≡ key };
 
     fn clone(&self) -> Result<Key, AllocError> {
-        Ok(Key {
-            values: self.values.clone()?,
-        })
+        match &self.values {
+            Values::One(value) => Ok(Key::from_value(value.clone()?)),
+            Values::Many(values) => Ok(Key::from_values(values.clone()?)),
+        }
     }
 }
 
@@ -112,6 +132,9 @@ impl Ord for Key {
     ghost matches_eq = { λ x y. refl };
 
     fn cmp(&self, other: &Key) -> Ordering {
-        self.values.as_slice().cmp(other.values.as_slice())
+        match (&self.values, &other.values) {
+            (Values::One(own), Values::One(others)) => own.cmp(others),
+            _ => self.values().cmp(other.values()),
+        }
     }
 }

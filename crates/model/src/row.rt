@@ -5,11 +5,14 @@ use crate::memory::OutOfMemory;
 use crate::value::Value;
 use std::alloc::AllocError;
 use std::marker::Model;
+use std::sync::ArcSlice;
 
 /// A row's values in the table's column order; `None` is null. A clause sees the list of them.
+///
+/// Copies of a row share its values: a change, the journal and a table have one list of them.
 #[derive(Debug, Drop)]
 pub struct Row {
-    values: Vec<Option<Value>>,
+    values: ArcSlice<Option<Value>>,
 }
 
 impl Model for Row {
@@ -18,15 +21,19 @@ impl Model for Row {
 
     ghost Value = { List (Option Single) };
 
-    ghost view = { λ r. r.values.items };
+    ghost use Rattle.std.specs.Arc.{arc_slice_items};
+
+    ghost view = { λ r. arc_slice_items r.values };
 }
 
 impl Row {
-    /// The row with these values. It takes no memory.
-    pub fn from_values(values: Vec<Option<Value>>) -> Row
-        ensures { result ≡ values.items }
+    /// The row with these values.
+    pub fn from_values(values: Vec<Option<Value>>) -> Result<Row, OutOfMemory>
+        ensures { IfOk result (λ row. row ≡ values.items) }
     {
-        Row { values }
+        Ok(Row {
+            values: ArcSlice::from_vec(values)?,
+        })
     }
 
     /// Its values, in the table's column order.
@@ -36,14 +43,7 @@ impl Row {
         self.values.as_slice()
     }
 
-    /// Its values, given back. It takes no memory.
-    pub fn into_values(self) -> Vec<Option<Value>>
-        ensures { result.items ≡ self }
-    {
-        self.values
-    }
-
-    /// An equal row.
+    /// An equal row. The values are shared, and not copied.
     pub fn copy(&self) -> Result<Row, OutOfMemory>
         ensures { IfOk result (λ r. r ≡ self.now) }
     {

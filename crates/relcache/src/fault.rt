@@ -3,6 +3,7 @@
 ghost use Rattle.std.specs.Prelude.{◌≡◌};
 ghost use Rattle.relcache.specs.declared.fault.RelFault.TheVariants.{OutOfMemory};
 
+use model::OutOfMemory as NoMemory;
 use std::alloc::{AllocError, AllocFailed};
 use thiserror::Error;
 
@@ -34,6 +35,14 @@ pub enum RelFault {
     /// Memory was refused.
     #[error("out of memory")]
     OutOfMemory = 8,
+}
+
+impl From<NoMemory> for RelFault {
+    ghost from_gives = { λ _ e. e ≡ OutOfMemory };
+
+    fn from(_error: NoMemory) -> RelFault {
+        RelFault::OutOfMemory
+    }
 }
 
 impl From<AllocError> for RelFault {
