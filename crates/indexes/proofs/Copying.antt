@@ -5,9 +5,9 @@ use Rattle.std.specs.Map.{lookup, keys_of}
 use Rattle.std.specs.BTreeMap.{is_at}
 use Rattle.std.specs.FinMap as finite
 use Rattle.model.specs.declared.key.Key.{Key}
-use Rattle.model.specs.Key.{key_cmp}
 use Rattle.rows.specs.Kept.{Kept}
 use Rattle.indexes.specs.declared.unique.Unique.{Unique}
+use Rattle.indexes.specs.Hashed.{hashed_cmp}
 use Rattle.indexes.specs.Unique as step
 use Rattle.indexes.specs.Unique.{plain, number_in, EachStep}
 use Rattle.indexes.specs.Table.{Spot, TableContent}
@@ -41,8 +41,8 @@ copied_steps us vs e = record {
       record {
         columns = ap (λ (p : List ℕ × List (Key × Option ℕ)). p.0) same;
         entries = record {
-          numbers = λ values. ap (λ es. number_in (lookup (is_at (key_cmp values)) es)) entries;
-          entries = λ values some. subst (λ (es : List (Key × Option ℕ)). IsSome (lookup (is_at (key_cmp values)) es)) (sym entries) some;
+          numbers = λ values. ap (λ es. number_in (lookup (is_at (hashed_cmp values)) es)) entries;
+          entries = λ values some. subst (λ (es : List (Key × Option ℕ)). IsSome (lookup (is_at (hashed_cmp values)) es)) (sym entries) some;
         };
       };
 }

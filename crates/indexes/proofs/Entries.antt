@@ -5,11 +5,11 @@ use Rattle.std.specs.Ordering.{eq_by_cmp}
 use Rattle.model.specs.declared.value.Value.{Value}
 use Rattle.model.specs.declared.key.Key.{Key}
 use Rattle.model.specs.declared.row.Row.{Row}
-use Rattle.model.specs.Key.{key_cmp}
 use Rattle.model.specs.Rows.{value_at, values_in, with_first}
-use Rattle.rows.specs.KeyLaws.{one_or_apart}
 use Rattle.indexes.specs.Columns.{present, before_key}
-use Rattle.indexes.specs.Unique.{Entries, entry_at, held, number_in, with_number, KeepsEntries, SetsEntry, SettlesEntry}
+use Rattle.indexes.specs.Hashed.{hashed_cmp, hashed_cmp_exact}
+use Rattle.indexes.proofs.Elements.{one_or_other}
+use Rattle.indexes.specs.Unique.{Entries, entry_at, held, number_in, with_number, SameApart, KeepsEntries, SetsEntry, SettlesEntry}
 
 -- a row that has all its values in some columns has those values there
 with_first_some : (o : Option Value) (rest : Option Key) (values : Key) → with_first o rest ≡ Some values → (v : Value) × (vs : Key) × (o ≡ Some v) × (rest ≡ Some vs) × (values ≡ v ∷ vs)
@@ -24,49 +24,49 @@ present_is (column ∷ columns) row values e =
     ap (λ o. before_key o (present columns row)) parts.2 ∙ ap (λ vs. parts.0 ∷ vs) (present_is columns row parts.1 parts.3) ∙ sym parts.4
 
 pub entry_added : (old new : Entries) (values : Key) → entry_at old values ≡ None → entry_at new values ≡ Some None
-    → ((other : Key) → eq_by_cmp key_cmp values other ≡ false → entry_at new other ≡ entry_at old other) → KeepsEntries old new
+    → SameApart values old new → KeepsEntries old new
 entry_added old new values absent here beside = record {
-  numbers = λ other. elim (one_or_apart values other) [
+  numbers = λ other. elim (one_or_other hashed_cmp_exact values other) [
     | inl same ↦ subst (λ (v : Key). held new v ≡ held old v) same (ap number_in here ∙ ap number_in (sym absent))
-    | inr apart ↦ ap number_in (beside other apart.there)
+    | inr apart ↦ ap number_in (beside other apart)
   ];
-  entries = λ other some. elim (one_or_apart values other) [
+  entries = λ other some. elim (one_or_other hashed_cmp_exact values other) [
     | inl same ↦ subst (λ (v : Key). IsSome (entry_at new v)) same (ap is_some here)
-    | inr apart ↦ ap is_some (beside other apart.there) ∙ some
+    | inr apart ↦ ap is_some (beside other apart) ∙ some
   ];
 }
 
 -- what changes at the present values alone changes at the row's values alone
 pub set_at_present : (columns : List ℕ) (row : Row) (number : Option ℕ) (old new : Entries) (has : Key) → values_in columns row ≡ Some has
     → entry_at new (present columns row) ≡ with_number number (entry_at old (present columns row))
-    → ((other : Key) → eq_by_cmp key_cmp (present columns row) other ≡ false → entry_at new other ≡ entry_at old other)
+    → SameApart (present columns row) old new
     → SetsEntry columns row number old new
 set_at_present columns row number old new has is here beside = record {
   here = λ values e. subst (λ (v : Key). entry_at new v ≡ with_number number (entry_at old v)) (present_is columns row values e) here;
-  beside = λ values differs. elim (one_or_apart (present columns row) values) [
+  beside = λ values differs. elim (one_or_other hashed_cmp_exact (present columns row) values) [
     | inl same ↦ absurd (differs (is ∙ ap Some (sym (present_is columns row has is) ∙ same)))
-    | inr apart ↦ beside values apart.there
+    | inr apart ↦ beside values apart
   ];
 }
 
 pub settled_at_present : (columns : List ℕ) (row : Row) (old new : Entries) (has : Key) → values_in columns row ≡ Some has
     → ((other : Key) → held new other ≡ held old other)
-    → ((other : Key) → eq_by_cmp key_cmp (present columns row) other ≡ false → entry_at new other ≡ entry_at old other)
+    → SameApart (present columns row) old new
     → SettlesEntry columns row old new
 settled_at_present columns row old new has is numbers beside = record {
   numbers = numbers;
-  beside = λ values differs. elim (one_or_apart (present columns row) values) [
+  beside = λ values differs. elim (one_or_other hashed_cmp_exact (present columns row) values) [
     | inl same ↦ absurd (differs (is ∙ ap Some (sym (present_is columns row has is) ∙ same)))
-    | inr apart ↦ beside values apart.there
+    | inr apart ↦ beside values apart
   ];
 }
 
 -- an entry that had no number went
 pub entry_dropped : (old new : Entries) (values : Key) → held old values ≡ None → entry_at new values ≡ None
-    → ((other : Key) → eq_by_cmp key_cmp values other ≡ false → entry_at new other ≡ entry_at old other) → (other : Key) → held new other ≡ held old other
-entry_dropped old new values none gone beside other = elim (one_or_apart values other) [
+    → SameApart values old new → (other : Key) → held new other ≡ held old other
+entry_dropped old new values none gone beside other = elim (one_or_other hashed_cmp_exact values other) [
   | inl same ↦ subst (λ (v : Key). held new v ≡ held old v) same (ap number_in gone ∙ sym none)
-  | inr apart ↦ ap number_in (beside other apart.there)
+  | inr apart ↦ ap number_in (beside other apart)
 ]
 
 pub value_of_some : (o : Option Key) → is_some o ≡ true → (values : Key) × (o ≡ Some values)

@@ -9,6 +9,7 @@ use Rattle.model.specs.declared.row.Row.{Row}
 use Rattle.model.specs.Rows.{TableKeys, values_in}
 use Rattle.rows.specs.Kept.{Kept}
 use Rattle.indexes.specs.declared.unique.Unique.{Unique}
+use Rattle.indexes.specs.Hashed.{hashed_cmp_total, hashed_cmp_exact}
 use Rattle.indexes.specs.Unique.{entry_at}
 use Rattle.indexes.specs.Table.{Spot, spot, unique_spots, spots_of}
 use Rattle.indexes.specs.Indexed.{entry_spots, room_of, columns_of}
@@ -83,7 +84,7 @@ elem_entry_spots n (u ∷ us) zero m d values l some is =
     let number_is : n ≡ m = omega arith in
     elem_left (map (λ v. (n, v)) (tree.keys u.entries)) _ (m, values)
     (subst (λ (k : ℕ). Elem {X = Spot} (map (λ v. (n, v)) (tree.keys u.entries)) (k, values)) number_is
-    (elem_map (λ (v : Key). (n, v)) (tree.keys u.entries) values (found_key u.entries.entries values entry.0 entry.1)))
+    (elem_map (λ (v : Key). (n, v)) (tree.keys u.entries) values (found_key hashed_cmp_total hashed_cmp_exact u.entries.entries values entry.0 entry.1)))
 elem_entry_spots n (u ∷ us) (suc i) m d values l some is =
     elem_right (map (λ v. (n, v)) (tree.keys u.entries)) _ (m, values) (elem_entry_spots (suc n) us i m d values (omega arith) some (omega arith))
 
@@ -100,7 +101,7 @@ entry_spots_elem n (u ∷ us) s h =
     elim (elem_either (map (λ v. (n, v)) (tree.keys u.entries)) _ s h) [
       | inl here ↦
           let p = elem_of_map (λ (v : Key). (n, v)) (tree.keys u.entries) s here in
-          let e = key_found u.entries.entries p.0 p.1 in
+          let e = key_found hashed_cmp_total hashed_cmp_exact u.entries.entries p.0 p.1 in
           record {
             i = 0;
             number = sym (ap (λ (t : Spot). t.0) p.2) ∙ omega arith;

@@ -13,6 +13,7 @@ use Rattle.model.specs.Rows.{TableKeys, values_in}
 use Rattle.rows.specs.Kept.{Kept, KeepsSlots, IsNumbered}
 use Rattle.rows.specs.KeyLaws.{one_or_apart, get_inserted, get_beside_insert, get_removed, get_beside_remove}
 use Rattle.indexes.specs.declared.unique.Unique.{Unique}
+use Rattle.indexes.specs.Hashed.{hashed_cmp}
 use Rattle.indexes.specs.Unique as step
 use Rattle.indexes.specs.Unique.{Entries, entry_at, held, with_number, number_in, HasEntry, SetsEntry, Sets, EachStep, EachHasSlot}
 use Rattle.indexes.specs.Table.{Spot, spots_of, KeepsSpots, NoClash, HasValues, IsSound}
@@ -247,7 +248,7 @@ none_at (u ∷ us) all zero d l = all.0
 none_at (u ∷ us) all (suc k) d l = none_at us all.1 k d (omega arith)
 
 held_none : (u : Unique) → step.HasNone u → (values : Key) → held u.entries values ≡ None
-held_none u none values = ap (λ es. number_in (lookup (is_at (key_cmp values)) es)) none
+held_none u none values = ap (λ es. number_in (lookup (is_at (hashed_cmp values)) es)) none
 
 pub indexed_empty : (primary : List ℕ) (us : List Unique) → AllByRecursion step.HasNone us → IsIndexed primary (record { rows = empty; slots = empty }) us
 indexed_empty primary us all =

@@ -2,14 +2,15 @@
 --     held      the number at some values, if there is an entry with one
 --     KeepsSlots, HasSlot      no number changes and no entry goes; there is an entry for the row's values
 --     Sets, Settles      the number at the row's values is set; their entry is dropped if it has none
-use Rattle.std.specs.Prelude.{◌≡◌, ◌≢◌, ℕ, ◌<◌, List, [], length, Option, Some, None, IsSome, slice_index_or, map}
+use Rattle.std.specs.Prelude.{◌≡◌, ◌≢◌, ℕ, ◌<◌, false, List, [], length, Option, Some, None, IsSome, slice_index_or, map}
+use Rattle.std.specs.Ordering.{eq_by_cmp}
 use Rattle.std.specs.BTreeMap as tree
 use Rattle.std.specs.BTreeMap.{BTreeMap}
 use Rattle.model.specs.declared.key.Key.{Key}
 use Rattle.model.specs.declared.row.Row.{Row}
-use Rattle.model.specs.Key.{key_cmp}
 use Rattle.model.specs.Rows.{values_in}
 use Rattle.indexes.specs.declared.unique.Unique.{Unique}
+use Rattle.indexes.specs.Hashed.{hashed_cmp}
 
 abbrev pub Entries : Type 0
 Entries = BTreeMap Key (Option ℕ)
@@ -19,7 +20,7 @@ number_in None = None
 number_in (Some number) = number
 
 abbrev pub entry_at : Entries → Key → Option (Option ℕ)
-entry_at entries values = tree.get key_cmp entries values
+entry_at entries values = tree.get hashed_cmp entries values
 
 abbrev pub held : Entries → Key → Option ℕ
 held entries values = number_in (entry_at entries values)
@@ -28,6 +29,10 @@ held entries values = number_in (entry_at entries values)
 abbrev pub with_number : Option ℕ → Option (Option ℕ) → Option (Option ℕ)
 with_number number None = None
 with_number number (Some before) = Some number
+
+-- the entries for other values are as they were
+abbrev pub SameApart : Key → Entries → Entries → Type 0
+SameApart values old new = (other : Key) → eq_by_cmp hashed_cmp values other ≡ false → entry_at new other ≡ entry_at old other
 
 -- no number changes, and no entry goes
 pub record KeepsEntries (old new : Entries) : Type 0 where

@@ -16,8 +16,10 @@
 //   tables     `Tables`, all of a catalog
 //   table      `Table`, one of them
 //   unique     the index of a unique key
+//   hashed     values in the order of an index: by their hash first
 //   columns    a row's values in the columns of a key
 mod columns;
+mod hashed;
 pub mod table;
 pub mod tables;
 mod unique;

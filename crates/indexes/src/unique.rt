@@ -1,12 +1,13 @@
 // The index of a unique key.
 ghost use Rattle.std.specs.Prelude.{◌≡◌, map, IfOk, OnOk, IsSome, None, false};
 ghost use Rattle.std.specs.Ordering.{eq_by_cmp};
-ghost use Rattle.model.specs.Key.{key_cmp};
 ghost use Rattle.model.specs.declared.key.Key.{Key as AnyKey};
 ghost use Rattle.indexes.specs.Columns.{present};
-ghost use Rattle.indexes.specs.Unique.{plain, HasNone, held, entry_at, with_number, KeepsEntries, HasEntry, SetsEntry, SettlesEntry, KeepsSlots, HasSlot, Sets, Settles, EachStep, EachHasSlot};
+ghost use Rattle.indexes.specs.Hashed.{hashed_cmp};
+ghost use Rattle.indexes.specs.Unique.{plain, HasNone, held, entry_at, with_number, SameApart, KeepsEntries, HasEntry, SetsEntry, SettlesEntry, KeepsSlots, HasSlot, Sets, Settles, EachStep, EachHasSlot};
 
-use crate::columns::{Values, has_values, values_of};
+use crate::columns::{has_values, values_of};
+use crate::hashed::{Hashed, Sought, SoughtKey};
 use model::{Key, OutOfMemory, Row};
 use std::alloc::Global;
 use std::collections::BTreeMap;
@@ -16,7 +17,7 @@ use std::collections::BTreeMap;
 #[derive(Drop)]
 pub(crate) struct Unique {
     pub(crate) columns: Vec<usize>,
-    pub(crate) entries: BTreeMap<Key, Option<u64>>,
+    pub(crate) entries: BTreeMap<Hashed, Option<u64>>,
 }
 
 impl Unique {
@@ -45,7 +46,7 @@ impl Unique {
     pub(crate) fn find(&self, values: &Key) -> Option<u64>
         ensures { result ≡ held self.now.entries values.now }
     {
-        match self.entries.get(values) {
+        match self.entries.get(SoughtKey::of(values)) {
             Some(number) => *number,
             None => None,
         }
@@ -150,13 +151,13 @@ fn settle_all(uniques: &mut [Unique], row: &Row)
 fn reserve_entry(
     alloc: Global,
     columns: &[usize],
-    entries: &mut BTreeMap<Key, Option<u64>>,
+    entries: &mut BTreeMap<Hashed, Option<u64>>,
     row: &Row,
 ) -> Result<(), OutOfMemory>
     ensures kept { KeepsEntries entries.old entries.new }
     ensures ok { OnOk result (HasEntry columns.now row.now entries.new) }
 {
-    if entries.contains_key(Values { columns, row }) {
+    if entries.contains_key(Sought::of(columns, row)) {
         return Ok(());
     }
     if let Some(values) = values_of(alloc, columns, row)? {
@@ -166,50 +167,50 @@ fn reserve_entry(
 }
 
 // An entry with no number, for values that have none.
-fn add_entry(entries: &mut BTreeMap<Key, Option<u64>>, values: Key) -> Result<(), OutOfMemory>
+fn add_entry(entries: &mut BTreeMap<Hashed, Option<u64>>, values: Key) -> Result<(), OutOfMemory>
     requires { entry_at entries.old values ≡ None }
     ensures kept { KeepsEntries entries.old entries.new }
     ensures ok { OnOk result (IsSome (entry_at entries.new values)) }
 {
-    entries.insert(values, None)?;
+    entries.insert(Hashed::of(values), None)?;
     Ok(())
 }
 
 fn set_entry(
     columns: &[usize],
-    entries: &mut BTreeMap<Key, Option<u64>>,
+    entries: &mut BTreeMap<Hashed, Option<u64>>,
     row: &Row,
     number: Option<u64>,
 )
     ensures { SetsEntry columns.now row.now number entries.old entries.new }
 {
     if has_values(columns, row) {
-        write_entry(entries, Values { columns, row }, number);
+        write_entry(entries, Sought::of(columns, row), number);
     }
 }
 
 // Writes a number, or none, at some values, if there is an entry for them.
-fn write_entry(entries: &mut BTreeMap<Key, Option<u64>>, values: Values<'_>, number: Option<u64>)
+fn write_entry(entries: &mut BTreeMap<Hashed, Option<u64>>, values: Sought<'_>, number: Option<u64>)
     ensures here { entry_at entries.new (present values.entry.columns.now values.entry.row.now) ≡ with_number number (entry_at entries.old (present values.entry.columns.now values.entry.row.now)) }
-    ensures beside { (other : AnyKey) → eq_by_cmp key_cmp (present values.entry.columns.now values.entry.row.now) other ≡ false → entry_at entries.new other ≡ entry_at entries.old other }
+    ensures beside { SameApart (present values.entry.columns.now values.entry.row.now) entries.old entries.new }
 {
     if let Some(entry) = entries.get_mut(values) {
         *entry = number;
     }
 }
 
-fn settle_entry(columns: &[usize], entries: &mut BTreeMap<Key, Option<u64>>, row: &Row)
+fn settle_entry(columns: &[usize], entries: &mut BTreeMap<Hashed, Option<u64>>, row: &Row)
     ensures { SettlesEntry columns.now row.now entries.old entries.new }
 {
     if has_values(columns, row) {
-        drop_entry(entries, Values { columns, row });
+        drop_entry(entries, Sought::of(columns, row));
     }
 }
 
 // Drops the entry for some values if it has no number.
-fn drop_entry(entries: &mut BTreeMap<Key, Option<u64>>, values: Values<'_>)
+fn drop_entry(entries: &mut BTreeMap<Hashed, Option<u64>>, values: Sought<'_>)
     ensures numbers { (other : AnyKey) → held entries.new other ≡ held entries.old other }
-    ensures beside { (other : AnyKey) → eq_by_cmp key_cmp (present values.entry.columns.now values.entry.row.now) other ≡ false → entry_at entries.new other ≡ entry_at entries.old other }
+    ensures beside { SameApart (present values.entry.columns.now values.entry.row.now) entries.old entries.new }
 {
     if let Some(None) = entries.get(values) {
         entries.remove(values);

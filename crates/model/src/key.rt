@@ -9,7 +9,7 @@ use std::marker::Model;
 use std::slice;
 
 /// Values in the order of a key's columns, none of them null. A clause sees the list of them.
-#[derive(Debug, Drop)]
+#[derive(Debug)]
 pub struct Key {
     values: Values,
 }
@@ -31,6 +31,14 @@ impl Model for Key {
     ghost use Rattle.model.specs.KeyCode.{values_in};
 
     ghost view = { λ k. values_in k.values };
+}
+
+// One call wherever a key is dropped, whichever way its values lie.
+impl Drop for Key {
+    fn drop(self) {
+        let Key { values } = self;
+        drop(values);
+    }
 }
 
 impl Key {

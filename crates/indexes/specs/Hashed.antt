@@ -1,0 +1,59 @@
+-- The order of an index: by the hashes of values first, so that a search seldom reads their texts.
+--     hash_of      the hash of values: of their texts alone, since numbers are quick to compare
+--     hashed_cmp      by the hashes, and where these are one by the values
+use Rattle.std.specs.Prelude.{◌≡◌, ℕ, ◌+◌, ◌*◌, ◌%◌, ◌^◌, List, [], ◌∷◌, IsTrue, refl}
+use Rattle.std.proofs.Common.{sym, ◌∙◌, ap, true≢false}
+use Rattle.std.specs.Ordering.{is_le, nat_cmp, ordering_then}
+use Rattle.std.specs.Cmp.{IsTotalOrder}
+use Rattle.std.specs.FinMap.{IsAntisymmetric}
+use Rattle.std.proofs.lemmas.Cmp.{nat_cmp_total, on_total, then_total}
+use Rattle.std.specs.declared.cmp.Ordering.{Ordering}
+use Rattle.std.specs.declared.cmp.Ordering.TheVariants.{Less, Equal, Greater}
+use Rattle.model.specs.declared.value.Value.{Value}
+use Rattle.model.specs.declared.value.Value.TheVariants.{Int, Text, Bool}
+use Rattle.model.specs.declared.key.Key.{Key}
+use Rattle.model.specs.Key.{key_cmp, key_cmp_total}
+use Rattle.model.specs.Exact.{key_cmp_exact}
+
+abbrev pub hash_byte : ℕ → ℕ → ℕ
+hash_byte hash byte = ((hash * 1099511628211) % 2 ^ 64 + byte) % 2 ^ 64
+
+abbrev pub hash_bytes : ℕ → List ℕ → ℕ
+hash_bytes hash [] = hash
+hash_bytes hash (byte ∷ bytes) = hash_bytes (hash_byte hash byte) bytes
+
+abbrev pub hash_value : ℕ → Value → ℕ
+hash_value hash (Int number) = hash
+hash_value hash (Text text) = hash_bytes hash text
+hash_value hash (Bool truth) = hash
+
+abbrev pub hash_values : ℕ → List Value → ℕ
+hash_values hash [] = hash
+hash_values hash (value ∷ values) = hash_values (hash_value hash value) values
+
+abbrev pub hash_of : Key → ℕ
+hash_of values = hash_values 0 values
+
+abbrev pub hashed_cmp : Key → Key → Ordering
+hashed_cmp x y = ordering_then (nat_cmp (hash_of x) (hash_of y)) (key_cmp x y)
+
+pub hashed_cmp_total : IsTotalOrder hashed_cmp
+hashed_cmp_total = then_total (on_total hash_of nat_cmp_total) key_cmp_total
+
+-- what a comparison gives if it and the one behind it are Equal
+second_equal : (first second : Ordering) → ordering_then first second ≡ Equal → second ≡ Equal
+second_equal Less second e = absurd cc
+second_equal Equal second e = e
+second_equal Greater second e = absurd cc
+
+pub hashed_cmp_exact : IsAntisymmetric hashed_cmp
+hashed_cmp_exact x y e = key_cmp_exact x y (second_equal (nat_cmp (hash_of x) (hash_of y)) (key_cmp x y) e)
+
+-- what is not above a key is below each greater one
+pub le_lt_trans : {K : Type 0} {cmp : K → K → Ordering} → IsTotalOrder cmp → (x y z : K) → IsTrue (is_le (cmp x y)) → cmp y z ≡ Less → cmp x z ≡ Less
+le_lt_trans {cmp = cmp} o x y z le lt = by (cmp x y) refl
+  where
+    by : (r : Ordering) → cmp x y ≡ r → cmp x z ≡ Less
+    by Less e = o.trans x y z e lt
+    by Equal e = o.congr x y z e ∙ lt
+    by Greater e = absurd (true≢false (sym le ∙ ap is_le e))
