@@ -1,4 +1,6 @@
-use Rattle.std.proofs.Common.{◌≡◌, ◌<◌, ◌≤◌, length, None, [], ◌∷◌, ◌++◌, ◌∙◌, ap, arith, get_or}
+use Rattle.std.specs.Prelude.{List, Option, IfOk}
+use Rattle.model.specs.declared.value.Value.{Value}
+use Rattle.std.proofs.Common.{subst, ◌≡◌, ◌<◌, ◌≤◌, length, None, [], ◌∷◌, ◌++◌, ◌∙◌, ap, arith, get_or}
 use Rattle.model.specs.Effect.{patched}
 use Rattle.change.proofs.Patched.{column_patched, column_kept, take_more, all_columns, within_patched}
 use Rattle.change.proofs.outcome.patched_row.Goals as goal
@@ -27,5 +29,8 @@ returns c =
     let ps = c.columns-patches.result.now in
     let row = c.values-olds.result.now in
     let past : length row ≤ c.loop-column.column = omega arith in
-    c.from_values.ensures ∙ c.loop-column.invariant ∙ all_columns ps row c.loop-column.column past
+    let all : c.loop-column.values.items ≡ patched c.args.patch.now c.args.old.now =
+    c.loop-column.invariant ∙ all_columns ps row c.loop-column.column past
     ∙ ap (λ p. patched p row) c.columns-patches.ensures ∙ ap (patched c.args.patch.now) (c.values-olds.ensures ∙ c.in_ok-row.ensures)
+    in
+    subst (λ (items : List (Option Value)). IfOk c.from_values.result (λ row. row ≡ items)) all c.from_values.ensures

@@ -1,7 +1,6 @@
-use Rattle.std.proofs.Common.{◌≡◌, sym, ◌∙◌, ap}
+use Rattle.std.proofs.Common.{sym, ◌∙◌, ap}
 use Rattle.std.proofs.lemmas.Result.{err_from_is_err_and}
 use Rattle.std.specs.FinMap.{insert}
-use Rattle.model.specs.declared.key.Key.{Key}
 use Rattle.change.proofs.Outcomes.{none_is_some, put_ok, put_inverse, put_can}
 use Rattle.change.proofs.outcome.put.Goals as goal
 
@@ -12,21 +11,18 @@ returns-in_err-put-clause-room c =
 
 pub returns-clause-ok : goal.returns-clause-ok
 returns-clause-ok c =
-    let stored : c.put.new.self.rows ≡ insert c.args.t.now.rows (c.args.table, c.key.inside.values.items) c.in_ok-copy.field-0 = c.in_ok-put.ensures.ok in
     put_ok c.args.t.now c.put.new.self c.args.table c.args.row.now c.in-Some.key c.in_ok-stands_at.stands_at c.in_ok-stands_at.ensures c.requires.sound.valid c.requires.known
     (sym c.in_ok-key.ensures ∙ c.in-Some.is) (none_is_some _ _ _ c.get.ensures c.is_some.ensures c.if-is_some.false) (sym c.in_ok-number.ensures ∙ c.in_default-2.is)
-    c.put.ensures.schema (stored ∙ ap (λ (k : Key). insert c.args.t.now.rows (c.args.table, k) c.in_ok-copy.field-0) c.key.view_is ∙ ap (insert c.args.t.now.rows (c.args.table, c.in-Some.key)) c.in_ok-copy.ensures)
+    c.put.ensures.schema (c.in_ok-put.ensures.ok ∙ ap (insert c.args.t.now.rows (c.args.table, c.in-Some.key)) c.in_ok-copy.ensures)
 
 pub returns-clause-inverse : goal.returns-clause-inverse
 returns-clause-inverse c =
-    let stored : c.put.new.self.rows ≡ insert c.args.t.now.rows (c.args.table, c.key.inside.values.items) c.in_ok-copy.field-0 = c.in_ok-put.ensures.ok in
     put_inverse c.args.t.now c.put.new.self c.args.table c.args.row.now c.in-Some.key c.in_ok-stands_at.stands_at c.in_ok-stands_at.ensures c.requires.sound.valid c.requires.known
     (sym c.in_ok-key.ensures ∙ c.in-Some.is) (none_is_some _ _ _ c.get.ensures c.is_some.ensures c.if-is_some.false) (sym c.in_ok-number.ensures ∙ c.in_default-2.is)
-    c.put.ensures.schema (stored ∙ ap (λ (k : Key). insert c.args.t.now.rows (c.args.table, k) c.in_ok-copy.field-0) c.key.view_is ∙ ap (insert c.args.t.now.rows (c.args.table, c.in-Some.key)) c.in_ok-copy.ensures)
+    c.put.ensures.schema (c.in_ok-put.ensures.ok ∙ ap (insert c.args.t.now.rows (c.args.table, c.in-Some.key)) c.in_ok-copy.ensures)
 
 pub returns-clause-can_put_back : goal.returns-clause-can_put_back
 returns-clause-can_put_back c =
-    let stored : c.put.new.self.rows ≡ insert c.args.t.now.rows (c.args.table, c.key.inside.values.items) c.in_ok-copy.field-0 = c.in_ok-put.ensures.ok in
     put_can c.args.t.now c.put.new.self c.args.table c.args.row.now c.in-Some.key c.in_ok-stands_at.stands_at c.in_ok-stands_at.ensures c.requires.sound.valid c.requires.known
     (sym c.in_ok-key.ensures ∙ c.in-Some.is) (none_is_some _ _ _ c.get.ensures c.is_some.ensures c.if-is_some.false) (sym c.in_ok-number.ensures ∙ c.in_default-2.is)
-    c.put.ensures.schema (stored ∙ ap (λ (k : Key). insert c.args.t.now.rows (c.args.table, k) c.in_ok-copy.field-0) c.key.view_is ∙ ap (insert c.args.t.now.rows (c.args.table, c.in-Some.key)) c.in_ok-copy.ensures)
+    c.put.ensures.schema (c.in_ok-put.ensures.ok ∙ ap (insert c.args.t.now.rows (c.args.table, c.in-Some.key)) c.in_ok-copy.ensures)
