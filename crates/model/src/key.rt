@@ -55,6 +55,10 @@ impl Key {
     pub fn from_values(values: Vec<Value>) -> Key
         ensures { result ≡ values.items }
     {
+        let mut values = values;
+        if values.len() == 1 {
+            return Key::from_value(values.remove(0));
+        }
         Key {
             values: Values::Many(values),
         }

@@ -87,12 +87,6 @@ pub(crate) fn patch_of(
 pub(crate) fn lookup_key(alloc: Global, fields: &[Field], tuple: &[Column]) -> Result<Key, RelFault>
     ensures { Answers result (spec.lookup_key fields.now tuple.now) }
 {
-    if let [field] = fields {
-        return match field_value(tuple, field)? {
-            Some(value) => Ok(Key::from_value(value)),
-            None => Err(RelFault::NullKey),
-        };
-    }
     let mut values = Vec::with_capacity(alloc, fields.len())?;
     let mut has_null = false;
     for field in fields {

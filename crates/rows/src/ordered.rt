@@ -1,15 +1,17 @@
 // Rows in an ordered map of slots.
 ghost use Rattle.std.specs.Prelude.{◌≡◌, ◌≢◌, ℕ, OnOk, OnErr, IfOk, IfSome, IfNone, IsSome, Some, None, false, is_some, if◌then◌else◌, length, ◌<◌, ◌^◌};
-ghost use Rattle.std.specs.Ordering.{nat_cmp};
 ghost use Rattle.std.specs.FinMap as map;
-ghost use Rattle.std.specs.BTreeMap as tree;
+ghost use Rattle.slab.specs.Slab as slab;
+ghost use Rattle.slab.specs.Slab.{SameValues};
 ghost use Rattle.model.specs.declared.key.Key.{Key as Values};
 ghost use Rattle.rows.specs.Kept.{KeepsSlots, IsNumbered, IsSlotted};
+ghost use Rattle.rows.specs.Ordered.{AddsName};
 ghost use Rattle.rows.specs.Slots.{found, with_row_at, row_at, number_at, SameBeside, without_empty, number_of_empty};
 
 use crate::view::RowView;
 use crate::walk::Walk;
 use model::{Key, OutOfMemory, Row};
+use slab::Slab;
 use std::alloc::{AllocError, Global};
 use std::collections::BTreeMap;
 use std::marker::Model;
@@ -18,7 +20,7 @@ use std::mem;
 /// A place for a row. It keeps its number while it is there, filled or empty.
 #[derive(Drop)]
 pub(crate) struct Slot {
-    number: u64,
+    number: usize,
     row: Option<Row>,
 }
 
@@ -26,9 +28,8 @@ pub(crate) struct Slot {
 #[derive(Drop)]
 pub struct OrderedRows {
     slots: BTreeMap<Key, Slot>,
-    // The key of each slot, by the slot's number.
-    keys: BTreeMap<u64, Key>,
-    next: u64,
+    // The key of each slot, at the slot's number.
+    keys: Slab<Key>,
     alloc: Global,
 }
 
@@ -69,7 +70,7 @@ impl Model for OrderedRows {
 
     ghost view = { kept_in };
 
-    ghost invariant = { λ a. IsNamed (numbers_in a.slots.entries) a.keys a.next };
+    ghost invariant = { λ a. IsNamed (numbers_in a.slots.entries) a.keys };
 }
 
 impl OrderedRows {
@@ -79,8 +80,7 @@ impl OrderedRows {
     {
         OrderedRows {
             slots: BTreeMap::new(alloc),
-            keys: BTreeMap::new(alloc),
-            next: 0,
+            keys: Slab::new(alloc),
             alloc,
         }
     }
@@ -97,7 +97,7 @@ impl OrderedRows {
     }
 
     /// The number of a key's slot, if it has one.
-    pub fn slot(&self, key: &Key) -> Option<u64>
+    pub fn slot(&self, key: &Key) -> Option<usize>
         ensures number { result ≡ map.get self.now.slots key.now }
 
         // No two slots have one number, and each row lies in a slot.
@@ -108,15 +108,15 @@ impl OrderedRows {
     }
 
     /// The key whose slot has this number.
-    pub fn key_at(&self, number: u64) -> Option<&Key>
+    pub fn key_at(&self, number: usize) -> Option<&Key>
         ensures found { IfSome result (λ key. map.get self.now.slots key.now ≡ Some number) }
         ensures missed { IfNone result ((key : Values) → map.get self.now.slots key ≢ Some number) }
     {
-        self.keys.get(&number)
+        self.keys.get(number)
     }
 
     /// Makes a slot for a key that has none. A refusal changes no row and no slot.
-    pub fn reserve(&mut self, key: &Key) -> Result<u64, OutOfMemory>
+    pub fn reserve(&mut self, key: &Key) -> Result<usize, OutOfMemory>
         ensures rows { self.new.rows ≡ self.old.rows }
         ensures slots { KeepsSlots self.old.slots self.new.slots }
         ensures ok { IfOk result (λ number. map.get self.new.slots key.now ≡ Some number) }
@@ -129,20 +129,14 @@ impl OrderedRows {
     }
 
     // The slot of a key that has none.
-    fn make_slot(&mut self, key: &Key) -> Result<u64, OutOfMemory>
+    fn make_slot(&mut self, key: &Key) -> Result<usize, OutOfMemory>
         requires { map.get self.old.slots key.now ≡ None }
         ensures rows { self.new.rows ≡ self.old.rows }
         ensures slots { KeepsSlots self.old.slots self.new.slots }
         ensures ok { IfOk result (λ number. map.get self.new.slots key.now ≡ Some number) }
         ensures numbered { IsNumbered self.new.slots }
     {
-        let number = self.next;
-        if number == u64::MAX {
-            return Err(OutOfMemory);
-        }
-        add_slot(&mut self.slots, &mut self.keys, number, key)?;
-        self.next = number + 1;
-        Ok(number)
+        add_slot(&mut self.slots, &mut self.keys, key)
     }
 
     /// Puts a row into its key's slot. It takes no memory.
@@ -198,7 +192,6 @@ impl OrderedRows {
         Ok(OrderedRows {
             slots: self.slots.clone()?,
             keys: self.keys.clone()?,
-            next: self.next,
             alloc: self.alloc,
         })
     }
@@ -214,7 +207,7 @@ impl OrderedRows {
 }
 
 // The number of a key's slot, if it has one.
-fn number_of(slots: &BTreeMap<Key, Slot>, key: &Key) -> Option<u64>
+fn number_of(slots: &BTreeMap<Key, Slot>, key: &Key) -> Option<usize>
     ensures { result ≡ number_at (found slots.now.entries key.now) }
 {
     match slots.get(key) {
@@ -235,37 +228,31 @@ fn set_row(slots: &mut BTreeMap<Key, Slot>, key: &Key, row: Option<Row>) -> Opti
     }
 }
 
-// An empty slot for a key that has none, with a number that no slot has.
+// An empty slot for a key that has none. The answer is its number, which no slot had.
 fn add_slot(
     slots: &mut BTreeMap<Key, Slot>,
-    keys: &mut BTreeMap<u64, Key>,
-    number: u64,
+    keys: &mut Slab<Key>,
     key: &Key,
-) -> Result<(), OutOfMemory>
-    requires absent { found slots.old.entries key.now ≡ None }
-    requires free { tree.get nat_cmp keys.old number ≡ None }
-    ensures here { OnOk result (found slots.new.entries key.now ≡ Some (record { number = number; row = None })) }
+) -> Result<usize, OutOfMemory>
+    requires { found slots.old.entries key.now ≡ None }
     ensures beside { SameBeside slots.old.entries slots.new.entries key.now }
-    ensures name { OnOk result (tree.get nat_cmp keys.new number ≡ Some key.now) }
-    ensures names { (other : ℕ) → other ≢ number → tree.get nat_cmp keys.new other ≡ tree.get nat_cmp keys.old other }
-    ensures err { OnErr result ((found slots.new.entries key.now ≡ None) × (tree.get nat_cmp keys.new number ≡ None)) }
+    ensures ok { IfOk result (λ number. (found slots.new.entries key.now ≡ Some (record { number = number; row = None })) × AddsName keys.old keys.new number key.now) }
+    ensures err { OnErr result ((found slots.new.entries key.now ≡ None) × SameValues keys.old keys.new) }
 {
     let own = key.copy()?;
-    keys.insert(number, key.copy()?)?;
-    let slot = Slot { number, row: None };
-    if slots.insert(own, slot).is_err() {
-        keys.remove(&number);
-        return Err(OutOfMemory);
-    }
-    Ok(())
+    let name = key.copy()?;
+    keys.reserve(1)?;
+    let number = keys.vacant_key();
+    slots.insert(own, Slot { number, row: None })?;
+    Ok(keys.insert_reserved(name))
 }
 
 // No slot at a key, and no key for its number, where no row is in it.
-fn drop_slot(slots: &mut BTreeMap<Key, Slot>, keys: &mut BTreeMap<u64, Key>, key: &Key)
+fn drop_slot(slots: &mut BTreeMap<Key, Slot>, keys: &mut Slab<Key>, key: &Key)
     ensures beside { SameBeside slots.old.entries slots.new.entries key.now }
     ensures here { found slots.new.entries key.now ≡ without_empty (found slots.old.entries key.now) }
-    ensures names { (other : ℕ) → number_of_empty (found slots.old.entries key.now) ≢ Some other → tree.get nat_cmp keys.new other ≡ tree.get nat_cmp keys.old other }
-    ensures name { (other : ℕ) → number_of_empty (found slots.old.entries key.now) ≡ Some other → tree.get nat_cmp keys.new other ≡ None }
+    ensures names { (other : ℕ) → number_of_empty (found slots.old.entries key.now) ≢ Some other → slab.get keys.new other ≡ slab.get keys.old other }
+    ensures name { (other : ℕ) → number_of_empty (found slots.old.entries key.now) ≡ Some other → slab.get keys.new other ≡ None }
 {
     let Some(slot) = slots.get(key) else {
         return;
@@ -275,5 +262,5 @@ fn drop_slot(slots: &mut BTreeMap<Key, Slot>, keys: &mut BTreeMap<u64, Key>, key
     }
     let number = slot.number;
     slots.remove(key);
-    keys.remove(&number);
+    keys.try_remove(number);
 }

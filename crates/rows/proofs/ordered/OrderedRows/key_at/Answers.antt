@@ -1,7 +1,6 @@
 use Rattle.std.specs.Prelude.{◌≡◌, ℕ, Option, Some, None, IfNone}
 use Rattle.std.proofs.Common.{◌∙◌, ap}
-use Rattle.std.specs.Ordering.{nat_cmp}
-use Rattle.std.specs.BTreeMap as tree
+use Rattle.slab.specs.Slab as slab
 use Rattle.std.specs.FinMap.{FinMap, get}
 use Rattle.model.specs.declared.key.Key.{Key}
 use Rattle.model.specs.Key.{key_cmp}
@@ -16,5 +15,5 @@ missed (Some r) slots number at is named = tt
 
 pub returns-clause-missed : goal.returns-clause-missed
 returns-clause-missed c =
-    missed c.get.result c.args.self.now.slots c.args.number (tree.get nat_cmp c.self.inside.keys c.args.number) c.get.ensures.value
+    missed c.get.result c.args.self.now.slots c.args.number (slab.get c.self.inside.keys c.args.number) c.get.ensures
     (λ key e. c.self.invariant.named key c.args.number (ap (λ (k : Kept). get k.slots key) c.self.view_is ∙ e))

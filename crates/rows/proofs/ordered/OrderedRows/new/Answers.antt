@@ -7,5 +7,4 @@ pub invariant_of-result : goal.invariant_of-result
 invariant_of-result c = rw (c.new.ensures.empty, c.new-2.ensures.empty) (record {
   named = λ key number e. absurd (let n = get-empty {X = ℕ} key_cmp key in cc);
   names = λ key number e. absurd cc;
-  below = λ key number e. absurd cc;
 })

@@ -11,7 +11,6 @@ invariant_of-self c =
     record {
       named = λ key number e. c.self.invariant.named key number (ap (λ m. get m key) (sym same) ∙ e);
       names = λ key number e. ap (λ m. get m key) same ∙ c.self.invariant.names key number e;
-      below = c.self.invariant.below;
     }
 
 pub returns-clause-rows : goal.returns-clause-rows

@@ -23,7 +23,7 @@ pub invariant_of-self : goal.invariant_of-self
 invariant_of-self c =
     let es = c.self.inside.slots.entries in
     let key = c.args.key.now in
-    subst (λ (m : FinMap key_cmp ℕ). IsNamed m c.drop_slot.new.keys c.self.inside.next)
+    subst (λ (m : FinMap key_cmp ℕ). IsNamed m c.drop_slot.new.keys)
     (sym (numbers_in-settled es c.drop_slot.new.slots.entries key c.drop_slot.ensures.beside c.drop_slot.ensures.here))
-    (named_after_settle (numbers_in es) c.self.inside.keys c.drop_slot.new.keys c.self.inside.next c.self.invariant key (is_some (get (rows_in es) key)) (number_of_empty (found es key))
+    (named_after_settle (numbers_in es) c.self.inside.keys c.drop_slot.new.keys c.self.invariant key (is_some (get (rows_in es) key)) (number_of_empty (found es key))
     (number_dropped es key) c.drop_slot.ensures.names c.drop_slot.ensures.name)

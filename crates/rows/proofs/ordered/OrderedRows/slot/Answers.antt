@@ -8,7 +8,7 @@ use Rattle.rows.proofs.ordered.OrderedRows.slot.Goals as goal
 
 pub returns-clause-numbered : goal.returns-clause-numbered
 returns-clause-numbered c = λ key other number e f.
-    numbered (numbers_in c.self.inside.slots.entries) c.self.inside.keys c.self.inside.next c.self.invariant key other number
+    numbered (numbers_in c.self.inside.slots.entries) c.self.inside.keys c.self.invariant key other number
     (ap (λ (k : Kept). get k.slots key) c.self.view_is ∙ e) (ap (λ (k : Kept). get k.slots other) c.self.view_is ∙ f)
 
 pub returns-clause-slotted : goal.returns-clause-slotted
