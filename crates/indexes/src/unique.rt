@@ -17,7 +17,7 @@ use std::collections::BTreeMap;
 #[derive(Drop)]
 pub(crate) struct Unique {
     pub(crate) columns: Vec<usize>,
-    pub(crate) entries: BTreeMap<Hashed, Option<u64>>,
+    pub(crate) entries: BTreeMap<Hashed, Option<usize>>,
 }
 
 impl Unique {
@@ -43,7 +43,7 @@ impl Unique {
     }
 
     // The number of the slot that the row with these values lies in.
-    pub(crate) fn find(&self, values: &Key) -> Option<u64>
+    pub(crate) fn find(&self, values: &Key) -> Option<usize>
         ensures { result ≡ held self.now.entries values.now }
     {
         match self.entries.get(SoughtKey::of(values)) {
@@ -61,7 +61,7 @@ impl Unique {
     }
 
     // Writes a number, or none, at a row's values, if there is an entry for them.
-    fn set(&mut self, row: &Row, number: Option<u64>)
+    fn set(&mut self, row: &Row, number: Option<usize>)
         ensures { Sets row.now number self.old self.new }
     {
         set_entry(self.columns.as_slice(), &mut self.entries, row, number);
@@ -119,13 +119,13 @@ fn reserve_all(alloc: Global, uniques: &mut [Unique], row: &Row) -> Result<(), O
 }
 
 // A number, or none, at a row's values in each index.
-pub(crate) fn set_each(uniques: &mut Vec<Unique>, row: &Row, number: Option<u64>)
+pub(crate) fn set_each(uniques: &mut Vec<Unique>, row: &Row, number: Option<usize>)
     ensures { EachStep (Sets row.now number) uniques.old.items uniques.new.items }
 {
     set_all(uniques.as_mut_slice(), row, number);
 }
 
-fn set_all(uniques: &mut [Unique], row: &Row, number: Option<u64>)
+fn set_all(uniques: &mut [Unique], row: &Row, number: Option<usize>)
     ensures { EachStep (Sets row.now number) uniques.old uniques.new }
 {
     for unique in uniques.iter_mut() {
@@ -151,7 +151,7 @@ fn settle_all(uniques: &mut [Unique], row: &Row)
 fn reserve_entry(
     alloc: Global,
     columns: &[usize],
-    entries: &mut BTreeMap<Hashed, Option<u64>>,
+    entries: &mut BTreeMap<Hashed, Option<usize>>,
     row: &Row,
 ) -> Result<(), OutOfMemory>
     ensures kept { KeepsEntries entries.old entries.new }
@@ -167,7 +167,7 @@ fn reserve_entry(
 }
 
 // An entry with no number, for values that have none.
-fn add_entry(entries: &mut BTreeMap<Hashed, Option<u64>>, values: Key) -> Result<(), OutOfMemory>
+fn add_entry(entries: &mut BTreeMap<Hashed, Option<usize>>, values: Key) -> Result<(), OutOfMemory>
     requires { entry_at entries.old values ≡ None }
     ensures kept { KeepsEntries entries.old entries.new }
     ensures ok { OnOk result (IsSome (entry_at entries.new values)) }
@@ -178,9 +178,9 @@ fn add_entry(entries: &mut BTreeMap<Hashed, Option<u64>>, values: Key) -> Result
 
 fn set_entry(
     columns: &[usize],
-    entries: &mut BTreeMap<Hashed, Option<u64>>,
+    entries: &mut BTreeMap<Hashed, Option<usize>>,
     row: &Row,
-    number: Option<u64>,
+    number: Option<usize>,
 )
     ensures { SetsEntry columns.now row.now number entries.old entries.new }
 {
@@ -190,7 +190,7 @@ fn set_entry(
 }
 
 // Writes a number, or none, at some values, if there is an entry for them.
-fn write_entry(entries: &mut BTreeMap<Hashed, Option<u64>>, values: Sought<'_>, number: Option<u64>)
+fn write_entry(entries: &mut BTreeMap<Hashed, Option<usize>>, values: Sought<'_>, number: Option<usize>)
     ensures here { entry_at entries.new (present values.entry.columns.now values.entry.row.now) ≡ with_number number (entry_at entries.old (present values.entry.columns.now values.entry.row.now)) }
     ensures beside { SameApart (present values.entry.columns.now values.entry.row.now) entries.old entries.new }
 {
@@ -199,7 +199,7 @@ fn write_entry(entries: &mut BTreeMap<Hashed, Option<u64>>, values: Sought<'_>, 
     }
 }
 
-fn settle_entry(columns: &[usize], entries: &mut BTreeMap<Hashed, Option<u64>>, row: &Row)
+fn settle_entry(columns: &[usize], entries: &mut BTreeMap<Hashed, Option<usize>>, row: &Row)
     ensures { SettlesEntry columns.now row.now entries.old entries.new }
 {
     if has_values(columns, row) {
@@ -208,7 +208,7 @@ fn settle_entry(columns: &[usize], entries: &mut BTreeMap<Hashed, Option<u64>>, 
 }
 
 // Drops the entry for some values if it has no number.
-fn drop_entry(entries: &mut BTreeMap<Hashed, Option<u64>>, values: Sought<'_>)
+fn drop_entry(entries: &mut BTreeMap<Hashed, Option<usize>>, values: Sought<'_>)
     ensures numbers { (other : AnyKey) → held entries.new other ≡ held entries.old other }
     ensures beside { SameApart (present values.entry.columns.now values.entry.row.now) entries.old entries.new }
 {
