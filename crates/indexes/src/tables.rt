@@ -14,6 +14,7 @@ ghost use Rattle.indexes.specs.Table.{cells_in};
 ghost use Rattle.indexes.specs.Content.{Keeps, HasRoom, unique_columns, table_of, IsTable, SameElsewhere, SameRoomElsewhere};
 
 use crate::table::{Contents, Table};
+use catalog::Catalog;
 use model::{Key, OutOfMemory, Row, TableDef};
 use rows::{RowView, Walk};
 use std::alloc::Global;
@@ -43,6 +44,14 @@ impl Model for Tables {
 }
 
 impl Tables {
+    /// The tables of a catalog, all empty.
+    pub fn empty(alloc: Global, catalog: &Catalog) -> Result<Tables, OutOfMemory>
+        ensures schema { IfOk result (λ tables. tables.schema ≡ map keys_of catalog.now) }
+        ensures rows { IfOk result (λ tables. tables.rows ≡ finite.empty) }
+    {
+        Tables::of_definitions(alloc, catalog.tables())
+    }
+
     /// Empty tables of these definitions.
     pub fn of_definitions(alloc: Global, definitions: &[TableDef]) -> Result<Tables, OutOfMemory>
         ensures schema { IfOk result (λ tables. tables.schema ≡ map keys_of definitions.now) }

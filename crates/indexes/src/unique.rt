@@ -190,7 +190,11 @@ fn set_entry(
 }
 
 // Writes a number, or none, at some values, if there is an entry for them.
-fn write_entry(entries: &mut BTreeMap<Hashed, Option<usize>>, values: Sought<'_>, number: Option<usize>)
+fn write_entry(
+    entries: &mut BTreeMap<Hashed, Option<usize>>,
+    values: Sought<'_>,
+    number: Option<usize>,
+)
     ensures here { entry_at entries.new (present values.entry.columns.now values.entry.row.now) ≡ with_number number (entry_at entries.old (present values.entry.columns.now values.entry.row.now)) }
     ensures beside { SameApart (present values.entry.columns.now values.entry.row.now) entries.old entries.new }
 {
