@@ -50,15 +50,29 @@ set_at_present columns row number old new has is here beside = record {
 }
 
 pub settled_at_present : (columns : List ℕ) (row : Row) (old new : Entries) (has : Key) → values_in columns row ≡ Some has
+    → (held old (present columns row) ≡ None → entry_at new (present columns row) ≡ None)
     → ((other : Key) → held new other ≡ held old other)
     → SameApart (present columns row) old new
     → SettlesEntry columns row old new
-settled_at_present columns row old new has is numbers beside = record {
+settled_at_present columns row old new has is gone numbers beside = record {
+  gone = λ values e. subst (λ (v : Key). held old v ≡ None → entry_at new v ≡ None) (present_is columns row values e) gone;
   numbers = numbers;
   beside = λ values differs. elim (one_or_other hashed_cmp_exact (present columns row) values) [
     | inl same ↦ absurd (differs (is ∙ ap Some (sym (present_is columns row has is) ∙ same)))
     | inr apart ↦ beside values apart
   ];
+}
+
+pub none_of_false : {X : Type 0} (o : Option X) → is_some o ≡ false → o ≡ None
+none_of_false None e = refl
+none_of_false (Some x) e = absurd cc
+
+-- without all the values nothing changes
+pub nothing_settled : (columns : List ℕ) (row : Row) (entries : Entries) → is_some (values_in columns row) ≡ false → SettlesEntry columns row entries entries
+nothing_settled columns row entries none = record {
+  gone = λ values has. absurd (let no = none_of_false (values_in columns row) none in cc);
+  numbers = λ values. refl;
+  beside = λ values differs. refl;
 }
 
 -- an entry that had no number went
@@ -72,7 +86,3 @@ entry_dropped old new values none gone beside other = elim (one_or_other hashed_
 pub value_of_some : (o : Option Key) → is_some o ≡ true → (values : Key) × (o ≡ Some values)
 value_of_some None e = absurd cc
 value_of_some (Some values) e = (values, refl)
-
-pub none_of_false : {X : Type 0} (o : Option X) → is_some o ≡ false → o ≡ None
-none_of_false None e = refl
-none_of_false (Some x) e = absurd cc

@@ -4,6 +4,7 @@ pub mod Room
 pub mod Indexing
 pub mod Steps
 pub mod Tabling
+pub mod Settled
 pub mod Copying
 pub mod Gather
 pub mod Cells

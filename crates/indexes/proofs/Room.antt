@@ -75,6 +75,10 @@ spot_of keys row s c =
       | inr there ↦ inr (unique_spots_elem row 1 keys.uniques s there)
     ]
 
+-- a spot of the row's unique values
+pub unique_spot_of : (keys : TableKeys) (row : Row) (s : Spot) → Contains (unique_spots row 1 keys.uniques) s → OfUnique row 1 keys.uniques s
+unique_spot_of keys row s c = unique_spots_elem row 1 keys.uniques s (elem_contains _ _ c)
+
 -- ---- of a table
 
 elem_entry_spots : (n : ℕ) (us : List Unique) (i m : ℕ) (d : Unique) (values : Key) → i < length us → IsSome (entry_at (slice_index_or us i d).entries values) → m ≡ n + i → Elem (entry_spots n us) (m, values)

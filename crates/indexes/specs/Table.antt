@@ -1,8 +1,9 @@
 -- One table: its keys' columns, its rows, and its room.
 --     Spot      a key's number, 0 for the primary key, and values of it.        spots_of      those that a row fills
 --     cell_at, cells_in      a spot as a cell of a table with a number; all of a table's
+--     IsOfSettled, IsFilled      what settling may give up; a row is there
 --     IsSound      rows stand at their own keys, no two agree in a unique key, and the room has what they fill
-use Rattle.std.specs.Prelude.{◌≡◌, ◌≢◌, ℕ, suc, List, [], ◌∷◌, ◌++◌, ◌-◌, Option, Some, None, map, slice_get, unwrap_or}
+use Rattle.std.specs.Prelude.{◌≡◌, ◌≢◌, ◌⊎◌, ℕ, suc, List, [], ◌∷◌, ◌++◌, ◌-◌, Option, Some, None, map, slice_get, unwrap_or}
 use Rattle.std.specs.List.{Contains}
 use Rattle.std.proofs.Common.{zero}
 use Rattle.std.specs.FinMap as finite
@@ -57,6 +58,14 @@ unique_at keys number = unwrap_or (slice_get keys.uniques (number - 1)) []
 -- the row at a key has these values in these columns
 abbrev pub HasValues : FinMap key_cmp Record → List ℕ → Key → Key → Type 0
 HasValues rows columns key values = (row : Record) × (finite.get rows key ≡ Some row) × (values_in columns row ≡ Some values)
+
+-- the key's spot, and those that the row's unique values fill: what settling the two may give up
+abbrev pub IsOfSettled : TableKeys → Key → Record → Spot → Type 0
+IsOfSettled keys key row s = (s ≡ (0, key)) ⊎ Contains (unique_spots row 1 keys.uniques) s
+
+-- a row of the table fills the spot
+abbrev pub IsFilled : TableKeys → FinMap key_cmp Record → Spot → Type 0
+IsFilled keys rows s = (key : Key) × (row : Record) × (finite.get rows key ≡ Some row) × Contains (spots_of keys row) s
 
 -- no row has the values that this one has in some unique key
 abbrev pub NoClash : TableKeys → FinMap key_cmp Record → Record → Type 0

@@ -48,8 +48,9 @@ pub record SetsEntry (columns : List ℕ) (row : Row) (number : Option ℕ) (old
   pub here : (values : Key) → values_in columns row ≡ Some values → entry_at new values ≡ with_number number (entry_at old values)
   pub beside : (values : Key) → values_in columns row ≢ Some values → entry_at new values ≡ entry_at old values
 
--- no number changes, and no entry goes that has one, or for other values
+-- the entry for the row's values goes if it has no number, and nothing else changes
 pub record SettlesEntry (columns : List ℕ) (row : Row) (old new : Entries) : Type 0 where
+  pub gone : (values : Key) → values_in columns row ≡ Some values → held old values ≡ None → entry_at new values ≡ None
   pub numbers : (values : Key) → held new values ≡ held old values
   pub beside : (values : Key) → values_in columns row ≢ Some values → entry_at new values ≡ entry_at old values
 

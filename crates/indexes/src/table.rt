@@ -5,7 +5,7 @@ ghost use Rattle.std.specs.List.{AllByRecursion, Contains};
 ghost use Rattle.model.specs.Rows.{values_in, keys_of};
 ghost use Rattle.indexes.specs.Unique.{HasNone, columns_of};
 ghost use Rattle.model.specs.declared.key.Key.{Key as AnyKey};
-ghost use Rattle.indexes.specs.Table.{Spot, IsSound, HasValues, NoClash, KeepsSpots, spots_of, unique_at};
+ghost use Rattle.indexes.specs.Table.{Spot, IsSound, IsOfSettled, IsFilled, HasValues, NoClash, KeepsSpots, spots_of, unique_at};
 
 use crate::columns::values_of;
 use crate::unique::{Unique, copy_each, copy_numbers, reserve_each, set_each, settle_each};
@@ -314,6 +314,7 @@ impl Table {
     pub fn settle(&mut self, key: &Key, row: &Row)
         ensures keys { self.new.keys ≡ self.old.keys }
         ensures rows { self.new.rows ≡ self.old.rows }
+        ensures gone { (s : Spot) → IsOfSettled self.old.keys key.now row.now s → ¬ IsFilled self.old.keys self.old.rows s → ¬ Contains self.new.room s }
         ensures others { (s : Spot) → ¬ Contains (spots_of self.old.keys row.now) s → s ≢ (0, key.now) → Contains self.old.room s → Contains self.new.room s }
         ensures sound { IsSound self.new }
     {

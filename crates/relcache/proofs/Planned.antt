@@ -37,3 +37,7 @@ module _ (m : Mapped) (lookup new : List Column) (fields : List Field) (key_sent
   pub planned_update-key_fault : (patch : List ColumnPatch) (e : RelFault) → ok_or (each (column_patch new) m.columns) BadValue ≡ Ok patch → IsFaultOf (lookup_key fields lookup) e → IsFaultOf (planned_update m lookup new) e
   planned_update-key_fault patch e read looked_up = λ other.
       after _ fields _ key_sent ∙ after _ tt _ lookup_count ∙ after _ tt _ count ∙ after _ patch _ read ∙ refused _ e _ (looked_up other)
+
+  pub planned_update-set : (patch : List ColumnPatch) (key : List Value) → ok_or (each (column_patch new) m.columns) BadValue ≡ Ok patch → lookup_key fields lookup ≡ Ok key → planned_update m lookup new ≡ Ok (Set m.table key patch)
+  planned_update-set patch key read looked_up =
+      after _ fields _ key_sent ∙ after _ tt _ lookup_count ∙ after _ tt _ count ∙ after _ patch _ read ∙ after _ key _ looked_up

@@ -1,6 +1,6 @@
 use Rattle.std.proofs.Common.{sym}
 use Rattle.std.proofs.lemmas.Result.{err_from_is_err_and}
-use Rattle.relcache.proofs.Planned.{planned_update-patch_fault, planned_update-key_fault}
+use Rattle.relcache.proofs.Planned.{planned_update-patch_fault, planned_update-key_fault, planned_update-set}
 use Rattle.relcache.proofs.planning.plan_update.Goals as goal
 
 pub returns-in_err-patch : goal.returns-in_err-patch
@@ -15,3 +15,9 @@ returns-in_err-key c =
     let read = rw (c.columns.ensures, c.columns-2.ensures.value) at c.in_ok-patch.ensures in
     let looked_up = rw c.columns-3.ensures.value at c.in_err-key.ensures in
     rw (fault.1, fault.2) (planned_update-key_fault c.args.m.now c.args.lookup.now c.args.new.now _ (sym c.in_ok-fields.ensures) (sym c.in_ok-count_columns.ensures) (sym c.in_ok-count_columns-2.ensures) _ _ read looked_up)
+
+pub returns : goal.returns
+returns c =
+    let read = rw (c.columns.ensures, c.columns-2.ensures.value) at c.in_ok-patch.ensures in
+    let looked_up = rw c.columns-3.ensures.value at c.in_ok-key.ensures in
+    rw c.table.ensures (planned_update-set c.args.m.now c.args.lookup.now c.args.new.now _ (sym c.in_ok-fields.ensures) (sym c.in_ok-count_columns.ensures) (sym c.in_ok-count_columns-2.ensures) _ _ read looked_up)

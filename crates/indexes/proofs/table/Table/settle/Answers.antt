@@ -2,8 +2,9 @@ use Rattle.std.specs.Prelude.{ℕ, List, refl}
 use Rattle.std.proofs.Common.{sym, ◌∙◌, ap, subst}
 use Rattle.std.specs.List.{Contains}
 use Rattle.model.specs.Rows.{TableKeys}
-use Rattle.indexes.specs.Table.{TableContent, spots_of}
+use Rattle.indexes.specs.Table.{TableContent, spots_of, IsOfSettled, IsFilled}
 use Rattle.indexes.specs.Indexed.{columns_of}
+use Rattle.indexes.proofs.Settled.{settled_gone}
 use Rattle.indexes.proofs.Tabling.{same_columns, indexed_settled, room_settled, sound}
 use Rattle.indexes.proofs.table.Table.settle.Goals as goal
 
@@ -28,3 +29,10 @@ returns-clause-others c = λ s not_row not_key has.
 pub returns-clause-sound : goal.returns-clause-sound
 returns-clause-sound c =
     sound (record { primary = c.self.inside.primary.items; uniques = columns_of c.settle_each.new.uniques.items }) c.settle.new.self c.settle_each.new.uniques.items refl (invariant_of-self c)
+
+pub returns-clause-gone : goal.returns-clause-gone
+returns-clause-gone c = λ s of empty room.
+    settled_gone (record { primary = c.self.inside.primary.items; uniques = columns_of c.self.inside.uniques.items }) c.self.inside.rows c.settle.new.self
+    c.self.inside.uniques.items c.settle_each.new.uniques.items c.args.key.now c.args.row.now refl c.self.invariant c.settle.ensures.slots c.settle_each.ensures s
+    (subst (λ (t : TableContent). IsOfSettled t.keys c.args.key.now c.args.row.now s) (sym c.self.view_is) of)
+    (λ filled. empty (subst (λ (t : TableContent). IsFilled t.keys t.rows s) c.self.view_is filled)) room
