@@ -10,3 +10,4 @@ pub mod Gather
 pub mod Cells
 pub mod Walking
 pub mod Seen
+pub mod Emptied

@@ -61,6 +61,10 @@ unique_spots_elem row n (c ∷ cs) s h =
 pub key_spot : (keys : TableKeys) (row : Row) (key : Key) → values_in keys.primary row ≡ Some key → Contains (spots_of keys row) (0, key)
 key_spot keys row key has = contains_elem _ _ (elem_left (spot 0 (values_in keys.primary row)) _ (0, key) (elem_spot 0 _ key has))
 
+pub unique_values_spot : (keys : TableKeys) (row : Row) (i : ℕ) (columns : List ℕ) (values : Key)
+    → slice_get keys.uniques i ≡ Some columns → values_in columns row ≡ Some values → Contains (unique_spots row 1 keys.uniques) (suc i, values)
+unique_values_spot keys row i columns values at has = contains_elem _ _ (elem_unique_spots row 1 keys.uniques i (suc i) columns values at has (omega arith))
+
 -- and so are its values in a unique key
 pub unique_spot : (keys : TableKeys) (row : Row) (i : ℕ) (columns : List ℕ) (values : Key)
     → slice_get keys.uniques i ≡ Some columns → values_in columns row ≡ Some values → Contains (spots_of keys row) (suc i, values)

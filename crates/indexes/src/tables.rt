@@ -1,11 +1,11 @@
 // All tables of a catalog.
-ghost use Rattle.std.specs.Prelude.{◌≡◌, ◌≢◌, ℕ, ◌<◌, ◌≤◌, IfOk, OnOk, OnErr, IfSome, IsSome, Some, None, length, map, is_some, ◌^◌};
+ghost use Rattle.std.specs.Prelude.{◌≡◌, ◌≢◌, ℕ, ◌+◌, List, false, slice_get, ◌<◌, ◌≤◌, IfOk, OnOk, OnErr, IfSome, IsSome, Some, None, length, map, is_some, ◌^◌};
 ghost use Rattle.std.specs.List.{Contains};
 ghost use Rattle.std.specs.FinMap as finite;
 ghost use Rattle.model.specs.declared.key.Key.{Key as AnyKey};
 ghost use Rattle.model.specs.declared.row.Row.{Row as AnyRow};
 ghost use Rattle.model.specs.declared.cell.Cell.{Cell};
-ghost use Rattle.model.specs.declared.cell.Cell.TheVariants.{Row as RowCell};
+ghost use Rattle.model.specs.declared.cell.Cell.TheVariants.{Row as RowCell, Uniq};
 ghost use Rattle.model.specs.Cells.{cells_of};
 ghost use Rattle.model.specs.Rows.{IsValid, keys_at, keys_of, key_of, values_in, taken};
 ghost use Rattle.model.specs.TableRows.{rows_of_table};
@@ -287,6 +287,12 @@ impl Tables {
         requires { table < length self.old.schema }
         ensures schema { self.new.schema ≡ self.old.schema }
         ensures rows { self.new.rows ≡ self.old.rows }
+
+        // Where no row stands at the key, its slot goes; where no row has the row's values in a unique
+        // key, their entry goes.
+        ensures slot { finite.get self.old.rows (table, key.now) ≡ None → ¬ Contains self.new.room (RowCell table key.now) }
+        ensures values { (i : ℕ) (columns : List ℕ) (values : AnyKey) → slice_get (keys_at self.old.schema table).uniques i ≡ Some columns
+            → values_in columns row.now ≡ Some values → taken self.old.rows table columns values ≡ false → ¬ Contains self.new.room (Uniq table (i + 1) values) }
 
         // No other cell goes from the room.
         ensures others { (c : Cell) → ¬ Contains (cells_of self.old.schema table row.now) c → c ≢ RowCell table key.now → Contains self.old.room c → Contains self.new.room c }

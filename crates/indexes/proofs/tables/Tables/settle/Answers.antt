@@ -1,4 +1,5 @@
 use Rattle.indexes.proofs.Seen as seen
+use Rattle.indexes.proofs.Emptied as emptied
 use Rattle.indexes.proofs.Gather.{sound_after}
 use Rattle.indexes.proofs.tables.Tables.settle.Goals as goal
 
@@ -37,3 +38,21 @@ returns-clause-others c =
     let t = c.index_mut-table.result.now in
     let at = seen.table_there ts c.args.self.now v i c.requires t c.index_mut-table.ensures.value in
     seen.settled ts c.args.self.now v i t at c.settle.new.self c.args.row.now c.args.key.now c.settle.ensures.others
+
+pub returns-clause-slot : goal.returns-clause-slot
+returns-clause-slot c =
+    let ts = c.self.inside.tables.items in
+    let v = c.self.view_is in
+    let i = c.args.table in
+    let t = c.index_mut-table.result.now in
+    let at = seen.table_there ts c.args.self.now v i c.requires t c.index_mut-table.ensures.value in
+    emptied.slot_gone ts c.args.self.now v i t at c.settle.new.self (c.self.invariant i t at) c.args.key.now c.args.row.now c.settle.ensures.gone
+
+pub returns-clause-values : goal.returns-clause-values
+returns-clause-values c =
+    let ts = c.self.inside.tables.items in
+    let v = c.self.view_is in
+    let i = c.args.table in
+    let t = c.index_mut-table.result.now in
+    let at = seen.table_there ts c.args.self.now v i c.requires t c.index_mut-table.ensures.value in
+    emptied.values_gone ts c.args.self.now v i t at c.settle.new.self (c.self.invariant i t at) c.args.key.now c.args.row.now c.settle.ensures.gone
