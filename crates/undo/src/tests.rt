@@ -203,9 +203,20 @@ fn shown(rt: &impl Abort, alloc: Global, t: &Tables) -> Result<String, OutOfMemo
 fn run_and_undo(rt: &impl Abort, alloc: Global, calls: &[Call]) -> Result<(), Clash> {
     let mut t = filled(rt, alloc)?;
     let mut log = UndoLog::new(alloc);
+    let id = key(alloc, Value::Int(1))?;
+    let email = key(alloc, Value::Text(ByteStr::from_static("a")))?;
     let answer = run_all(rt, alloc, &mut log, &mut t, calls);
     undo_to(&mut log, &mut t, 0);
+    // So much is looked at without memory, which may be refused from here on.
     assert_eq!(rt; log.mark(), 0);
+    assert!(rt; ACCOUNTS < t.len());
+    assert!(rt; 1 <= t.unique_count(ACCOUNTS));
+    let holder = t.find_unique(ACCOUNTS, 1, &email);
+    assert!(rt;
+        matches!(holder, Some(key) if *key == id),
+        "undone {calls:?}"
+    );
+    assert!(rt; t.get(ACCOUNTS, &id).is_some(), "undone {calls:?}");
     let first = shown(rt, alloc, &filled(rt, alloc)?)?;
     assert_eq!(rt;
         shown(rt, alloc, &t)?.as_str(),
