@@ -26,3 +26,6 @@ pub mod outcome;
 pub use inverse::{Inverse, Wiped, put_back};
 pub use model::{Change, ColumnPatch, Patch, TableIds};
 pub use outcome::{Applied, Clash, apply};
+
+#[cfg(test)]
+mod tests;

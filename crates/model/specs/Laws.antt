@@ -1,10 +1,29 @@
 -- The laws that the layers above rest on, each as one statement. `src/laws.rt` names them, so that the check proves them.
-use Rattle.std.specs.Prelude.{◌≡◌, List, ◌++◌, unwrap_or}
+use Rattle.std.specs.Prelude.{◌≡◌, ◌↔◌, List, ◌++◌, unwrap_or}
+use Rattle.std.specs.Cmp.{IsTotalOrder}
 use Rattle.std.specs.FinMap.{get}
+use Rattle.std.specs.declared.cmp.Ordering.{Ordering}
+use Rattle.std.specs.declared.cmp.Ordering.TheVariants.{Equal}
 use Rattle.model.specs.declared.change.Change.{Change}
-use Rattle.model.specs.Rows.{Place, Rows, Schema, IsValid}
+use Rattle.model.specs.Value.{value_cmp}
+use Rattle.model.specs.Key.{key_cmp}
+use Rattle.model.specs.Rows.{Place, place_cmp, Rows, Schema, IsValid}
 use Rattle.model.specs.Effect.{Edits, overlay, Skip, Clashes, Conflict, outcome, effect, inverse, back, serial, inverses, undone}
 use Rattle.model.specs.EditLaws.{AreApart}
+
+-- a total order, whose Equal means equal
+abbrev pub IsExactOrder : {K : Type 0} → (K → K → Ordering) → Type 0
+IsExactOrder {K} R = IsTotalOrder R × ((x y : K) → (R x y ≡ Equal) ↔ (x ≡ y))
+
+-- values, keys and places are so ordered: a finite map by keys or by places has one row at each
+abbrev pub ValuesAreOrdered : Type 0
+ValuesAreOrdered = IsExactOrder value_cmp
+
+abbrev pub KeysAreOrdered : Type 0
+KeysAreOrdered = IsExactOrder key_cmp
+
+abbrev pub PlacesAreOrdered : Type 0
+PlacesAreOrdered = IsExactOrder place_cmp
 
 -- what stands at a place after edits is the edit there, or else the row
 abbrev pub OverlayByPlace : Type 0

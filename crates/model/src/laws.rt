@@ -1,6 +1,21 @@
-// The laws of edits, effects and inverses. Each function does nothing: its contract is a law, over
-// all rows and all changes, and the check of this crate proves it.
-ghost use Rattle.model.specs.Laws.{OverlayByPlace, SkipLeavesRows, ClashLeavesRows, EffectKeepsValid, InverseRestores, InverseRestoresPast, SerialAppends, UndoneRestores};
+// The laws of orders, edits, effects and inverses. Each function does nothing: its contract is a law,
+// over all rows and all changes, and the check of this crate proves it.
+ghost use Rattle.model.specs.Laws.{ValuesAreOrdered, KeysAreOrdered, PlacesAreOrdered, OverlayByPlace, SkipLeavesRows, ClashLeavesRows, EffectKeepsValid, InverseRestores, InverseRestoresPast, SerialAppends, UndoneRestores};
+
+/// The order of values is total, and its Equal means equal.
+pub fn values_are_ordered()
+    ensures { ValuesAreOrdered }
+{}
+
+/// So is that of keys.
+pub fn keys_are_ordered()
+    ensures { KeysAreOrdered }
+{}
+
+/// So is that of places: a table and a key.
+pub fn places_are_ordered()
+    ensures { PlacesAreOrdered }
+{}
 
 /// What stands at a place after edits is the edit there, or else the row.
 pub fn overlay_by_place()

@@ -20,3 +20,6 @@ pub mod laws;
 pub mod log;
 
 pub use log::UndoLog;
+
+#[cfg(test)]
+mod tests;
