@@ -64,7 +64,7 @@ fn row(alloc: Global, text: &'static str) -> Result<Row, OutOfMemory> {
     for word in text.split('|') {
         values.push(value(word))?;
     }
-    Ok(Row::from_values(values))
+    Row::from_values(values)
 }
 
 fn key(alloc: Global, value: Value) -> Result<Key, OutOfMemory> {

@@ -45,7 +45,7 @@ pub fn execute<R: Source + Drop, W: Sink + Drop, C: Clock + Drop>(
         Ok(catalog) => catalog,
         Err(fault) => return refused(fault),
     };
-    let Ok(start) = Tables::of_definitions(alloc, catalog.tables()) else {
+    let Ok(start) = Tables::empty(alloc, &catalog) else {
         return OUT_OF_MEMORY;
     };
     let outcome = run_spooled(alloc, reader, writer, &catalog, start, config, clock);

@@ -7,7 +7,7 @@ returns-in-Ok-report g c = inr (inl (record {
   catalog = c.in-Ok.ensures.catalog;
   outcome = c.run_spooled-outcome.result;
   left = c.run_spooled-outcome.ensures.0;
-  run = rw c.in-Ok-of_definitions.ensures.empty at c.run_spooled-outcome.ensures.1;
+  run = rw c.in-Ok-empty.ensures.rows at c.run_spooled-outcome.ensures.1;
   report = c.in-Ok-report.ensures.ok;
   said = (c.status_of.ensures, refl);
 }))
