@@ -188,7 +188,7 @@ fn rows_of(
     Ok(out)
 }
 
-/// The int that is the key of the row that has this text in a unique key.
+/// The key of the row that has this text in a unique key, by its number.
 fn holder(
     rt: &impl Abort,
     alloc: Global,
