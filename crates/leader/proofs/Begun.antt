@@ -1,5 +1,5 @@
 -- The changes of the transaction that was begun, as a message is taken.
-use Rattle.std.proofs.Common.{◌≡◌, ◌≢◌, ℕ, List, [], ◌∷◌, ◌++◌, Option, Some, None, refl, sym, ap, subst, ◌∙◌, append-nil, ⊎_elim, inl, inr}
+use Rattle.std.proofs.Common.{◌≡◌, ◌≢◌, ℕ, [], ◌∷◌, ◌++◌, Option, Some, None, refl, sym, ap, ◌∙◌, append-nil, ⊎_elim, inl, inr}
 use Rattle.std.specs.Prelude.{◌⊎◌, IsSomeAnd}
 use Rattle.std.specs.FinMap as finite
 use Rattle.std.proofs.lemmas.Bool.{cases_eq}
@@ -7,10 +7,9 @@ use Rattle.savepoint.specs.declared.item.Item.{Item}
 use Rattle.savepoint.specs.Survivors.{changes_of}
 use Rattle.session.specs.declared.place.Place.{Place}
 use Rattle.session.specs.declared.place.Place.TheVariants.{Outside, Begun, Block}
-use Rattle.session.specs.Sized.{SizedItems}
-use Rattle.session.specs.State.{Way, Direct, Open, Transactions, State, IsHere, GoesAlone, begun_at}
+use Rattle.session.specs.State.{Direct, Open, Transactions, State, IsHere, GoesAlone, begun_at}
 use Rattle.session.specs.Table.{opened}
-use Rattle.session.specs.Told.{IsOpening, IsGiving, IsCommitting, IsAborting, IsChange}
+use Rattle.session.specs.Told.{IsOpening, IsGiving, IsChange}
 use Rattle.leader.specs.Commits.{surviving_changes, begun_in, begun}
 use Rattle.leader.proofs.States.{get-inserted, get-other, get-left, get-gone, surviving-change}
 

@@ -1,12 +1,11 @@
 -- How a message or an item ends a run.
-use Rattle.std.proofs.Common.{◌≡◌, ℕ, false, List, [], ◌∷◌, ◌++◌, refl, sym, ap, subst, ◌∙◌, inl, inr}
-use Rattle.std.specs.Prelude.{Result, Ok, Err, IsErrAnd, MatchResult}
+use Rattle.std.proofs.Common.{◌≡◌, ℕ, List, [], ◌∷◌, ◌++◌, refl, sym, subst, inl, inr}
+use Rattle.std.specs.Prelude.{Result, Ok, Err, IsErrAnd}
 use Rattle.model.specs.Rows.{Rows, Schema}
-use Rattle.model.specs.Effect.{effect, serial}
+use Rattle.model.specs.Effect.{effect}
 use Rattle.model.specs.declared.change.Change.{Change}
 use Rattle.change.specs.declared.outcome.Clash.{Clash}
 use Rattle.change.specs.declared.outcome.Clash.TheVariants as clashes
-use Rattle.frames.specs.declared.item.CopyItem.{CopyItem}
 use Rattle.savepoint.specs.declared.item.Item.{Item}
 use Rattle.savepoint.specs.Survivors.{changes_of}
 use Rattle.messages.specs.declared.message.Message.{Message}
@@ -17,12 +16,12 @@ use Rattle.session.specs.Lawful.{Admits, IsRefusal}
 use Rattle.leader.specs.declared.applier.Applier.{Applier}
 use Rattle.leader.specs.declared.end.End.{End}
 use Rattle.leader.specs.declared.end.End.TheVariants as ends
-use Rattle.leader.specs.Work.{Standing, rows_now, IsClear, IsRefusedIn}
+use Rattle.leader.specs.Work.{rows_now, IsClear, IsRefusedIn}
 use Rattle.leader.specs.Commits.{committed, begun, done}
 use Rattle.leader.specs.Progress.{Progress}
 use Rattle.leader.specs.Ends.{end_of_refusal, end_of_clash}
 use Rattle.leader.specs.Run.{schema_of}
-use Rattle.leader.specs.Applier.{HasCommits, IsAt, EndsAt, EndsByMessage, TakesMessage}
+use Rattle.leader.specs.Applier.{HasCommits, IsAt, EndsByMessage, TakesMessage}
 use Rattle.leader.proofs.Working.{IsRefusedIn-behind}
 use Rattle.leader.proofs.Taking.{rows_at, GoesOn, done_more, not_committed, HasCommits-kept, IsCommitted, done_is}
 

@@ -1,14 +1,13 @@
 -- What handling an item leaves of a run.
-use Rattle.std.proofs.Common.{◌≡◌, ℕ, Bool, true, false, List, [], ◌∷◌, ◌++◌, refl, sym, ap, subst, ◌∙◌, append-nil, arith, inl, inr}
-use Rattle.std.specs.Prelude.{Result, Ok, Err, max, MatchResult}
+use Rattle.std.proofs.Common.{◌≡◌, ℕ, Bool, false, List, ◌++◌, refl, sym, ap, ◌∙◌, append-nil, arith, inl, inr}
+use Rattle.std.specs.Prelude.{Result, Ok, Err, max}
 use Rattle.model.specs.Rows.{Rows}
-use Rattle.frames.specs.declared.item.CopyItem.{CopyItem}
 use Rattle.frames.specs.declared.item.CopyItem.TheVariants.{Wal, Keepalive, Done}
-use Rattle.session.specs.State.{State, Setting}
+use Rattle.session.specs.State.{Setting}
 use Rattle.leader.specs.declared.applier.Applier.{Applier}
 use Rattle.leader.specs.declared.end.End.{End}
-use Rattle.leader.specs.Progress.{Progress, Handles, due, commits_from}
-use Rattle.leader.specs.Applier.{HasCommits, IsAt, EndsAt, TakesMessage, HasTaken, HandlesItem, HasHandled, EndsByItem}
+use Rattle.leader.specs.Progress.{Progress, due}
+use Rattle.leader.specs.Applier.{IsAt, TakesMessage, HandlesItem, HasHandled}
 
 -- the same with a greater position seen
 abbrev pub with_seen : Progress → ℕ → Progress

@@ -1,5 +1,5 @@
 -- What the items of the bytes that were read leave of a run.
-use Rattle.std.proofs.Common.{◌≡◌, ◌≢◌, ℕ, List, [], ◌∷◌, ◌++◌, Option, Some, None, refl, sym, ap, subst, ◌∙◌, append_assoc, append-nil, inl, inr}
+use Rattle.std.proofs.Common.{◌≡◌, ℕ, List, [], ◌∷◌, ◌++◌, Option, Some, None, refl, sym, ap, subst, ◌∙◌, append_assoc, append-nil, inl, inr}
 use Rattle.std.specs.Prelude.{Result, Ok, Err, IsErrAnd, ◌⊎◌, ℤ, map}
 use Rattle.std.specs.Io.KnownBytes.{Consumes}
 use Rattle.model.specs.Rows.{Rows}
@@ -16,7 +16,7 @@ use Rattle.leader.specs.declared.end.End.TheVariants as ends
 use Rattle.leader.specs.Ends.{end_of_frame}
 use Rattle.leader.specs.declared.outcome.Outcome.{Outcome}
 use Rattle.leader.specs.Commits.{transaction_of}
-use Rattle.leader.specs.Run.{Devices, devices, IsRun, IsItemCause, IsCause, IsOver, IsClearUnless}
+use Rattle.leader.specs.Run.{Devices, devices, IsRun, IsCause, IsOver, IsClearUnless}
 use Rattle.leader.specs.Applier.{IsAt, HasCome, IsStopCause, StopsAt, Answers, HandlesKept, IsRunOver, end_of}
 use Rattle.leader.proofs.Running.{sent_all, Ticks-nil}
 use Rattle.std.proofs.KnownBytes.{Appends-nil}

@@ -1,6 +1,6 @@
 -- What the items so far, and the status updates after them, leave of a run.
 use Rattle.std.proofs.Common.{◌≡◌, ℕ, ◌+◌, Bool, true, false, List, [], ◌∷◌, ◌++◌, length, Option, Some, None, refl, sym, ap, subst, ◌∙◌, append_assoc, append-nil, length-append, arith, inl, inr}
-use Rattle.std.specs.Prelude.{Result, Ok, Err, ℤ, max, MatchResult, IsErrAnd, ◌⊎◌}
+use Rattle.std.specs.Prelude.{Result, Ok, Err, ℤ, IsErrAnd, ◌⊎◌}
 use Rattle.std.specs.Io.KnownBytes.{Appends, Keeps}
 use Rattle.std.proofs.KnownBytes.{Appends-trans, Appends-kept}
 use Rattle.model.specs.Rows.{Rows}
@@ -9,8 +9,6 @@ use Rattle.frames.specs.declared.fault.FrameFault.TheVariants as frames
 use Rattle.frames.specs.declared.item.CopyItem.{CopyItem}
 use Rattle.frames.specs.Device.{HasFailed}
 use Rattle.frames.specs.Status.{status_frame}
-use Rattle.frames.specs.Stream.{Ending, Waits, Closed, Broken, Reading, copy_items, ending_of}
-use Rattle.frames.specs.Reads.{Reads, HasRead}
 use Rattle.session.specs.State.{State, Setting}
 use Rattle.leader.specs.declared.applier.Applier.{Applier}
 use Rattle.leader.specs.declared.end.End.{End}
@@ -18,8 +16,8 @@ use Rattle.leader.specs.declared.end.End.TheVariants as ends
 use Rattle.leader.specs.Clock.{Ticks}
 use Rattle.leader.specs.Ends.{end_of_frame}
 use Rattle.leader.specs.Progress.{Progress, Handles, Leads, beginning, Update, update, status_bytes}
-use Rattle.leader.specs.Run.{Devices, devices, IsItemCause, IsCause, IsSent}
-use Rattle.leader.specs.Applier.{IsAt, IsUnderWay, EndsByItem, HandlesItem, HasHandled, HasTold, HasCome, IsStopCause, StopsAt, Answers, HandlesKept}
+use Rattle.leader.specs.Run.{Devices, IsItemCause, IsSent}
+use Rattle.leader.specs.Applier.{IsAt, IsUnderWay, EndsByItem, HasHandled, HasTold, HasCome, IsStopCause, StopsAt, Answers}
 
 pub Leads-more : (g : Setting) (p q r : Progress) (items : List CopyItem) (item : CopyItem) → Leads g p items q → Handles g q item r → Leads g p (items ++ item ∷ []) r
 Leads-more g p q r [] item leads handles = (r, subst (λ (x : Progress). Handles g x item r) (sym leads) handles, refl)

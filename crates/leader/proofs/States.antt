@@ -1,6 +1,6 @@
 -- What a message that was taken makes of the commits, of what was begun, and of the open transactions.
-use Rattle.std.proofs.Common.{◌≡◌, ◌≢◌, ℕ, Bool, true, false, List, [], ◌∷◌, ◌++◌, length, Option, Some, None, refl, sym, ap, subst, ◌∙◌, append_assoc, append-nil, arith, ⊎_elim, cond, not, ◌==◌, if◌then◌else◌}
-use Rattle.std.specs.Prelude.{map, All}
+use Rattle.std.proofs.Common.{◌≡◌, ℕ, Bool, true, false, List, [], ◌∷◌, ◌++◌, Some, None, refl, sym, ap, subst, ◌∙◌, arith, ⊎_elim, cond, not, ◌==◌}
+use Rattle.std.specs.Prelude.{map}
 use Rattle.std.specs.Ordering.{nat_cmp, eq_by_cmp}
 use Rattle.std.specs.Cmp.{nat_cmp_total}
 use Rattle.std.specs.FinMap as finite
@@ -9,18 +9,14 @@ use Rattle.std.proofs.lemmas.Grind.{flat_map-append}
 use Rattle.std.proofs.lemmas.List.{map-append}
 use Rattle.std.proofs.lemmas.List.Sums.{take_while-cons}
 use Rattle.std.proofs.lemmas.Bool.Decides.{nat_tests}
-use Rattle.model.specs.declared.change.Change.{Change as Alteration}
 use Rattle.savepoint.specs.declared.item.Item.{Item}
 use Rattle.savepoint.specs.declared.item.Item.TheVariants.{Change, Touch, BackTo, Last}
 use Rattle.savepoint.specs.Survivors.{survivors, surviving, after_item, before_savepoint, changes_of, is_of}
 use Rattle.savepoint.specs.Savepoints.{before_first}
-use Rattle.session.specs.declared.place.Place.{Place}
-use Rattle.session.specs.declared.place.Place.TheVariants.{Outside, Begun, Block}
-use Rattle.session.specs.Stands.{IsOfTables}
 use Rattle.session.specs.Sized.{SizedItems, item_of}
-use Rattle.session.specs.State.{Way, Direct, Worker, Spooled, Open, Committed, Transactions, State, Setting, kept, keeping, kept_with}
+use Rattle.session.specs.State.{Open, Committed, Transactions, kept, keeping, kept_with}
 use Rattle.session.specs.Told.{IsChange}
-use Rattle.leader.specs.Commits.{Transaction, transaction, surviving_changes, changes_in, last_end}
+use Rattle.leader.specs.Commits.{Transaction, surviving_changes, changes_in, last_end}
 use Rattle.leader.specs.Applier.{IsServed, AreServed}
 use Rattle.leader.proofs.Working.{changes_of-append}
 

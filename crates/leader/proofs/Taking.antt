@@ -1,6 +1,6 @@
 -- What a message that was taken leaves of a run.
-use Rattle.std.proofs.Common.{◌≡◌, ◌≢◌, ℕ, ◌<◌, Bool, true, false, List, [], ◌∷◌, ◌++◌, length, Option, Some, None, refl, sym, ap, subst, ◌∙◌, append_assoc, append-nil, arith, inl, inr, length-append, ◌==◌, if◌then◌else◌}
-use Rattle.std.specs.Prelude.{map, All, ◌⊎◌, nat_lt, max}
+use Rattle.std.proofs.Common.{◌≡◌, ◌≢◌, ℕ, ◌<◌, Bool, true, false, List, [], ◌∷◌, ◌++◌, length, Some, None, refl, sym, ap, subst, ◌∙◌, append_assoc, append-nil, arith, inl, inr, length-append, ◌==◌, if◌then◌else◌}
+use Rattle.std.specs.Prelude.{map, All, ◌⊎◌, max}
 use Rattle.std.proofs.lemmas.Bool.{lt-ltb, le-ltb}
 use Rattle.std.proofs.lemmas.List.{map-append, length-map}
 use Rattle.std.proofs.lemmas.List.Elements.{All-append, All-cons, All-nil, All-head, All-tail, All-take}
@@ -17,13 +17,12 @@ use Rattle.savepoint.specs.declared.item.CommitInfo.{CommitInfo}
 use Rattle.savepoint.specs.Savepoints.{before_first}
 use Rattle.savepoint.specs.Survivors.{changes_of}
 use Rattle.messages.specs.declared.message.Message.{Message}
-use Rattle.session.specs.declared.place.Place.{Place}
 use Rattle.session.specs.declared.session.Session.{Session as Holder}
 use Rattle.session.specs.declared.step.Step.{Step}
 use Rattle.session.specs.declared.step.Step.TheVariants as steps
 use Rattle.session.specs.Stands.{IsOfTables}
 use Rattle.session.specs.Sized.{SizedItems, item_of}
-use Rattle.session.specs.State.{Way, Direct, Worker, Spooled, Open, Committed, Transactions, State, Setting, kept, keeping, kept_with}
+use Rattle.session.specs.State.{Way, Direct, Worker, Spooled, Open, Committed, State, Setting, kept, keeping, kept_with}
 use Rattle.session.specs.Lawful.{Admits}
 use Rattle.session.specs.Table.{opened}
 use Rattle.session.specs.Told.{Told, Nothing, Opens, Gives, Commits, Aborts, Tells, handed_out}
@@ -33,7 +32,7 @@ use Rattle.leader.specs.Work.{Standing, rows_now, IsClear}
 use Rattle.leader.specs.Commits.{Transaction, transaction_of, transaction, changes_in, surviving_changes, commits, committed, begun, done, last_end}
 use Rattle.leader.specs.Progress.{Progress, commits_from, due}
 use Rattle.leader.specs.Run.{schema_of}
-use Rattle.leader.specs.Applier.{IsServed, AreServed, HasCommits, IsAt, HasTaken}
+use Rattle.leader.specs.Applier.{AreServed, HasCommits, IsAt, HasTaken}
 use Rattle.leader.proofs.Working.{with_changes, rows_with, IsClear-append}
 use Rattle.leader.proofs.States.{map-kept, last_end-push, changes_in-append, map-before_first, AreServed-insert, AreServed-remove}
 use Rattle.leader.proofs.Begun.{IsSane, direct_begun, begun_stays, begun_opened, begun_beside, begun_given, begun_without, begun_outside, unbegun}

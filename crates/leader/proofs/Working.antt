@@ -14,7 +14,7 @@ use Rattle.change.specs.declared.inverse.Inverse.{Inverse}
 use Rattle.change.specs.Inverse.{edits_of, IsKnown}
 use Rattle.change.specs.Applied.{AreTables}
 use Rattle.change.specs.declared.outcome.Clash.{Clash}
-use Rattle.undo.specs.Undo.{content_back, content_undone, CanUndo, AreKnownAll}
+use Rattle.undo.specs.Undo.{content_back, CanUndo, AreKnownAll}
 use Rattle.undo.specs.UndoLaws.{rows_undone, content_undone_last, schema_undone}
 use Rattle.session.specs.Named.{AreNamed}
 use Rattle.savepoint.specs.declared.item.Item.{Item}

@@ -1,5 +1,5 @@
 -- When what a run keeps stands for a progress, and what handling an item leaves.
-use Rattle.std.specs.Prelude.{◌≡◌, ◌≢◌, ℕ, ℤ, Bool, true, false, max, List, [], ◌∷◌, ◌++◌, length, map, Some, Result, Ok, Err, MatchResult, All, ◌⊎◌}
+use Rattle.std.specs.Prelude.{◌≡◌, ◌≢◌, ℕ, ℤ, Bool, false, max, List, [], ◌∷◌, ◌++◌, length, map, Some, Result, Ok, Err, MatchResult, All, ◌⊎◌}
 use Rattle.std.specs.Io.KnownBytes.{Appends, Consumes}
 use Rattle.std.specs.FinMap as finite
 use Rattle.model.specs.Rows.{Rows}

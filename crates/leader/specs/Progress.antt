@@ -2,7 +2,7 @@
 --     Update, Progress      a status update but for its clock; the session's state, and what was told the publisher
 --     Handles, Leads      what an item, or each of a list in turn, leads to
 --     status_bytes      the frames of status updates, each with its time
-use Rattle.std.specs.Prelude.{◌≡◌, ℕ, ◌*◌, Bool, true, false, nat_lt, if◌then◌else◌, max, List, [], ◌∷◌, ◌++◌, length, Option, Some, None, ℤ}
+use Rattle.std.specs.Prelude.{◌≡◌, ℕ, Bool, true, false, nat_lt, max, List, [], ◌∷◌, ◌++◌, length, ℤ}
 use Rattle.messages.specs.declared.message.Message.{Message}
 use Rattle.frames.specs.declared.item.CopyItem.{CopyItem}
 use Rattle.frames.specs.declared.item.CopyItem.TheVariants.{Wal, Keepalive, Done}

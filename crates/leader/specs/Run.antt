@@ -2,11 +2,10 @@
 --     Devices      what reader, writer and clock tell
 --     IsCause      why a run ends, for each end
 --     IsRun      a run: the items up to the first cause of an end, the commits among them, and nothing else
-use Rattle.std.specs.Prelude.{◌≡◌, ◌≢◌, ℕ, List, [], ◌∷◌, ◌++◌, length, map, Option, Some, None, ℤ, ◌⊎◌}
+use Rattle.std.specs.Prelude.{◌≡◌, ℕ, List, [], ◌∷◌, ◌++◌, length, map, Option, Some, None, ℤ, ◌⊎◌}
 use Rattle.std.specs.Io.KnownBytes.{Appends, Consumes}
 use Rattle.model.specs.Rows.{Rows, Schema, keys_of}
 use Rattle.model.specs.Effect.{serial}
-use Rattle.model.specs.declared.change.Change.{Change}
 use Rattle.change.specs.declared.outcome.Clash.{Clash}
 use Rattle.change.specs.declared.outcome.Clash.TheVariants as clashes
 use Rattle.frames.specs.declared.fault.FrameFault.{FrameFault}
@@ -24,9 +23,8 @@ use Rattle.messages.specs.declared.message.Message.{Message}
 use Rattle.leader.specs.declared.end.End.{End}
 use Rattle.leader.specs.declared.end.End.TheVariants as ends
 use Rattle.leader.specs.declared.outcome.Outcome.{Outcome}
-use Rattle.leader.specs.declared.outcome.Entry.{Entry}
 use Rattle.leader.specs.Work.{IsClear, IsRefusedIn}
-use Rattle.leader.specs.Commits.{Transaction, transaction_of, commits, committed, done, last_end}
+use Rattle.leader.specs.Commits.{transaction_of, commits, committed, done, last_end}
 use Rattle.leader.specs.Clock.{Ticks}
 use Rattle.leader.specs.Progress.{Progress, beginning, Leads, Update, status_bytes}
 

@@ -1,6 +1,6 @@
 -- What the fields of open work stand for.
 use Rattle.std.specs.Prelude.{◌≡◌, map}
-use Rattle.model.specs.Effect.{serial, undone}
+use Rattle.model.specs.Effect.{undone}
 use Rattle.change.specs.Inverse.{edits_of}
 use Rattle.undo.specs.Undo.{CanUndo}
 use Rattle.leader.specs.declared.work.Work.TheInside.{Inside}

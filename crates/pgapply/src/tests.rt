@@ -1,10 +1,10 @@
 // What the program prints of whole streams. The expected texts come from outside: worked by hand from
-// the rules, before the program was.
+// the rules, before the program was. And what it reads of a command line.
 mod cases;
+mod command_line;
 mod devices;
 
 use crate::execute::{Ended, execute};
-use crate::options;
 use cases::CASES;
 use frames::{Failed, Sink, Source};
 use leader::{Clock, Config};

@@ -27,32 +27,32 @@ fn a_cut_drops_the_later_savepoints(rt: HostRuntime) -> Result<(), Fail> {
 }
 
 // An item of a subtransaction, with its savepoint if it is the first.
-fn touch(record: &mut TxRecord, sub: Xid, held: usize) -> Result<(), OutOfMemory>
-    requires { AreAllNamed record.old }
-    ensures { OnOk result (AreAllNamed record.new) }
+fn touch(transaction: &mut TxRecord, sub: Xid, held: usize) -> Result<(), OutOfMemory>
+    requires { AreAllNamed transaction.old }
+    ensures { OnOk result (AreAllNamed transaction.new) }
 {
-    record.reserve()?;
-    record.note(sub, held)?;
-    record.keep_touch(sub);
+    transaction.reserve()?;
+    transaction.note(sub, held)?;
+    transaction.keep_touch(sub);
     Ok(())
 }
 
 #[test]
 fn a_record_keeps_the_items_before_a_savepoint(rt: HostRuntime) -> Result<(), Fail> {
-    let mut record = TxRecord::new(rt.alloc(), 700);
-    touch(&mut record, 700, 0)?;
-    touch(&mut record, 711, 1)?;
-    touch(&mut record, 712, 2)?;
-    touch(&mut record, 711, 3)?;
-    assert_eq!(rt; record.mark_of(700), None);
-    assert_eq!(rt; record.mark_of(711), Some(Mark { undo: 0, held: 1 }));
-    record.cut(713);
-    record.cut(700);
-    assert_eq!(rt; record.survivors().len(), 4);
-    record.cut(712);
-    assert_eq!(rt; record.survivors().len(), 2);
-    assert_eq!(rt; record.mark_of(712), None);
-    record.cut(711);
-    assert_eq!(rt; record.survivors().len(), 1);
+    let mut transaction = TxRecord::new(rt.alloc(), 700);
+    touch(&mut transaction, 700, 0)?;
+    touch(&mut transaction, 711, 1)?;
+    touch(&mut transaction, 712, 2)?;
+    touch(&mut transaction, 711, 3)?;
+    assert_eq!(rt; transaction.mark_of(700), None);
+    assert_eq!(rt; transaction.mark_of(711), Some(Mark { undo: 0, held: 1 }));
+    transaction.cut(713);
+    transaction.cut(700);
+    assert_eq!(rt; transaction.survivors().len(), 4);
+    transaction.cut(712);
+    assert_eq!(rt; transaction.survivors().len(), 2);
+    assert_eq!(rt; transaction.mark_of(712), None);
+    transaction.cut(711);
+    assert_eq!(rt; transaction.survivors().len(), 1);
     Ok(())
 }

@@ -260,6 +260,12 @@ fn a_run_where_memory_is_refused(rt: HostRuntime) {
             let want = "table public.accounts 1\n1|a|n\nposition 0/220\nend 0 Clean\n";
             assert_eq!(rt; out.as_slice(), want.as_bytes());
         }
+        // Refused to the sink, which keeps the bytes that it is given: the device failed after the commit.
+        2 => {
+            let want = "table public.accounts 1\n1|a|n\nposition 0/220\nend 1 Frame Device\n";
+            assert_eq!(rt; out.as_slice(), want.as_bytes());
+            assert_eq!(rt; ended.line, "");
+        }
         // The catalog was read, and memory refused in the run, before or after its commit.
         4 if !out.is_empty() => {
             let none = "table public.accounts 0\nposition 0/0\nend 8 OutOfMemory\n";

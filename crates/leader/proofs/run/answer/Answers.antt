@@ -1,15 +1,10 @@
 use mir.Syntax.{w64}
 use mir.Val.{SFits}
 use Rattle.std.proofs.lemmas.Int.{to_z-of_z}
-use Rattle.std.proofs.Common.{rules, ◌≡◌, true, false, refl, sym, ap, subst, ◌∙◌}
-use Rattle.std.specs.Prelude.{Ok, Err}
-use Rattle.std.specs.Io.KnownBytes.{Appends}
-use Rattle.frames.specs.Status.{status_frame}
-use Rattle.session.specs.State.{Setting}
-use Rattle.model.specs.Rows.{Rows}
-use Rattle.leader.specs.Progress.{Progress}
+use Rattle.std.proofs.Common.{rules, ap, subst}
+use Rattle.std.specs.Prelude.{Err}
 use Rattle.leader.specs.Run.{devices}
-use Rattle.leader.specs.Applier.{IsAt, HasHandled}
+use Rattle.leader.specs.Applier.{HasHandled}
 use Rattle.leader.proofs.Running.{under_way, come_on, come_told, stopped, unsent}
 use Rattle.leader.proofs.run.answer.Goals as goal
 

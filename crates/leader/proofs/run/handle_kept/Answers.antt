@@ -1,4 +1,4 @@
-use Rattle.std.proofs.Common.{◌≡◌, sym, ◌∙◌, ap}
+use Rattle.std.proofs.Common.{◌∙◌}
 use Rattle.leader.proofs.Reading.{kept_on, kept_stopped}
 use Rattle.leader.proofs.run.handle_kept.Goals as goal
 

@@ -1,9 +1,8 @@
-use Rattle.std.proofs.Common.{◌≡◌, ◌++◌, [], Some, None, refl, sym, ap, subst, ◌∙◌}
-use Rattle.std.specs.Prelude.{Ok, Err}
+use Rattle.std.proofs.Common.{◌++◌, [], refl, ap, subst, ◌∙◌}
+use Rattle.std.specs.Prelude.{Err}
 use Rattle.std.proofs.KnownBytes.{Consumes-trans, Consumes-nil}
 use Rattle.frames.specs.Reads.{Reads, fault_of}
 use Rattle.leader.specs.Run.{devices}
-use Rattle.leader.specs.Applier.{IsRunOver, end_of}
 use Rattle.leader.proofs.Reading.{over_by_item, over_by_fault, over_inside, over_at_edge, come_none, come_again, none_kept, broken_by, failed_now, ends_as}
 use Rattle.leader.proofs.run.read_all.Goals as goal
 

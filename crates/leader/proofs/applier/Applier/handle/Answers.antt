@@ -1,7 +1,7 @@
-use Rattle.std.proofs.Common.{◌≡◌, refl, sym, ap, subst, ◌∙◌, false}
+use Rattle.std.proofs.Common.{refl, sym, ap, subst, ◌∙◌, false}
 use Rattle.std.specs.Prelude.{max}
 use Rattle.leader.specs.declared.applier.Applier.{Applier}
-use Rattle.leader.specs.Applier.{IsAt, HandlesItem, HasHandled}
+use Rattle.leader.specs.Applier.{HandlesItem, HasHandled}
 use Rattle.leader.proofs.Handling.{with_seen, IsAt-seen, handled_wal, handled_keepalive, handled_done, seen_two, seen_one}
 use Rattle.leader.proofs.applier.Applier.handle.Goals as goal
 

@@ -1,17 +1,13 @@
-use Rattle.std.proofs.Common.{◌≡◌, ◌++◌, [], ◌∷◌, length, refl, sym, ap, subst, ◌∙◌}
-use Rattle.std.specs.Prelude.{All, Ok}
-use Rattle.model.specs.Rows.{Rows, Schema}
+use Rattle.std.proofs.Common.{[], ◌∷◌, refl, ap, subst, ◌∙◌}
+use Rattle.model.specs.Rows.{Rows}
 use Rattle.savepoint.specs.Survivors.{changes_of}
-use Rattle.session.specs.Stands.{IsOfTables}
 use Rattle.session.specs.State.{Setting}
-use Rattle.session.specs.Stands.{IsTaken, Takes}
-use Rattle.session.specs.declared.step.Step.{Step}
+use Rattle.session.specs.Stands.{IsTaken}
 use Rattle.session.specs.declared.step.Step.TheVariants as steps
-use Rattle.leader.specs.Work.{Standing, IsClear, rows_now}
+use Rattle.leader.specs.Work.{Standing}
 use Rattle.leader.specs.Progress.{Progress}
-use Rattle.leader.specs.Run.{schema_of}
 use Rattle.leader.specs.Applier.{IsAt}
-use Rattle.leader.proofs.Taking.{given, committed_by, quiet, is_quiet, no_change, sane, went_on, taken_on, commit_taken, rows_at, clear_behind, tables_counted, all_counted}
+use Rattle.leader.proofs.Taking.{given, committed_by, quiet, is_quiet, no_change, sane, went_on, taken_on, commit_taken, clear_behind, tables_counted, all_counted}
 use Rattle.leader.proofs.Ending.{ends_with, turned_away, out_of_memory, clashed_on, clashed_at_commit}
 use Rattle.leader.proofs.applier.Applier.take_message.Goals as goal
 use Rattle.leader.proofs.applier.Applier.take_message.Goals.{In-Item, In-Commit}

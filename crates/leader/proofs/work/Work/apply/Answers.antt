@@ -1,4 +1,4 @@
-use Rattle.std.proofs.Common.{sym, ◌∙◌, ap, ◌++◌, [], ◌∷◌, List}
+use Rattle.std.proofs.Common.{◌∙◌, ap, ◌++◌, [], ◌∷◌, List}
 use Rattle.model.specs.declared.change.Change.{Change}
 use Rattle.leader.proofs.Working.{rows_kept}
 use Rattle.leader.specs.WorkInside.{standing_of}
