@@ -108,6 +108,7 @@ impl Ord for Hashed {
 
     ghost matches_eq = { λ x y. refl };
 
+    #[inline]
     fn cmp(&self, other: &Hashed) -> Ordering {
         match self.hash.cmp(&other.hash) {
             Ordering::Equal => self.values.cmp(&other.values),
@@ -144,6 +145,7 @@ impl<'a> Comparable<Hashed> for SoughtKey<'a> {
 
     ghost below_greater = { λ q. le_lt_trans hashed_cmp_total q.values.now };
 
+    #[inline]
     fn compare(&self, key: &Hashed) -> Ordering {
         match self.hash.cmp(&key.hash) {
             Ordering::Equal => self.values.cmp(&key.values),
@@ -183,6 +185,7 @@ impl<'a> Comparable<Hashed> for Sought<'a> {
 
     ghost below_greater = { λ q. le_lt_trans hashed_cmp_total (present q.columns.now q.row.now) };
 
+    #[inline]
     fn compare(&self, key: &Hashed) -> Ordering {
         match self.hash.cmp(&key.hash) {
             Ordering::Equal => compare_values(self.columns, self.row, key.values.values()),

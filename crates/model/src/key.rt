@@ -143,6 +143,7 @@ impl Ord for Key {
 
     ghost matches_eq = { λ x y. refl };
 
+    #[inline]
     fn cmp(&self, other: &Key) -> Ordering {
         match (&self.values, &other.values) {
             (Values::One(own), Values::One(others)) => own.cmp(others),
