@@ -15,7 +15,7 @@ use std::cmp::Ordering;
 use std::collections::btree_map::Comparable;
 use std::marker::Model;
 
-/// Odd, and with bits all over, so that each byte reaches most bits of a hash.
+/// The prime of the FNV hashes of 64 bits.
 const FACTOR: u64 = 1_099_511_628_211;
 
 /// Values with their hash. A clause sees the values.
