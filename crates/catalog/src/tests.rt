@@ -354,12 +354,12 @@ fn orders_and_copies_values(rt: HostRuntime) -> Result<(), Fail> {
         }
         assert!(rt; value.copy()? == *value);
     }
-    let key = Key::from_values(vec![in rt.alloc(); Value::Int(1), Value::Bool(true)]?);
+    let key = Key::from_values(vec![in rt.alloc(); Value::Int(1), Value::Bool(true)]?)?;
     let longer = Key::from_values(vec![in rt.alloc();
         Value::Int(1),
         Value::Bool(true),
         Value::Int(0),
-    ]?);
+    ]?)?;
     assert!(rt; key < longer && key.copy()? == key);
     let row = Row::from_values(vec![in rt.alloc(); None, Some(Value::Int(1))]?)?;
     assert!(rt; row.copy()?.values() == row.values());

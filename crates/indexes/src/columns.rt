@@ -38,7 +38,7 @@ pub(crate) fn values_of(
 {
     if let [column] = columns {
         return match value_of(row, *column) {
-            Some(value) => Ok(Some(Key::from_value(value.copy()?))),
+            Some(value) => Ok(Some(Key::from_value(alloc, value.copy()?)?)),
             None => Ok(None),
         };
     }
@@ -49,5 +49,5 @@ pub(crate) fn values_of(
             None => return Ok(None),
         }
     }
-    Ok(Some(Key::from_values(values)))
+    Ok(Some(Key::from_values(values)?))
 }

@@ -9,11 +9,12 @@ ghost use Rattle.indexes.specs.Columns.{present};
 ghost use Rattle.indexes.specs.Hashed.{hash_bytes, hash_value, hash_of};
 
 use crate::columns::value_of;
-use model::{Key, Row, Value};
+use model::{Key, KeyValues, Row, Value};
 use std::alloc::AllocError;
 use std::cmp::Ordering;
 use std::collections::btree_map::Comparable;
 use std::marker::Model;
+use std::slice;
 
 /// The prime of the FNV hashes of 64 bits.
 const FACTOR: u64 = 1_099_511_628_211;
@@ -44,7 +45,7 @@ impl Hashed {
         ensures { result ≡ values }
     {
         Hashed {
-            hash: hash_values(values.values()),
+            hash: hash_key(&values),
             values,
         }
     }
@@ -130,7 +131,7 @@ impl<'a> SoughtKey<'a> {
         ensures { result.values.now ≡ values.now }
     {
         SoughtKey {
-            hash: hash_values(values.values()),
+            hash: hash_key(values),
             values,
         }
     }
@@ -188,9 +189,22 @@ impl<'a> Comparable<Hashed> for Sought<'a> {
     #[inline]
     fn compare(&self, key: &Hashed) -> Ordering {
         match self.hash.cmp(&key.hash) {
-            Ordering::Equal => compare_values(self.columns, self.row, key.values.values()),
+            Ordering::Equal => compare_key(self.columns, self.row, &key.values),
             differ => differ,
         }
+    }
+}
+
+/// The order of the values that a row has in some columns, nulls left out, and a key.
+fn compare_key(columns: &[usize], row: &Row, key: &Key) -> Ordering
+    ensures { result ≡ key_cmp (present columns.now row.now) key.now }
+{
+    match key.values() {
+        KeyValues::Int(number) => {
+            let value = Value::Int(number);
+            compare_values(columns, row, slice::from_ref(&value))
+        }
+        KeyValues::List(values) => compare_values(columns, row, values),
     }
 }
 
@@ -214,6 +228,16 @@ fn compare_values(columns: &[usize], row: &Row, key: &[Value]) -> Ordering
         Ordering::Equal
     } else {
         Ordering::Less
+    }
+}
+
+/// The hash of a key's values.
+fn hash_key(key: &Key) -> u64
+    ensures { result ≡ hash_of key.now }
+{
+    match key.values() {
+        KeyValues::Int(_) => 0,
+        KeyValues::List(values) => hash_values(values),
     }
 }
 

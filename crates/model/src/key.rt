@@ -1,25 +1,40 @@
 // The key of a row: its values in the columns of the primary key, or of a unique key.
 ghost use Rattle.std.specs.Prelude.{◌≡◌, [], ◌∷◌, IfOk};
+ghost use Rattle.model.specs.Key.{key_cmp};
+ghost use Rattle.model.specs.KeyCode.{listed};
 
 use crate::memory::OutOfMemory;
 use crate::value::Value;
-use std::alloc::AllocError;
+use std::alloc::{AllocError, Global};
 use std::cmp::Ordering;
 use std::marker::Model;
 use std::slice;
+use std::sync::{Arc, ArcSlice};
 
 /// Values in the order of a key's columns, none of them null. A clause sees the list of them.
+///
+/// Copies of a key share its values.
 #[derive(Debug)]
 pub struct Key {
     values: Values,
 }
 
-// Most keys have one column. Its value lies in the key itself, so that a search in a tree of keys
-// follows no pointer to it.
+// Most keys are one integer. It lies in the key itself, so that a search in a tree of keys follows
+// no pointer to it; any other values are behind one, so that keys lie close together.
 #[derive(Debug, Drop)]
 enum Values {
-    One(Value),
-    Many(Vec<Value>),
+    Int(i64),
+    One(Arc<Value>),
+    Many(ArcSlice<Value>),
+}
+
+/// The values of a key, as they lie in it.
+#[derive(Clone, Copy, Debug)]
+pub enum KeyValues<'a> {
+    /// One integer.
+    Int(i64),
+    /// The list of all values.
+    List(&'a [Value]),
 }
 
 impl Model for Key {
@@ -42,45 +57,66 @@ impl Drop for Key {
 }
 
 impl Key {
-    /// The key with this value alone. It takes no memory.
-    pub fn from_value(value: Value) -> Key
-        ensures { result ≡ value ∷ [] }
+    /// The key with this value alone.
+    pub fn from_value(alloc: Global, value: Value) -> Result<Key, OutOfMemory>
+        ensures { IfOk result (λ key. key ≡ value ∷ []) }
     {
-        Key {
-            values: Values::One(value),
-        }
+        let values = match value {
+            Value::Int(number) => Values::Int(number),
+            value => Values::One(Arc::new(alloc, value)?),
+        };
+        Ok(Key { values })
     }
 
-    /// The key with these values. It takes no memory.
-    pub fn from_values(values: Vec<Value>) -> Key
-        ensures { result ≡ values.items }
+    /// The key with these values.
+    pub fn from_values(values: Vec<Value>) -> Result<Key, OutOfMemory>
+        ensures { IfOk result (λ key. key ≡ values.items) }
     {
         let mut values = values;
         if values.len() == 1 {
-            return Key::from_value(values.remove(0));
+            let alloc = *values.allocator();
+            return Key::from_value(alloc, values.remove(0));
         }
-        Key {
-            values: Values::Many(values),
-        }
+        Ok(Key {
+            values: Values::Many(ArcSlice::from_vec(values)?),
+        })
     }
 
     /// Its values, in the order of the key's columns.
-    pub fn values(&self) -> &[Value]
-        ensures { result.now ≡ self.now }
+    pub fn values(&self) -> KeyValues<'_>
+        ensures { listed result ≡ self.now }
     {
         match &self.values {
-            Values::One(value) => slice::from_ref(value),
-            Values::Many(values) => values.as_slice(),
+            Values::Int(number) => KeyValues::Int(*number),
+            Values::One(value) => KeyValues::List(slice::from_ref(value)),
+            Values::Many(values) => KeyValues::List(values.as_slice()),
         }
     }
 
-    /// An equal key.
+    /// An equal key. Its values are shared, and not copied.
     pub fn copy(&self) -> Result<Key, OutOfMemory>
         ensures { IfOk result (λ k. k ≡ self.now) }
     {
-        match &self.values {
-            Values::One(value) => Ok(Key::from_value(value.copy()?)),
-            Values::Many(values) => Ok(Key::from_values(values.clone()?)),
+        Ok(self.clone()?)
+    }
+}
+
+impl<'a> KeyValues<'a> {
+    /// The order of two lists of values: by the first that differ.
+    pub fn compare(self, other: KeyValues<'_>) -> Ordering
+        ensures { result ≡ key_cmp (listed self.entry) (listed other.entry) }
+    {
+        match (self, other) {
+            (KeyValues::Int(own), KeyValues::Int(others)) => own.cmp(&others),
+            (KeyValues::Int(own), KeyValues::List(others)) => {
+                let own = Value::Int(own);
+                slice::from_ref(&own).cmp(others)
+            }
+            (KeyValues::List(own), KeyValues::Int(others)) => {
+                let others = Value::Int(others);
+                own.cmp(slice::from_ref(&others))
+            }
+            (KeyValues::List(own), KeyValues::List(others)) => own.cmp(others),
         }
     }
 }
@@ -89,10 +125,12 @@ impl Clone for Key {
     ghost is_clone = { λ key other. other ≡ key };
 
     fn clone(&self) -> Result<Key, AllocError> {
-        match &self.values {
-            Values::One(value) => Ok(Key::from_value(value.clone()?)),
-            Values::Many(values) => Ok(Key::from_values(values.clone()?)),
-        }
+        let values = match &self.values {
+            Values::Int(number) => Values::Int(*number),
+            Values::One(value) => Values::One(value.clone()?),
+            Values::Many(values) => Values::Many(values.clone()?),
+        };
+        Ok(Key { values })
     }
 }
 
@@ -145,9 +183,6 @@ impl Ord for Key {
 
     #[inline]
     fn cmp(&self, other: &Key) -> Ordering {
-        match (&self.values, &other.values) {
-            (Values::One(own), Values::One(others)) => own.cmp(others),
-            _ => self.values().cmp(other.values()),
-        }
+        self.values().compare(other.values())
     }
 }

@@ -32,7 +32,7 @@ pub mod value;
 
 pub use cell::Cell;
 pub use change::{Change, ColumnPatch, Patch, TableIds};
-pub use key::Key;
+pub use key::{Key, KeyValues};
 pub use memory::OutOfMemory;
 pub use row::Row;
 pub use table_def::{Column, ColumnType, KeyColumns, TableDef};

@@ -143,7 +143,7 @@ fn an_update_keeps_what_is_not_sent(rt: HostRuntime) -> Result<(), Fail> {
         return Err(Fail::from("an update sets columns"));
     };
     assert_eq!(rt; table, 0);
-    assert!(rt; key.values() == [Value::Int(1)].as_slice());
+    assert!(rt; key == Key::from_value(alloc, Value::Int(1))?);
     let [ColumnPatch::Value(id), ColumnPatch::Keep, ColumnPatch::Keep] = patch.columns() else {
         return Err(Fail::from("one value, and two columns that are kept"));
     };
@@ -153,7 +153,7 @@ fn an_update_keeps_what_is_not_sent(rt: HostRuntime) -> Result<(), Fail> {
     else {
         return Err(Fail::from("an update sets columns"));
     };
-    assert!(rt; key.values() == [Value::Int(7)].as_slice());
+    assert!(rt; key == Key::from_value(alloc, Value::Int(7))?);
     assert!(rt;
         matches!(
             patch.columns(),
@@ -174,10 +174,9 @@ fn a_key_is_in_the_order_of_the_primary_key(rt: HostRuntime) -> Result<(), Fail>
         return Err(Fail::from("a delete removes a row"));
     };
     assert_eq!(rt; table, 1);
-    let [Value::Text(text), Value::Int(-3)] = key.values() else {
-        return Err(Fail::from("a name and an id"));
-    };
-    assert_eq!(rt; text.as_str(), "n");
+    let name = Value::Text(ByteStr::from_static("n"));
+    let wanted = Key::from_values(vec![in alloc; name, Value::Int(-3)]?)?;
+    assert!(rt; key == wanted);
     Ok(())
 }
 
@@ -308,7 +307,7 @@ fn ints_are_read_within_64_bits(rt: HostRuntime) -> Result<(), Fail> {
             Ok(Change::Remove { key, .. }) => {
                 assert!(rt; number.is_some(), "{text}");
                 assert!(rt;
-                    key.values() == [Value::Int(number.unwrap_or(0))].as_slice(),
+                    key == Key::from_value(alloc, Value::Int(number.unwrap_or(0)))?,
                     "{text}"
                 );
             }

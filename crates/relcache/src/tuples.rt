@@ -98,6 +98,6 @@ pub(crate) fn lookup_key(alloc: Global, fields: &[Field], tuple: &[Column]) -> R
     if has_null {
         Err(RelFault::NullKey)
     } else {
-        Ok(Key::from_values(values))
+        Ok(Key::from_values(values)?)
     }
 }

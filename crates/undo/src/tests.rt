@@ -42,7 +42,7 @@ fn row(alloc: Global, text: &'static str) -> Result<Row, OutOfMemory> {
 }
 
 fn key(alloc: Global, value: Value) -> Result<Key, OutOfMemory> {
-    Ok(Key::from_values(vec![in alloc; value]?))
+    Key::from_value(alloc, value)
 }
 
 fn column_patch(word: &'static str) -> ColumnPatch {
