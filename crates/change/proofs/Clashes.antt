@@ -112,18 +112,11 @@ pub not_found : {X : Type 0} (found : Option X) (b : Bool) → is_some found ≡
 not_found found b tells is = sym tells ∙ ap is_some is
 
 -- none of all rows has them, so none of the rest
-pub free_without : (rows : Rows) (table : ℕ) (columns : List ℕ) (values : Key) (except : Option (Bor Key)) → taken rows table columns values ≡ false
-    → taken (without rows table except) table columns values ≡ false
-free_without rows table columns values None free = free
-free_without rows table columns values (Some key) free = free_in_rest rows table columns values key.now free
-
-pub taken_of_values : (rows : Rows) (table : ℕ) (columns : List ℕ) (row : Row) (found : Option Key) (values : Key) (b : Bool)
-    → found ≡ values_in columns row → found ≡ Some values → b ≡ taken rows table columns values → is_taken rows table columns (values_in columns row) ≡ b
-taken_of_values rows table columns row found values b found_is some_is held = ap (is_taken rows table columns) (sym found_is ∙ some_is) ∙ sym held
-
-pub taken_of_none : (rows : Rows) (table : ℕ) (columns : List ℕ) (row : Row) (found : Option Key)
-    → found ≡ values_in columns row → found ≡ None → is_taken rows table columns (values_in columns row) ≡ false
-taken_of_none rows table columns row found found_is none_is = ap (is_taken rows table columns) (sym found_is ∙ none_is)
+pub free_without : (rows : Rows) (table : ℕ) (cs : List ℕ) (values : Option Key) (except : Option (Bor Key)) → is_taken rows table cs values ≡ false
+    → is_taken (without rows table except) table cs values ≡ false
+free_without rows table cs values None free = free
+free_without rows table cs None (Some key) free = refl
+free_without rows table cs (Some values) (Some key) free = free_in_rest rows table cs values key.now free
 
 -- the columns of the unique key after the first i
 pub columns_at : (schema : Schema) (table i : ℕ) → unique_columns schema table (i + 1) ≡ unwrap_or (slice_get (keys_at schema table).uniques i) []

@@ -2,8 +2,8 @@
 ghost use Rattle.std.specs.Prelude.{◌≡◌, ◌+◌, ◌-◌, ◌<◌, ◌≤◌, length, IfOk, IfSome, IsSome, is_some, OnOk, OnErr, Some, None};
 ghost use Rattle.std.specs.FinMap.{get, remove};
 ghost use Rattle.model.specs.declared.change.Change.TheVariants.{Put, Set, Remove, Wipe};
-ghost use Rattle.model.specs.Rows.{IsValid, keys_at, taken};
-ghost use Rattle.model.specs.Effect.{first_taken, patched, patched_value, outcome, effect, inverse};
+ghost use Rattle.model.specs.Rows.{IsValid, keys_at, values_in};
+ghost use Rattle.model.specs.Effect.{first_taken, is_taken, patched, patched_value, outcome, effect, inverse};
 ghost use Rattle.indexes.specs.Content.{Keeps, unique_columns};
 ghost use Rattle.change.specs.Inverse.{edits_of, CanPutBack};
 ghost use Rattle.change.specs.Applied.{AreTables, Answers, IsSound, IfDone, room_after, without};
@@ -94,7 +94,7 @@ fn put(t: &mut Tables, table: TableId, row: &Row) -> Result<Applied, Clash>
     if t.get(table, &key).is_some() {
         return Err(Clash::Unique { table, key: 0 });
     }
-    if let Some(number) = first_clash(t, table, row, None)? {
+    if let Some(number) = first_clash(t, table, row, None) {
         return Err(Clash::Unique { table, key: number });
     }
     let stands_at = key.copy()?;
@@ -133,7 +133,7 @@ fn set(
     if is_key_held(t, table, &new_key, key) {
         return Err(Clash::Unique { table, key: 0 });
     }
-    if let Some(number) = first_clash(t, table, &row, Some(key))? {
+    if let Some(number) = first_clash(t, table, &row, Some(key)) {
         return Err(Clash::Unique { table, key: number });
     }
     let stands_at = new_key.copy()?;
@@ -236,25 +236,18 @@ fn copy_value(old: &Option<Value>) -> Result<Option<Value>, OutOfMemory>
 }
 
 /// The least unique key in which the row agrees with one that stands at another key than `except`.
-fn first_clash(
-    t: &Tables,
-    table: TableId,
-    row: &Row,
-    except: Option<&Key>,
-) -> Result<Option<usize>, OutOfMemory>
+fn first_clash(t: &Tables, table: TableId, row: &Row, except: Option<&Key>) -> Option<usize>
     requires known { table < length t.now.schema }
     requires sound { IsSound t.now }
-    ensures { IfOk result (λ number. number ≡ first_taken (without t.now.rows table except.entry) table row.now 1 (keys_at t.now.schema table).uniques) }
+    ensures { result ≡ first_taken (without t.now.rows table except.entry) table row.now 1 (keys_at t.now.schema table).uniques }
 {
     for index in 0..t.unique_count(table) {
         let number = index + 1;
-        if let Some(values) = t.unique_values(table, number, row)? {
-            if are_values_held(t, table, number, &values, except) {
-                return Ok(Some(number));
-            }
+        if has_twin(t, table, number, row, except) {
+            return Some(number);
         }
     }
-    Ok(None)
+    None
 }
 
 /// Whether a row stands at this key, and the key isn't `except`.
@@ -265,20 +258,14 @@ fn is_key_held(t: &Tables, table: TableId, key: &Key, except: &Key) -> bool
     *key != *except && t.get(table, key).is_some()
 }
 
-/// Whether a row that stands at another key than `except` has these values of a unique key.
-fn are_values_held(
-    t: &Tables,
-    table: TableId,
-    number: usize,
-    values: &Key,
-    except: Option<&Key>,
-) -> bool
+/// Whether the row agrees in a unique key with one that stands at another key than `except`.
+fn has_twin(t: &Tables, table: TableId, number: usize, row: &Row, except: Option<&Key>) -> bool
     requires known { table < length t.now.schema }
     requires sound { IsSound t.now }
     requires number { (1 ≤ number) × (number ≤ length (keys_at t.now.schema table).uniques) }
-    ensures { result ≡ taken (without t.now.rows table except.entry) table (unique_columns t.now.schema table number) values.now }
+    ensures { result ≡ is_taken (without t.now.rows table except.entry) table (unique_columns t.now.schema table number) (values_in (unique_columns t.now.schema table number) row.now) }
 {
-    match t.find_unique(table, number, values) {
+    match t.find_twin(table, number, row) {
         None => false,
         Some(holder) => match except {
             None => true,

@@ -9,7 +9,7 @@ use Rattle.model.specs.Rows.{value_at, values_in, with_first}
 use Rattle.indexes.specs.Columns.{present, before_key}
 use Rattle.indexes.specs.Hashed.{hashed_cmp, hashed_cmp_exact}
 use Rattle.indexes.proofs.Elements.{one_or_other}
-use Rattle.indexes.specs.Unique.{Entries, entry_at, held, number_in, with_number, SameApart, KeepsEntries, SetsEntry, SettlesEntry}
+use Rattle.indexes.specs.Unique.{Entries, entry_at, held, held_by, number_in, with_number, SameApart, KeepsEntries, SetsEntry, SettlesEntry}
 
 -- a row that has all its values in some columns has those values there
 with_first_some : (o : Option Value) (rest : Option Key) (values : Key) → with_first o rest ≡ Some values → (v : Value) × (vs : Key) × (o ≡ Some v) × (rest ≡ Some vs) × (values ≡ v ∷ vs)
@@ -22,6 +22,18 @@ present_is [] row values e = cc
 present_is (column ∷ columns) row values e =
     let parts = with_first_some (value_at row column) (values_in columns row) values e in
     ap (λ o. before_key o (present columns row)) parts.2 ∙ ap (λ vs. parts.0 ∷ vs) (present_is columns row parts.1 parts.3) ∙ sym parts.4
+
+pub none_of_false : {X : Type 0} (o : Option X) → is_some o ≡ false → o ≡ None
+none_of_false None e = refl
+none_of_false (Some x) e = absurd cc
+
+-- the number at a row's values, where it has them all
+pub held_by_present : (columns : List ℕ) (row : Row) (entries : Entries) (has : Key) → values_in columns row ≡ Some has → held_by entries (values_in columns row) ≡ held entries (present columns row)
+held_by_present columns row entries has is = ap (held_by entries) is ∙ ap (held entries) (sym (present_is columns row has is))
+
+-- none, where it hasn't
+pub held_by_none : (columns : List ℕ) (row : Row) (entries : Entries) → is_some (values_in columns row) ≡ false → held_by entries (values_in columns row) ≡ None
+held_by_none columns row entries none = ap (held_by entries) (none_of_false (values_in columns row) none)
 
 pub entry_added : (old new : Entries) (values : Key) → entry_at old values ≡ None → entry_at new values ≡ Some None
     → SameApart values old new → KeepsEntries old new
@@ -62,10 +74,6 @@ settled_at_present columns row old new has is gone numbers beside = record {
     | inr apart ↦ beside values apart
   ];
 }
-
-pub none_of_false : {X : Type 0} (o : Option X) → is_some o ≡ false → o ≡ None
-none_of_false None e = refl
-none_of_false (Some x) e = absurd cc
 
 -- without all the values nothing changes
 pub nothing_settled : (columns : List ℕ) (row : Row) (entries : Entries) → is_some (values_in columns row) ≡ false → SettlesEntry columns row entries entries

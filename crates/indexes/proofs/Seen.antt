@@ -12,10 +12,10 @@ use Rattle.model.specs.declared.cell.Cell.TheVariants.{Row}
 use Rattle.model.specs.Key.{key_cmp}
 use Rattle.model.specs.Rows.{TableKeys, place_cmp, values_in, key_of, keys_at, taken, IsValid}
 use Rattle.model.specs.Cells.{cells_of}
-use Rattle.model.specs.Effect.{first_taken}
+use Rattle.model.specs.Effect.{first_taken, is_taken}
 use Rattle.model.specs.TableRows.{rows_of_table}
 use Rattle.model.specs.TakenLaws.{taken_by_row, row_of_taken}
-use Rattle.indexes.specs.Table.{Spot, TableContent, spots_of, KeepsSpots, NoClash, HasValues, IsSound, unique_at, cell_at, cells_in}
+use Rattle.indexes.specs.Table.{Spot, TableContent, spots_of, KeepsSpots, NoClash, HasValues, IsTwin, IsSound, unique_at, cell_at, cells_in}
 use Rattle.indexes.specs.Content.{Content, Keeps, HasRoom, unique_columns, IsTable, SameElsewhere, SameRoomElsewhere, table_of}
 use Rattle.indexes.specs.Gathered.{placed, rows_of, cells_from, schema_of, gathered, AllSound, IsNew}
 use Rattle.indexes.proofs.Elements.{contains_elem, elem_contains, elem_map, elem_of_map}
@@ -89,6 +89,27 @@ module _ (ts : List TableContent) (seen : Content) (v : gathered ts ≡ seen) (i
       → IfSome r (λ key. (row : Record) × (get seen.rows (i, key.now) ≡ Some row) × (values_in (unique_columns seen.schema i number) row ≡ Some values))
   key_found number values None found = tt
   key_found number values (Some key) found = (found.0, seen_get key.now ∙ found.1, ap (λ cs. values_in cs found.0) (sym (unique_is number)) ∙ found.2)
+
+  -- a row's values, of a row that has them or not
+  pub taken_twin : (number : ℕ) (row : Record) (r : Option (Bor Key)) → IfSome r (λ key. IsTwin t.rows (unique_at t.keys number) key.now row)
+      → IfNone r ((key : Key) → ¬ IsTwin t.rows (unique_at t.keys number) key row)
+      → is_some r ≡ is_taken seen.rows i (unique_columns seen.schema i number) (values_in (unique_columns seen.schema i number) row)
+  taken_twin number row None found missed =
+      elim (values_in (unique_columns seen.schema i number) row) as (λ o. values_in (unique_columns seen.schema i number) row ≡ o → false ≡ is_taken seen.rows i (unique_columns seen.schema i number) o) [
+        | None ↦ λ e. refl
+        | Some values ↦ λ e. taken_found number values None tt (λ key has. missed key (values, ap (λ cs. values_in cs row) (unique_is number) ∙ e, has))
+      ] refl
+  taken_twin number row (Some key) found missed =
+      let has : values_in (unique_columns seen.schema i number) row ≡ Some found.0 = ap (λ cs. values_in cs row) (sym (unique_is number)) ∙ found.1 in
+      taken_found number found.0 (Some key) found.2 tt ∙ ap (is_taken seen.rows i (unique_columns seen.schema i number)) (sym has)
+
+  pub twin_found : (number : ℕ) (row : Record) (r : Option (Bor Key)) → IfSome r (λ key. IsTwin t.rows (unique_at t.keys number) key.now row)
+      → IfSome r (λ key. (values : Key) × (values_in (unique_columns seen.schema i number) row ≡ Some values)
+      × (twin : Record) × (get seen.rows (i, key.now) ≡ Some twin) × (values_in (unique_columns seen.schema i number) twin ≡ Some values))
+  twin_found number row None found = tt
+  twin_found number row (Some key) found =
+      let own = key_found number found.0 (Some key) found.2 in
+      (found.0, ap (λ cs. values_in cs row) (sym (unique_is number)) ∙ found.1, own.0, own.1, own.2)
 
   pub is_table : IsTable seen.rows i t.rows
   is_table key = seen_get key

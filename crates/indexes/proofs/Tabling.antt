@@ -15,8 +15,8 @@ use Rattle.rows.specs.KeyLaws.{one_or_apart, get_inserted, get_beside_insert, ge
 use Rattle.indexes.specs.declared.unique.Unique.{Unique}
 use Rattle.indexes.specs.Hashed.{hashed_cmp}
 use Rattle.indexes.specs.Unique as step
-use Rattle.indexes.specs.Unique.{Entries, entry_at, held, with_number, number_in, HasEntry, SetsEntry, Sets, EachStep, EachHasSlot}
-use Rattle.indexes.specs.Table.{Spot, spots_of, KeepsSpots, NoClash, HasValues, IsSound}
+use Rattle.indexes.specs.Unique.{Entries, entry_at, held, held_by, with_number, number_in, HasEntry, SetsEntry, Sets, EachStep, EachHasSlot}
+use Rattle.indexes.specs.Table.{Spot, spots_of, KeepsSpots, NoClash, HasValues, IsTwin, IsSound}
 use Rattle.indexes.specs.Indexed.{IsIndex, IsIndexed, room_of, columns_of}
 use Rattle.indexes.proofs.Indexing.{has_or_not, index_kept, index_filled, index_cleared}
 use Rattle.indexes.proofs.Room.{key_spot, unique_spot, spot_of, key_in_room, entry_in_room, in_room, columns_at, column_within}
@@ -229,6 +229,40 @@ missed_values primary kept us was k d l columns is values e key has =
     let place = was.slotted key has.0 has.1 in
     let there = (was.each k d l).holds key has.0 values place.0 has.1 place.1 (ap (λ cs. values_in cs has.0) (sym is) ∙ has.2) in
     cc
+
+-- ---- look-ups by a row
+
+values_of_twin : (entries : Entries) (o : Option Key) (number : ℕ) → Some number ≡ held_by entries o → (values : Key) × (o ≡ Some values) × (Some number ≡ held entries values)
+values_of_twin entries None number e = absurd cc
+values_of_twin entries (Some values) number e = (values, refl, e)
+
+no_twin_held : (entries : Entries) (o : Option Key) (values : Key) → o ≡ Some values → None ≡ held_by entries o → None ≡ held entries values
+no_twin_held entries o values is e = e ∙ ap (held_by entries) is
+
+module _ (primary : List ℕ) (kept : Kept) (us : List Unique) (was : IsIndexed primary kept us) (k : ℕ) (d : Unique) (below : k < length us)
+    (columns : List ℕ) (is : columns ≡ (slice_index_or us k d).columns.items) (row : Row) where
+  own_values : (values : Key) → values_in (slice_index_or us k d).columns.items row ≡ Some values → values_in columns row ≡ Some values
+  own_values values has = ap (λ cs. values_in cs row) is ∙ has
+
+  has_twin : (values : Key) → values_in columns row ≡ Some values → (r : Option (Bor Key)) → IfSome r (λ key. HasValues kept.rows columns key.now values) → IfSome r (λ key. IsTwin kept.rows columns key.now row)
+  has_twin values has None at = tt
+  has_twin values has (Some key) at = (values, has, at)
+
+  module _ (number : ℕ) (e : Some number ≡ held_by (slice_index_or us k d).entries (values_in (slice_index_or us k d).columns.items row)) (r : Option (Bor Key)) where
+    pub found_twin : IfSome r (λ key. get kept.slots key.now ≡ Some number) → IfSome r (λ key. IsTwin kept.rows columns key.now row)
+    found_twin at =
+        let v = values_of_twin (slice_index_or us k d).entries (values_in (slice_index_or us k d).columns.items row) number e in
+        has_twin v.0 (own_values v.0 v.1) r (found_values primary kept us was k d below columns is v.0 number v.2 r at)
+
+    pub missed_twin : (P : Type 0) → IfNone r ((key : Key) → get kept.slots key ≢ Some number) → IfNone r P
+    missed_twin P none =
+        let v = values_of_twin (slice_index_or us k d).entries (values_in (slice_index_or us k d).columns.items row) number e in
+        missed_slot primary kept us was k d below v.0 number v.2 P r none
+
+  pub no_twin : None ≡ held_by (slice_index_or us k d).entries (values_in (slice_index_or us k d).columns.items row) → (key : Key) → ¬ IsTwin kept.rows columns key row
+  no_twin e key twin =
+      let has : values_in (slice_index_or us k d).columns.items row ≡ Some twin.0 = ap (λ cs. values_in cs row) (sym is) ∙ twin.1 in
+      missed_values primary kept us was k d below columns is twin.0 (no_twin_held (slice_index_or us k d).entries (values_in (slice_index_or us k d).columns.items row) twin.0 has e) key twin.2
 
 pub columns_is : (us : List Unique) (number : ℕ) (d : Unique) → 1 ≤ number → number ≤ length us → unwrap_or (slice_get (columns_of us) (number - 1)) [] ≡ (slice_index_or us (number - 1) d).columns.items
 columns_is us number d low high = ap (λ o. unwrap_or o []) (columns_at us (number - 1) d (omega arith))

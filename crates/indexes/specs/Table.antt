@@ -59,6 +59,10 @@ unique_at keys number = unwrap_or (slice_get keys.uniques (number - 1)) []
 abbrev pub HasValues : FinMap key_cmp Record → List ℕ → Key → Key → Type 0
 HasValues rows columns key values = (row : Record) × (finite.get rows key ≡ Some row) × (values_in columns row ≡ Some values)
 
+-- the row at a key agrees with this one in these columns
+abbrev pub IsTwin : FinMap key_cmp Record → List ℕ → Key → Record → Type 0
+IsTwin rows columns key row = (values : Key) × (values_in columns row ≡ Some values) × HasValues rows columns key values
+
 -- the key's spot, and those that the row's unique values fill: what settling the two may give up
 abbrev pub IsOfSettled : TableKeys → Key → Record → Spot → Type 0
 IsOfSettled keys key row s = (s ≡ (0, key)) ⊎ Contains (unique_spots row 1 keys.uniques) s

@@ -1,5 +1,5 @@
 -- The index of a unique key: what it holds, and what each of its calls changes.
---     held      the number at some values, if there is an entry with one
+--     held, held_by      the number at some values, if there is an entry with one; at those of a row
 --     KeepsSlots, HasSlot      no number changes and no entry goes; there is an entry for the row's values
 --     Sets, Settles      the number at the row's values is set; their entry is dropped if it has none
 use Rattle.std.specs.Prelude.{◌≡◌, ◌≢◌, ℕ, ◌<◌, false, List, [], length, Option, Some, None, IsSome, slice_index_or, map}
@@ -24,6 +24,11 @@ entry_at entries values = tree.get hashed_cmp entries values
 
 abbrev pub held : Entries → Key → Option ℕ
 held entries values = number_in (entry_at entries values)
+
+-- the number at a row's values; none if it hasn't them all
+abbrev pub held_by : Entries → Option Key → Option ℕ
+held_by entries None = None
+held_by entries (Some values) = held entries values
 
 -- an entry with another number in it, or none
 abbrev pub with_number : Option ℕ → Option (Option ℕ) → Option (Option ℕ)

@@ -109,7 +109,7 @@ impl Ord for Hashed {
 
     ghost matches_eq = { λ x y. refl };
 
-    #[inline]
+    #[inline(always)]
     fn cmp(&self, other: &Hashed) -> Ordering {
         match self.hash.cmp(&other.hash) {
             Ordering::Equal => self.values.cmp(&other.values),
@@ -146,7 +146,7 @@ impl<'a> Comparable<Hashed> for SoughtKey<'a> {
 
     ghost below_greater = { λ q. le_lt_trans hashed_cmp_total q.values.now };
 
-    #[inline]
+    #[inline(always)]
     fn compare(&self, key: &Hashed) -> Ordering {
         match self.hash.cmp(&key.hash) {
             Ordering::Equal => self.values.cmp(&key.values),
@@ -186,7 +186,7 @@ impl<'a> Comparable<Hashed> for Sought<'a> {
 
     ghost below_greater = { λ q. le_lt_trans hashed_cmp_total (present q.columns.now q.row.now) };
 
-    #[inline]
+    #[inline(always)]
     fn compare(&self, key: &Hashed) -> Ordering {
         match self.hash.cmp(&key.hash) {
             Ordering::Equal => compare_key(self.columns, self.row, &key.values),
@@ -196,6 +196,7 @@ impl<'a> Comparable<Hashed> for Sought<'a> {
 }
 
 /// The order of the values that a row has in some columns, nulls left out, and a key.
+#[inline(never)]
 fn compare_key(columns: &[usize], row: &Row, key: &Key) -> Ordering
     ensures { result ≡ key_cmp (present columns.now row.now) key.now }
 {

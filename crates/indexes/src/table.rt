@@ -5,7 +5,7 @@ ghost use Rattle.std.specs.List.{AllByRecursion, Contains};
 ghost use Rattle.model.specs.Rows.{values_in, keys_of};
 ghost use Rattle.indexes.specs.Unique.{HasNone, columns_of};
 ghost use Rattle.model.specs.declared.key.Key.{Key as AnyKey};
-ghost use Rattle.indexes.specs.Table.{Spot, IsSound, IsOfSettled, IsFilled, HasValues, NoClash, KeepsSpots, spots_of, unique_at};
+ghost use Rattle.indexes.specs.Table.{Spot, IsSound, IsOfSettled, IsFilled, HasValues, IsTwin, NoClash, KeepsSpots, spots_of, unique_at};
 
 use crate::columns::values_of;
 use crate::unique::{Unique, copy_each, copy_numbers, reserve_each, set_each, settle_each};
@@ -148,14 +148,6 @@ impl Table {
         values_of(self.alloc, self.primary.as_slice(), row)
     }
 
-    /// A row's values in a unique key, by the key's number from 1; none if one of them is null.
-    pub fn unique_values(&self, number: usize, row: &Row) -> Result<Option<Key>, OutOfMemory>
-        requires { (1 ≤ number) × (number ≤ length self.now.keys.uniques) }
-        ensures { IfOk result (λ values. values ≡ values_in (unique_at self.now.keys number) row.now) }
-    {
-        values_of(self.alloc, self.uniques[number - 1].columns.as_slice(), row)
-    }
-
     /// The key of the row that has these values in a unique key, by the key's number from 1. It
     /// takes no memory.
     pub fn find_unique(&self, number: usize, values: &Key) -> Option<&Key>
@@ -164,6 +156,19 @@ impl Table {
         ensures missed { IfNone result ((key : AnyKey) → ¬ HasValues self.now.rows (unique_at self.now.keys number) key values.now) }
     {
         match self.uniques[number - 1].find(values) {
+            Some(slot) => self.rows.key_at(slot),
+            None => None,
+        }
+    }
+
+    /// The key of the row that agrees with this one in a unique key, by the key's number from 1. It
+    /// takes no memory.
+    pub fn find_twin(&self, number: usize, row: &Row) -> Option<&Key>
+        requires { (1 ≤ number) × (number ≤ length self.now.keys.uniques) }
+        ensures found { IfSome result (λ key. IsTwin self.now.rows (unique_at self.now.keys number) key.now row.now) }
+        ensures missed { IfNone result ((key : AnyKey) → ¬ IsTwin self.now.rows (unique_at self.now.keys number) key row.now) }
+    {
+        match self.uniques[number - 1].find_twin(row) {
             Some(slot) => self.rows.key_at(slot),
             None => None,
         }

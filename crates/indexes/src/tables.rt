@@ -9,7 +9,7 @@ ghost use Rattle.model.specs.declared.cell.Cell.TheVariants.{Row as RowCell, Uni
 ghost use Rattle.model.specs.Cells.{cells_of};
 ghost use Rattle.model.specs.Rows.{IsValid, keys_at, keys_of, key_of, values_in, taken};
 ghost use Rattle.model.specs.TableRows.{rows_of_table};
-ghost use Rattle.model.specs.Effect.{first_taken};
+ghost use Rattle.model.specs.Effect.{first_taken, is_taken};
 ghost use Rattle.indexes.specs.Table.{cells_in};
 ghost use Rattle.indexes.specs.Content.{Keeps, HasRoom, unique_columns, table_of, IsTable, SameElsewhere, SameRoomElsewhere};
 
@@ -113,20 +113,6 @@ impl Tables {
         self.tables[table].key_of(row)
     }
 
-    /// A row's values in a unique key, by the key's number from 1; none if one of them is null.
-    pub fn unique_values(
-        &self,
-        table: usize,
-        number: usize,
-        row: &Row,
-    ) -> Result<Option<Key>, OutOfMemory>
-        requires known { table < length self.now.schema }
-        requires number { (1 ≤ number) × (number ≤ length (keys_at self.now.schema table).uniques) }
-        ensures { IfOk result (λ values. values ≡ values_in (unique_columns self.now.schema table number) row.now) }
-    {
-        self.tables[table].unique_values(number, row)
-    }
-
     /// The row at a key. It takes no memory.
     pub fn get(&self, table: usize, key: &Key) -> Option<RowView<'_>>
         requires { table < length self.now.schema }
@@ -145,6 +131,18 @@ impl Tables {
             × (values_in (unique_columns self.now.schema table number) row ≡ Some values.now)) }
     {
         self.tables[table].find_unique(number, values)
+    }
+
+    /// The key of the row that agrees with this one in a unique key, by the key's number from 1: what
+    /// a search of all rows finds. It takes no memory.
+    pub fn find_twin(&self, table: usize, number: usize, row: &Row) -> Option<&Key>
+        requires known { table < length self.now.schema }
+        requires number { (1 ≤ number) × (number ≤ length (keys_at self.now.schema table).uniques) }
+        ensures taken { is_some result ≡ is_taken self.now.rows table (unique_columns self.now.schema table number) (values_in (unique_columns self.now.schema table number) row.now) }
+        ensures key { IfSome result (λ key. (values : AnyKey) × (values_in (unique_columns self.now.schema table number) row.now ≡ Some values)
+            × (twin : AnyRow) × (finite.get self.now.rows (table, key.now) ≡ Some twin) × (values_in (unique_columns self.now.schema table number) twin ≡ Some values)) }
+    {
+        self.tables[table].find_twin(number, row)
     }
 
     /// A row comes into its table. A refusal changes no row.

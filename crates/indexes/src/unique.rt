@@ -2,9 +2,10 @@
 ghost use Rattle.std.specs.Prelude.{◌≡◌, map, IfOk, OnOk, IsSome, None, false};
 ghost use Rattle.std.specs.Ordering.{eq_by_cmp};
 ghost use Rattle.model.specs.declared.key.Key.{Key as AnyKey};
+ghost use Rattle.model.specs.Rows.{values_in};
 ghost use Rattle.indexes.specs.Columns.{present};
 ghost use Rattle.indexes.specs.Hashed.{hashed_cmp};
-ghost use Rattle.indexes.specs.Unique.{plain, HasNone, held, entry_at, with_number, SameApart, KeepsEntries, HasEntry, SetsEntry, SettlesEntry, KeepsSlots, HasSlot, Sets, Settles, EachStep, EachHasSlot};
+ghost use Rattle.indexes.specs.Unique.{plain, HasNone, held, held_by, entry_at, with_number, SameApart, KeepsEntries, HasEntry, SetsEntry, SettlesEntry, KeepsSlots, HasSlot, Sets, Settles, EachStep, EachHasSlot};
 
 use crate::columns::{has_values, values_of};
 use crate::hashed::{Hashed, Sought, SoughtKey};
@@ -50,6 +51,13 @@ impl Unique {
             Some(number) => *number,
             None => None,
         }
+    }
+
+    // The number of the slot that a row with the same values as this one lies in.
+    pub(crate) fn find_twin(&self, row: &Row) -> Option<usize>
+        ensures { result ≡ held_by self.now.entries (values_in self.now.columns.items row.now) }
+    {
+        find_row(self.columns.as_slice(), &self.entries, row)
     }
 
     // Makes an entry for a row's values, if it has them all and there is none.
@@ -145,6 +153,22 @@ fn settle_all(uniques: &mut [Unique], row: &Row)
 {
     for unique in uniques.iter_mut() {
         unique.settle(row);
+    }
+}
+
+fn find_row(
+    columns: &[usize],
+    entries: &BTreeMap<Hashed, Option<usize>>,
+    row: &Row,
+) -> Option<usize>
+    ensures { result ≡ held_by entries.now (values_in columns.now row.now) }
+{
+    if !has_values(columns, row) {
+        return None;
+    }
+    match entries.get(Sought::of(columns, row)) {
+        Some(number) => *number,
+        None => None,
     }
 }
 

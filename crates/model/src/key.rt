@@ -103,6 +103,7 @@ impl Key {
 
 impl<'a> KeyValues<'a> {
     /// The order of two lists of values: by the first that differ.
+    #[inline(never)]
     pub fn compare(self, other: KeyValues<'_>) -> Ordering
         ensures { result ≡ key_cmp (listed self.entry) (listed other.entry) }
     {
@@ -181,8 +182,12 @@ impl Ord for Key {
 
     ghost matches_eq = { λ x y. refl };
 
-    #[inline]
+    // The search of a tree of keys is this alone where all are integers.
+    #[inline(always)]
     fn cmp(&self, other: &Key) -> Ordering {
-        self.values().compare(other.values())
+        match (&self.values, &other.values) {
+            (Values::Int(own), Values::Int(others)) => own.cmp(others),
+            _ => self.values().compare(other.values()),
+        }
     }
 }

@@ -12,17 +12,17 @@ returns-in_err-put-clause-room c =
 pub returns-clause-ok : goal.returns-clause-ok
 returns-clause-ok c =
     put_ok c.args.t.now c.put.new.self c.args.table c.args.row.now c.in-Some.key c.in_ok-stands_at.stands_at c.in_ok-stands_at.ensures c.requires.sound.valid c.requires.known
-    (sym c.in_ok-key.ensures ∙ c.in-Some.is) (none_is_some _ _ _ c.get.ensures c.is_some.ensures c.if-is_some.false) (sym c.in_ok-number.ensures ∙ c.in_default-2.is)
+    (sym c.in_ok-key.ensures ∙ c.in-Some.is) (none_is_some _ _ _ c.get.ensures c.is_some.ensures c.if-is_some.false) (sym c.first_clash.ensures ∙ c.in_default-first_clash.is)
     c.put.ensures.schema (c.in_ok-put.ensures.ok ∙ ap (insert c.args.t.now.rows (c.args.table, c.in-Some.key)) c.in_ok-copy.ensures)
 
 pub returns-clause-inverse : goal.returns-clause-inverse
 returns-clause-inverse c =
     put_inverse c.args.t.now c.put.new.self c.args.table c.args.row.now c.in-Some.key c.in_ok-stands_at.stands_at c.in_ok-stands_at.ensures c.requires.sound.valid c.requires.known
-    (sym c.in_ok-key.ensures ∙ c.in-Some.is) (none_is_some _ _ _ c.get.ensures c.is_some.ensures c.if-is_some.false) (sym c.in_ok-number.ensures ∙ c.in_default-2.is)
+    (sym c.in_ok-key.ensures ∙ c.in-Some.is) (none_is_some _ _ _ c.get.ensures c.is_some.ensures c.if-is_some.false) (sym c.first_clash.ensures ∙ c.in_default-first_clash.is)
     c.put.ensures.schema (c.in_ok-put.ensures.ok ∙ ap (insert c.args.t.now.rows (c.args.table, c.in-Some.key)) c.in_ok-copy.ensures)
 
 pub returns-clause-can_put_back : goal.returns-clause-can_put_back
 returns-clause-can_put_back c =
     put_can c.args.t.now c.put.new.self c.args.table c.args.row.now c.in-Some.key c.in_ok-stands_at.stands_at c.in_ok-stands_at.ensures c.requires.sound.valid c.requires.known
-    (sym c.in_ok-key.ensures ∙ c.in-Some.is) (none_is_some _ _ _ c.get.ensures c.is_some.ensures c.if-is_some.false) (sym c.in_ok-number.ensures ∙ c.in_default-2.is)
+    (sym c.in_ok-key.ensures ∙ c.in-Some.is) (none_is_some _ _ _ c.get.ensures c.is_some.ensures c.if-is_some.false) (sym c.first_clash.ensures ∙ c.in_default-first_clash.is)
     c.put.ensures.schema (c.in_ok-put.ensures.ok ∙ ap (insert c.args.t.now.rows (c.args.table, c.in-Some.key)) c.in_ok-copy.ensures)

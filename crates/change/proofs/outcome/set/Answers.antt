@@ -23,12 +23,12 @@ returns-then-is_key_held-clause-answer c =
     ∙ placed_held c.args.t.now.schema (remove c.args.t.now.rows (c.args.table, c.args.key.now)) (one_edit (c.args.table, c.args.key.now) None) c.args.table c.in_ok-row-in-Some.row c.in-Some-2.new_key
     (sym c.in_ok-new_key.ensures ∙ c.in-Some-2.is) (sym c.is_key_held.ensures ∙ c.if-is_key_held.true)
 
-pub returns-in-Some-3-clause-answer : goal.returns-in-Some-3-clause-answer
-returns-in-Some-3-clause-answer c =
+pub returns-in-Some-first_clash-clause-answer : goal.returns-in-Some-first_clash-clause-answer
+returns-in-Some-first_clash-clause-answer c =
     set_as_placed c.args.t.now.schema c.args.t.now.rows c.args.table c.args.key.now c.args.patch.now c.in-Some.old c.in_ok-row-in-Some.row
     (sym c.get.ensures ∙ c.in-Some.is) c.in_ok-row-in-Some.ensures
-    ∙ placed_taken c.args.t.now.schema (remove c.args.t.now.rows (c.args.table, c.args.key.now)) (one_edit (c.args.table, c.args.key.now) None) c.args.table c.in_ok-row-in-Some.row c.in-Some-2.new_key c.in-Some-3.number
-    (sym c.in_ok-new_key.ensures ∙ c.in-Some-2.is) (none_of _ (sym c.is_key_held.ensures ∙ c.if-is_key_held.false)) (sym c.in_ok-number.ensures ∙ c.in-Some-3.is)
+    ∙ placed_taken c.args.t.now.schema (remove c.args.t.now.rows (c.args.table, c.args.key.now)) (one_edit (c.args.table, c.args.key.now) None) c.args.table c.in_ok-row-in-Some.row c.in-Some-2.new_key c.in-Some-first_clash.number
+    (sym c.in_ok-new_key.ensures ∙ c.in-Some-2.is) (none_of _ (sym c.is_key_held.ensures ∙ c.if-is_key_held.false)) (sym c.first_clash.ensures ∙ c.in-Some-first_clash.is)
 
 pub replace-requires-clause-free : goal.replace-requires-clause-free
 replace-requires-clause-free c = none_of _ (sym c.is_key_held.ensures ∙ c.if-is_key_held.false)
@@ -44,7 +44,7 @@ returns-clause-answer c =
     let same : c.in_ok-old.old ≡ c.in-Some.old = same_there _ _ _ c.in_ok-old.ensures.stood (sym c.get.ensures ∙ c.in-Some.is) in
     subst IsDone (sym (set_done c.args.t.now c.replace.new.self c.args.table c.args.key.now c.in_ok-stood_at.stood_at c.in-Some-2.new_key c.in_ok-stands_at.stands_at c.args.patch.now c.in-Some.old c.in_ok-row-in-Some.row
     c.in_ok-stood_at.ensures c.in_ok-stands_at.ensures c.requires.sound c.requires.known (sym c.get.ensures ∙ c.in-Some.is) c.in_ok-row-in-Some.ensures
-    (sym c.in_ok-new_key.ensures ∙ c.in-Some-2.is) (none_of _ (sym c.is_key_held.ensures ∙ c.if-is_key_held.false)) (sym c.in_ok-number.ensures ∙ c.in_default-2.is)
+    (sym c.in_ok-new_key.ensures ∙ c.in-Some-2.is) (none_of _ (sym c.is_key_held.ensures ∙ c.if-is_key_held.false)) (sym c.first_clash.ensures ∙ c.in_default-first_clash.is)
     c.replace.ensures.schema stored c.replace.ensures.kept)) tt
 
 pub returns-clause-ok : goal.returns-clause-ok
@@ -53,7 +53,7 @@ returns-clause-ok c =
     let same : c.in_ok-old.old ≡ c.in-Some.old = same_there _ _ _ c.in_ok-old.ensures.stood (sym c.get.ensures ∙ c.in-Some.is) in
     set_ok c.args.t.now c.replace.new.self c.args.table c.args.key.now c.in_ok-stood_at.stood_at c.in-Some-2.new_key c.in_ok-stands_at.stands_at c.args.patch.now c.in-Some.old c.in_ok-row-in-Some.row
     c.in_ok-stood_at.ensures c.in_ok-stands_at.ensures c.requires.sound c.requires.known (sym c.get.ensures ∙ c.in-Some.is) c.in_ok-row-in-Some.ensures
-    (sym c.in_ok-new_key.ensures ∙ c.in-Some-2.is) (none_of _ (sym c.is_key_held.ensures ∙ c.if-is_key_held.false)) (sym c.in_ok-number.ensures ∙ c.in_default-2.is)
+    (sym c.in_ok-new_key.ensures ∙ c.in-Some-2.is) (none_of _ (sym c.is_key_held.ensures ∙ c.if-is_key_held.false)) (sym c.first_clash.ensures ∙ c.in_default-first_clash.is)
     c.replace.ensures.schema stored c.replace.ensures.kept
 
 pub returns-clause-inverse : goal.returns-clause-inverse
@@ -63,7 +63,7 @@ returns-clause-inverse c =
     ap (λ (r : Record). insert (one_edit (c.args.table, c.in_ok-stands_at.stands_at) None) (c.args.table, c.in_ok-stood_at.stood_at) (Some r)) same
     ∙ set_inverse c.args.t.now c.replace.new.self c.args.table c.args.key.now c.in_ok-stood_at.stood_at c.in-Some-2.new_key c.in_ok-stands_at.stands_at c.args.patch.now c.in-Some.old c.in_ok-row-in-Some.row
     c.in_ok-stood_at.ensures c.in_ok-stands_at.ensures c.requires.sound c.requires.known (sym c.get.ensures ∙ c.in-Some.is) c.in_ok-row-in-Some.ensures
-    (sym c.in_ok-new_key.ensures ∙ c.in-Some-2.is) (none_of _ (sym c.is_key_held.ensures ∙ c.if-is_key_held.false)) (sym c.in_ok-number.ensures ∙ c.in_default-2.is)
+    (sym c.in_ok-new_key.ensures ∙ c.in-Some-2.is) (none_of _ (sym c.is_key_held.ensures ∙ c.if-is_key_held.false)) (sym c.first_clash.ensures ∙ c.in_default-first_clash.is)
     c.replace.ensures.schema stored c.replace.ensures.kept
 
 pub returns-clause-can_put_back : goal.returns-clause-can_put_back
@@ -73,5 +73,5 @@ returns-clause-can_put_back c =
     subst (λ (r : Record). CanPutBack c.replace.new.self (Replace c.args.table c.in_ok-stands_at.stands_at c.in_ok-stood_at.stood_at r)) (sym same)
     (set_can c.args.t.now c.replace.new.self c.args.table c.args.key.now c.in_ok-stood_at.stood_at c.in-Some-2.new_key c.in_ok-stands_at.stands_at c.args.patch.now c.in-Some.old c.in_ok-row-in-Some.row
     c.in_ok-stood_at.ensures c.in_ok-stands_at.ensures c.requires.sound c.requires.known (sym c.get.ensures ∙ c.in-Some.is) c.in_ok-row-in-Some.ensures
-    (sym c.in_ok-new_key.ensures ∙ c.in-Some-2.is) (none_of _ (sym c.is_key_held.ensures ∙ c.if-is_key_held.false)) (sym c.in_ok-number.ensures ∙ c.in_default-2.is)
+    (sym c.in_ok-new_key.ensures ∙ c.in-Some-2.is) (none_of _ (sym c.is_key_held.ensures ∙ c.if-is_key_held.false)) (sym c.first_clash.ensures ∙ c.in_default-first_clash.is)
     c.replace.ensures.schema stored c.replace.ensures.kept)
