@@ -9,7 +9,7 @@ use Rattle.model.specs.Rows.{value_at, values_in, with_first}
 use Rattle.indexes.specs.Columns.{present, before_key}
 use Rattle.indexes.specs.Hashed.{hashed_cmp, hashed_cmp_exact}
 use Rattle.indexes.proofs.Elements.{one_or_other}
-use Rattle.indexes.specs.Unique.{Entries, entry_at, held, held_by, number_in, with_number, SameApart, KeepsEntries, SetsEntry, SettlesEntry}
+use Rattle.indexes.specs.Unique.{Entries, entry_at, held, held_by, number_in, with_number, SameApart, KeepsEntries, SetsEntry, PutsEntry, SettlesEntry}
 
 -- a row that has all its values in some columns has those values there
 with_first_some : (o : Option Value) (rest : Option Key) (values : Key) → with_first o rest ≡ Some values → (v : Value) × (vs : Key) × (o ≡ Some v) × (rest ≡ Some vs) × (values ≡ v ∷ vs)
@@ -46,6 +46,29 @@ entry_added old new values absent here beside = record {
     | inl same ↦ subst (λ (v : Key). IsSome (entry_at new v)) same (ap is_some here)
     | inr apart ↦ ap is_some (beside other apart) ∙ some
   ];
+}
+
+-- a number came to the row's values
+pub number_put : (columns : List ℕ) (row : Row) (number : ℕ) (old new : Entries) (has : Key) → values_in columns row ≡ Some has
+    → entry_at new has ≡ Some (Some number) → SameApart has old new → PutsEntry columns row number old new
+number_put columns row number old new has is here beside = record {
+  here = λ values e. let same : has ≡ values = cc in ap number_in (subst (λ (v : Key). entry_at new v ≡ Some (Some number)) same here);
+  beside = λ values differs. elim (one_or_other hashed_cmp_exact has values) [
+    | inl same ↦ absurd (differs (is ∙ ap Some same))
+    | inr apart ↦ ap number_in (beside values apart)
+  ];
+  entries = λ values some. elim (one_or_other hashed_cmp_exact has values) [
+    | inl same ↦ subst (λ (v : Key). IsSome (entry_at new v)) same (ap is_some here)
+    | inr apart ↦ ap is_some (beside values apart) ∙ some
+  ];
+}
+
+-- none came, since the row hasn't the values
+pub nothing_put : (columns : List ℕ) (row : Row) (number : ℕ) (entries : Entries) → values_in columns row ≡ None → PutsEntry columns row number entries entries
+nothing_put columns row number entries none = record {
+  here = λ values e. absurd cc;
+  beside = λ values differs. refl;
+  entries = λ values some. some;
 }
 
 -- what changes at the present values alone changes at the row's values alone

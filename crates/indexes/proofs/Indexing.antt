@@ -9,7 +9,7 @@ use Rattle.model.specs.Key.{key_cmp}
 use Rattle.model.specs.Rows.{values_in}
 use Rattle.rows.specs.Kept.{Kept, KeepsSlots, IsNumbered, IsSlotted}
 use Rattle.rows.specs.KeyLaws.{one_or_apart, same_key, get_inserted, get_beside_insert, get_removed, get_beside_remove}
-use Rattle.indexes.specs.Unique.{Entries, entry_at, held, number_in, with_number, HasEntry, SetsEntry}
+use Rattle.indexes.specs.Unique.{Entries, entry_at, held, number_in, with_number, SetsEntry, PutsEntry}
 use Rattle.indexes.specs.Indexed.{IsIndex}
 
 -- a row has these values, or has not
@@ -42,33 +42,27 @@ module _ (columns : List ℕ) (kept : Kept) (before after : Entries) (was : IsIn
   -- a row came into its slot, with values that no row has
   pub index_filled : (number : ℕ) → get kept.slots key ≡ Some number → get kept.rows key ≡ None
       → ((values : Key) → values_in columns row ≡ Some values → held before values ≡ None)
-      → HasEntry columns row before → SetsEntry columns row (Some number) before after
+      → PutsEntry columns row number before after
       → IsIndex columns (record { rows = insert kept.rows key row; slots = kept.slots }) after
-  index_filled number slot absent free entry sets =
-      let made : (values : Key) → values_in columns row ≡ Some values → held after values ≡ Some number =
-      λ values has. elim (entry_at before values) as (λ o. entry_at before values ≡ o → held after values ≡ Some number) [
-        | None ↦ λ none. absurd (let some = entry values has in let no : is_some (entry_at before values) ≡ false = ap is_some none in cc)
-        | Some b ↦ λ some. ap number_in (sets.here values has ∙ ap (with_number (Some number)) some)
-      ] refl
-      in
+  index_filled number slot absent free puts =
       record {
         holds = λ other there values n at at_slot has. elim (one_or_apart key other) [
           | inl same ↦
               let row_is : row ≡ there = let now : get (insert kept.rows key row) other ≡ Some row = subst (λ (k : Key). get (insert kept.rows key row) k ≡ Some row) same (get_inserted kept.rows key row) in cc in
               let number_is : number ≡ n = let mine : get kept.slots other ≡ Some number = ap (get kept.slots) (sym same) ∙ slot in cc in
-              made values (ap (values_in columns) row_is ∙ has) ∙ ap Some number_is
+              puts.here values (ap (values_in columns) row_is ∙ has) ∙ ap Some number_is
           | inr apart ↦
               let old_at = sym (get_beside_insert kept.rows key row other apart) ∙ at in
               let old = was.holds other there values n old_at at_slot has in
-              ap number_in (sets.beside values (λ mine. let gone = free values mine in cc)) ∙ old
+              puts.beside values (λ mine. let gone = free values mine in cc) ∙ old
         ];
         only = λ values n e. elim (has_or_not (values_in columns row) values) [
           | inl has ↦
-              let mine = made values has in
+              let mine = puts.here values has in
               let number_is : number ≡ n = cc in
               record { key = key; row = row; slot = slot ∙ ap Some number_is; at = get_inserted kept.rows key row; has = has }
           | inr has_not ↦
-              let h = was.only values n (sym (ap number_in (sets.beside values has_not)) ∙ e) in
+              let h = was.only values n (sym (puts.beside values has_not) ∙ e) in
               elim (one_or_apart key h.key) [
                 | inl same ↦ absurd (let gone : get kept.rows h.key ≡ None = ap (get kept.rows) (sym same) ∙ absent in let at = h.at in cc)
                 | inr apart ↦ record { key = h.key; row = h.row; slot = h.slot; at = get_beside_insert kept.rows key row h.key apart ∙ h.at; has = h.has }

@@ -15,7 +15,7 @@ use Rattle.rows.specs.KeyLaws.{one_or_apart, get_inserted, get_beside_insert, ge
 use Rattle.indexes.specs.declared.unique.Unique.{Unique}
 use Rattle.indexes.specs.Hashed.{hashed_cmp}
 use Rattle.indexes.specs.Unique as step
-use Rattle.indexes.specs.Unique.{Entries, entry_at, held, held_by, with_number, number_in, HasEntry, SetsEntry, Sets, EachStep, EachHasSlot}
+use Rattle.indexes.specs.Unique.{Entries, entry_at, held, held_by, with_number, number_in, HasEntry, SetsEntry, Sets, Puts, EachStep, EachHasSlot}
 use Rattle.indexes.specs.Table.{Spot, spots_of, KeepsSpots, NoClash, HasValues, IsTwin, IsSound}
 use Rattle.indexes.specs.Indexed.{IsIndex, IsIndexed, room_of, columns_of}
 use Rattle.indexes.proofs.Indexing.{has_or_not, index_kept, index_filled, index_cleared}
@@ -127,11 +127,45 @@ free_values keys primary kept us row is was clash k d l values has =
           absurd (clash k (slice_index_or us k d).columns.items h.key values h.row (ap (λ cs. slice_get cs k) is ∙ columns_at us k d l) h.at h.has has)
     ] refl
 
+written : (number : ℕ) (o : Option (Option ℕ)) → IsSome o → number_in (with_number (Some number) o) ≡ Some number
+written number None some = absurd cc
+written number (Some before) some = refl
+
+-- a number that is set where there is an entry comes there
+pub sets_put : (row : Row) (number : ℕ) (us vs : List Unique) → EachHasSlot row us → EachStep (Sets row (Some number)) us vs → EachStep (Puts row number) us vs
+sets_put row number us vs entry steps = record {
+  long = steps.long;
+  each = λ k d l.
+      let s = steps.each k d l in
+      record {
+        columns = s.columns;
+        entries = record {
+          here = λ values has. ap number_in (s.entries.here values has) ∙ written number (entry_at (slice_index_or us k d).entries values) (entry k d l values has);
+          beside = λ values has_not. ap number_in (s.entries.beside values has_not);
+          entries = sets_keep _ row (Some number) _ _ s.entries;
+        };
+      };
+}
+
+held_entry : (entries : Entries) (values : Key) (number : ℕ) → held entries values ≡ Some number → IsSome (entry_at entries values)
+held_entry entries values number e = by_entry (entry_at entries values) e
+  where
+    by_entry : (o : Option (Option ℕ)) → number_in o ≡ Some number → IsSome o
+    by_entry None e = absurd cc
+    by_entry (Some b) e = refl
+
+-- where it came there is an entry
+pub entries_of_puts : (row : Row) (number : ℕ) (us vs : List Unique) → EachStep (Puts row number) us vs → EachHasSlot row vs
+entries_of_puts row number us vs steps k d l values has =
+    let within : k < length us = let e = steps.long in omega arith in
+    let s = steps.each k d within in
+    held_entry (slice_index_or vs k d).entries values number (s.entries.here values (ap (λ cs. values_in cs row) (sym s.columns) ∙ has))
+
 pub indexed_filled : (primary : List ℕ) (kept : Kept) (us vs : List Unique) (key : Key) (row : Row) (number : ℕ) → IsIndexed primary kept us
     → values_in primary row ≡ Some key → get kept.slots key ≡ Some number → get kept.rows key ≡ None
     → ((k : ℕ) (d : Unique) → k < length us → (values : Key) → values_in (slice_index_or us k d).columns.items row ≡ Some values → held (slice_index_or us k d).entries values ≡ None)
-    → EachHasSlot row us → EachStep (Sets row (Some number)) us vs → IsIndexed primary (record { rows = insert kept.rows key row; slots = kept.slots }) vs
-indexed_filled primary kept us vs key row number was own slot absent free entry steps = record {
+    → EachStep (Puts row number) us vs → IsIndexed primary (record { rows = insert kept.rows key row; slots = kept.slots }) vs
+indexed_filled primary kept us vs key row number was own slot absent free steps = record {
   own_key = λ other there at. elim (one_or_apart key other) [
     | inl same ↦
         let now : get (insert kept.rows key row) other ≡ Some row = subst (λ (k : Key). get (insert kept.rows key row) k ≡ Some row) same (get_inserted kept.rows key row) in
@@ -143,7 +177,7 @@ indexed_filled primary kept us vs key row number was own slot absent free entry 
       let within : k < length us = let e = steps.long in omega arith in
       let s = steps.each k d within in
       subst (λ (cs : List ℕ). IsIndex cs (record { rows = insert kept.rows key row; slots = kept.slots }) (slice_index_or vs k d).entries) (sym s.columns)
-      (index_filled _ kept _ _ (was.each k d within) key row number slot absent (free k d within) (entry k d within) s.entries);
+      (index_filled _ kept _ _ (was.each k d within) key row number slot absent (free k d within) s.entries);
   numbered = was.numbered;
   slotted = λ other there at. elim (one_or_apart key other) [
     | inl same ↦ (number, ap (get kept.slots) (sym same) ∙ slot)
@@ -170,13 +204,6 @@ indexed_cleared primary kept us vs key row was there steps =
     }
 
 -- ---- soundness
-
-held_entry : (entries : Entries) (values : Key) (number : ℕ) → held entries values ≡ Some number → IsSome (entry_at entries values)
-held_entry entries values number e = by_entry (entry_at entries values) e
-  where
-    by_entry : (o : Option (Option ℕ)) → number_in o ≡ Some number → IsSome o
-    by_entry None e = absurd cc
-    by_entry (Some b) e = refl
 
 pub sound : (keys : TableKeys) (kept : Kept) (us : List Unique) → keys.uniques ≡ columns_of us → IsIndexed keys.primary kept us
     → IsSound (record { keys = keys; rows = kept.rows; room = room_of kept us })

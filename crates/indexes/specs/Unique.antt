@@ -1,7 +1,7 @@
 -- The index of a unique key: what it holds, and what each of its calls changes.
 --     held, held_by      the number at some values, if there is an entry with one; at those of a row
 --     KeepsSlots, HasSlot      no number changes and no entry goes; there is an entry for the row's values
---     Sets, Settles      the number at the row's values is set; their entry is dropped if it has none
+--     Sets, Puts, Settles      the number at the row's values is set; it comes there; their entry is dropped if it has none
 use Rattle.std.specs.Prelude.{◌≡◌, ◌≢◌, ℕ, ◌<◌, false, List, [], length, Option, Some, None, IsSome, slice_index_or, map}
 use Rattle.std.specs.Ordering.{eq_by_cmp}
 use Rattle.std.specs.BTreeMap as tree
@@ -53,6 +53,17 @@ pub record SetsEntry (columns : List ℕ) (row : Row) (number : Option ℕ) (old
   pub here : (values : Key) → values_in columns row ≡ Some values → entry_at new values ≡ with_number number (entry_at old values)
   pub beside : (values : Key) → values_in columns row ≢ Some values → entry_at new values ≡ entry_at old values
 
+-- the number comes to the row's values, no other changes, and no entry goes
+pub record PutsEntry (columns : List ℕ) (row : Row) (number : ℕ) (old new : Entries) : Type 0 where
+  pub here : (values : Key) → values_in columns row ≡ Some values → held new values ≡ Some number
+  pub beside : (values : Key) → values_in columns row ≢ Some values → held new values ≡ held old values
+  pub entries : (values : Key) → IsSome (entry_at old values) → IsSome (entry_at new values)
+
+-- a number may have come to the row's values, and that is all
+pub record MayPutEntry (columns : List ℕ) (row : Row) (old new : Entries) : Type 0 where
+  pub beside : (values : Key) → values_in columns row ≢ Some values → held new values ≡ held old values
+  pub entries : (values : Key) → IsSome (entry_at old values) → IsSome (entry_at new values)
+
 -- the entry for the row's values goes if it has no number, and nothing else changes
 pub record SettlesEntry (columns : List ℕ) (row : Row) (old new : Entries) : Type 0 where
   pub gone : (values : Key) → values_in columns row ≡ Some values → held old values ≡ None → entry_at new values ≡ None
@@ -72,6 +83,18 @@ pub record Sets (row : Row) (number : Option ℕ) (old new : Unique) : Type 0 wh
   pub columns : new.columns.items ≡ old.columns.items
   pub entries : SetsEntry old.columns.items row number old.entries new.entries
 
+pub record Puts (row : Row) (number : ℕ) (old new : Unique) : Type 0 where
+  pub columns : new.columns.items ≡ old.columns.items
+  pub entries : PutsEntry old.columns.items row number old.entries new.entries
+
+pub record MayPut (row : Row) (old new : Unique) : Type 0 where
+  pub columns : new.columns.items ≡ old.columns.items
+  pub entries : MayPutEntry old.columns.items row old.entries new.entries
+
+-- no number stands at the row's values
+abbrev pub IsFree : Row → Unique → Type 0
+IsFree row unique = (values : Key) → values_in unique.columns.items row ≡ Some values → held unique.entries values ≡ None
+
 pub record Settles (row : Row) (old new : Unique) : Type 0 where
   pub columns : new.columns.items ≡ old.columns.items
   pub entries : SettlesEntry old.columns.items row old.entries new.entries
@@ -84,6 +107,9 @@ pub record EachStep (Step : Unique → Unique → Type 0) (old new : List Unique
 
 abbrev pub EachHasSlot : Row → List Unique → Type 0
 EachHasSlot row uniques = (k : ℕ) (d : Unique) → k < length uniques → HasSlot row (slice_index_or uniques k d)
+
+abbrev pub EachIsFree : Row → List Unique → Type 0
+EachIsFree row uniques = (k : ℕ) (d : Unique) → k < length uniques → IsFree row (slice_index_or uniques k d)
 
 -- no values have an entry
 abbrev pub HasNone : Unique → Type 0

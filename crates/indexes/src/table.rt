@@ -8,7 +8,9 @@ ghost use Rattle.model.specs.declared.key.Key.{Key as AnyKey};
 ghost use Rattle.indexes.specs.Table.{Spot, IsSound, IsOfSettled, IsFilled, HasValues, IsTwin, NoClash, KeepsSpots, spots_of, unique_at};
 
 use crate::columns::values_of;
-use crate::unique::{Unique, copy_each, copy_numbers, reserve_each, set_each, settle_each};
+use crate::unique::{
+    Unique, copy_each, copy_numbers, put_each, reserve_each, set_each, settle_each,
+};
 use model::{Key, OutOfMemory, Row, TableDef};
 use rows::{OrderedRows, RowView, Walk};
 use std::alloc::Global;
@@ -233,8 +235,9 @@ impl Table {
         ensures room { OnOk result (KeepsSpots (spots_of self.new.keys row) self.new.room) }
         ensures sound { IsSound self.new }
     {
-        self.reserve(key, &row)?;
-        self.put_back(key, row);
+        let number = self.rows.reserve(key)?;
+        put_each(self.alloc, &mut self.uniques, &row, number)?;
+        self.rows.restore(key, row);
         Ok(())
     }
 

@@ -1,11 +1,11 @@
 // The index of a unique key.
-ghost use Rattle.std.specs.Prelude.{◌≡◌, map, IfOk, OnOk, IsSome, None, false};
+ghost use Rattle.std.specs.Prelude.{◌≡◌, map, IfOk, OnOk, OnErr, IsSome, None, false};
 ghost use Rattle.std.specs.Ordering.{eq_by_cmp};
 ghost use Rattle.model.specs.declared.key.Key.{Key as AnyKey};
 ghost use Rattle.model.specs.Rows.{values_in};
 ghost use Rattle.indexes.specs.Columns.{present};
 ghost use Rattle.indexes.specs.Hashed.{hashed_cmp};
-ghost use Rattle.indexes.specs.Unique.{plain, HasNone, held, held_by, entry_at, with_number, SameApart, KeepsEntries, HasEntry, SetsEntry, SettlesEntry, KeepsSlots, HasSlot, Sets, Settles, EachStep, EachHasSlot};
+ghost use Rattle.indexes.specs.Unique.{plain, HasNone, held, held_by, entry_at, with_number, SameApart, KeepsEntries, HasEntry, SetsEntry, PutsEntry, SettlesEntry, KeepsSlots, HasSlot, Sets, Puts, MayPut, Settles, EachStep, EachHasSlot, EachIsFree};
 
 use crate::columns::{has_values, values_of};
 use crate::hashed::{Hashed, Sought, SoughtKey};
@@ -75,6 +75,20 @@ impl Unique {
         set_entry(self.columns.as_slice(), &mut self.entries, row, number);
     }
 
+    // Puts a number at a row's values, if it has them all, with an entry for it if there is none.
+    fn put(&mut self, alloc: Global, row: &Row, number: usize) -> Result<(), OutOfMemory>
+        ensures ok { OnOk result (Puts row.now number self.old self.new) }
+        ensures err { OnErr result (KeepsSlots self.old self.new) }
+    {
+        put_entry(
+            alloc,
+            self.columns.as_slice(),
+            &mut self.entries,
+            row,
+            number,
+        )
+    }
+
     // Drops the entry for a row's values if it has no number.
     fn settle(&mut self, row: &Row)
         ensures { Settles row.now self.old self.new }
@@ -141,6 +155,53 @@ fn set_all(uniques: &mut [Unique], row: &Row, number: Option<usize>)
     }
 }
 
+// A number at a row's values in each index, where none is. Refused for memory, no number stands there.
+pub(crate) fn put_each(
+    alloc: Global,
+    uniques: &mut Vec<Unique>,
+    row: &Row,
+    number: usize,
+) -> Result<(), OutOfMemory>
+    requires { EachIsFree row.now uniques.old.items }
+    ensures ok { OnOk result (EachStep (Puts row.now number) uniques.old.items uniques.new.items) }
+    ensures err { OnErr result (EachStep KeepsSlots uniques.old.items uniques.new.items) }
+{
+    put_all(alloc, uniques.as_mut_slice(), row, number)
+}
+
+fn put_all(
+    alloc: Global,
+    uniques: &mut [Unique],
+    row: &Row,
+    number: usize,
+) -> Result<(), OutOfMemory>
+    requires { EachIsFree row.now uniques.old }
+    ensures ok { OnOk result (EachStep (Puts row.now number) uniques.old uniques.new) }
+    ensures err { OnErr result (EachStep KeepsSlots uniques.old uniques.new) }
+{
+    if put_some(alloc, uniques, row, number).is_err() {
+        set_all(uniques, row, None);
+        return Err(OutOfMemory);
+    }
+    Ok(())
+}
+
+// As far as memory goes.
+fn put_some(
+    alloc: Global,
+    uniques: &mut [Unique],
+    row: &Row,
+    number: usize,
+) -> Result<(), OutOfMemory>
+    ensures ok { OnOk result (EachStep (Puts row.now number) uniques.old uniques.new) }
+    ensures err { OnErr result (EachStep (MayPut row.now) uniques.old uniques.new) }
+{
+    for unique in uniques.iter_mut() {
+        unique.put(alloc, row, number)?;
+    }
+    Ok(())
+}
+
 // In each index, drops the entry for a row's values if it has no number.
 pub(crate) fn settle_each(uniques: &mut Vec<Unique>, row: &Row)
     ensures { EachStep (Settles row.now) uniques.old.items uniques.new.items }
@@ -197,6 +258,22 @@ fn add_entry(entries: &mut BTreeMap<Hashed, Option<usize>>, values: Key) -> Resu
     ensures ok { OnOk result (IsSome (entry_at entries.new values)) }
 {
     entries.insert(Hashed::of(values), None)?;
+    Ok(())
+}
+
+fn put_entry(
+    alloc: Global,
+    columns: &[usize],
+    entries: &mut BTreeMap<Hashed, Option<usize>>,
+    row: &Row,
+    number: usize,
+) -> Result<(), OutOfMemory>
+    ensures ok { OnOk result (PutsEntry columns.now row.now number entries.old entries.new) }
+    ensures err { OnErr result (KeepsEntries entries.old entries.new) }
+{
+    if let Some(values) = values_of(alloc, columns, row)? {
+        entries.insert(Hashed::of(values), Some(number))?;
+    }
     Ok(())
 }
 

@@ -7,7 +7,7 @@ use Rattle.rows.specs.Kept.{Kept}
 use Rattle.indexes.specs.Table.{TableContent, KeepsSpots, spots_of, NoClash}
 use Rattle.indexes.specs.Unique.{EachStep, Sets}
 use Rattle.indexes.specs.Indexed.{IsIndexed, columns_of}
-use Rattle.indexes.proofs.Tabling.{same_columns, room_kept, entries_after_set, slot_of_room, entries_of_room, indexed_filled, free_values, kept_is, sound}
+use Rattle.indexes.proofs.Tabling.{same_columns, room_kept, entries_after_set, slot_of_room, entries_of_room, sets_put, indexed_filled, free_values, kept_is, sound}
 use Rattle.indexes.proofs.table.Table.put_back.Goals as goal
 
 pub restore-requires : goal.restore-requires
@@ -33,7 +33,7 @@ invariant_of-self c =
     subst (λ (k : Kept). IsIndexed c.self.inside.primary.items k vs)
     (sym (kept_is c.restore.new.self (insert kept.rows c.args.key.now c.args.row) kept.slots c.restore.ensures.rows c.restore.ensures.slots))
     (indexed_filled c.self.inside.primary.items kept us vs c.args.key.now c.args.row place.0 c.self.invariant own place.1 absent
-    (free_values keys c.self.inside.primary.items kept us c.args.row refl c.self.invariant clash) (entries_of_room keys kept us c.args.row refl room) steps)
+    (free_values keys c.self.inside.primary.items kept us c.args.row refl c.self.invariant clash) (sets_put c.args.row place.0 us vs (entries_of_room keys kept us c.args.row refl room) steps))
 
 pub returns-clause-keys : goal.returns-clause-keys
 returns-clause-keys c =
