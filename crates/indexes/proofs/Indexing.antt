@@ -70,6 +70,30 @@ module _ (columns : List ℕ) (kept : Kept) (before after : Entries) (was : IsIn
         ];
       }
 
+  -- a row came in place of one with the same values
+  pub index_swapped : (stood : Row) → get kept.rows key ≡ Some stood → values_in columns row ≡ values_in columns stood
+      → IsIndex columns (record { rows = insert kept.rows key row; slots = kept.slots }) before
+  index_swapped stood there agrees =
+      record {
+        holds = λ other found values n at at_slot has. elim (one_or_apart key other) [
+          | inl same ↦
+              let row_is : row ≡ found = let now : get (insert kept.rows key row) other ≡ Some row = subst (λ (k : Key). get (insert kept.rows key row) k ≡ Some row) same (get_inserted kept.rows key row) in cc in
+              was.holds other stood values n (ap (get kept.rows) (sym same) ∙ there) at_slot (sym agrees ∙ ap (values_in columns) row_is ∙ has)
+          | inr apart ↦ was.holds other found values n (sym (get_beside_insert kept.rows key row other apart) ∙ at) at_slot has
+        ];
+        only = λ values n e.
+            let h = was.only values n e in
+            elim (one_or_apart key h.key) [
+              | inl same ↦
+                  let mine : get kept.rows h.key ≡ Some stood = ap (get kept.rows) (sym same) ∙ there in
+                  let at = h.at in
+                  let row_is : h.row ≡ stood = cc in
+                  let now : get (insert kept.rows key row) h.key ≡ Some row = subst (λ (k : Key). get (insert kept.rows key row) k ≡ Some row) same (get_inserted kept.rows key row) in
+                  record { key = h.key; row = row; slot = h.slot; at = now; has = agrees ∙ ap (values_in columns) (sym row_is) ∙ h.has }
+              | inr apart ↦ record { key = h.key; row = h.row; slot = h.slot; at = get_beside_insert kept.rows key row h.key apart ∙ h.at; has = h.has }
+            ];
+      }
+
   -- a row went
   pub index_cleared : IsNumbered kept.slots → IsSlotted kept → get kept.rows key ≡ Some row → SetsEntry columns row None before after
       → IsIndex columns (record { rows = remove kept.rows key; slots = kept.slots }) after

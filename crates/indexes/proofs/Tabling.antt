@@ -11,14 +11,14 @@ use Rattle.model.specs.declared.key.Key.{Key}
 use Rattle.model.specs.declared.row.Row.{Row}
 use Rattle.model.specs.Rows.{TableKeys, values_in}
 use Rattle.rows.specs.Kept.{Kept, KeepsSlots, IsNumbered}
-use Rattle.rows.specs.KeyLaws.{one_or_apart, get_inserted, get_beside_insert, get_removed, get_beside_remove}
+use Rattle.rows.specs.KeyLaws.{one_or_apart, get_inserted, get_beside_insert, get_removed, get_beside_remove, same_at_and_beside}
 use Rattle.indexes.specs.declared.unique.Unique.{Unique}
 use Rattle.indexes.specs.Hashed.{hashed_cmp}
 use Rattle.indexes.specs.Unique as step
-use Rattle.indexes.specs.Unique.{Entries, entry_at, held, held_by, with_number, number_in, HasEntry, SetsEntry, Sets, Puts, EachStep, EachHasSlot}
+use Rattle.indexes.specs.Unique.{Entries, entry_at, held, held_by, with_number, number_in, HasEntry, SetsEntry, Sets, Puts, EachStep, EachHasSlot, EachAgrees}
 use Rattle.indexes.specs.Table.{Spot, spots_of, KeepsSpots, NoClash, HasValues, IsTwin, IsSound}
 use Rattle.indexes.specs.Indexed.{IsIndex, IsIndexed, room_of, columns_of}
-use Rattle.indexes.proofs.Indexing.{has_or_not, index_kept, index_filled, index_cleared}
+use Rattle.indexes.proofs.Indexing.{has_or_not, index_kept, index_filled, index_swapped, index_cleared}
 use Rattle.indexes.proofs.Room.{key_spot, unique_spot, spot_of, key_in_room, entry_in_room, in_room, columns_at, column_within}
 
 -- ---- columns
@@ -202,6 +202,39 @@ indexed_cleared primary kept us vs key row was there steps =
       numbered = was.numbered;
       slotted = λ other twin at. was.slotted other twin (before other twin at);
     }
+
+pub indexed_swapped : (primary : List ℕ) (kept : Kept) (us : List Unique) (key : Key) (row stood : Row) → IsIndexed primary kept us
+    → values_in primary row ≡ Some key → get kept.rows key ≡ Some stood → EachAgrees row stood us
+    → IsIndexed primary (record { rows = insert kept.rows key row; slots = kept.slots }) us
+indexed_swapped primary kept us key row stood was own there agrees = record {
+  own_key = λ other found at. elim (one_or_apart key other) [
+    | inl same ↦
+        let now : get (insert kept.rows key row) other ≡ Some row = subst (λ (k : Key). get (insert kept.rows key row) k ≡ Some row) same (get_inserted kept.rows key row) in
+        let row_is : row ≡ found = cc in
+        ap (values_in primary) (sym row_is) ∙ own ∙ ap Some same
+    | inr apart ↦ was.own_key other found (sym (get_beside_insert kept.rows key row other apart) ∙ at)
+  ];
+  each = λ k d l. index_swapped (slice_index_or us k d).columns.items kept (slice_index_or us k d).entries (slice_index_or us k d).entries (was.each k d l) key row stood there (agrees k d l);
+  numbered = was.numbered;
+  slotted = λ other found at. elim (one_or_apart key other) [
+    | inl same ↦ let place = was.slotted key stood there in (place.0, ap (get kept.slots) (sym same) ∙ place.1)
+    | inr apart ↦ was.slotted other found (sym (get_beside_insert kept.rows key row other apart) ∙ at)
+  ];
+}
+
+-- rows that agree in each index agree in each unique key
+pub agree_in_keys : (us : List Unique) (row stood : Row) → EachAgrees row stood us
+    → (i : ℕ) (columns : List ℕ) → slice_get (columns_of us) i ≡ Some columns → values_in columns row ≡ values_in columns stood
+agree_in_keys us row stood agrees i columns at =
+    let within = column_within us i columns at in
+    ap (λ cs. values_in cs row) (sym within.2) ∙ agrees i within.1 within.0 ∙ ap (λ cs. values_in cs stood) within.2
+
+-- a row that is put in the place of one at its key
+pub put_in_place : (rows : FinMap key_cmp Row) (key new_key : Key) (row : Row) → key ≡ new_key → insert rows key row ≡ insert (remove rows key) new_key row
+put_in_place rows key new_key row same =
+    subst (λ (k : Key). insert rows key row ≡ insert (remove rows key) k row) same
+    (same_at_and_beside _ _ key (get_inserted rows key row ∙ sym (get_inserted (remove rows key) key row))
+    (λ other apart. get_beside_insert rows key row other apart ∙ sym (get_beside_remove rows key other apart) ∙ sym (get_beside_insert (remove rows key) key row other apart)))
 
 -- ---- soundness
 

@@ -63,6 +63,10 @@ HasValues rows columns key values = (row : Record) × (finite.get rows key ≡ S
 abbrev pub IsTwin : FinMap key_cmp Record → List ℕ → Key → Record → Type 0
 IsTwin rows columns key row = (values : Key) × (values_in columns row ≡ Some values) × HasValues rows columns key values
 
+-- a row has the values of the one at a key in each unique key
+abbrev pub KeepsValues : TableContent → Key → Record → Type 0
+KeepsValues t key row = (stood : Record) → finite.get t.rows key ≡ Some stood → (i : ℕ) (columns : List ℕ) → slice_get t.keys.uniques i ≡ Some columns → values_in columns row ≡ values_in columns stood
+
 -- the key's spot, and those that the row's unique values fill: what settling the two may give up
 abbrev pub IsOfSettled : TableKeys → Key → Record → Spot → Type 0
 IsOfSettled keys key row s = (s ≡ (0, key)) ⊎ Contains (unique_spots row 1 keys.uniques) s

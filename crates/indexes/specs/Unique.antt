@@ -108,6 +108,10 @@ pub record EachStep (Step : Unique → Unique → Type 0) (old new : List Unique
 abbrev pub EachHasSlot : Row → List Unique → Type 0
 EachHasSlot row uniques = (k : ℕ) (d : Unique) → k < length uniques → HasSlot row (slice_index_or uniques k d)
 
+-- two rows have the same values in each unique key
+abbrev pub EachAgrees : Row → Row → List Unique → Type 0
+EachAgrees row other uniques = (k : ℕ) (d : Unique) → k < length uniques → values_in (slice_index_or uniques k d).columns.items row ≡ values_in (slice_index_or uniques k d).columns.items other
+
 abbrev pub EachIsFree : Row → List Unique → Type 0
 EachIsFree row uniques = (k : ℕ) (d : Unique) → k < length uniques → IsFree row (slice_index_or uniques k d)
 

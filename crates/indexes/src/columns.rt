@@ -1,5 +1,5 @@
 // A row's values in the columns of a key.
-ghost use Rattle.std.specs.Prelude.{◌≡◌, IfOk, is_some};
+ghost use Rattle.std.specs.Prelude.{◌≡◌, true, IfOk, is_some};
 ghost use Rattle.std.specs.Option.{option_copied};
 ghost use Rattle.model.specs.Rows.{value_at, values_in};
 
@@ -26,6 +26,28 @@ pub(crate) fn has_values(columns: &[usize], row: &Row) -> bool
         }
     }
     true
+}
+
+// Whether two rows have the same values, or nulls, in these columns.
+pub(crate) fn agree(columns: &[usize], row: &Row, other: &Row) -> bool
+    ensures { result ≡ true → values_in columns.now row.now ≡ values_in columns.now other.now }
+{
+    for column in columns {
+        if !agree_at(*column, row, other) {
+            return false;
+        }
+    }
+    true
+}
+
+fn agree_at(column: usize, row: &Row, other: &Row) -> bool
+    ensures { result ≡ true → value_at row.now column ≡ value_at other.now column }
+{
+    match (value_of(row, column), value_of(other, column)) {
+        (Some(own), Some(others)) => *own == *others,
+        (None, None) => true,
+        _ => false,
+    }
 }
 
 // A row's values in these columns; none if one of them is null.

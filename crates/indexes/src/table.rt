@@ -1,15 +1,15 @@
 // One table: its rows, and an index for each unique key.
-ghost use Rattle.std.specs.Prelude.{◌≡◌, ◌≢◌, ◌+◌, ◌-◌, ◌<◌, ◌≤◌, IfOk, OnOk, OnErr, IfSome, IfNone, IsSome, Some, None, length, ◌^◌};
+ghost use Rattle.std.specs.Prelude.{◌≡◌, ◌≢◌, ◌+◌, ◌-◌, ◌<◌, ◌≤◌, IfOk, OnOk, OnErr, IfSome, IfNone, IsSome, Some, None, true, length, ◌^◌};
 ghost use Rattle.std.specs.FinMap as finite;
 ghost use Rattle.std.specs.List.{AllByRecursion, Contains};
 ghost use Rattle.model.specs.Rows.{values_in, keys_of};
 ghost use Rattle.indexes.specs.Unique.{HasNone, columns_of};
 ghost use Rattle.model.specs.declared.key.Key.{Key as AnyKey};
-ghost use Rattle.indexes.specs.Table.{Spot, IsSound, IsOfSettled, IsFilled, HasValues, IsTwin, NoClash, KeepsSpots, spots_of, unique_at};
+ghost use Rattle.indexes.specs.Table.{Spot, IsSound, IsOfSettled, IsFilled, HasValues, IsTwin, KeepsValues, NoClash, KeepsSpots, spots_of, unique_at};
 
 use crate::columns::values_of;
 use crate::unique::{
-    Unique, copy_each, copy_numbers, put_each, reserve_each, set_each, settle_each,
+    Unique, agree_in_each, copy_each, copy_numbers, put_each, reserve_each, set_each, settle_each,
 };
 use model::{Key, OutOfMemory, Row, TableDef};
 use rows::{OrderedRows, RowView, Walk};
@@ -260,6 +260,40 @@ impl Table {
         stood
     }
 
+    // Whether a row has the values of the one at a key in each unique key.
+    fn keeps_values(&self, key: &Key, row: &Row) -> Result<bool, OutOfMemory>
+        ensures values { IfOk result (λ kept. kept ≡ true → KeepsValues self.now key.now row.now) }
+        ensures sound { IsSound self.now }
+    {
+        // That it is sound is told here.
+        let _count = self.unique_count();
+        match self.rows.get(key) {
+            Some(stood) => {
+                let stood = stood.to_row()?;
+                Ok(agree_in_each(self.uniques.as_slice(), row, &stood))
+            }
+            None => Ok(false),
+        }
+    }
+
+    // A row takes the place of the one at its key, whose unique values it has: no index changes.
+    fn swap(&mut self, key: &Key, row: Row) -> Row
+        requires there { IsSome (finite.get self.old.rows key.now) }
+        requires own_key { values_in self.old.keys.primary row ≡ Some key.now }
+        requires values { KeepsValues self.old key.now row }
+        ensures keys { self.new.keys ≡ self.old.keys }
+        ensures rows { self.new.rows ≡ finite.insert self.old.rows key.now row }
+        ensures stood { finite.get self.old.rows key.now ≡ Some result }
+        ensures kept { KeepsSpots self.old.room self.new.room }
+        ensures room { KeepsSpots (spots_of self.new.keys row) self.new.room }
+        ensures sound { IsSound self.new }
+    {
+        match self.rows.replace(key, row) {
+            Some(stood) => stood,
+            None => unreachable!(),
+        }
+    }
+
     /// A row takes the place of the one at a key, and may have another key. The answer is the row
     /// that stood there. A refusal changes no row.
     pub fn replace(&mut self, key: &Key, new_key: &Key, row: Row) -> Result<Row, OutOfMemory>
@@ -275,6 +309,9 @@ impl Table {
         ensures room { OnOk result (KeepsSpots (spots_of self.new.keys row) self.new.room) }
         ensures sound { IsSound self.new }
     {
+        if *key == *new_key && self.keeps_values(key, &row)? {
+            return Ok(self.swap(key, row));
+        }
         self.reserve(new_key, &row)?;
         Ok(self.replace_back(key, new_key, row))
     }

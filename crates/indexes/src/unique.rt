@@ -1,13 +1,13 @@
 // The index of a unique key.
-ghost use Rattle.std.specs.Prelude.{◌≡◌, map, IfOk, OnOk, OnErr, IsSome, None, false};
+ghost use Rattle.std.specs.Prelude.{◌≡◌, map, IfOk, OnOk, OnErr, IsSome, None, true, false};
 ghost use Rattle.std.specs.Ordering.{eq_by_cmp};
 ghost use Rattle.model.specs.declared.key.Key.{Key as AnyKey};
 ghost use Rattle.model.specs.Rows.{values_in};
 ghost use Rattle.indexes.specs.Columns.{present};
 ghost use Rattle.indexes.specs.Hashed.{hashed_cmp};
-ghost use Rattle.indexes.specs.Unique.{plain, HasNone, held, held_by, entry_at, with_number, SameApart, KeepsEntries, HasEntry, SetsEntry, PutsEntry, SettlesEntry, KeepsSlots, HasSlot, Sets, Puts, MayPut, Settles, EachStep, EachHasSlot, EachIsFree};
+ghost use Rattle.indexes.specs.Unique.{plain, HasNone, held, held_by, entry_at, with_number, SameApart, KeepsEntries, HasEntry, SetsEntry, PutsEntry, SettlesEntry, KeepsSlots, HasSlot, Sets, Puts, MayPut, Settles, EachStep, EachHasSlot, EachAgrees, EachIsFree};
 
-use crate::columns::{has_values, values_of};
+use crate::columns::{agree, has_values, values_of};
 use crate::hashed::{Hashed, Sought, SoughtKey};
 use model::{Key, OutOfMemory, Row};
 use std::alloc::Global;
@@ -116,6 +116,18 @@ pub(crate) fn copy_each(alloc: Global, uniques: &[Unique]) -> Result<Vec<Unique>
         copies.push(unique.copy()?)?;
     }
     Ok(copies)
+}
+
+// Whether two rows have the same values in each index.
+pub(crate) fn agree_in_each(uniques: &[Unique], row: &Row, other: &Row) -> bool
+    ensures { result ≡ true → EachAgrees row.now other.now uniques.now }
+{
+    for unique in uniques {
+        if !agree(unique.columns.as_slice(), row, other) {
+            return false;
+        }
+    }
+    true
 }
 
 // An entry in each index for a row's values there.

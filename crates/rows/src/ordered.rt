@@ -145,7 +145,17 @@ impl OrderedRows {
         ensures rows { self.new.rows ≡ map.insert self.old.rows key.now row }
         ensures slots { self.new.slots ≡ self.old.slots }
     {
-        set_row(&mut self.slots, key, Some(row));
+        self.replace(key, row);
+    }
+
+    /// Puts a row into its key's slot, and answers the one that was there. It takes no memory.
+    pub fn replace(&mut self, key: &Key, row: Row) -> Option<Row>
+        requires { IsSome (map.get self.old.slots key.now) }
+        ensures stood { result ≡ map.get self.old.rows key.now }
+        ensures rows { self.new.rows ≡ map.insert self.old.rows key.now row }
+        ensures slots { self.new.slots ≡ self.old.slots }
+    {
+        set_row(&mut self.slots, key, Some(row))
     }
 
     /// Puts a row at a key. A refusal changes no row and no slot.

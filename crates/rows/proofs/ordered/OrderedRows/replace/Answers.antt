@@ -2,8 +2,8 @@ use Rattle.std.specs.Prelude.{Some, refl, IsSome}
 use Rattle.std.proofs.Common.{sym, ◌∙◌, ap, subst}
 use Rattle.std.specs.FinMap.{get, insert}
 use Rattle.rows.specs.Kept.{Kept}
-use Rattle.rows.proofs.Slots.{numbers_in-set, rows_in-set}
-use Rattle.rows.proofs.ordered.OrderedRows.restore.Goals as goal
+use Rattle.rows.proofs.Slots.{numbers_in-set, rows_in-set, get-rows_in}
+use Rattle.rows.proofs.ordered.OrderedRows.replace.Goals as goal
 
 pub invariant_of-self : goal.invariant_of-self
 invariant_of-self c =
@@ -23,3 +23,7 @@ pub returns-clause-slots : goal.returns-clause-slots
 returns-clause-slots c =
     numbers_in-set c.self.inside.slots.entries c.set_row.new.slots.entries c.args.key.now c.set_row.ensures.beside (Some c.args.row) c.set_row.ensures.here
     ∙ ap (λ (k : Kept). k.slots) c.self.view_is
+
+pub returns-clause-stood : goal.returns-clause-stood
+returns-clause-stood c =
+    c.set_row.ensures.row ∙ sym (get-rows_in c.self.inside.slots.entries c.args.key.now) ∙ ap (λ (k : Kept). get k.rows c.args.key.now) c.self.view_is
