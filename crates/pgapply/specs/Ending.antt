@@ -81,6 +81,14 @@ pub record HasNoMemory (old new : List ℕ) (ended : Ended) : Type 0 where
   pub said : Says ended 4 memory_line
   pub nothing : new ≡ old
 
+-- The report of an outcome was appended.
+pub record IsTold (definitions : List Definition) (outcome : Outcome) (old new : List ℕ) (ended : Ended) : Type 0 where
+  pub report : new ≡ old ++ report_text definitions outcome.tables.rows outcome.position outcome.end
+  pub said : Says ended (end_status outcome.end) []
+
+abbrev pub Tells : List Definition → Outcome → List ℕ → List ℕ → Ended → Type 0
+Tells definitions outcome old new ended = IsTold definitions outcome old new ended ⊎ HasNoMemory old new ended
+
 abbrev pub Executes : List ℕ → ℕ → Devices → List ℕ → List ℕ → Ended → Type 0
 Executes bytes spool given old new ended =
     IsRefused bytes old new ended ⊎ HasReported bytes spool given old new ended ⊎ HasNoMemory old new ended

@@ -1,14 +1,16 @@
 // What each command runs on what it opened.
-ghost use Rattle.std.specs.Prelude.{◌≡◌, ◌≢◌, IfOk, IfErr};
+ghost use Rattle.std.specs.Prelude.{◌≡◌, ◌≢◌, map, IfOk, IfErr};
 ghost use Rattle.catalog.specs.declared.fault.CatalogFault.TheVariants as faults;
+ghost use Rattle.model.specs.Rows.{keys_of};
 ghost use Rattle.leader.specs.Run.{devices};
-ghost use Rattle.pgapply.specs.Ending.{Says, IsCatalog, IsFault, Executes, end_status, fault_status, fault_line};
+ghost use Rattle.pgapply.specs.Ending.{Says, IsCatalog, IsFault, Executes, Tells, end_status, fault_status, fault_line};
 
 use catalog::{Catalog, CatalogFault};
 use frames::{Sink, Source};
 use indexes::Tables;
-use leader::{Clock, Config, End, report, run_spooled};
+use leader::{Clock, Config, End, Outcome, report, run_spooled};
 use std::alloc::Global;
+use std::mem::ManuallyDrop;
 
 /// How a command ended.
 #[derive(Clone, Copy, Debug, PartialEq, Eq)]
@@ -49,7 +51,18 @@ pub fn execute<R: Source + Drop, W: Sink + Drop, C: Clock + Drop>(
         return OUT_OF_MEMORY;
     };
     let outcome = run_spooled(alloc, reader, writer, &catalog, start, config, clock);
-    match report(alloc, &outcome, &catalog, out) {
+    let ended = tell(alloc, &outcome, &catalog, out);
+    // The process ends with its report: the memory goes back as a whole, not row by row.
+    let _outcome = ManuallyDrop::new(outcome);
+    ended
+}
+
+/// Appends the report of what a run left.
+fn tell(alloc: Global, outcome: &Outcome, catalog: &Catalog, out: &mut Vec<u8>) -> Ended
+    requires { outcome.now.tables.schema ≡ map keys_of catalog.now }
+    ensures { Tells catalog.now outcome.now out.old.items out.new.items result }
+{
+    match report(alloc, outcome, catalog, out) {
         Ok(()) => Ended {
             status: status_of(outcome.end),
             line: "",
