@@ -5,7 +5,7 @@ use messages::{
     Column, Columns, Name, Oid, OldTuple, Relation, RelationColumn, ReplicaIdentity, RowMessage,
     Text, Tuple,
 };
-use model::{Change, ColumnPatch, Value};
+use model::{Change, ColumnPatch, Key, Value};
 use std::alloc::Global;
 use std::process::Abort;
 use std::sync::Arc;

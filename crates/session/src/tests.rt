@@ -37,7 +37,7 @@ const BEGUN: &str = "\
 const STREAMED: &str = "\
 53000002bc01 Ok(Open(700))\n\
 52000002c7000040017075626c6963006163636f756e7473006400020169640000000017ffffffff00636c6f7365640000000010ffffffff Ok(Item(700, Touch(711)))\n\
-44000002c7000040014b00027400000001316e Ok(Item(700, Change { sub: 711, change: Remove { table: 0, key: Key { values: One(Int(1)) } } }))\n\
+44000002c7000040014b00027400000001316e Ok(Item(700, Change { sub: 711, change: Remove { table: 0, key: Key { values: Int(1) } } }))\n\
 45 Ok(Nothing)\n\
 53000002bd00 Err(Session(UnknownTransaction))\n\
 53000002bd01 Ok(Nothing)\n\
