@@ -48,10 +48,11 @@ pub record SetsEntry (columns : List ℕ) (row : Row) (number : Option ℕ) (old
   pub here : (values : Key) → values_in columns row ≡ Some values → entry_at new values ≡ with_number number (entry_at old values)
   pub beside : (values : Key) → values_in columns row ≢ Some values → entry_at new values ≡ entry_at old values
 
--- the entry for the row's values goes if it has no number, and nothing else changes
+-- the entry for the row's values goes if it has no number, none comes, and nothing else changes
 pub record SettlesEntry (columns : List ℕ) (row : Row) (old new : Entries) : Type 0 where
   pub gone : (values : Key) → values_in columns row ≡ Some values → held old values ≡ None → entry_at new values ≡ None
   pub numbers : (values : Key) → held new values ≡ held old values
+  pub fewer : (values : Key) → IsSome (entry_at new values) → IsSome (entry_at old values)
   pub beside : (values : Key) → values_in columns row ≢ Some values → entry_at new values ≡ entry_at old values
 
 -- ---- of an index
