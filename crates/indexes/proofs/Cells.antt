@@ -144,6 +144,17 @@ room_after ts i t new at keeps c h =
           (cell_in (slice_set ts i new) r.i r.t r.spot (set_elsewhere ts i r.i new differs ∙ r.at) (contains_elem _ _ r.there))
     ]
 
+set_back : (ts : List TableContent) (i : ℕ) (t new : TableContent) → slice_get ts i ≡ Some t → slice_set (slice_set ts i new) i t ≡ ts
+set_back [] i t new at = absurd cc
+set_back (u ∷ ts) zero t new at = let same : t ≡ u = cc in ap (λ (w : TableContent). w ∷ ts) same
+set_back (u ∷ ts) (suc i) t new at = ap (λ us. u ∷ us) (set_back ts i t new at)
+
+-- where a table has fewer spots, all have fewer cells: the old ones are the new ones with the old table set back
+pub room_fewer : (ts : List TableContent) (i : ℕ) (t new : TableContent) → slice_get ts i ≡ Some t → KeepsSpots new.room t.room → Keeps (cells_from 0 (slice_set ts i new)) (cells_from 0 ts)
+room_fewer ts i t new at fewer =
+    subst (λ (us : List TableContent). Keeps (cells_from 0 (slice_set ts i new)) (cells_from 0 us)) (set_back ts i t new at)
+    (room_after (slice_set ts i new) i new t (set_there ts i t new at) fewer)
+
 pub room_elsewhere : (ts : List TableContent) (i : ℕ) (new : TableContent) → SameRoomElsewhere (cells_from 0 ts) (cells_from 0 (slice_set ts i new)) i
 room_elsewhere ts i new c differs h =
     let r = room_at 0 ts c (elem_contains _ _ h) in

@@ -87,11 +87,13 @@ set_at_present columns row number old new has is here beside = record {
 pub settled_at_present : (columns : List ℕ) (row : Row) (old new : Entries) (has : Key) → values_in columns row ≡ Some has
     → (held old (present columns row) ≡ None → entry_at new (present columns row) ≡ None)
     → ((other : Key) → held new other ≡ held old other)
+    → ((other : Key) → IsSome (entry_at new other) → IsSome (entry_at old other))
     → SameApart (present columns row) old new
     → SettlesEntry columns row old new
-settled_at_present columns row old new has is gone numbers beside = record {
+settled_at_present columns row old new has is gone numbers fewer beside = record {
   gone = λ values e. subst (λ (v : Key). held old v ≡ None → entry_at new v ≡ None) (present_is columns row values e) gone;
   numbers = numbers;
+  fewer = fewer;
   beside = λ values differs. elim (one_or_other hashed_cmp_exact (present columns row) values) [
     | inl same ↦ absurd (differs (is ∙ ap Some (sym (present_is columns row has is) ∙ same)))
     | inr apart ↦ beside values apart
@@ -103,6 +105,7 @@ pub nothing_settled : (columns : List ℕ) (row : Row) (entries : Entries) → i
 nothing_settled columns row entries none = record {
   gone = λ values has. absurd (let no = none_of_false (values_in columns row) none in cc);
   numbers = λ values. refl;
+  fewer = λ values some. some;
   beside = λ values differs. refl;
 }
 
@@ -112,6 +115,14 @@ pub entry_dropped : (old new : Entries) (values : Key) → held old values ≡ N
 entry_dropped old new values none gone beside other = elim (one_or_other hashed_cmp_exact values other) [
   | inl same ↦ subst (λ (v : Key). held new v ≡ held old v) same (ap number_in gone ∙ sym none)
   | inr apart ↦ ap number_in (beside other apart)
+]
+
+-- and no entry came
+pub none_came : (old new : Entries) (values : Key) → entry_at new values ≡ None → SameApart values old new
+    → (other : Key) → IsSome (entry_at new other) → IsSome (entry_at old other)
+none_came old new values gone beside other some = elim (one_or_other hashed_cmp_exact values other) [
+  | inl same ↦ absurd (let none : entry_at new other ≡ None = subst (λ (v : Key). entry_at new v ≡ None) same gone in let no = ap is_some none in cc)
+  | inr apart ↦ ap is_some (sym (beside other apart)) ∙ some
 ]
 
 pub value_of_some : (o : Option Key) → is_some o ≡ true → (values : Key) × (o ≡ Some values)

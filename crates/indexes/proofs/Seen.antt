@@ -21,7 +21,7 @@ use Rattle.indexes.specs.Gathered.{placed, rows_of, cells_from, schema_of, gathe
 use Rattle.indexes.proofs.Elements.{contains_elem, elem_contains, elem_map, elem_of_map}
 use Rattle.indexes.proofs.Gather.{get_is, keys_is, get_without, set_there, rows_inserted, rows_removed, rows_replaced, rows_same, get_there, get_elsewhere, no_clash, schema_after, table_at, valid, TableAt}
 use Rattle.indexes.proofs.Walking.{rows_of_table-gathered}
-use Rattle.indexes.proofs.Cells.{cells_are, has_room, room_has, room_after, room_elsewhere, room_of_table, room_of_new}
+use Rattle.indexes.proofs.Cells.{cells_are, has_room, room_has, room_after, room_fewer, room_elsewhere, room_of_table, room_of_new}
 
 schema_length : (ts : List TableContent) → length (schema_of ts) ≡ length ts
 schema_length [] = refl
@@ -135,6 +135,9 @@ module _ (ts : List TableContent) (seen : Content) (v : gathered ts ≡ seen) (i
 
     pub kept : KeepsSpots t.room new.room → Keeps seen.room (cells_from 0 (slice_set ts i new))
     kept e c h = room_after ts i t new at e c (subst (λ (s : Content). Contains s.room c) (sym v) h)
+
+    pub fewer : KeepsSpots new.room t.room → Keeps (cells_from 0 (slice_set ts i new)) seen.room
+    fewer e = subst (λ (s : Content). Keeps (cells_from 0 (slice_set ts i new)) s.room) v (room_fewer ts i t new at e)
 
     pub made : (row : Record) → KeepsSpots (spots_of new.keys row) new.room → HasRoom (cells_from 0 (slice_set ts i new)) (schema_of (slice_set ts i new)) i row
     made row e = room_has (slice_set ts i new) i new row (set_there ts i t new at) e

@@ -410,6 +410,12 @@ module _ (old new : Kept) (key : Key) (rows : new.rows ≡ old.rows) (slots : ne
         (place.0, slot_stays other place.0 (inl (ap is_some before)) place.1);
   }
 
+  -- no spot comes
+  pub settled_fewer : (us vs : List Unique) (row : Row) → EachStep (step.Settles row) us vs → KeepsSpots (room_of new vs) (room_of old us)
+  settled_fewer us vs row steps =
+      room_kept new old vs us slot_was (sym steps.long)
+      (λ k d l values some. let within : k < length us = let e = steps.long in omega arith in (steps.each k d within).entries.fewer values some)
+
   pub room_settled : (keys : TableKeys) (us vs : List Unique) (row : Row) → keys.uniques ≡ columns_of us → EachStep (step.Settles row) us vs
       → (s : Spot) → ¬ Contains (spots_of keys row) s → s ≢ (0, key) → Contains (room_of old us) s → Contains (room_of new vs) s
   room_settled keys us vs row is steps s not_row not_key c = elim (in_room old us s c) [

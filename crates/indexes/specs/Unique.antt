@@ -64,10 +64,11 @@ pub record MayPutEntry (columns : List ℕ) (row : Row) (old new : Entries) : Ty
   pub beside : (values : Key) → values_in columns row ≢ Some values → held new values ≡ held old values
   pub entries : (values : Key) → IsSome (entry_at old values) → IsSome (entry_at new values)
 
--- the entry for the row's values goes if it has no number, and nothing else changes
+-- the entry for the row's values goes if it has no number, none comes, and nothing else changes
 pub record SettlesEntry (columns : List ℕ) (row : Row) (old new : Entries) : Type 0 where
   pub gone : (values : Key) → values_in columns row ≡ Some values → held old values ≡ None → entry_at new values ≡ None
   pub numbers : (values : Key) → held new values ≡ held old values
+  pub fewer : (values : Key) → IsSome (entry_at new values) → IsSome (entry_at old values)
   pub beside : (values : Key) → values_in columns row ≢ Some values → entry_at new values ≡ entry_at old values
 
 -- ---- of an index

@@ -360,6 +360,7 @@ impl Table {
         ensures keys { self.new.keys ≡ self.old.keys }
         ensures rows { self.new.rows ≡ self.old.rows }
         ensures gone { (s : Spot) → IsOfSettled self.old.keys key.now row.now s → ¬ IsFilled self.old.keys self.old.rows s → ¬ Contains self.new.room s }
+        ensures fewer { KeepsSpots self.new.room self.old.room }
         ensures others { (s : Spot) → ¬ Contains (spots_of self.old.keys row.now) s → s ≢ (0, key.now) → Contains self.old.room s → Contains self.new.room s }
         ensures sound { IsSound self.new }
     {

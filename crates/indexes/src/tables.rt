@@ -292,7 +292,8 @@ impl Tables {
         ensures values { (i : ℕ) (columns : List ℕ) (values : AnyKey) → slice_get (keys_at self.old.schema table).uniques i ≡ Some columns
             → values_in columns row.now ≡ Some values → taken self.old.rows table columns values ≡ false → ¬ Contains self.new.room (Uniq table (i + 1) values) }
 
-        // No other cell goes from the room.
+        // No other cell goes from the room, and none comes.
+        ensures fewer { Keeps self.new.room self.old.room }
         ensures others { (c : Cell) → ¬ Contains (cells_of self.old.schema table row.now) c → c ≢ RowCell table key.now → Contains self.old.room c → Contains self.new.room c }
     {
         let table = &mut self.tables[table];

@@ -328,6 +328,7 @@ fn settle_entry(columns: &[usize], entries: &mut BTreeMap<Hashed, Option<usize>>
 fn drop_entry(entries: &mut BTreeMap<Hashed, Option<usize>>, values: Sought<'_>)
     ensures gone { held entries.old (present values.entry.columns.now values.entry.row.now) ≡ None → entry_at entries.new (present values.entry.columns.now values.entry.row.now) ≡ None }
     ensures numbers { (other : AnyKey) → held entries.new other ≡ held entries.old other }
+    ensures fewer { (other : AnyKey) → IsSome (entry_at entries.new other) → IsSome (entry_at entries.old other) }
     ensures beside { SameApart (present values.entry.columns.now values.entry.row.now) entries.old entries.new }
 {
     if let Some(None) = entries.get(values) {

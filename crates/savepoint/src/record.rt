@@ -4,7 +4,7 @@ ghost use Rattle.model.specs.declared.cell.Cell.{Cell};
 ghost use Rattle.model.specs.Effect.{undone};
 ghost use Rattle.indexes.specs.Content.{Keeps};
 ghost use Rattle.change.specs.Inverse.{edits_of};
-ghost use Rattle.undo.specs.Undo.{content_undone, CanUndo, AreKnownAll, all_settled};
+ghost use Rattle.undo.specs.Undo.{content_undone, CanUndo, AreKnownAll, all_settled, AreSettled};
 ghost use Rattle.savepoint.specs.declared.item.Item.TheVariants.{Change as ChangeItem, Touch, BackTo};
 ghost use Rattle.savepoint.specs.Survivors.{after_item};
 ghost use Rattle.savepoint.specs.Savepoints.{mark_at, before_mark};
@@ -208,6 +208,8 @@ impl TxRecord {
         ensures items { result.items ≡ self.survivors }
         ensures rows { t.new.rows ≡ t.old.rows }
         ensures schema { t.new.schema ≡ t.old.schema }
+        ensures gone { AreSettled t.old.schema t.old.rows t.new.room self.log.inverses }
+        ensures fewer { Keeps t.new.room t.old.room }
         ensures others { (c : Cell) → ¬ Contains (all_settled t.old.schema self.log.inverses) c → Contains t.old.room c → Contains t.new.room c }
     {
         self.undo.settle(t);

@@ -2,14 +2,17 @@
 use Rattle.std.specs.Prelude.{◌≡◌, ◌≢◌, ℕ, ◌+◌, ◌≤◌, ◌<◌, ◌⊎◌, get_or, Contains, List, [], ◌∷◌, ◌++◌, Option, Some, map, length, take, drop, option_to_list}
 use Rattle.std.proofs.Common.{zero, suc, refl, sym, ◌∙◌, ap, subst, arith, inl, inr, add-one, drop-cons, take-suc}
 use Rattle.std.proofs.lemmas.List.Elements.{Contains-append_left, Contains-append_right, Contains-append_cases, Contains-push}
+use Rattle.model.specs.declared.key.Key.{Key}
+use Rattle.model.specs.declared.row.Row.{Row}
 use Rattle.model.specs.declared.cell.Cell.{Cell}
 use Rattle.model.specs.Rows.{Rows, Schema}
 use Rattle.model.specs.Effect.{Edits, back, undone}
 use Rattle.model.specs.EffectLaws.{undone_append}
 use Rattle.indexes.specs.Content.{Content, Keeps}
 use Rattle.change.specs.declared.inverse.Inverse.{Inverse}
+use Rattle.change.specs.declared.inverse.Inverse.TheVariants.{Take, Put, Replace, Unwipe}
 use Rattle.change.specs.Inverse.{edits_of, room_back, IsKnown, CanPutBack}
-use Rattle.undo.specs.Undo.{content_back, content_undone, CanUndo, AreKnownAll, cells_settled, all_settled}
+use Rattle.undo.specs.Undo.{content_back, content_undone, CanUndo, AreKnownAll, cells_settled, all_settled, IsGivenUp, IsSettled, AreSettled}
 use Rattle.undo.specs.UndoLaws.{content_undone_last, CanUndo_last, CanUndo_keeps, room_undone_keeps}
 
 pub drop_last : {X : Type 0} (xs : List X) (x : X) (n : ℕ) → n ≤ length xs → drop n (xs ++ x ∷ []) ≡ drop n xs ++ x ∷ []
@@ -96,3 +99,33 @@ more_settled schema is i d below c none =
     let split : take (i + 1) is ≡ take i is ++ get_or is i d ∷ [] = ap (λ n. take n is) (add-one i) ∙ take-suc is i d below in
     let free : ¬ Contains (all_settled schema (take i is ++ get_or is i d ∷ [])) c = subst (λ (l : List Inverse). ¬ Contains (all_settled schema l) c) split none in
     ((λ sooner. free (settled_last schema (take i is) (get_or is i d) c (inl sooner))), (λ here. free (settled_last schema (take i is) (get_or is i d) c (inr here))))
+
+-- what is given up stays so in less room
+module _ (schema : Schema) (rows : Rows) (room less : List Cell) (fewer : Keeps less room) where
+  given_up_in_less : (table : ℕ) (key : Key) (row : Row) → IsGivenUp schema rows room table key row → IsGivenUp schema rows less table key row
+  given_up_in_less table key row given = record {
+    slot = λ free there. given.slot free (fewer _ there);
+    values = λ i columns values at has none there. given.values i columns values at has none (fewer _ there);
+  }
+
+  settled_in_less : (i : Inverse) → IsSettled schema rows room i → IsSettled schema rows less i
+  settled_in_less (Take table key) given = tt
+  settled_in_less (Put table key row) given = given_up_in_less table key row given
+  settled_in_less (Replace table new_key key row) given = given_up_in_less table key row given
+  settled_in_less (Unwipe wiped) given = tt
+
+  pub all_settled_in_less : (is : List Inverse) → AreSettled schema rows room is → AreSettled schema rows less is
+  all_settled_in_less [] given = tt
+  all_settled_in_less (i ∷ is) given = (settled_in_less i given.0, all_settled_in_less is given.1)
+
+module _ (schema : Schema) (rows : Rows) (room : List Cell) where
+  are_settled_last : (is : List Inverse) (i : Inverse) → AreSettled schema rows room is → IsSettled schema rows room i → AreSettled schema rows room (is ++ i ∷ [])
+  are_settled_last [] i given here = (here, tt)
+  are_settled_last (first ∷ is) i given here = (given.0, are_settled_last is i given.1 here)
+
+  -- these and one more
+  pub one_more_settled : (is : List Inverse) (i : ℕ) (d : Inverse) → i < length is → AreSettled schema rows room (take i is) → IsSettled schema rows room (get_or is i d)
+      → AreSettled schema rows room (take (i + 1) is)
+  one_more_settled is i d below given here =
+      let split : take (i + 1) is ≡ take i is ++ get_or is i d ∷ [] = ap (λ n. take n is) (add-one i) ∙ take-suc is i d below in
+      subst (AreSettled schema rows room) (sym split) (are_settled_last (take i is) (get_or is i d) given here)

@@ -3,16 +3,20 @@
 --     content_back, content_undone      the tables with an inverse put back; with all of a list, the last of them first
 --     CanUndo      each inverse can be put back once those after it are
 --     cells_settled      the cells whose empty slots a log gives up
-use Rattle.std.specs.Prelude.{ℕ, List, [], ◌∷◌, ◌++◌}
+--     IsGivenUp, IsSettled, AreSettled      a row's are given up; those of an inverse; those of all
+use Rattle.std.specs.Prelude.{◌≡◌, ℕ, ◌+◌, false, List, [], ◌∷◌, ◌++◌, Some, slice_get}
+use Rattle.std.specs.List.{Contains}
+use Rattle.model.specs.declared.key.Key.{Key}
+use Rattle.model.specs.declared.row.Row.{Row as Record}
 use Rattle.model.specs.declared.cell.Cell.{Cell}
-use Rattle.model.specs.declared.cell.Cell.TheVariants.{Row}
-use Rattle.model.specs.Rows.{Schema}
+use Rattle.model.specs.declared.cell.Cell.TheVariants.{Row, Uniq}
+use Rattle.model.specs.Rows.{Rows, Schema, keys_at, values_in, taken}
 use Rattle.model.specs.Cells.{cells_of}
 use Rattle.model.specs.Effect.{back}
 use Rattle.indexes.specs.Content.{Content}
 use Rattle.change.specs.declared.inverse.Inverse.{Inverse}
 use Rattle.change.specs.declared.inverse.Inverse.TheVariants.{Take, Put, Replace, Unwipe}
-use Rattle.change.specs.Inverse.{edits_of, room_back, IsKnown, CanPutBack}
+use Rattle.change.specs.Inverse.{edits_of, room_back, IsFree, IsKnown, CanPutBack}
 
 pub record Log : Type 0 where
   pub inverses : List Inverse  -- oldest first
@@ -46,3 +50,20 @@ cells_settled schema (Unwipe wiped) = []
 abbrev pub all_settled : Schema → List Inverse → List Cell
 all_settled schema [] = []
 all_settled schema (inverse ∷ inverses) = cells_settled schema inverse ++ all_settled schema inverses
+
+-- the key's cell is out of the room where no row stands, and a cell of the row's unique values where no row has them
+pub record IsGivenUp (schema : Schema) (rows : Rows) (room : List Cell) (table : ℕ) (key : Key) (row : Record) : Type 0 where
+  pub slot : IsFree rows table key → ¬ Contains room (Row table key)
+  pub values : (i : ℕ) (columns : List ℕ) (values : Key) → slice_get (keys_at schema table).uniques i ≡ Some columns
+      → values_in columns row ≡ Some values → taken rows table columns values ≡ false → ¬ Contains room (Uniq table (i + 1) values)
+
+-- of an inverse that puts a row back: that row's
+abbrev pub IsSettled : Schema → Rows → List Cell → Inverse → Type 0
+IsSettled schema rows room (Take table key) = Unit {0}
+IsSettled schema rows room (Put table key row) = IsGivenUp schema rows room table key row
+IsSettled schema rows room (Replace table new_key key row) = IsGivenUp schema rows room table key row
+IsSettled schema rows room (Unwipe wiped) = Unit {0}
+
+abbrev pub AreSettled : Schema → Rows → List Cell → List Inverse → Type 0
+AreSettled schema rows room [] = Unit {0}
+AreSettled schema rows room (inverse ∷ inverses) = IsSettled schema rows room inverse × AreSettled schema rows room inverses

@@ -4,7 +4,7 @@ ghost use Rattle.model.specs.declared.cell.Cell.{Cell};
 ghost use Rattle.model.specs.Effect.{undone};
 ghost use Rattle.indexes.specs.Content.{Keeps};
 ghost use Rattle.change.specs.Inverse.{edits_of, IsKnown};
-ghost use Rattle.undo.specs.Undo.{content_undone, CanUndo, AreKnownAll, cells_settled, all_settled};
+ghost use Rattle.undo.specs.Undo.{content_undone, CanUndo, AreKnownAll, cells_settled, all_settled, IsSettled, AreSettled};
 
 use change::{Inverse, put_back};
 use indexes::Tables;
@@ -85,12 +85,15 @@ impl UndoLog {
         undo_last(&mut self.inverses, t, mark);
     }
 
-    /// Gives up what the changes can be taken back with: the empty slots of their keys. It is for a
-    /// commit. No row changes, and it takes no memory.
+    /// Gives up what the changes can be taken back with: the empty slots of their keys, and the
+    /// entries of unique values that no row has any more. It is for a commit. No row changes, and it
+    /// takes no memory.
     pub fn settle(&self, t: &mut Tables)
         requires { AreKnownAll t.old.schema self.now.inverses }
         ensures rows { t.new.rows ≡ t.old.rows }
         ensures schema { t.new.schema ≡ t.old.schema }
+        ensures gone { AreSettled t.old.schema t.old.rows t.new.room self.now.inverses }
+        ensures fewer { Keeps t.new.room t.old.room }
         ensures others { (c : Cell) → ¬ Contains (all_settled t.old.schema self.now.inverses) c → Contains t.old.room c → Contains t.new.room c }
     {
         settle_all(self.inverses.as_slice(), t);
@@ -117,6 +120,8 @@ fn settle_all(inverses: &[Inverse], t: &mut Tables)
     requires { AreKnownAll t.old.schema inverses.now }
     ensures rows { t.new.rows ≡ t.old.rows }
     ensures schema { t.new.schema ≡ t.old.schema }
+    ensures gone { AreSettled t.old.schema t.old.rows t.new.room inverses.now }
+    ensures fewer { Keeps t.new.room t.old.room }
     ensures others { (c : Cell) → ¬ Contains (all_settled t.old.schema inverses.now) c → Contains t.old.room c → Contains t.new.room c }
 {
     for inverse in inverses {
@@ -129,6 +134,8 @@ fn settle_one(inverse: &Inverse, t: &mut Tables)
     requires { IsKnown t.old.schema inverse.now }
     ensures rows { t.new.rows ≡ t.old.rows }
     ensures schema { t.new.schema ≡ t.old.schema }
+    ensures gone { IsSettled t.old.schema t.old.rows t.new.room inverse.now }
+    ensures fewer { Keeps t.new.room t.old.room }
     ensures others { (c : Cell) → ¬ Contains (cells_settled t.old.schema inverse.now) c → Contains t.old.room c → Contains t.new.room c }
 {
     match inverse {

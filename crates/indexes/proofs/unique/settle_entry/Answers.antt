@@ -11,7 +11,7 @@ returns-then-has_values c =
     let has = value_of_some (values_in c.args.columns.now c.args.row.now) (sym c.has_values.ensures ∙ c.if-has_values.true) in
     settled_at_present c.args.columns.now c.args.row.now c.args.entries.now c.drop_entry.new.entries has.0 has.1
     (subst (λ (v : Key). held c.args.entries.now v ≡ None → entry_at c.drop_entry.new.entries v ≡ None) c.of.ensures c.drop_entry.ensures.gone)
-    c.drop_entry.ensures.numbers
+    c.drop_entry.ensures.numbers c.drop_entry.ensures.fewer
     (subst (λ (v : Key). SameApart v c.args.entries.now c.drop_entry.new.entries) c.of.ensures c.drop_entry.ensures.beside)
 
 pub returns-else-has_values : goal.returns-else-has_values

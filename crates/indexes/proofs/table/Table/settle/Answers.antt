@@ -2,10 +2,10 @@ use Rattle.std.specs.Prelude.{ℕ, List, refl}
 use Rattle.std.proofs.Common.{sym, ◌∙◌, ap, subst}
 use Rattle.std.specs.List.{Contains}
 use Rattle.model.specs.Rows.{TableKeys}
-use Rattle.indexes.specs.Table.{TableContent, spots_of, IsOfSettled, IsFilled}
-use Rattle.indexes.specs.Indexed.{columns_of}
+use Rattle.indexes.specs.Table.{TableContent, KeepsSpots, spots_of, IsOfSettled, IsFilled}
+use Rattle.indexes.specs.Indexed.{columns_of, room_of}
 use Rattle.indexes.proofs.Settled.{settled_gone}
-use Rattle.indexes.proofs.Tabling.{same_columns, indexed_settled, room_settled, sound}
+use Rattle.indexes.proofs.Tabling.{same_columns, indexed_settled, settled_fewer, room_settled, sound}
 use Rattle.indexes.proofs.table.Table.settle.Goals as goal
 
 pub invariant_of-self : goal.invariant_of-self
@@ -36,3 +36,9 @@ returns-clause-gone c = λ s of empty room.
     c.self.inside.uniques.items c.settle_each.new.uniques.items c.args.key.now c.args.row.now refl c.self.invariant c.settle.ensures.slots c.settle_each.ensures s
     (subst (λ (t : TableContent). IsOfSettled t.keys c.args.key.now c.args.row.now s) (sym c.self.view_is) of)
     (λ filled. empty (subst (λ (t : TableContent). IsFilled t.keys t.rows s) c.self.view_is filled)) room
+
+pub returns-clause-fewer : goal.returns-clause-fewer
+returns-clause-fewer c =
+    subst (λ (t : TableContent). KeepsSpots (room_of c.settle.new.self c.settle_each.new.uniques.items) t.room) c.self.view_is
+    (settled_fewer c.self.inside.rows c.settle.new.self c.args.key.now c.settle.ensures.rows c.settle.ensures.slots
+    c.self.inside.uniques.items c.settle_each.new.uniques.items c.args.row.now c.settle_each.ensures)

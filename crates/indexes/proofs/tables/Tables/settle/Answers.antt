@@ -30,6 +30,15 @@ returns-clause-rows c =
     let at = seen.table_there ts c.args.self.now v i c.requires t c.index_mut-table.ensures.value in
     seen.unchanged ts c.args.self.now v i t at c.settle.new.self c.settle.ensures.rows
 
+pub returns-clause-fewer : goal.returns-clause-fewer
+returns-clause-fewer c =
+    let ts = c.self.inside.tables.items in
+    let v = c.self.view_is in
+    let i = c.args.table in
+    let t = c.index_mut-table.result.now in
+    let at = seen.table_there ts c.args.self.now v i c.requires t c.index_mut-table.ensures.value in
+    seen.fewer ts c.args.self.now v i t at c.settle.new.self c.settle.ensures.fewer
+
 pub returns-clause-others : goal.returns-clause-others
 returns-clause-others c =
     let ts = c.self.inside.tables.items in
