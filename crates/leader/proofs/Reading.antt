@@ -119,13 +119,13 @@ over_by_end g rows old new a bytes handled rest end read come items clear cause 
   times = come.told.times;
   told = come.told.told;
   counted = come.told.counted;
-  sent = sent_all old.sent new.sent come.progress.updates come.told.times end come.told.sent;
+  sent = sent_all old new come.progress.updates come.told.times end come.told.sent;
 }
 
 -- the device failed as it was read
 failed_to_read : (g : Setting) (rows : Rows) (old new : Devices) (a : Applier) (bytes : List ℕ) (handled : List CopyItem) → Consumes old.unread new.unread bytes → (come : HasCome g rows old new a handled) → handled ≡ copy_items bytes → HasFailed old.read_failures new.read_failures
     → IsRunOver g rows old new a (ends.Frame frames.Device)
-failed_to_read g rows old new a bytes handled read come items failed = over_by_end g rows old new a bytes handled [] (ends.Frame frames.Device) read come (append-nil handled ∙ items) come.at.clear (inl failed)
+failed_to_read g rows old new a bytes handled read come items failed = over_by_end g rows old new a bytes handled [] (ends.Frame frames.Device) read come (append-nil handled ∙ items) come.at.clear (inl (failed, refl))
 
 -- the items were handled, and the stream was refused there
 refused_there : (g : Setting) (rows : Rows) (old new : Devices) (a : Applier) (bytes : List ℕ) (handled : List CopyItem) (f : FrameFault) → Consumes old.unread new.unread bytes → (come : HasCome g rows old new a handled) → handled ≡ copy_items bytes

@@ -112,7 +112,7 @@ as_stop g rows old new s rest (ends.NullKey table) why = why
 as_stop g rows old new s rest (ends.HeldKey xid holder) why = absurd why
 as_stop g rows old new s rest ends.OutOfMemory why = why
 
-sent_frame : (old new : Option (List ℕ)) (updates : List Update) (times : List ℤ) (f : FrameFault) → Appends old new (status_bytes updates times) → IsSent old new updates times (ends.Frame f)
+sent_frame : (old new : Devices) (updates : List Update) (times : List ℤ) (f : FrameFault) → Appends old.sent new.sent (status_bytes updates times) → IsSent old new updates times (ends.Frame f)
 sent_frame old new updates times frames.UnknownFrame sent = sent
 sent_frame old new updates times frames.BadLength sent = sent
 sent_frame old new updates times frames.TooLarge sent = sent
@@ -123,7 +123,7 @@ sent_frame old new updates times frames.Device sent = inl sent
 sent_frame old new updates times frames.OutOfMemory sent = sent
 
 -- all updates were sent, whatever ends the run
-pub sent_all : (old new : Option (List ℕ)) (updates : List Update) (times : List ℤ) (end : End) → Appends old new (status_bytes updates times) → IsSent old new updates times end
+pub sent_all : (old new : Devices) (updates : List Update) (times : List ℤ) (end : End) → Appends old.sent new.sent (status_bytes updates times) → IsSent old new updates times end
 sent_all old new updates times ends.Clean sent = sent
 sent_all old new updates times (ends.Frame f) sent = sent_frame old new updates times f sent
 sent_all old new updates times (ends.Msg f) sent = sent
@@ -150,7 +150,7 @@ stopped g rows old new a b handled item (Err e) end come (inl ended) is =
       times = told.times;
       told = told.told;
       counted = told.counted;
-      sent = sent_all old.sent new.sent come.progress.updates told.times end told.sent;
+      sent = sent_all old new come.progress.updates told.times end told.sent;
     }))
 stopped g rows old new a b handled item (Err e) end come (inr (q, handles, same, ended)) is =
     let told = subst (HasTold old new) (sym same) come.told in
@@ -166,22 +166,36 @@ stopped g rows old new a b handled item (Err e) end come (inr (q, handles, same,
       times = told.times;
       told = told.told;
       counted = told.counted;
-      sent = sent_all old.sent new.sent q.updates told.times end told.sent;
+      sent = sent_all old new q.updates told.times end told.sent;
     }))
 
+-- the bytes of all updates, where the frame of the last has this beginning
+but_last : (before updates : List Update) (times : List ℤ) (u : Update) (time : ℤ) (part left : List ℕ) → updates ≡ before ++ u ∷ [] → length times ≡ length before → frame_at u time ≡ part ++ left
+    → status_bytes updates (times ++ time ∷ []) ≡ status_bytes before (times ++ time ∷ []) ++ part ++ left
+but_last before updates times u time part left split counted frame =
+    ap (λ us. status_bytes us (times ++ time ∷ [])) split ∙ status_bytes-push before times u time counted
+    ∙ ap (λ bs. status_bytes before times ++ bs) frame ∙ sym (append_assoc (status_bytes before times) part left) ∙ ap (λ bs. bs ++ part ++ left) (sym (status_bytes-longer before times (time ∷ []) counted))
+
+-- the frame of an update whose numbers are these
+frame_of : (written flushed applied w f a : ℕ) (time : ℤ) → w ≡ written → f ≡ flushed → a ≡ applied
+    → status_frame (record { written = written; flushed = flushed; applied = applied; clock = time }) ≡ status_frame (record { written = w; flushed = f; applied = a; clock = time })
+frame_of written flushed applied w f a time is_written is_flushed is_applied = rw (is_written, is_flushed, is_applied)
+
 -- the update could not be sent
-pub unsent : (g : Setting) (rows : Rows) (old mid new : Devices) (a b : Applier) (handled : List CopyItem) (item : CopyItem) (time : ℤ) (result : Result (Unit {0}) End) (fault : FrameFault) (come : HasCome g rows old mid a handled) → HasHandled g rows b come.progress item true
-    → Ticks mid.times new.times (time ∷ []) → (fault ≡ frames.Device) ⊎ (fault ≡ frames.OutOfMemory) → (fault ≡ frames.Device → HasFailed mid.write_failures new.write_failures) → (fault ≡ frames.OutOfMemory → Keeps mid.sent new.sent) → (fault ≡ frames.Device → (part : List ℕ) × Appends mid.sent new.sent part)
+pub unsent : (g : Setting) (rows : Rows) (old mid new : Devices) (a b : Applier) (handled : List CopyItem) (item : CopyItem) (time : ℤ) (written flushed applied : ℕ) (result : Result (Unit {0}) End) (fault : FrameFault) (come : HasCome g rows old mid a handled) → HasHandled g rows b come.progress item true
+    → Ticks mid.times new.times (time ∷ []) → (fault ≡ frames.Device) ⊎ (fault ≡ frames.OutOfMemory) → (fault ≡ frames.Device → HasFailed mid.write_failures new.write_failures) → (fault ≡ frames.OutOfMemory → Keeps mid.sent new.sent) → (fault ≡ frames.Device → (part : List ℕ) × (left : List ℕ) × (status_frame (record { written = written; flushed = flushed; applied = applied; clock = time }) ≡ part ++ left) × Appends mid.sent new.sent part)
+    → written ≡ b.written → flushed ≡ b.position → applied ≡ b.position
     → IsErrAnd result (λ e. e ≡ end_of_frame fault) → Answers g rows old new b handled item result
-unsent g rows old mid new a b handled item time (Ok u) fault come h ticks kind failed kept part is = absurd is
-unsent g rows old mid new a b handled item time (Err e) fault come h ticks (inl device) failed kept part is =
+unsent g rows old mid new a b handled item time written flushed applied (Ok u) fault come h ticks kind failed kept part is_written is_flushed is_applied is = absurd is
+unsent g rows old mid new a b handled item time written flushed applied (Err e) fault come h ticks (inl device) failed kept part is_written is_flushed is_applied is =
     let ts = come.told.times in
     let u = update h.progress.state h.progress.seen in
     let is_device : e ≡ ends.Frame frames.Device = is ∙ ap end_of_frame device in
     let counted : length (ts ++ time ∷ []) ≡ length h.progress.updates = length-append ts (time ∷ []) ∙ ap (λ n. n + 1) come.told.counted ∙ sym (length-append come.progress.updates (u ∷ [])) ∙ ap length (sym h.updates) in
     let went = part device in
     let all : status_bytes come.progress.updates (ts ++ time ∷ []) ≡ status_bytes come.progress.updates ts = status_bytes-longer come.progress.updates ts (time ∷ []) come.told.counted in
-    let began : Appends old.sent new.sent (status_bytes come.progress.updates (ts ++ time ∷ []) ++ went.0) = subst (λ bs. Appends old.sent new.sent (bs ++ went.0)) (sym all) (Appends-trans old.sent mid.sent new.sent (status_bytes come.progress.updates ts) went.0 come.told.sent went.1) in
+    let began : Appends old.sent new.sent (status_bytes come.progress.updates (ts ++ time ∷ []) ++ went.0) = subst (λ bs. Appends old.sent new.sent (bs ++ went.0)) (sym all) (Appends-trans old.sent mid.sent new.sent (status_bytes come.progress.updates ts) went.0 come.told.sent went.3) in
+    let frame : frame_at u time ≡ went.0 ++ went.1 = update_is g rows b h.progress time h.at ∙ frame_of b.written b.position b.position written flushed applied time is_written is_flushed is_applied ∙ went.2 in
     let fails : HasFailed old.write_failures new.write_failures = subst (λ n. HasFailed n new.write_failures) come.told.works (failed device) in
     inr (λ more.
     subst (StopsAt g rows old new b (handled ++ item ∷ []) more) (sym is_device)
@@ -194,9 +208,20 @@ unsent g rows old mid new a b handled item time (Err e) fault come h ticks (inl 
       times = ts ++ time ∷ [];
       told = Ticks-trans old.times mid.times new.times ts (time ∷ []) come.told.told ticks;
       counted = counted;
-      sent = inr (went.0, (come.progress.updates, u, h.updates, began));
+      sent = inr (
+        went.0,
+        fails,
+        record {
+          before = come.progress.updates;
+          last = u;
+          split = h.updates;
+          unsent = went.1;
+          whole = but_last come.progress.updates h.progress.updates ts u time went.0 went.1 h.updates come.told.counted frame;
+          sent = began;
+        },
+      );
     }))
-unsent g rows old mid new a b handled item time (Err e) fault come h ticks (inr memory) failed kept part is =
+unsent g rows old mid new a b handled item time written flushed applied (Err e) fault come h ticks (inr memory) failed kept part is_written is_flushed is_applied is =
     let ts = come.told.times in
     let u = update h.progress.state h.progress.seen in
     let is_memory : e ≡ ends.OutOfMemory = is ∙ ap end_of_frame memory in
@@ -213,5 +238,12 @@ unsent g rows old mid new a b handled item time (Err e) fault come h ticks (inr 
       times = ts ++ time ∷ [];
       told = Ticks-trans old.times mid.times new.times ts (time ∷ []) come.told.told ticks;
       counted = counted;
-      sent = inr (come.progress.updates, u, h.updates, subst (Appends old.sent new.sent) (sym (append-nil (status_bytes come.progress.updates (ts ++ time ∷ [])))) before);
+      sent = inr (record {
+        before = come.progress.updates;
+        last = u;
+        split = h.updates;
+        unsent = frame_at u time;
+        whole = but_last come.progress.updates h.progress.updates ts u time [] (frame_at u time) h.updates come.told.counted refl;
+        sent = subst (Appends old.sent new.sent) (sym (append-nil (status_bytes come.progress.updates (ts ++ time ∷ [])))) before;
+      });
     }))

@@ -134,7 +134,7 @@ pub record StopsAt (g : Setting) (rows : Rows) (old new : Devices) (a : Applier)
   pub times : List ℤ
   pub told : Ticks old.times new.times times
   pub counted : length times ≡ length progress.updates
-  pub sent : IsSent old.sent new.sent progress.updates times end
+  pub sent : IsSent old new progress.updates times end
 
 -- An item more was handled, or ended the run before or after it was.
 abbrev pub Answers : Setting → Rows → Devices → Devices → Applier → List CopyItem → CopyItem → Result (Unit {0}) End → Type 0
@@ -168,4 +168,4 @@ pub record IsRunOver (g : Setting) (rows : Rows) (old new : Devices) (a : Applie
   pub times : List ℤ
   pub told : Ticks old.times new.times times
   pub counted : length times ≡ length progress.updates
-  pub sent : IsSent old.sent new.sent progress.updates times end
+  pub sent : IsSent old new progress.updates times end

@@ -69,13 +69,14 @@ pub record IsOver (bytes : List ℕ) (unread : Option (List ℕ)) (rest : List C
   pub fault : fault_at_end (ending_of bytes) ≡ why
   pub asked : AtEndOf (ending_of bytes) unread
 
--- the reader or the writer failed, and that once
-abbrev pub HasDeviceFailed : Devices → Devices → Type 0
-HasDeviceFailed old new = HasFailed old.read_failures new.read_failures ⊎ HasFailed old.write_failures new.write_failures
+-- the reader failed, once all items of what it gave were handled, or the writer did; and that once
+abbrev pub HasDeviceFailed : Devices → Devices → List CopyItem → Type 0
+HasDeviceFailed old new rest =
+    (HasFailed old.read_failures new.read_failures × (rest ≡ [])) ⊎ HasFailed old.write_failures new.write_failures
 
 -- what a frame fault comes from
 abbrev pub IsFrameCause : List ℕ → Devices → Devices → List CopyItem → FrameFault → Type 0
-IsFrameCause bytes old new rest Device = HasDeviceFailed old new
+IsFrameCause bytes old new rest Device = HasDeviceFailed old new rest
 IsFrameCause bytes old new rest fault = IsOver bytes new.unread rest (Some fault)
 
 -- Why an item ends a run that stands at this state, with these items left.
@@ -105,17 +106,24 @@ IsClearUnless g rows s (ends.Unique table key) = IsClear (schema_of g) rows (com
 IsClearUnless g rows s (ends.NullKey table) = IsClear (schema_of g) rows (committed s)
 IsClearUnless g rows s end = IsClear (schema_of g) rows (done s)
 
--- All status updates but the last were sent, and these bytes after them.
-abbrev pub IsSentBut : Option (List ℕ) → Option (List ℕ) → List Update → List ℤ → List ℕ → Type 0
-IsSentBut old new updates times part =
-    (before : List Update) × (last : Update) × (updates ≡ before ++ last ∷ []) × Appends old new (status_bytes before times ++ part)
+-- All status updates but the last were sent, and this beginning of the last.
+pub record IsSentBut (old new : Option (List ℕ)) (updates : List Update) (times : List ℤ) (part : List ℕ) : Type 0 where
+  pub before : List Update
+  pub last : Update
+  pub split : updates ≡ before ++ last ∷ []
+  pub unsent : List ℕ
+  pub whole : status_bytes updates times ≡ status_bytes before times ++ part ++ unsent
+  pub sent : Appends old new (status_bytes before times ++ part)
 
--- The status updates that were sent: all; where a device failed, perhaps the last in part; where memory was refused,
+-- The status updates that were sent: all; where the writer failed, perhaps the last in part; where memory was refused,
 -- perhaps all but the last.
-abbrev pub IsSent : Option (List ℕ) → Option (List ℕ) → List Update → List ℤ → End → Type 0
-IsSent old new updates times (ends.Frame Device) = Appends old new (status_bytes updates times) ⊎ ((part : List ℕ) × IsSentBut old new updates times part)
-IsSent old new updates times ends.OutOfMemory = Appends old new (status_bytes updates times) ⊎ IsSentBut old new updates times []
-IsSent old new updates times end = Appends old new (status_bytes updates times)
+abbrev pub IsSent : Devices → Devices → List Update → List ℤ → End → Type 0
+IsSent old new updates times (ends.Frame Device) =
+    Appends old.sent new.sent (status_bytes updates times)
+    ⊎ ((part : List ℕ) × HasFailed old.write_failures new.write_failures × IsSentBut old.sent new.sent updates times part)
+IsSent old new updates times ends.OutOfMemory =
+    Appends old.sent new.sent (status_bytes updates times) ⊎ IsSentBut old.sent new.sent updates times []
+IsSent old new updates times end = Appends old.sent new.sent (status_bytes updates times)
 
 -- A run from these rows, over the bytes that the reader gave: `handled` are the items of the bytes up to the first cause
 -- of an end, each lawful after those before it, and what is left are the commits among them, applied in their order.
@@ -136,4 +144,4 @@ pub record IsRun (g : Setting) (rows : Rows) (old new : Devices) (o : Outcome) :
   pub times : List ℤ
   pub told : Ticks old.times new.times times
   pub counted : length times ≡ length progress.updates
-  pub sent : IsSent old.sent new.sent progress.updates times o.end
+  pub sent : IsSent old new progress.updates times o.end
