@@ -1,6 +1,6 @@
 -- What the items of the bytes that were read leave of a run.
 use Rattle.std.proofs.Common.{◌≡◌, ℕ, List, [], ◌∷◌, ◌++◌, Option, Some, None, refl, sym, ap, subst, ◌∙◌, append_assoc, append-nil, inl, inr}
-use Rattle.std.specs.Prelude.{Result, Ok, Err, IsErrAnd, ◌⊎◌, ℤ, map}
+use Rattle.std.specs.Prelude.{◌≢◌, Result, Ok, Err, IsErrAnd, ◌⊎◌, ℤ, map}
 use Rattle.std.specs.Io.KnownBytes.{Consumes}
 use Rattle.model.specs.Rows.{Rows}
 use Rattle.frames.specs.declared.fault.FrameFault.{FrameFault}
@@ -119,7 +119,7 @@ over_by_end g rows old new a bytes handled rest end read come items clear cause 
   times = come.told.times;
   told = come.told.told;
   counted = come.told.counted;
-  sent = sent_all old new come.progress.updates come.told.times end come.told.sent;
+  sent = sent_all old new come.progress.updates come.told.times end (come.told.works, come.told.sent);
 }
 
 -- the device failed as it was read
@@ -129,7 +129,7 @@ failed_to_read g rows old new a bytes handled read come items failed = over_by_e
 
 -- the items were handled, and the stream was refused there
 refused_there : (g : Setting) (rows : Rows) (old new : Devices) (a : Applier) (bytes : List ℕ) (handled : List CopyItem) (f : FrameFault) → Consumes old.unread new.unread bytes → (come : HasCome g rows old new a handled) → handled ≡ copy_items bytes
-    → IsOver bytes new.unread [] (Some f) → (f ≡ frames.Device → ⊥) → (f ≡ frames.OutOfMemory → ⊥) → IsRunOver g rows old new a (end_of_frame f)
+    → IsOver bytes old new [] (Some f) → (f ≡ frames.Device → ⊥) → (f ≡ frames.OutOfMemory → ⊥) → IsRunOver g rows old new a (end_of_frame f)
 refused_there g rows old new a bytes handled frames.UnknownFrame read come items over other ample = over_by_end g rows old new a bytes handled [] (ends.Frame frames.UnknownFrame) read come (append-nil handled ∙ items) come.at.clear over
 refused_there g rows old new a bytes handled frames.BadLength read come items over other ample = over_by_end g rows old new a bytes handled [] (ends.Frame frames.BadLength) read come (append-nil handled ∙ items) come.at.clear over
 refused_there g rows old new a bytes handled frames.TooLarge read come items over other ample = over_by_end g rows old new a bytes handled [] (ends.Frame frames.TooLarge) read come (append-nil handled ∙ items) come.at.clear over
@@ -141,35 +141,35 @@ refused_there g rows old new a bytes handled frames.OutOfMemory read come items 
 
 -- a reader that was refused: its fault ends the run, behind the items before it
 module _ (g : Setting) (rows : Rows) (old new : Devices) (a : Applier) (bytes : List ℕ) (handled : List CopyItem) (read : Consumes old.unread new.unread bytes) (come : HasCome g rows old new a handled) where
-  broken_at : (f : FrameFault) → (handled ≡ copy_items bytes) × (ending_of bytes ≡ Broken f) → IsOver bytes new.unread [] (Some f)
-  broken_at f known = record { handled = refl; fault = ap fault_at_end known.1; asked = rw known.1 tt }
+  broken_at : (f : FrameFault) → (handled ≡ copy_items bytes) × (ending_of bytes ≡ Broken f) → new.read_failures ≡ old.read_failures → IsOver bytes old new [] (Some f)
+  broken_at f known same = record { handled = refl; fault = ap fault_at_end known.1; asked = rw known.1 tt; works = same }
 
-  pub over_by_fault : (f : FrameFault) → Reads bytes handled (Broken f) → (f ≡ frames.Device → HasFailed old.read_failures new.read_failures) → IsRunOver g rows old new a (end_of_frame f)
-  over_by_fault frames.UnknownFrame known failed = refused_there g rows old new a bytes handled frames.UnknownFrame read come known.0 (broken_at frames.UnknownFrame known) (λ e. cc) (λ e. cc)
-  over_by_fault frames.BadLength known failed = refused_there g rows old new a bytes handled frames.BadLength read come known.0 (broken_at frames.BadLength known) (λ e. cc) (λ e. cc)
-  over_by_fault frames.TooLarge known failed = refused_there g rows old new a bytes handled frames.TooLarge read come known.0 (broken_at frames.TooLarge known) (λ e. cc) (λ e. cc)
-  over_by_fault frames.Truncated known failed = refused_there g rows old new a bytes handled frames.Truncated read come known.0 (broken_at frames.Truncated known) (λ e. cc) (λ e. cc)
-  over_by_fault frames.UnknownCopyTag known failed = refused_there g rows old new a bytes handled frames.UnknownCopyTag read come known.0 (broken_at frames.UnknownCopyTag known) (λ e. cc) (λ e. cc)
-  over_by_fault frames.ServerError known failed = refused_there g rows old new a bytes handled frames.ServerError read come known.0 (broken_at frames.ServerError known) (λ e. cc) (λ e. cc)
-  over_by_fault frames.Device known failed = failed_to_read g rows old new a bytes handled read come known (failed refl)
-  over_by_fault frames.OutOfMemory known failed = over_by_end g rows old new a bytes handled known.0 ends.OutOfMemory read come known.1 come.at.clear tt
+  pub over_by_fault : (f : FrameFault) → Reads bytes handled (Broken f) → (f ≡ frames.Device → HasFailed old.read_failures new.read_failures) → (f ≢ frames.Device → new.read_failures ≡ old.read_failures) → IsRunOver g rows old new a (end_of_frame f)
+  over_by_fault frames.UnknownFrame known failed same = refused_there g rows old new a bytes handled frames.UnknownFrame read come known.0 (broken_at frames.UnknownFrame known (same (λ e. cc))) (λ e. cc) (λ e. cc)
+  over_by_fault frames.BadLength known failed same = refused_there g rows old new a bytes handled frames.BadLength read come known.0 (broken_at frames.BadLength known (same (λ e. cc))) (λ e. cc) (λ e. cc)
+  over_by_fault frames.TooLarge known failed same = refused_there g rows old new a bytes handled frames.TooLarge read come known.0 (broken_at frames.TooLarge known (same (λ e. cc))) (λ e. cc) (λ e. cc)
+  over_by_fault frames.Truncated known failed same = refused_there g rows old new a bytes handled frames.Truncated read come known.0 (broken_at frames.Truncated known (same (λ e. cc))) (λ e. cc) (λ e. cc)
+  over_by_fault frames.UnknownCopyTag known failed same = refused_there g rows old new a bytes handled frames.UnknownCopyTag read come known.0 (broken_at frames.UnknownCopyTag known (same (λ e. cc))) (λ e. cc) (λ e. cc)
+  over_by_fault frames.ServerError known failed same = refused_there g rows old new a bytes handled frames.ServerError read come known.0 (broken_at frames.ServerError known (same (λ e. cc))) (λ e. cc) (λ e. cc)
+  over_by_fault frames.Device known failed same = failed_to_read g rows old new a bytes handled read come known (failed refl)
+  over_by_fault frames.OutOfMemory known failed same = over_by_end g rows old new a bytes handled known.0 ends.OutOfMemory read come known.1 come.at.clear tt
 
   -- a reader that asks for no more: the input ends here, inside a frame
-  pub over_inside : (ending : Ending) (f : FrameFault) → Reads bytes handled ending → AtEndOf ending new.unread → fault_of ending ≡ None → fault_at_end ending ≡ Some f → IsRunOver g rows old new a (end_of_frame f)
-  over_inside (Waits []) f known asked unbroken fault = absurd cc
-  over_inside (Waits (b ∷ rest)) f known asked unbroken fault =
+  pub over_inside : (ending : Ending) (f : FrameFault) → Reads bytes handled ending → AtEndOf ending new.unread → fault_of ending ≡ None → fault_at_end ending ≡ Some f → new.read_failures ≡ old.read_failures → IsRunOver g rows old new a (end_of_frame f)
+  over_inside (Waits []) f known asked unbroken fault same = absurd cc
+  over_inside (Waits (b ∷ rest)) f known asked unbroken fault same =
       let cut : frames.Truncated ≡ f = cc in
       subst (λ x. IsRunOver g rows old new a (end_of_frame x)) cut
-      (refused_there g rows old new a bytes handled frames.Truncated read come known.0 (record { handled = refl; fault = ap fault_at_end known.1; asked = rw known.1 asked }) (λ e. cc) (λ e. cc))
-  over_inside Closed f known asked unbroken fault = absurd cc
-  over_inside (Broken x) f known asked unbroken fault = absurd cc
+      (refused_there g rows old new a bytes handled frames.Truncated read come known.0 (record { handled = refl; fault = ap fault_at_end known.1; asked = rw known.1 asked; works = same }) (λ e. cc) (λ e. cc))
+  over_inside Closed f known asked unbroken fault same = absurd cc
+  over_inside (Broken x) f known asked unbroken fault same = absurd cc
 
   -- or at a frame's edge, or behind CopyDone
-  pub over_at_edge : (ending : Ending) → Reads bytes handled ending → AtEndOf ending new.unread → fault_of ending ≡ None → fault_at_end ending ≡ None → IsRunOver g rows old new a ends.Clean
-  over_at_edge (Waits []) known asked unbroken fault = over_by_end g rows old new a bytes handled [] ends.Clean read come (append-nil handled ∙ known.0) come.at.clear (record { handled = refl; fault = ap fault_at_end known.1; asked = rw known.1 asked })
-  over_at_edge (Waits (b ∷ rest)) known asked unbroken fault = absurd cc
-  over_at_edge Closed known asked unbroken fault = over_by_end g rows old new a bytes handled [] ends.Clean read come (append-nil handled ∙ known.0) come.at.clear (record { handled = refl; fault = ap fault_at_end known.1; asked = rw known.1 tt })
-  over_at_edge (Broken x) known asked unbroken fault = absurd cc
+  pub over_at_edge : (ending : Ending) → Reads bytes handled ending → AtEndOf ending new.unread → fault_of ending ≡ None → fault_at_end ending ≡ None → new.read_failures ≡ old.read_failures → IsRunOver g rows old new a ends.Clean
+  over_at_edge (Waits []) known asked unbroken fault same = over_by_end g rows old new a bytes handled [] ends.Clean read come (append-nil handled ∙ known.0) come.at.clear (record { handled = refl; fault = ap fault_at_end known.1; asked = rw known.1 asked; works = same })
+  over_at_edge (Waits (b ∷ rest)) known asked unbroken fault same = absurd cc
+  over_at_edge Closed known asked unbroken fault same = over_by_end g rows old new a bytes handled [] ends.Clean read come (append-nil handled ∙ known.0) come.at.clear (record { handled = refl; fault = ap fault_at_end known.1; asked = rw known.1 tt; works = same })
+  over_at_edge (Broken x) known asked unbroken fault same = absurd cc
 
 -- nothing has been handled yet
 pub come_none : (g : Setting) (rows : Rows) (d : Devices) (a : Applier) → IsAt g rows a beginning → HasCome g rows d d a []

@@ -16,7 +16,7 @@ use Rattle.leader.specs.declared.end.End.TheVariants as ends
 use Rattle.leader.specs.Clock.{Ticks}
 use Rattle.leader.specs.Ends.{end_of_frame}
 use Rattle.leader.specs.Progress.{Progress, Handles, Leads, beginning, Update, update, status_bytes}
-use Rattle.leader.specs.Run.{Devices, IsItemCause, IsSent}
+use Rattle.leader.specs.Run.{Devices, IsItemCause, AreAllSent, IsSent}
 use Rattle.leader.specs.Applier.{IsAt, IsUnderWay, EndsByItem, HasHandled, HasTold, HasCome, IsStopCause, StopsAt, Answers}
 
 pub Leads-more : (g : Setting) (p q r : Progress) (items : List CopyItem) (item : CopyItem) → Leads g p items q → Handles g q item r → Leads g p (items ++ item ∷ []) r
@@ -112,7 +112,7 @@ as_stop g rows old new s rest (ends.NullKey table) why = why
 as_stop g rows old new s rest (ends.HeldKey xid holder) why = absurd why
 as_stop g rows old new s rest ends.OutOfMemory why = why
 
-sent_frame : (old new : Devices) (updates : List Update) (times : List ℤ) (f : FrameFault) → Appends old.sent new.sent (status_bytes updates times) → IsSent old new updates times (ends.Frame f)
+sent_frame : (old new : Devices) (updates : List Update) (times : List ℤ) (f : FrameFault) → AreAllSent old new updates times → IsSent old new updates times (ends.Frame f)
 sent_frame old new updates times frames.UnknownFrame sent = sent
 sent_frame old new updates times frames.BadLength sent = sent
 sent_frame old new updates times frames.TooLarge sent = sent
@@ -123,7 +123,7 @@ sent_frame old new updates times frames.Device sent = inl sent
 sent_frame old new updates times frames.OutOfMemory sent = sent
 
 -- all updates were sent, whatever ends the run
-pub sent_all : (old new : Devices) (updates : List Update) (times : List ℤ) (end : End) → Appends old.sent new.sent (status_bytes updates times) → IsSent old new updates times end
+pub sent_all : (old new : Devices) (updates : List Update) (times : List ℤ) (end : End) → AreAllSent old new updates times → IsSent old new updates times end
 sent_all old new updates times ends.Clean sent = sent
 sent_all old new updates times (ends.Frame f) sent = sent_frame old new updates times f sent
 sent_all old new updates times (ends.Msg f) sent = sent
@@ -150,7 +150,7 @@ stopped g rows old new a b handled item (Err e) end come (inl ended) is =
       times = told.times;
       told = told.told;
       counted = told.counted;
-      sent = sent_all old new come.progress.updates told.times end told.sent;
+      sent = sent_all old new come.progress.updates told.times end (told.works, told.sent);
     }))
 stopped g rows old new a b handled item (Err e) end come (inr (q, handles, same, ended)) is =
     let told = subst (HasTold old new) (sym same) come.told in
@@ -166,7 +166,7 @@ stopped g rows old new a b handled item (Err e) end come (inr (q, handles, same,
       times = told.times;
       told = told.told;
       counted = told.counted;
-      sent = sent_all old new q.updates told.times end told.sent;
+      sent = sent_all old new q.updates told.times end (told.works, told.sent);
     }))
 
 -- the bytes of all updates, where the frame of the last has this beginning
@@ -183,7 +183,7 @@ frame_of written flushed applied w f a time is_written is_flushed is_applied = r
 
 -- the update could not be sent
 pub unsent : (g : Setting) (rows : Rows) (old mid new : Devices) (a b : Applier) (handled : List CopyItem) (item : CopyItem) (time : ℤ) (written flushed applied : ℕ) (result : Result (Unit {0}) End) (fault : FrameFault) (come : HasCome g rows old mid a handled) → HasHandled g rows b come.progress item true
-    → Ticks mid.times new.times (time ∷ []) → (fault ≡ frames.Device) ⊎ (fault ≡ frames.OutOfMemory) → (fault ≡ frames.Device → HasFailed mid.write_failures new.write_failures) → (fault ≡ frames.OutOfMemory → Keeps mid.sent new.sent) → (fault ≡ frames.Device → (part : List ℕ) × (left : List ℕ) × (status_frame (record { written = written; flushed = flushed; applied = applied; clock = time }) ≡ part ++ left) × Appends mid.sent new.sent part)
+    → Ticks mid.times new.times (time ∷ []) → (fault ≡ frames.Device) ⊎ (fault ≡ frames.OutOfMemory) → (fault ≡ frames.Device → HasFailed mid.write_failures new.write_failures) → (fault ≡ frames.OutOfMemory → (new.write_failures ≡ mid.write_failures) × Keeps mid.sent new.sent) → (fault ≡ frames.Device → (part : List ℕ) × (left : List ℕ) × (status_frame (record { written = written; flushed = flushed; applied = applied; clock = time }) ≡ part ++ left) × Appends mid.sent new.sent part)
     → written ≡ b.written → flushed ≡ b.position → applied ≡ b.position
     → IsErrAnd result (λ e. e ≡ end_of_frame fault) → Answers g rows old new b handled item result
 unsent g rows old mid new a b handled item time written flushed applied (Ok u) fault come h ticks kind failed kept part is_written is_flushed is_applied is = absurd is
@@ -226,7 +226,7 @@ unsent g rows old mid new a b handled item time written flushed applied (Err e) 
     let u = update h.progress.state h.progress.seen in
     let is_memory : e ≡ ends.OutOfMemory = is ∙ ap end_of_frame memory in
     let counted : length (ts ++ time ∷ []) ≡ length h.progress.updates = length-append ts (time ∷ []) ∙ ap (λ n. n + 1) come.told.counted ∙ sym (length-append come.progress.updates (u ∷ [])) ∙ ap length (sym h.updates) in
-    let before : Appends old.sent new.sent (status_bytes come.progress.updates (ts ++ time ∷ [])) = subst (Appends old.sent new.sent) (sym (status_bytes-longer come.progress.updates ts (time ∷ []) come.told.counted)) (Appends-kept old.sent mid.sent new.sent (status_bytes come.progress.updates ts) come.told.sent (kept memory)) in
+    let before : Appends old.sent new.sent (status_bytes come.progress.updates (ts ++ time ∷ [])) = subst (Appends old.sent new.sent) (sym (status_bytes-longer come.progress.updates ts (time ∷ []) come.told.counted)) (Appends-kept old.sent mid.sent new.sent (status_bytes come.progress.updates ts) come.told.sent (kept memory).1) in
     inr (λ more.
     subst (StopsAt g rows old new b (handled ++ item ∷ []) more) (sym is_memory)
     (record {
@@ -238,12 +238,15 @@ unsent g rows old mid new a b handled item time written flushed applied (Err e) 
       times = ts ++ time ∷ [];
       told = Ticks-trans old.times mid.times new.times ts (time ∷ []) come.told.told ticks;
       counted = counted;
-      sent = inr (record {
-        before = come.progress.updates;
-        last = u;
-        split = h.updates;
-        unsent = frame_at u time;
-        whole = but_last come.progress.updates h.progress.updates ts u time [] (frame_at u time) h.updates come.told.counted refl;
-        sent = subst (Appends old.sent new.sent) (sym (append-nil (status_bytes come.progress.updates (ts ++ time ∷ [])))) before;
-      });
+      sent = inr (
+        (kept memory).0 ∙ come.told.works,
+        record {
+          before = come.progress.updates;
+          last = u;
+          split = h.updates;
+          unsent = frame_at u time;
+          whole = but_last come.progress.updates h.progress.updates ts u time [] (frame_at u time) h.updates come.told.counted refl;
+          sent = subst (Appends old.sent new.sent) (sym (append-nil (status_bytes come.progress.updates (ts ++ time ∷ [])))) before;
+        },
+      );
     }))

@@ -63,11 +63,13 @@ IsConflict g rows s rest clash =
     IsRefusedIn (schema_of g) rows (done s) clash
     ⊎ IsNext rest (λ payload. (m : Message) × (t : State) × Admits g s payload m t × IsRefusedIn (schema_of g) rows (done t) clash)
 
--- The input is over: all items were handled, and this is the fault of an input that ends here, if there is one.
-pub record IsOver (bytes : List ℕ) (unread : Option (List ℕ)) (rest : List CopyItem) (why : Option FrameFault) : Type 0 where
+-- The input is over: all items were handled, no read failed, and this is the fault of an input that ends here, if there
+-- is one.
+pub record IsOver (bytes : List ℕ) (old new : Devices) (rest : List CopyItem) (why : Option FrameFault) : Type 0 where
   pub handled : rest ≡ []
   pub fault : fault_at_end (ending_of bytes) ≡ why
-  pub asked : AtEndOf (ending_of bytes) unread
+  pub asked : AtEndOf (ending_of bytes) new.unread
+  pub works : new.read_failures ≡ old.read_failures
 
 -- the reader failed, once all items of what it gave were handled, or the writer did; and that once
 abbrev pub HasDeviceFailed : Devices → Devices → List CopyItem → Type 0
@@ -77,7 +79,7 @@ HasDeviceFailed old new rest =
 -- what a frame fault comes from
 abbrev pub IsFrameCause : List ℕ → Devices → Devices → List CopyItem → FrameFault → Type 0
 IsFrameCause bytes old new rest Device = HasDeviceFailed old new rest
-IsFrameCause bytes old new rest fault = IsOver bytes new.unread rest (Some fault)
+IsFrameCause bytes old new rest fault = IsOver bytes old new rest (Some fault)
 
 -- Why an item ends a run that stands at this state, with these items left.
 abbrev pub IsItemCause : Setting → Rows → State → List CopyItem → End → Type 0
@@ -94,7 +96,7 @@ IsItemCause g rows s rest ends.OutOfMemory = Unit {0}
 
 -- Why a run over these bytes ends.
 abbrev pub IsCause : Setting → Rows → List ℕ → Devices → Devices → State → List CopyItem → End → Type 0
-IsCause g rows bytes old new s rest ends.Clean = IsOver bytes new.unread rest None
+IsCause g rows bytes old new s rest ends.Clean = IsOver bytes old new rest None
 IsCause g rows bytes old new s rest (ends.Frame fault) = IsFrameCause bytes old new rest fault
 IsCause g rows bytes old new s rest end = IsItemCause g rows s rest end
 
@@ -115,15 +117,21 @@ pub record IsSentBut (old new : Option (List ℕ)) (updates : List Update) (time
   pub whole : status_bytes updates times ≡ status_bytes before times ++ part ++ unsent
   pub sent : Appends old new (status_bytes before times ++ part)
 
+-- The writer took all status updates, and did not fail.
+abbrev pub AreAllSent : Devices → Devices → List Update → List ℤ → Type 0
+AreAllSent old new updates times =
+    (new.write_failures ≡ old.write_failures) × Appends old.sent new.sent (status_bytes updates times)
+
 -- The status updates that were sent: all; where the writer failed, perhaps the last in part; where memory was refused,
 -- perhaps all but the last.
 abbrev pub IsSent : Devices → Devices → List Update → List ℤ → End → Type 0
 IsSent old new updates times (ends.Frame Device) =
-    Appends old.sent new.sent (status_bytes updates times)
+    AreAllSent old new updates times
     ⊎ ((part : List ℕ) × HasFailed old.write_failures new.write_failures × IsSentBut old.sent new.sent updates times part)
 IsSent old new updates times ends.OutOfMemory =
-    Appends old.sent new.sent (status_bytes updates times) ⊎ IsSentBut old.sent new.sent updates times []
-IsSent old new updates times end = Appends old.sent new.sent (status_bytes updates times)
+    AreAllSent old new updates times
+    ⊎ ((new.write_failures ≡ old.write_failures) × IsSentBut old.sent new.sent updates times [])
+IsSent old new updates times end = AreAllSent old new updates times
 
 -- A run from these rows, over the bytes that the reader gave: `handled` are the items of the bytes up to the first cause
 -- of an end, each lawful after those before it, and what is left are the commits among them, applied in their order.

@@ -17,7 +17,7 @@ returns-in_err-send_status-clause-answer g c = λ h rows old unread failures han
     let fits : SFits w64 c.micros.result = search rules in
     let done = subst (HasHandled h rows c.handle.new.self come.progress c.args.item) c.if-branch.true (c.in_ok-handle.ensures h rows come.progress come.at) in
     unsent h rows old (devices unread (g.W.Sink.contents c.args.writer.now) (g.C.Clock.told c.args.clock.now) failures (g.W.Sink.failures c.args.writer.now)) (devices unread (g.W.Sink.contents c.send_status.new.w) (g.C.Clock.told c.micros.new.self) failures (g.W.Sink.failures c.send_status.new.w)) c.args.applier.now c.handle.new.self handled c.args.item c.micros.result c.written.result c.position.result c.position-then-branch.result c.from_residual-in_err-send_status.result c.in_err-send_status.field-0.0 come done
-    c.micros.ensures c.in_err-send_status.ensures.only (λ e. c.in_err-send_status.ensures.device (ap Err e)) (λ e. c.in_err-send_status.ensures.memory (ap Err e)) (λ e. simp to_z-of_z at (c.in_err-send_status.ensures.part (ap Err e))) c.written.ensures c.position.ensures c.position-then-branch.ensures c.from_residual-in_err-send_status.ensures.1
+    c.micros.ensures c.in_err-send_status.ensures.only (λ e. c.in_err-send_status.ensures.device (ap Err e)) (λ e. (c.in_err-send_status.ensures.works (λ d. cc), c.in_err-send_status.ensures.memory (ap Err e))) (λ e. simp to_z-of_z at (c.in_err-send_status.ensures.part (ap Err e))) c.written.ensures c.position.ensures c.position-then-branch.ensures c.from_residual-in_err-send_status.ensures.1
 
 pub returns-in_ok-send_status-clause-under_way : goal.returns-in_ok-send_status-clause-under_way
 returns-in_ok-send_status-clause-under_way g c = let r = c.requires in under_way r.0 r.1 c.handle.new.self r.2 c.args.item c.in_ok-handle.field-0 (c.in_ok-handle.ensures r.0 r.1 r.2 r.3)

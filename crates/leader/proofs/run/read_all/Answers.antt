@@ -44,7 +44,8 @@ returns-in_err-pulled g c = λ h rows at.
     let broken = broken_by c.pull-pulled.new.self.ending f c.in_err-pulled.ensures.fault in
     ends_as h rows old new c.handle_kept.new.applier _ c.from_residual-in_err-pulled.result c.from_residual-in_err-pulled.ensures.1
     (over_by_fault h rows old new c.handle_kept.new.applier bytes kept.0 consumed kept.1 f (subst (Reads bytes kept.0) broken all)
-    (λ device. rw (← c.pulls.invariant.reads) (failed_now c.pulls.frames.ending _ c.pulls.invariant.unbroken (c.in_err-pulled.ensures.device (ap Err device)))))
+    (λ device. rw (← c.pulls.invariant.reads) (failed_now c.pulls.frames.ending _ c.pulls.invariant.unbroken (c.in_err-pulled.ensures.device (ap Err device))))
+    (λ other. c.in_err-pulled.ensures.works (λ e. other cc) ∙ c.pulls.invariant.reads))
 
 pub returns-in_err-finish : goal.returns-in_err-finish
 returns-in_err-finish g c = λ h rows at.
@@ -60,7 +61,7 @@ returns-in_err-finish g c = λ h rows at.
     let all = none_kept bytes kept.0 c.handle_kept.new.frames c.pull-pulled.new.self.ending kept.2 c.in_ok-handle_kept.ensures.none c.handle_kept.ensures.ending in
     let f = c.in_err-finish.field-0.0 in
     ends_as h rows old new c.handle_kept.new.applier _ c.from_residual-in_err-finish.result c.from_residual-in_err-finish.ensures.1
-    (over_inside h rows old new c.handle_kept.new.applier bytes kept.0 consumed kept.1 c.pull-pulled.new.self.ending f all (c.in_ok-pulled.ensures.end c.if-not-branch.true) c.in_ok-pulled.ensures.fault (rw (← c.handle_kept.ensures.ending) c.in_err-finish.ensures.fault))
+    (over_inside h rows old new c.handle_kept.new.applier bytes kept.0 consumed kept.1 c.pull-pulled.new.self.ending f all (c.in_ok-pulled.ensures.end c.if-not-branch.true) c.in_ok-pulled.ensures.fault (rw (← c.handle_kept.ensures.ending) c.in_err-finish.ensures.fault) (c.in_ok-pulled.ensures.works (λ e. cc) ∙ c.pulls.invariant.reads))
 
 pub returns-then-not-branch : goal.returns-then-not-branch
 returns-then-not-branch g c = λ h rows at.
@@ -74,7 +75,7 @@ returns-then-not-branch g c = λ h rows at.
     let read = piece.2 was.0 was.1 was.4 in
     let kept = c.in_ok-handle_kept.ensures.kept h rows old (g.R.Source.remaining c.pull-pulled.new.r) (g.R.Source.failures c.pull-pulled.new.r) bytes was.1 came read in
     let all = none_kept bytes kept.0 c.handle_kept.new.frames c.pull-pulled.new.self.ending kept.2 c.in_ok-handle_kept.ensures.none c.handle_kept.ensures.ending in
-    over_at_edge h rows old new c.handle_kept.new.applier bytes kept.0 consumed kept.1 c.pull-pulled.new.self.ending all (c.in_ok-pulled.ensures.end c.if-not-branch.true) c.in_ok-pulled.ensures.fault (rw (← c.handle_kept.ensures.ending) c.in_ok-finish.ensures.fault)
+    over_at_edge h rows old new c.handle_kept.new.applier bytes kept.0 consumed kept.1 c.pull-pulled.new.self.ending all (c.in_ok-pulled.ensures.end c.if-not-branch.true) c.in_ok-pulled.ensures.fault (rw (← c.handle_kept.ensures.ending) c.in_ok-finish.ensures.fault) (c.in_ok-pulled.ensures.works (λ e. cc) ∙ c.pulls.invariant.reads)
 
 pub pulls-preserved : goal.pulls-preserved
 pulls-preserved g c = record {
