@@ -1,13 +1,12 @@
 -- Entries after one of them came or changed.
 use Rattle.std.specs.Prelude.{◌≡◌, ℕ, true, false, List, [], ◌∷◌, Option, Some, None, refl, IsSome, is_some}
 use Rattle.std.proofs.Common.{sym, ◌∙◌, ap, subst, inl, inr}
-use Rattle.std.specs.Ordering.{eq_by_cmp}
 use Rattle.model.specs.declared.value.Value.{Value}
 use Rattle.model.specs.declared.key.Key.{Key}
 use Rattle.model.specs.declared.row.Row.{Row}
 use Rattle.model.specs.Rows.{value_at, values_in, with_first}
 use Rattle.indexes.specs.Columns.{present, before_key}
-use Rattle.indexes.specs.Hashed.{hashed_cmp, hashed_cmp_exact}
+use Rattle.indexes.specs.Hashed.{hashed_cmp_exact}
 use Rattle.indexes.proofs.Elements.{one_or_other}
 use Rattle.indexes.specs.Unique.{Entries, entry_at, held, held_by, number_in, with_number, SameApart, KeepsEntries, SetsEntry, PutsEntry, SettlesEntry}
 

@@ -1,5 +1,5 @@
 -- What is empty after it was settled is given up.
-use Rattle.std.specs.Prelude.{◌≡◌, ℕ, suc, ◌<◌, List, Option, Some, None, refl, IsSome, is_some, slice_get, slice_index_or, if◌then◌else◌}
+use Rattle.std.specs.Prelude.{◌≡◌, ℕ, suc, List, Option, Some, None, refl, IsSome, is_some, slice_get, slice_index_or, if◌then◌else◌}
 use Rattle.std.proofs.Common.{sym, ◌∙◌, ap, subst, inl, inr, arith}
 use Rattle.std.specs.List.{Contains}
 use Rattle.std.specs.FinMap.{FinMap, get, remove}
@@ -13,7 +13,7 @@ use Rattle.indexes.specs.declared.unique.Unique.{Unique}
 use Rattle.indexes.specs.Unique.{entry_at, held, Settles, EachStep}
 use Rattle.indexes.specs.Table.{Spot, spots_of, IsOfSettled, IsFilled}
 use Rattle.indexes.specs.Indexed.{IsIndexed, room_of, columns_of}
-use Rattle.indexes.proofs.Room.{OfUnique, HasEntryAt, key_spot, unique_spot, unique_spot_of, in_room, column_within}
+use Rattle.indexes.proofs.Room.{OfUnique, key_spot, unique_spot, unique_spot_of, in_room, column_within}
 
 module _ (keys : TableKeys) (old new : Kept) (us vs : List Unique) (key : Key) (row : Row) (is : keys.uniques ≡ columns_of us) (was : IsIndexed keys.primary old us)
     (slots : new.slots ≡ (if is_some (get old.rows key) then old.slots else remove old.slots key)) (steps : EachStep (Settles row) us vs) where

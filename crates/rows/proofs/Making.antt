@@ -1,5 +1,5 @@
 -- A slot is made for a key that had none, or memory for it is refused.
-use Rattle.std.specs.Prelude.{◌≡◌, ℕ, List, Option, Some, None, refl, Result, Ok, Err, IfOk, OnErr}
+use Rattle.std.specs.Prelude.{◌≡◌, ℕ, List, Some, None, Result, Ok, Err, IfOk, OnErr}
 use Rattle.std.proofs.Common.{sym, ◌∙◌, ap, subst}
 use Rattle.std.specs.FinMap.{FinMap, get, insert}
 use Rattle.slab.specs.Slab.{Slab, SameValues}

@@ -1,5 +1,4 @@
 use Rattle.std.proofs.Common.{sym, ◌∙◌, ap}
-use Rattle.model.specs.declared.key.Key.{Key}
 use Rattle.model.specs.Rows.{values_in}
 use Rattle.indexes.specs.Unique.{held, number_in}
 use Rattle.indexes.proofs.Entries.{held_by_present, held_by_none, value_of_some}

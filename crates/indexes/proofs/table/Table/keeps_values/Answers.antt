@@ -1,12 +1,11 @@
 use Rattle.std.proofs.Common.{sym, ◌∙◌, ap, subst}
-use Rattle.std.specs.Prelude.{◌≡◌, List, Some, refl, slice_get}
+use Rattle.std.specs.Prelude.{◌≡◌, List, Some, slice_get}
 use Rattle.std.specs.FinMap.{get}
 use Rattle.model.specs.declared.row.Row.{Row}
-use Rattle.indexes.specs.Table.{TableContent, IsSound}
+use Rattle.indexes.specs.Table.{TableContent}
 use Rattle.indexes.specs.declared.unique.Unique.{Unique}
 use Rattle.indexes.specs.Unique.{EachAgrees}
-use Rattle.indexes.specs.Indexed.{columns_of}
-use Rattle.indexes.proofs.Tabling.{agree_in_keys, sound}
+use Rattle.indexes.proofs.Tabling.{agree_in_keys}
 use Rattle.indexes.proofs.table.Table.keeps_values.Goals as goal
 
 same_row : (row other : Row) → Some row ≡ Some other → row ≡ other

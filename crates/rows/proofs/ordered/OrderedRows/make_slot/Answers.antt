@@ -1,5 +1,4 @@
-use Rattle.std.specs.Prelude.{ℕ, Some, IfOk}
-use Rattle.std.proofs.Common.{sym, ◌∙◌, ap, subst}
+use Rattle.std.proofs.Common.{◌∙◌, ap}
 use Rattle.std.specs.FinMap.{get}
 use Rattle.rows.specs.Kept.{Kept}
 use Rattle.rows.proofs.Slots.{found-none}
