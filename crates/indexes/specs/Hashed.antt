@@ -1,7 +1,7 @@
 -- The order of an index: by the hashes of values first, so that a search seldom reads their texts.
---     hash_of      the hash of values: of their texts alone, since numbers are quick to compare
+--     hash_of      the hash of values: of their texts and numbers
 --     hashed_cmp      by the hashes, and where these are one by the values
-use Rattle.std.specs.Prelude.{◌≡◌, ℕ, ◌+◌, ◌*◌, ◌%◌, ◌^◌, List, [], ◌∷◌, IsTrue, refl}
+use Rattle.std.specs.Prelude.{◌≡◌, ℕ, ℤ, unsigned_abs, ◌+◌, ◌*◌, ◌%◌, ◌^◌, List, [], ◌∷◌, IsTrue, refl}
 use Rattle.std.proofs.Common.{sym, ◌∙◌, ap, true≢false}
 use Rattle.std.specs.Ordering.{is_le, nat_cmp, ordering_then}
 use Rattle.std.specs.Cmp.{IsTotalOrder}
@@ -22,8 +22,12 @@ abbrev pub hash_bytes : ℕ → List ℕ → ℕ
 hash_bytes hash [] = hash
 hash_bytes hash (byte ∷ bytes) = hash_bytes (hash_byte hash byte) bytes
 
+-- Of one number alone that is not negative, it is that number: so the order of hashes is that of the numbers.
+abbrev pub hash_number : ℕ → ℤ → ℕ
+hash_number hash number = ((hash * 1099511628211) % 2 ^ 64 + unsigned_abs number) % 2 ^ 64
+
 abbrev pub hash_value : ℕ → Value → ℕ
-hash_value hash (Int number) = hash
+hash_value hash (Int number) = hash_number hash number
 hash_value hash (Text text) = hash_bytes hash text
 hash_value hash (Bool truth) = hash
 

@@ -1,12 +1,12 @@
-// The values of a unique key in the order of an index: by a hash of their texts first.
+// The values of a unique key in the order of an index: by a hash first.
 //
-// A search compares hashes, numbers that lie in the tree's own nodes, and reads texts only where
+// A search compares hashes, numbers that lie in the tree's own nodes, and reads values only where
 // two hashes are one. The tree's bound on a search holds whatever the values are, which a hash
 // table's doesn't.
 ghost use Rattle.std.specs.Prelude.{◌≡◌, ◌<◌, ◌^◌};
 ghost use Rattle.model.specs.Key.{key_cmp};
 ghost use Rattle.indexes.specs.Columns.{present};
-ghost use Rattle.indexes.specs.Hashed.{hash_bytes, hash_value, hash_of};
+ghost use Rattle.indexes.specs.Hashed.{hash_bytes, hash_number, hash_value, hash_of};
 
 use crate::columns::value_of;
 use model::{Key, KeyValues, Row, Value};
@@ -237,7 +237,7 @@ fn hash_key(key: &Key) -> u64
     ensures { result ≡ hash_of key.now }
 {
     match key.values() {
-        KeyValues::Int(_) => 0,
+        KeyValues::Int(number) => hash_number(0, number),
         KeyValues::List(values) => hash_values(values),
     }
 }
@@ -272,8 +272,17 @@ fn hash_value(hash: u64, value: &Value) -> u64
 {
     match value {
         Value::Text(text) => hash_bytes(hash, text.as_str().as_bytes()),
-        Value::Int(_) | Value::Bool(_) => hash,
+        Value::Int(number) => hash_number(hash, *number),
+        Value::Bool(_) => hash,
     }
+}
+
+/// A hash with one more number.
+fn hash_number(hash: u64, number: i64) -> u64
+    ensures { result ≡ hash_number hash number }
+{
+    hash.wrapping_mul(FACTOR)
+        .wrapping_add(number.unsigned_abs())
 }
 
 /// A hash with more bytes.
