@@ -8,6 +8,7 @@ use Rattle.model.specs.Rows.{value_at, values_in, with_first}
 use Rattle.indexes.specs.Columns.{present, before_key}
 use Rattle.indexes.specs.Hashed.{hashed_cmp_exact}
 use Rattle.indexes.proofs.Elements.{one_or_other}
+use Rattle.indexes.proofs.Indexing.{has_or_not}
 use Rattle.indexes.specs.Unique.{Entries, entry_at, held, held_by, number_in, with_number, SameApart, KeepsEntries, SetsEntry, PutsEntry, SettlesEntry}
 
 -- a row that has all its values in some columns has those values there
@@ -69,6 +70,17 @@ nothing_put columns row number entries none = record {
   beside = λ values differs. refl;
   entries = λ values some. some;
 }
+
+-- no entry goes where a number is set
+pub sets_keep : (columns : List ℕ) (row : Row) (number : Option ℕ) (old new : Entries) → SetsEntry columns row number old new → (values : Key) → IsSome (entry_at old values) → IsSome (entry_at new values)
+sets_keep columns row number old new sets values some = elim (has_or_not (values_in columns row) values) [
+  | inl has ↦ ap is_some (sets.here values has) ∙ written (entry_at old values) some
+  | inr has_not ↦ ap is_some (sets.beside values has_not) ∙ some
+]
+  where
+    written : (o : Option (Option ℕ)) → IsSome o → IsSome (with_number number o)
+    written None e = absurd cc
+    written (Some b) e = refl
 
 -- what changes at the present values alone changes at the row's values alone
 pub set_at_present : (columns : List ℕ) (row : Row) (number : Option ℕ) (old new : Entries) (has : Key) → values_in columns row ≡ Some has

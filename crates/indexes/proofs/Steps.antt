@@ -1,5 +1,5 @@
 -- A step at each index of a table, one more of them done.
-use Rattle.std.specs.Prelude.{◌≡◌, ◌≢◌, ℕ, ◌+◌, ◌<◌, ◌≤◌, List, Option, Some, None, IsSome, is_some, length, refl, ◌⊎◌, slice_index_or, slice_set, take, drop, ◌++◌, Result, Ok, Err, OnErr}
+use Rattle.std.specs.Prelude.{◌≡◌, ◌≢◌, ℕ, ◌+◌, ◌<◌, ◌≤◌, List, Option, Some, None, length, refl, ◌⊎◌, slice_index_or, slice_set, take, drop, ◌++◌, Result, Ok, Err, OnErr}
 use Rattle.std.proofs.Common.{sym, ◌∙◌, ap, subst, inl, inr, arith}
 use Rattle.std.specs.Global.{Vec}
 use Rattle.std.proofs.lemmas.List.{get_or-set_same, get_or-set_other, take_at}
@@ -10,6 +10,7 @@ use Rattle.model.specs.declared.key.Key.{Key}
 use Rattle.model.specs.declared.row.Row.{Row}
 use Rattle.model.specs.Rows.{values_in}
 use Rattle.indexes.specs.Unique.{entry_at, number_in, with_number, KeepsSlots, Sets, Puts, MayPut, IsFree, EachIsFree, EachStep}
+use Rattle.indexes.proofs.Entries.{sets_keep}
 use Rattle.indexes.proofs.Indexing.{has_or_not}
 
 before_or_after : (k i : ℕ) → (k < i + 1) ⊎ (i < k)
@@ -91,10 +92,6 @@ emptied : (o : Option (Option ℕ)) → number_in (with_number None o) ≡ None
 emptied None = refl
 emptied (Some number) = refl
 
-written : (number : Option ℕ) (o : Option (Option ℕ)) → IsSome o → IsSome (with_number number o)
-written number None some = absurd cc
-written number (Some before) some = refl
-
 taken_away : (row : Row) (u v w : Unique) → IsFree row u → MayPut row u v → Sets row None v w → KeepsSlots u w
 taken_away row u v w free may sets =
     let columns_is : v.columns.items ≡ u.columns.items = may.columns in
@@ -109,10 +106,7 @@ taken_away row u v w free may sets =
           | inl has ↦ ap number_in (here values has) ∙ emptied (entry_at v.entries values) ∙ sym (free values has)
           | inr has_not ↦ ap number_in (beside values has_not) ∙ may.entries.beside values has_not
         ];
-        entries = λ values some. elim (has_or_not (values_in u.columns.items row) values) [
-          | inl has ↦ ap is_some (here values has) ∙ written None (entry_at v.entries values) (may.entries.entries values some)
-          | inr has_not ↦ ap is_some (beside values has_not) ∙ may.entries.entries values some
-        ];
+        entries = λ values some. sets_keep v.columns.items row None v.entries w.entries sets.entries values (may.entries.entries values some);
       };
     }
 

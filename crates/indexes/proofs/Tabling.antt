@@ -18,7 +18,8 @@ use Rattle.indexes.specs.Unique as step
 use Rattle.indexes.specs.Unique.{Entries, entry_at, held, held_by, with_number, number_in, HasEntry, SetsEntry, Sets, Puts, EachStep, EachHasSlot, EachAgrees}
 use Rattle.indexes.specs.Table.{Spot, spots_of, KeepsSpots, NoClash, HasValues, IsTwin, IsSound}
 use Rattle.indexes.specs.Indexed.{IsIndex, IsIndexed, room_of, columns_of}
-use Rattle.indexes.proofs.Indexing.{has_or_not, index_kept, index_filled, index_swapped, index_cleared}
+use Rattle.indexes.proofs.Entries.{sets_keep}
+use Rattle.indexes.proofs.Indexing.{index_kept, index_filled, index_swapped, index_cleared}
 use Rattle.indexes.proofs.Room.{key_spot, unique_spot, spot_of, key_in_room, entry_in_room, in_room, columns_at, column_within}
 
 -- ---- columns
@@ -33,16 +34,6 @@ same_columns (u ∷ us) (v ∷ vs) long each =
     ap (λ c. c ∷ columns_of vs) first ∙ ap (λ cs. u.columns.items ∷ cs) (same_columns us vs (omega arith) (λ k d l. each (suc k) d (omega arith)))
 
 -- ---- room
-
-sets_keep : (columns : List ℕ) (row : Row) (number : Option ℕ) (old new : Entries) → SetsEntry columns row number old new → (values : Key) → IsSome (entry_at old values) → IsSome (entry_at new values)
-sets_keep columns row number old new sets values some = elim (has_or_not (values_in columns row) values) [
-  | inl has ↦ ap is_some (sets.here values has) ∙ written (entry_at old values) some
-  | inr has_not ↦ ap is_some (sets.beside values has_not) ∙ some
-]
-  where
-    written : (o : Option (Option ℕ)) → IsSome o → IsSome (with_number number o)
-    written None e = absurd cc
-    written (Some b) e = refl
 
 pub entries_after_set : (row : Row) (number : Option ℕ) (us vs : List Unique) → EachStep (Sets row number) us vs
     → (k : ℕ) (d : Unique) → k < length us → (values : Key) → IsSome (entry_at (slice_index_or us k d).entries values) → IsSome (entry_at (slice_index_or vs k d).entries values)
@@ -127,9 +118,9 @@ free_values keys primary kept us row is was clash k d l values has =
           absurd (clash k (slice_index_or us k d).columns.items h.key values h.row (ap (λ cs. slice_get cs k) is ∙ columns_at us k d l) h.at h.has has)
     ] refl
 
-written : (number : ℕ) (o : Option (Option ℕ)) → IsSome o → number_in (with_number (Some number) o) ≡ Some number
-written number None some = absurd cc
-written number (Some before) some = refl
+number_written : (number : ℕ) (o : Option (Option ℕ)) → IsSome o → number_in (with_number (Some number) o) ≡ Some number
+number_written number None some = absurd cc
+number_written number (Some before) some = refl
 
 -- a number that is set where there is an entry comes there
 pub sets_put : (row : Row) (number : ℕ) (us vs : List Unique) → EachHasSlot row us → EachStep (Sets row (Some number)) us vs → EachStep (Puts row number) us vs
@@ -140,7 +131,7 @@ sets_put row number us vs entry steps = record {
       record {
         columns = s.columns;
         entries = record {
-          here = λ values has. ap number_in (s.entries.here values has) ∙ written number (entry_at (slice_index_or us k d).entries values) (entry k d l values has);
+          here = λ values has. ap number_in (s.entries.here values has) ∙ number_written number (entry_at (slice_index_or us k d).entries values) (entry k d l values has);
           beside = λ values has_not. ap number_in (s.entries.beside values has_not);
           entries = sets_keep _ row (Some number) _ _ s.entries;
         };
