@@ -63,14 +63,6 @@ number_put columns row number old new has is here beside = record {
   ];
 }
 
--- none came, since the row hasn't the values
-pub nothing_put : (columns : List ℕ) (row : Row) (number : ℕ) (entries : Entries) → values_in columns row ≡ None → PutsEntry columns row number entries entries
-nothing_put columns row number entries none = record {
-  here = λ values e. absurd cc;
-  beside = λ values differs. refl;
-  entries = λ values some. some;
-}
-
 -- no entry goes where a number is set
 pub sets_keep : (columns : List ℕ) (row : Row) (number : Option ℕ) (old new : Entries) → SetsEntry columns row number old new → (values : Key) → IsSome (entry_at old values) → IsSome (entry_at new values)
 sets_keep columns row number old new sets values some = elim (has_or_not (values_in columns row) values) [

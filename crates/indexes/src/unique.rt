@@ -198,7 +198,7 @@ fn put_all(
     Ok(())
 }
 
-// As far as memory goes.
+// The same; refused for memory, it leaves the numbers that it has put.
 fn put_some(
     alloc: Global,
     uniques: &mut [Unique],

@@ -66,6 +66,11 @@ pub record IsRefused (bytes old new : List ℕ) (ended : Ended) : Type 0 where
   pub said : Says ended (fault_status fault) (fault_line fault)
   pub nothing : new ≡ old
 
+-- The report of an outcome was appended.
+pub record IsTold (definitions : List Definition) (outcome : Outcome) (old new : List ℕ) (ended : Ended) : Type 0 where
+  pub report : new ≡ old ++ report_text definitions outcome.tables.rows outcome.position outcome.end
+  pub said : Says ended (end_status outcome.end) []
+
 -- The stream was run from empty tables, and the report of what it left was appended.
 pub record HasReported (bytes : List ℕ) (spool : ℕ) (given : Devices) (old new : List ℕ) (ended : Ended) : Type 0 where
   pub definitions : List Definition
@@ -73,18 +78,12 @@ pub record HasReported (bytes : List ℕ) (spool : ℕ) (given : Devices) (old n
   pub outcome : Outcome
   pub left : Devices
   pub run : IsRun (record { workers = 0; spool = spool; catalog = definitions }) finite.empty given left outcome
-  pub report : new ≡ old ++ report_text definitions outcome.tables.rows outcome.position outcome.end
-  pub said : Says ended (end_status outcome.end) []
+  pub told : IsTold definitions outcome old new ended
 
 -- Memory was refused, and nothing was appended.
 pub record HasNoMemory (old new : List ℕ) (ended : Ended) : Type 0 where
   pub said : Says ended 4 memory_line
   pub nothing : new ≡ old
-
--- The report of an outcome was appended.
-pub record IsTold (definitions : List Definition) (outcome : Outcome) (old new : List ℕ) (ended : Ended) : Type 0 where
-  pub report : new ≡ old ++ report_text definitions outcome.tables.rows outcome.position outcome.end
-  pub said : Says ended (end_status outcome.end) []
 
 abbrev pub Tells : List Definition → Outcome → List ℕ → List ℕ → Ended → Type 0
 Tells definitions outcome old new ended = IsTold definitions outcome old new ended ⊎ HasNoMemory old new ended

@@ -9,8 +9,7 @@ returns g c = elim c.tell-ended.ensures [
     outcome = c.run_spooled-outcome.result;
     left = c.run_spooled-outcome.ensures.0;
     run = rw c.in-Ok-empty.ensures.rows at c.run_spooled-outcome.ensures.1;
-    report = told.report;
-    said = told.said;
+    told = told;
   }))
   | inr none ↦ inr (inr none)
 ]
