@@ -6,9 +6,9 @@ use Rattle.model.specs.declared.key.Key.{Key}
 use Rattle.model.specs.declared.row.Row.{Row as Record}
 use Rattle.model.specs.declared.cell.Cell.{Cell}
 use Rattle.model.specs.Rows.{TableKeys, Schema, values_in, keys_at}
-use Rattle.model.specs.Cells.{row_cell, unique_cell, unique_cells, cells_of}
+use Rattle.model.specs.Cells.{row_cell, unique_cell, unique_cells, cells_of, table_of}
 use Rattle.indexes.specs.Table.{Spot, TableContent, spot, unique_spots, spots_of, cell_of_key, cell_at, cells_in, KeepsSpots}
-use Rattle.indexes.specs.Content.{Keeps, HasRoom, table_of, SameRoomElsewhere}
+use Rattle.indexes.specs.Content.{Keeps, HasRoom, SameRoomElsewhere}
 use Rattle.indexes.specs.Gathered.{cells_from, schema_of}
 use Rattle.indexes.proofs.Elements.{Elem, contains_elem, elem_contains, elem_left, elem_right, elem_either, elem_map, elem_of_map}
 use Rattle.indexes.proofs.Gather.{set_there, set_elsewhere, keys_is}

@@ -11,12 +11,12 @@ use Rattle.model.specs.declared.cell.Cell.{Cell}
 use Rattle.model.specs.declared.cell.Cell.TheVariants.{Row}
 use Rattle.model.specs.Key.{key_cmp}
 use Rattle.model.specs.Rows.{TableKeys, place_cmp, values_in, key_of, keys_at, taken, IsValid}
-use Rattle.model.specs.Cells.{cells_of}
+use Rattle.model.specs.Cells.{cells_of, table_of}
 use Rattle.model.specs.Effect.{first_taken, is_taken}
 use Rattle.model.specs.TableRows.{rows_of_table}
 use Rattle.model.specs.TakenLaws.{taken_by_row, row_of_taken}
 use Rattle.indexes.specs.Table.{Spot, TableContent, spots_of, KeepsSpots, NoClash, HasValues, IsTwin, IsSound, unique_at, cell_at, cells_in}
-use Rattle.indexes.specs.Content.{Content, Keeps, HasRoom, unique_columns, IsTable, SameElsewhere, SameRoomElsewhere, table_of}
+use Rattle.indexes.specs.Content.{Content, Keeps, HasRoom, unique_columns, IsTable, SameElsewhere, SameRoomElsewhere}
 use Rattle.indexes.specs.Gathered.{placed, rows_of, cells_from, schema_of, gathered, AllSound, IsNew}
 use Rattle.indexes.proofs.Elements.{contains_elem, elem_contains, elem_map, elem_of_map}
 use Rattle.indexes.proofs.Gather.{get_is, keys_is, get_without, set_there, rows_inserted, rows_removed, rows_replaced, rows_same, get_there, get_elsewhere, no_clash, schema_after, table_at, valid, TableAt}

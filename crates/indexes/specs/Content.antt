@@ -8,10 +8,9 @@ use Rattle.std.specs.FinMap.{FinMap, get}
 use Rattle.model.specs.declared.key.Key.{Key}
 use Rattle.model.specs.declared.row.Row.{Row as Record}
 use Rattle.model.specs.declared.cell.Cell.{Cell}
-use Rattle.model.specs.declared.cell.Cell.TheVariants.{Row, Uniq, Whole}
 use Rattle.model.specs.Key.{key_cmp}
 use Rattle.model.specs.Rows.{Rows, Schema, keys_at}
-use Rattle.model.specs.Cells.{cells_of}
+use Rattle.model.specs.Cells.{cells_of, table_of}
 
 pub record Content : Type 0 where
   pub schema : Schema  -- the keys of each table, in the catalog's order
@@ -37,11 +36,6 @@ IsTable rows table own = (key : Key) → get rows (table, key) ≡ get own key
 -- no row of another table changes
 abbrev pub SameElsewhere : Rows → Rows → ℕ → Type 0
 SameElsewhere old new table = (other : ℕ) (key : Key) → other ≢ table → get new (other, key) ≡ get old (other, key)
-
-abbrev pub table_of : Cell → ℕ
-table_of (Row table key) = table
-table_of (Uniq table number values) = table
-table_of (Whole table) = table
 
 -- no cell of another table goes
 abbrev pub SameRoomElsewhere : List Cell → List Cell → ℕ → Type 0

@@ -6,12 +6,12 @@ ghost use Rattle.model.specs.declared.key.Key.{Key as AnyKey};
 ghost use Rattle.model.specs.declared.row.Row.{Row as AnyRow};
 ghost use Rattle.model.specs.declared.cell.Cell.{Cell};
 ghost use Rattle.model.specs.declared.cell.Cell.TheVariants.{Row as RowCell, Uniq};
-ghost use Rattle.model.specs.Cells.{cells_of};
+ghost use Rattle.model.specs.Cells.{cells_of, table_of};
 ghost use Rattle.model.specs.Rows.{IsValid, keys_at, keys_of, key_of, values_in, taken};
 ghost use Rattle.model.specs.TableRows.{rows_of_table};
 ghost use Rattle.model.specs.Effect.{first_taken, is_taken};
 ghost use Rattle.indexes.specs.Table.{cells_in};
-ghost use Rattle.indexes.specs.Content.{Keeps, HasRoom, unique_columns, table_of, IsTable, SameElsewhere, SameRoomElsewhere};
+ghost use Rattle.indexes.specs.Content.{Keeps, HasRoom, unique_columns, IsTable, SameElsewhere, SameRoomElsewhere};
 
 use crate::table::{Contents, Table};
 use catalog::Catalog;
