@@ -5,8 +5,8 @@ use Rattle.std.specs.FinMap as finite
 use Rattle.std.proofs.lemmas.Bool.{cases_eq}
 use Rattle.savepoint.specs.declared.item.Item.{Item}
 use Rattle.savepoint.specs.Survivors.{changes_of}
-use Rattle.session.specs.declared.place.Place.{Place}
-use Rattle.session.specs.declared.place.Place.TheVariants.{Outside, Begun, Block}
+use Rattle.session.specs.declared.phase.Phase.{Phase}
+use Rattle.session.specs.declared.phase.Phase.TheVariants.{Outside, Begun, Block}
 use Rattle.session.specs.State.{Direct, Open, Transactions, State, IsHere, GoesAlone, begun_at}
 use Rattle.session.specs.Table.{opened}
 use Rattle.session.specs.Told.{IsOpening, IsGiving, IsChange}
@@ -15,8 +15,8 @@ use Rattle.leader.proofs.States.{get-inserted, get-other, get-left, get-gone, su
 
 -- The transaction that goes directly is the one that was begun.
 pub record IsSane (s : State) : Type 0 where
-  pub here : IsHere s.place s.transactions
-  pub alone : GoesAlone s.place s.transactions
+  pub here : IsHere s.phase s.transactions
+  pub alone : GoesAlone s.phase s.transactions
 
 -- no open transaction goes directly
 abbrev pub NoneDirect : State → Type 0
@@ -26,25 +26,25 @@ NoneDirect s = (xid : ℕ) (o : Open) → finite.get s.transactions xid ≡ Some
 abbrev pub SomeDirect : State → Type 0
 SomeDirect s = (xid : ℕ) × (o : Open) × (finite.get s.transactions xid ≡ Some o) × (o.way ≡ Direct)
 
-begun_of : (p : Place) (m : Transactions) (xid : ℕ) (o : Open) → begun_at p ≡ Some xid → finite.get m xid ≡ Some o → begun_in p m ≡ surviving_changes xid o.items
+begun_of : (p : Phase) (m : Transactions) (xid : ℕ) (o : Open) → begun_at p ≡ Some xid → finite.get m xid ≡ Some o → begun_in p m ≡ surviving_changes xid o.items
 begun_of Outside m xid o is there = cc
 begun_of (Begun x final) m xid o is there = let same : x ≡ xid = cc in rw (same, there)
 begun_of (Block x) m xid o is there = cc
 
 pub direct_begun : (s : State) (xid : ℕ) (o : Open) → IsSane s → finite.get s.transactions xid ≡ Some o → o.way ≡ Direct → begun s ≡ surviving_changes xid o.items
-direct_begun s xid o sane there direct = begun_of s.place s.transactions xid o (sane.alone xid o there direct) there
+direct_begun s xid o sane there direct = begun_of s.phase s.transactions xid o (sane.alone xid o there direct) there
 
 some_and : (found : Option Open) (P : Open → Type 0) → IsSomeAnd found P → (o : Open) × (found ≡ Some o) × P o
 some_and None P is = absurd is
 some_and (Some o) P is = (o, refl, is)
 
-begun_cases_at : (p : Place) (m : Transactions) → IsHere p m → GoesAlone p m → ((xid : ℕ) × (o : Open) × (finite.get m xid ≡ Some o) × (o.way ≡ Direct)) ⊎ ((begun_in p m ≡ []) × ((xid : ℕ) (o : Open) → finite.get m xid ≡ Some o → o.way ≢ Direct))
+begun_cases_at : (p : Phase) (m : Transactions) → IsHere p m → GoesAlone p m → ((xid : ℕ) × (o : Open) × (finite.get m xid ≡ Some o) × (o.way ≡ Direct)) ⊎ ((begun_in p m ≡ []) × ((xid : ℕ) (o : Open) → finite.get m xid ≡ Some o → o.way ≢ Direct))
 begun_cases_at Outside m here alone = inr (refl, λ xid o there direct. let no : None ≡ Some xid = alone xid o there direct in cc)
 begun_cases_at (Begun x final) m here alone = let is = some_and (finite.get m x) (λ o. o.way ≡ Direct) here in inl (x, is.0, is.1, is.2)
 begun_cases_at (Block x) m here alone = inr (refl, λ xid o there direct. let no : None ≡ Some xid = alone xid o there direct in cc)
 
 pub begun_cases : (s : State) → IsSane s → SomeDirect s ⊎ ((begun s ≡ []) × NoneDirect s)
-begun_cases s sane = begun_cases_at s.place s.transactions sane.here sane.alone
+begun_cases s sane = begun_cases_at s.phase s.transactions sane.here sane.alone
 
 pub none_begun : (s : State) → IsSane s → NoneDirect s → begun s ≡ []
 none_begun s sane none = from (begun_cases s sane)
@@ -113,12 +113,12 @@ begun_given s t xid item size o first second is direct change =
     direct_begun t xid _ second there direct ∙ surviving-change xid o.items item size change ∙ ap (λ ds. ds ++ changes_of (item ∷ [])) (sym (direct_begun s xid o first is.present direct))
 
 -- a streamed transaction commits where none was begun
-pub unbegun : (s t : State) (xid : ℕ) (o : Open) → IsSane s → IsSane t → finite.get s.transactions xid ≡ Some o → o.way ≢ Direct → t.transactions ≡ finite.remove s.transactions xid → t.place ≡ Outside → begun s ≡ []
+pub unbegun : (s t : State) (xid : ℕ) (o : Open) → IsSane s → IsSane t → finite.get s.transactions xid ≡ Some o → o.way ≢ Direct → t.transactions ≡ finite.remove s.transactions xid → t.phase ≡ Outside → begun s ≡ []
 unbegun s t xid o first second was streamed is outside =
     none_begun s first (λ x p there direct.
     let apart : xid ≡ x → ⊥ = λ same. let one : Some o ≡ Some p = sym was ∙ ap (finite.get s.transactions) same ∙ there in let e : o ≡ p = cc in streamed (ap (λ (q : Open). q.way) e ∙ direct) in
     let still : finite.get t.transactions x ≡ Some p = ap (λ (m : Transactions). finite.get m x) is ∙ get-left s.transactions xid x apart ∙ there in
     let no : None ≡ Some x = sym (ap begun_at outside) ∙ second.alone x p still direct in cc)
 
-pub begun_outside : (s : State) → s.place ≡ Outside → begun s ≡ []
+pub begun_outside : (s : State) → s.phase ≡ Outside → begun s ≡ []
 begun_outside s e = ap (λ p. begun_in p s.transactions) e

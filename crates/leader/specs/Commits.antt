@@ -7,8 +7,8 @@ use Rattle.std.specs.Prelude.{ℕ, List, [], ◌∷◌, ◌++◌, map, flat_map,
 use Rattle.std.specs.FinMap as finite
 use Rattle.model.specs.declared.change.Change.{Change}
 use Rattle.savepoint.specs.Survivors.{survivors, changes_of}
-use Rattle.session.specs.declared.place.Place.{Place}
-use Rattle.session.specs.declared.place.Place.TheVariants.{Outside, Begun, Block}
+use Rattle.session.specs.declared.phase.Phase.{Phase}
+use Rattle.session.specs.declared.phase.Phase.TheVariants.{Outside, Begun, Block}
 use Rattle.session.specs.Sized.{SizedItems, item_of}
 use Rattle.session.specs.State.{Open, Committed, State, Transactions}
 use Rattle.leader.specs.declared.outcome.Entry.{Entry}
@@ -47,14 +47,14 @@ abbrev pub open_changes : ℕ → Option Open → List Change
 open_changes xid None = []
 open_changes xid (Some o) = surviving_changes xid o.items
 
-abbrev pub begun_in : Place → Transactions → List Change
+abbrev pub begun_in : Phase → Transactions → List Change
 begun_in Outside transactions = []
 begun_in (Begun xid final) transactions = open_changes xid (finite.get transactions xid)
 begun_in (Block xid) transactions = []
 
 -- the changes so far of the transaction between Begin and Commit, if there is one
 abbrev pub begun : State → List Change
-begun s = begun_in s.place s.transactions
+begun s = begun_in s.phase s.transactions
 
 -- what was done: the commits, and then the transaction that was begun
 abbrev pub done : State → List Change

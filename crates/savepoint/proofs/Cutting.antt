@@ -184,33 +184,33 @@ before_first-before_savepoint {M} sub (i ∷ items) =
 
 -- Each mark tells how many items stand before it, from n on.
 abbrev pub IsNumbered : {M : Type 0} → (M → ℕ) → ℕ → List (Item × M) → Type 0
-IsNumbered place n [] = Unit {0}
-IsNumbered place n (i ∷ items) = (place i.1 ≡ n) × IsNumbered place (suc n) items
+IsNumbered index n [] = Unit {0}
+IsNumbered index n (i ∷ items) = (index i.1 ≡ n) × IsNumbered index (suc n) items
 
 -- how many items stand before the first that names the subtransaction
 abbrev pub count_before_first : {M : Type 0} → ℕ → List (Item × M) → ℕ
 count_before_first {M} sub items = prefix_len (λ (i : Item × M). not (is_of sub i.0)) items
 
-pub first_mark-place : {M : Type 0} (place : M → ℕ) (n sub : ℕ) (items : List (Item × M)) (mark : M) → IsNumbered place n items → first_mark sub items ≡ Some mark → place mark ≡ n + count_before_first sub items
-first_mark-place place n sub [] mark h e = cc
-first_mark-place {M} place n sub (i ∷ items) mark h e =
+pub first_mark-index : {M : Type 0} (index : M → ℕ) (n sub : ℕ) (items : List (Item × M)) (mark : M) → IsNumbered index n items → first_mark sub items ≡ Some mark → index mark ≡ n + count_before_first sub items
+first_mark-index index n sub [] mark h e = cc
+first_mark-index {M} index n sub (i ∷ items) mark h e =
     ⊎_elim
     (λ named.
     let first : Some i.1 ≡ Some mark = rw named at e in
     let same : i.1 ≡ mark = cc in
-    let here = ap place same in
+    let here = ap index same in
     rw named (omega (arith, here, h.0)))
     (λ other.
     let later : first_mark sub items ≡ Some mark = rw other at e in
-    let rest = first_mark-place place (suc n) sub items mark h.1 later in
+    let rest = first_mark-index index (suc n) sub items mark h.1 later in
     rw other (omega (arith, rest)))
     (cases_Bool (is_of sub i.0))
 
 -- a cut to the mark of a subtransaction is a cut to its savepoint
-pub take_place : {M : Type 0} (place : M → ℕ) (sub : ℕ) (items : List (Item × M)) (mark : M) → IsNumbered place 0 items → mark_at sub (savepoints items) ≡ Some mark → take (place mark) items ≡ before_first sub items
-take_place place sub items mark h e =
-    let at = first_mark-place place 0 sub items mark h (sym (mark_at-savepoints sub items) ∙ e) in
-    let same : place mark ≡ count_before_first sub items = omega (arith, at) in
+pub take_index : {M : Type 0} (index : M → ℕ) (sub : ℕ) (items : List (Item × M)) (mark : M) → IsNumbered index 0 items → mark_at sub (savepoints items) ≡ Some mark → take (index mark) items ≡ before_first sub items
+take_index index sub items mark h e =
+    let at = first_mark-index index 0 sub items mark h (sym (mark_at-savepoints sub items) ∙ e) in
+    let same : index mark ≡ count_before_first sub items = omega (arith, at) in
     ap (λ n. take n items) same
 
 before_first-none : {M : Type 0} (sub : ℕ) (items : List (Item × M)) → first_mark sub items ≡ None → before_first sub items ≡ items

@@ -1,4 +1,4 @@
--- The map from subtransactions to places, as marks come and go.
+-- The map from subtransactions to indexes, as marks come and go.
 use Rattle.std.proofs.Common.{◌≡◌, ℕ, ◌+◌, ◌<◌, ◌≤◌, true, false, List, [], ◌∷◌, ◌++◌, length, take, Option, Some, None, refl, sym, ap, ◌∙◌, arith, ⊎_elim, inl, inr}
 use Rattle.std.specs.Prelude.{slice_get, is_some, zero, suc, ◌⊎◌}
 use Rattle.std.specs.Ordering.{nat_cmp, is_eq}
@@ -10,8 +10,8 @@ use Rattle.std.specs.Option.{option_map}
 use Rattle.std.proofs.lemmas.List.{map-append, length-map}
 use Rattle.std.proofs.lemmas.Grind.{common_steps}
 use Rattle.std.proofs.Math.Seq.{take-length, take-append_seam}
-use Rattle.savepoint.specs.Savepoints.{mark_at, before_mark, subs_of, HasPlaces, noted}
-use Rattle.savepoint.proofs.Places.{IsFirst, IsUnmarked, mark_at-IsFirst, is_some-mark_at-IsFirst, mark_at-IsUnmarked, count_before-IsFirst, count_before-IsUnmarked}
+use Rattle.savepoint.specs.Savepoints.{mark_at, before_mark, subs_of, HasIndexes, noted}
+use Rattle.savepoint.proofs.Firsts.{IsFirst, IsUnmarked, mark_at-IsFirst, is_some-mark_at-IsFirst, mark_at-IsUnmarked, count_before-IsFirst, count_before-IsUnmarked}
 
 is_eq-nat_cmp_apart : (x y : ℕ) → (x ≡ y → ⊥) → is_eq (nat_cmp x y) ≡ false
 is_eq-nat_cmp_apart x y ne = grind (arith, nat_tests)
@@ -25,7 +25,7 @@ slice_get-last : {A : Type 0} (xs : List A) (y : A) → slice_get (xs ++ y ∷ [
 slice_get-last [] y = refl
 slice_get-last (x ∷ xs) y = slice_get-last xs y
 
--- a place of a list with one more is one of the list's, or the last
+-- an index of a list with one more is one of the list's, or the last
 last_or_front : {A : Type 0} (xs : List A) (y z : A) (i : ℕ) → slice_get (xs ++ y ∷ []) i ≡ Some z → ((i ≡ length xs) × (y ≡ z)) ⊎ (slice_get xs i ≡ Some z)
 last_or_front [] y z zero e = inl (refl, cc)
 last_or_front [] y z (suc i) e = cc
@@ -34,34 +34,34 @@ last_or_front (x ∷ xs) y z (suc i) e = elim (last_or_front xs y z i e) [ inl h
 
 -- ---- what a look-up says
 
-pub first_from_get : {M : Type 0} (places : BTreeMap ℕ ℕ) (marks : List (ℕ × M)) (sub place : ℕ) → HasPlaces places marks → get nat_cmp places sub ≡ Some place → IsFirst sub place marks
-first_from_get places marks sub place h e = record {
-  here = h.named sub place e;
-  before = λ j lt at. let same : Some place ≡ Some j = sym e ∙ h.found sub j at in let equal : place ≡ j = cc in omega arith;
+pub first_from_get : {M : Type 0} (indexes : BTreeMap ℕ ℕ) (marks : List (ℕ × M)) (sub index : ℕ) → HasIndexes indexes marks → get nat_cmp indexes sub ≡ Some index → IsFirst sub index marks
+first_from_get indexes marks sub index h e = record {
+  here = h.named sub index e;
+  before = λ j lt at. let same : Some index ≡ Some j = sym e ∙ h.found sub j at in let equal : index ≡ j = cc in omega arith;
 }
 
-pub unmarked_from_get : {M : Type 0} (places : BTreeMap ℕ ℕ) (marks : List (ℕ × M)) (sub : ℕ) → HasPlaces places marks → get nat_cmp places sub ≡ None → IsUnmarked sub marks
-unmarked_from_get places marks sub h e = λ j at. let found = h.found sub j at in cc
+pub unmarked_from_get : {M : Type 0} (indexes : BTreeMap ℕ ℕ) (marks : List (ℕ × M)) (sub : ℕ) → HasIndexes indexes marks → get nat_cmp indexes sub ≡ None → IsUnmarked sub marks
+unmarked_from_get indexes marks sub h e = λ j at. let found = h.found sub j at in cc
 
-pub mark_at-get : {M : Type 0} (places : BTreeMap ℕ ℕ) (marks : List (ℕ × M)) (sub place : ℕ) (m : ℕ × M) → HasPlaces places marks → get nat_cmp places sub ≡ Some place → slice_get marks place ≡ Some m → mark_at sub marks ≡ Some m.1
-mark_at-get {M} places marks sub place m h e at =
-    mark_at-IsFirst sub place marks (first_from_get places marks sub place h e) ∙ ap (λ o. option_map (λ (n : ℕ × M). n.1) o) at
+pub mark_at-get : {M : Type 0} (indexes : BTreeMap ℕ ℕ) (marks : List (ℕ × M)) (sub index : ℕ) (m : ℕ × M) → HasIndexes indexes marks → get nat_cmp indexes sub ≡ Some index → slice_get marks index ≡ Some m → mark_at sub marks ≡ Some m.1
+mark_at-get {M} indexes marks sub index m h e at =
+    mark_at-IsFirst sub index marks (first_from_get indexes marks sub index h e) ∙ ap (λ o. option_map (λ (n : ℕ × M). n.1) o) at
 
-pub mark_at-none : {M : Type 0} (places : BTreeMap ℕ ℕ) (marks : List (ℕ × M)) (sub : ℕ) → HasPlaces places marks → get nat_cmp places sub ≡ None → mark_at sub marks ≡ None
-mark_at-none places marks sub h e = mark_at-IsUnmarked sub marks (unmarked_from_get places marks sub h e)
+pub mark_at-none : {M : Type 0} (indexes : BTreeMap ℕ ℕ) (marks : List (ℕ × M)) (sub : ℕ) → HasIndexes indexes marks → get nat_cmp indexes sub ≡ None → mark_at sub marks ≡ None
+mark_at-none indexes marks sub h e = mark_at-IsUnmarked sub marks (unmarked_from_get indexes marks sub h e)
 
-pub before_mark-get : {M : Type 0} (places : BTreeMap ℕ ℕ) (marks : List (ℕ × M)) (sub place : ℕ) → HasPlaces places marks → get nat_cmp places sub ≡ Some place → before_mark sub marks ≡ take place marks
-before_mark-get places marks sub place h e = ap (λ n. take n marks) (count_before-IsFirst sub place marks (first_from_get places marks sub place h e))
+pub before_mark-get : {M : Type 0} (indexes : BTreeMap ℕ ℕ) (marks : List (ℕ × M)) (sub index : ℕ) → HasIndexes indexes marks → get nat_cmp indexes sub ≡ Some index → before_mark sub marks ≡ take index marks
+before_mark-get indexes marks sub index h e = ap (λ n. take n marks) (count_before-IsFirst sub index marks (first_from_get indexes marks sub index h e))
 
-pub before_mark-none : {M : Type 0} (places : BTreeMap ℕ ℕ) (marks : List (ℕ × M)) (sub : ℕ) → HasPlaces places marks → get nat_cmp places sub ≡ None → before_mark sub marks ≡ marks
-before_mark-none places marks sub h e = ap (λ n. take n marks) (count_before-IsUnmarked sub marks (unmarked_from_get places marks sub h e)) ∙ take-length marks
+pub before_mark-none : {M : Type 0} (indexes : BTreeMap ℕ ℕ) (marks : List (ℕ × M)) (sub : ℕ) → HasIndexes indexes marks → get nat_cmp indexes sub ≡ None → before_mark sub marks ≡ marks
+before_mark-none indexes marks sub h e = ap (λ n. take n marks) (count_before-IsUnmarked sub marks (unmarked_from_get indexes marks sub h e)) ∙ take-length marks
 
-pub is_some-mark_at : {M : Type 0} (places : BTreeMap ℕ ℕ) (marks : List (ℕ × M)) (sub : ℕ) → HasPlaces places marks → is_some (get nat_cmp places sub) ≡ is_some (mark_at sub marks)
-is_some-mark_at {M} places marks sub h = by_place (get nat_cmp places sub) refl
+pub is_some-mark_at : {M : Type 0} (indexes : BTreeMap ℕ ℕ) (marks : List (ℕ × M)) (sub : ℕ) → HasIndexes indexes marks → is_some (get nat_cmp indexes sub) ≡ is_some (mark_at sub marks)
+is_some-mark_at {M} indexes marks sub h = by_index (get nat_cmp indexes sub) refl
   where
-    by_place : (o : Option ℕ) → get nat_cmp places sub ≡ o → is_some (get nat_cmp places sub) ≡ is_some (mark_at sub marks)
-    by_place None e = ap is_some e ∙ sym (ap is_some (mark_at-none places marks sub h e))
-    by_place (Some place) e = ap is_some e ∙ sym (is_some-mark_at-IsFirst sub place marks (first_from_get places marks sub place h e))
+    by_index : (o : Option ℕ) → get nat_cmp indexes sub ≡ o → is_some (get nat_cmp indexes sub) ≡ is_some (mark_at sub marks)
+    by_index None e = ap is_some e ∙ sym (ap is_some (mark_at-none indexes marks sub h e))
+    by_index (Some index) e = ap is_some e ∙ sym (is_some-mark_at-IsFirst sub index marks (first_from_get indexes marks sub index h e))
 
 pub noted-marked : {M : Type 0} (sub : ℕ) (mark : M) (marks : List (ℕ × M)) → is_some (mark_at sub marks) ≡ true → noted sub mark marks ≡ marks
 noted-marked sub mark marks e = rw e
@@ -69,9 +69,9 @@ noted-marked sub mark marks e = rw e
 pub noted-unmarked : {M : Type 0} (sub : ℕ) (mark : M) (marks : List (ℕ × M)) → is_some (mark_at sub marks) ≡ false → noted sub mark marks ≡ marks ++ (sub, mark) ∷ []
 noted-unmarked sub mark marks e = rw e
 
-pub place_within : {M : Type 0} (places : BTreeMap ℕ ℕ) (marks : List (ℕ × M)) (sub place : ℕ) → HasPlaces places marks → get nat_cmp places sub ≡ Some place → place < length marks
-place_within {M} places marks sub place h e =
-    omega (arith, slice_get_within (subs_of marks) place sub (h.named sub place e), length-map marks (λ (m : ℕ × M). m.0))
+pub index_within : {M : Type 0} (indexes : BTreeMap ℕ ℕ) (marks : List (ℕ × M)) (sub index : ℕ) → HasIndexes indexes marks → get nat_cmp indexes sub ≡ Some index → index < length marks
+index_within {M} indexes marks sub index h e =
+    omega (arith, slice_get_within (subs_of marks) index sub (h.named sub index e), length-map marks (λ (m : ℕ × M). m.0))
 
 -- ---- a mark more, a mark less
 
@@ -85,8 +85,8 @@ length-subs_of {M} marks = length-map marks (λ (n : ℕ × M). n.0)
 get_apart : (old new : BTreeMap ℕ ℕ) (sub : ℕ) (w : Option ℕ) (other : ℕ) → UpdatesBy nat_cmp (nat_cmp sub) old new w → (sub ≡ other → ⊥) → get nat_cmp new other ≡ get nat_cmp old other
 get_apart old new sub w other step ne = step.2 other (is_eq-nat_cmp_apart sub other ne)
 
-pub HasPlaces-push : {M : Type 0} (old new : BTreeMap ℕ ℕ) (marks : List (ℕ × M)) (sub : ℕ) (mark : M) → HasPlaces old marks → get nat_cmp old sub ≡ None → Updates nat_cmp old new sub (Some (length marks)) → HasPlaces new (marks ++ (sub, mark) ∷ [])
-HasPlaces-push {M} old new marks sub mark h absent step = record { named = named; found = found }
+pub HasIndexes-push : {M : Type 0} (old new : BTreeMap ℕ ℕ) (marks : List (ℕ × M)) (sub : ℕ) (mark : M) → HasIndexes old marks → get nat_cmp old sub ≡ None → Updates nat_cmp old new sub (Some (length marks)) → HasIndexes new (marks ++ (sub, mark) ∷ [])
+HasIndexes-push {M} old new marks sub mark h absent step = record { named = named; found = found }
   where
     subs : subs_of (marks ++ (sub, mark) ∷ []) ≡ subs_of marks ++ sub ∷ []
     subs = subs_of-push marks (sub, mark)
@@ -94,31 +94,31 @@ HasPlaces-push {M} old new marks sub mark h absent step = record { named = named
     count : length (subs_of marks) ≡ length marks
     count = length-subs_of marks
 
-    named : (other place : ℕ) → get nat_cmp new other ≡ Some place → slice_get (subs_of (marks ++ (sub, mark) ∷ [])) place ≡ Some other
-    named other place e = rw subs (⊎_elim
+    named : (other index : ℕ) → get nat_cmp new other ≡ Some index → slice_get (subs_of (marks ++ (sub, mark) ∷ [])) index ≡ Some other
+    named other index e = rw subs (⊎_elim
         (λ (same : sub ≡ other).
         let here : get nat_cmp new sub ≡ Some (length marks) = step.1 in
-        let at : Some (length marks) ≡ Some place = sym here ∙ ap (get nat_cmp new) same ∙ e in
-        let equal : length (subs_of marks) ≡ place = count ∙ same_Some (length marks) place at in
+        let at : Some (length marks) ≡ Some index = sym here ∙ ap (get nat_cmp new) same ∙ e in
+        let equal : length (subs_of marks) ≡ index = count ∙ same_Some (length marks) index at in
         ap (slice_get (subs_of marks ++ sub ∷ [])) (sym equal) ∙ slice_get-last (subs_of marks) sub ∙ ap Some same)
         (λ ne.
-        let at = h.named other place (sym (get_apart old new sub _ other step ne) ∙ e) in
-        slice_get-front (subs_of marks) (sub ∷ []) place (slice_get_within (subs_of marks) place other at) ∙ at)
+        let at = h.named other index (sym (get_apart old new sub _ other step ne) ∙ e) in
+        slice_get-front (subs_of marks) (sub ∷ []) index (slice_get_within (subs_of marks) index other at) ∙ at)
         (cases_eq sub other))
 
-    found : (other place : ℕ) → slice_get (subs_of (marks ++ (sub, mark) ∷ [])) place ≡ Some other → get nat_cmp new other ≡ Some place
-    found other place e = ⊎_elim
-        (λ (last : (place ≡ length (subs_of marks)) × (sub ≡ other)).
+    found : (other index : ℕ) → slice_get (subs_of (marks ++ (sub, mark) ∷ [])) index ≡ Some other → get nat_cmp new other ≡ Some index
+    found other index e = ⊎_elim
+        (λ (last : (index ≡ length (subs_of marks)) × (sub ≡ other)).
         let here : get nat_cmp new sub ≡ Some (length marks) = step.1 in
         ap (get nat_cmp new) (sym last.1) ∙ here ∙ ap Some (sym (last.0 ∙ count)))
         (λ at.
-        let was = h.found other place at in
+        let was = h.found other index at in
         let ne : sub ≡ other → ⊥ = λ same. let none = sym was ∙ ap (get nat_cmp old) (sym same) ∙ absent in cc in
         get_apart old new sub _ other step ne ∙ was)
-        (last_or_front (subs_of marks) sub other place (rw subs at e))
+        (last_or_front (subs_of marks) sub other index (rw subs at e))
 
-pub HasPlaces-pop : {M : Type 0} (old new : BTreeMap ℕ ℕ) (marks : List (ℕ × M)) (sub : ℕ) (mark : M) → HasPlaces old (marks ++ (sub, mark) ∷ []) → Updates nat_cmp old new sub None → HasPlaces new marks
-HasPlaces-pop {M} old new marks sub mark h step = record { named = named; found = found }
+pub HasIndexes-pop : {M : Type 0} (old new : BTreeMap ℕ ℕ) (marks : List (ℕ × M)) (sub : ℕ) (mark : M) → HasIndexes old (marks ++ (sub, mark) ∷ []) → Updates nat_cmp old new sub None → HasIndexes new marks
+HasIndexes-pop {M} old new marks sub mark h step = record { named = named; found = found }
   where
     subs : subs_of (marks ++ (sub, mark) ∷ []) ≡ subs_of marks ++ sub ∷ []
     subs = subs_of-push marks (sub, mark)
@@ -129,22 +129,22 @@ HasPlaces-pop {M} old new marks sub mark h step = record { named = named; found 
     last : get nat_cmp old sub ≡ Some (length (subs_of marks))
     last = h.found sub (length (subs_of marks)) (rw subs (slice_get-last (subs_of marks) sub))
 
-    named : (other place : ℕ) → get nat_cmp new other ≡ Some place → slice_get (subs_of marks) place ≡ Some other
-    named other place e = ⊎_elim
+    named : (other index : ℕ) → get nat_cmp new other ≡ Some index → slice_get (subs_of marks) index ≡ Some other
+    named other index e = ⊎_elim
         (λ (same : sub ≡ other). let gone : get nat_cmp new sub ≡ None = step.1 in let none = sym gone ∙ ap (get nat_cmp new) same ∙ e in cc)
         (λ ne.
-        let was = h.named other place (sym (get_apart old new sub _ other step ne) ∙ e) in
+        let was = h.named other index (sym (get_apart old new sub _ other step ne) ∙ e) in
         ⊎_elim
-        (λ (at : (place ≡ length (subs_of marks)) × (sub ≡ other)). absurd (ne at.1))
+        (λ (at : (index ≡ length (subs_of marks)) × (sub ≡ other)). absurd (ne at.1))
         (λ at. at)
-        (last_or_front (subs_of marks) sub other place (rw subs at was)))
+        (last_or_front (subs_of marks) sub other index (rw subs at was)))
         (cases_eq sub other)
 
-    found : (other place : ℕ) → slice_get (subs_of marks) place ≡ Some other → get nat_cmp new other ≡ Some place
-    found other place e =
-        let lt = slice_get_within (subs_of marks) place other e in
-        let was = h.found other place (rw subs (slice_get-front (subs_of marks) (sub ∷ []) place lt ∙ e)) in
-        let ne : sub ≡ other → ⊥ = λ same. let at : Some place ≡ Some (length (subs_of marks)) = sym was ∙ ap (get nat_cmp old) (sym same) ∙ last in let equal = same_Some place (length (subs_of marks)) at in omega arith in
+    found : (other index : ℕ) → slice_get (subs_of marks) index ≡ Some other → get nat_cmp new other ≡ Some index
+    found other index e =
+        let lt = slice_get_within (subs_of marks) index other e in
+        let was = h.found other index (rw subs (slice_get-front (subs_of marks) (sub ∷ []) index lt ∙ e)) in
+        let ne : sub ≡ other → ⊥ = λ same. let at : Some index ≡ Some (length (subs_of marks)) = sym was ∙ ap (get nat_cmp old) (sym same) ∙ last in let equal = same_Some index (length (subs_of marks)) at in omega arith in
         get_apart old new sub _ other step ne ∙ was
 
 pub take-take : {A : Type 0} (m n : ℕ) (xs : List A) → m ≤ n → take m (take n xs) ≡ take m xs

@@ -1,4 +1,4 @@
-pub mod Places
+pub mod Firsts
 pub mod Indexed
 pub mod Cutting
 pub mod Marked

@@ -13,7 +13,7 @@ use Rattle.change.specs.declared.inverse.Inverse.{Inverse}
 use Rattle.savepoint.specs.declared.item.Item.{Item}
 use Rattle.savepoint.specs.declared.item.Item.TheVariants.{Change, Touch, BackTo, Last}
 use Rattle.savepoint.specs.declared.item.Mark.{Mark}
-use Rattle.savepoint.specs.declared.record.Place.{Place}
+use Rattle.savepoint.specs.declared.record.CutPoint.{CutPoint}
 use Rattle.savepoint.specs.Survivors.{is_of, before_savepoint, after_item}
 use Rattle.savepoint.specs.Savepoints.{mark_at, before_mark, noted}
 use Rattle.savepoint.specs.declared.record.TxRecord.TheInside.{Inside}
@@ -192,67 +192,67 @@ any-last sub (j ∷ items) i here = ⊎_elim (λ named. rw named) (λ past. rw p
 -- ---- the savepoints of a record
 
 -- a mark among those with one noted is the noted one, or was there
-noted_or_old : {M : Type 0} (sub other : ℕ) (place p : M) (marks : List (ℕ × M)) → mark_at other (noted sub place marks) ≡ Some p
-    → ((sub ≡ other) × (is_some (mark_at sub marks) ≡ false) × (place ≡ p)) ⊎ (mark_at other marks ≡ Some p)
-noted_or_old sub other place p marks e =
+noted_or_old : {M : Type 0} (sub other : ℕ) (point p : M) (marks : List (ℕ × M)) → mark_at other (noted sub point marks) ≡ Some p
+    → ((sub ≡ other) × (is_some (mark_at sub marks) ≡ false) × (point ≡ p)) ⊎ (mark_at other marks ≡ Some p)
+noted_or_old sub other point p marks e =
     ⊎_elim
-    (λ there. inr (sym (mark_at-noted_marked other sub place marks there) ∙ e))
+    (λ there. inr (sym (mark_at-noted_marked other sub point marks there) ∙ e))
     (λ none.
     ⊎_elim
     (λ (same : sub ≡ other).
     let free : is_some (mark_at sub marks) ≡ false = ap (λ s. is_some (mark_at s marks)) same ∙ none in
-    let now : mark_at other (noted sub place marks) ≡ Some place = subst (λ s. mark_at s (noted sub place marks) ≡ Some place) same (mark_at-noted_same sub place marks free) in
+    let now : mark_at other (noted sub point marks) ≡ Some point = subst (λ s. mark_at s (noted sub point marks) ≡ Some point) same (mark_at-noted_same sub point marks free) in
     inl (same, free, cc))
-    (λ differs. absurd (let still = unmarked_noted_other other sub place marks (ne_eqb sub other differs) none in let gone = sym (ap is_some e) ∙ still in cc))
+    (λ differs. absurd (let still = unmarked_noted_other other sub point marks (ne_eqb sub other differs) none in let gone = sym (ap is_some e) ∙ still in cc))
     (cases_eq sub other))
     (cases_Bool (is_some (mark_at other marks)))
 
-still_unmarked : {M : Type 0} (sub other : ℕ) (place : M) (marks : List (ℕ × M)) → mark_at other (noted sub place marks) ≡ None → mark_at other marks ≡ None
-still_unmarked sub other place marks e =
+still_unmarked : {M : Type 0} (sub other : ℕ) (point : M) (marks : List (ℕ × M)) → mark_at other (noted sub point marks) ≡ None → mark_at other marks ≡ None
+still_unmarked sub other point marks e =
     ⊎_elim
-    (λ there. absurd (let gone = ap is_some (sym (mark_at-noted_marked other sub place marks there) ∙ e) in let both = sym there ∙ gone in cc))
+    (λ there. absurd (let gone = ap is_some (sym (mark_at-noted_marked other sub point marks there) ∙ e) in let both = sym there ∙ gone in cc))
     (λ none. none_from _ none)
     (cases_Bool (is_some (mark_at other marks)))
 
-module _ (top : ℕ) (survivors : List Item) (places : List (ℕ × Place)) (inverses : List Inverse) (was : IsMarked top survivors places inverses) where
+module _ (top : ℕ) (survivors : List Item) (points : List (ℕ × CutPoint)) (inverses : List Inverse) (was : IsMarked top survivors points inverses) where
   -- a savepoint here, for a subtransaction that has none
-  pub marked_noted : (sub : ℕ) (place : Place) → sub ≢ top → place.items ≡ length survivors → place.mark.undo ≡ length inverses → IsMarked top survivors (noted sub place places) inverses
-  marked_noted sub place below here mark = record {
-    top_unmarked = none_from _ (unmarked_noted_other top sub place places (ne_eqb sub top below) (ap is_some was.top_unmarked));
+  pub marked_noted : (sub : ℕ) (point : CutPoint) → sub ≢ top → point.items ≡ length survivors → point.mark.undo ≡ length inverses → IsMarked top survivors (noted sub point points) inverses
+  marked_noted sub point below here mark = record {
+    top_unmarked = none_from _ (unmarked_noted_other top sub point points (ne_eqb sub top below) (ap is_some was.top_unmarked));
     marked = λ other p e. ⊎_elim
-        (λ (new : (sub ≡ other) × (is_some (mark_at sub places) ≡ false) × (place ≡ p)).
+        (λ (new : (sub ≡ other) × (is_some (mark_at sub points) ≡ false) × (point ≡ p)).
         subst (λ s. before_savepoint s survivors ≡ take p.items survivors) new.0
-        (was.unmarked sub below (none_from _ new.1) ∙ sym (take-length survivors) ∙ ap (λ n. take n survivors) (sym here ∙ ap (λ (q : Place). q.items) new.2)))
+        (was.unmarked sub below (none_from _ new.1) ∙ sym (take-length survivors) ∙ ap (λ n. take n survivors) (sym here ∙ ap (λ (q : CutPoint). q.items) new.2)))
         (λ old. was.marked other p old)
-        (noted_or_old sub other place p places e);
-    unmarked = λ other ne e. was.unmarked other ne (still_unmarked sub other place places e);
+        (noted_or_old sub other point p points e);
+    unmarked = λ other ne e. was.unmarked other ne (still_unmarked sub other point points e);
     within = λ other p e. ⊎_elim
-        (λ (new : (sub ≡ other) × (is_some (mark_at sub places) ≡ false) × (place ≡ p)).
-        let items = ap (λ (q : Place). q.items) new.2 in
-        let undo = ap (λ (q : Place). q.mark.undo) new.2 in
+        (λ (new : (sub ≡ other) × (is_some (mark_at sub points) ≡ false) × (point ≡ p)).
+        let items = ap (λ (q : CutPoint). q.items) new.2 in
+        let undo = ap (λ (q : CutPoint). q.mark.undo) new.2 in
         (omega arith, omega arith))
         (λ old. was.within other p old)
-        (noted_or_old sub other place p places e);
+        (noted_or_old sub other point p points e);
     rising = λ one other p q e f. ⊎_elim
-        (λ (new : (sub ≡ one) × (is_some (mark_at sub places) ≡ false) × (place ≡ p)).
-        let before : before_mark one (noted sub place places) ≡ places = subst (λ s. before_mark s (noted sub place places) ≡ places) new.0 (before_mark-noted_same sub place places new.1) in
+        (λ (new : (sub ≡ one) × (is_some (mark_at sub points) ≡ false) × (point ≡ p)).
+        let before : before_mark one (noted sub point points) ≡ points = subst (λ s. before_mark s (noted sub point points) ≡ points) new.0 (before_mark-noted_same sub point points new.1) in
         let bounds = was.within other q (ap (mark_at other) (sym before) ∙ f) in
-        let items = ap (λ (r : Place). r.items) new.2 in
-        let undo = ap (λ (r : Place). r.mark.undo) new.2 in
+        let items = ap (λ (r : CutPoint). r.items) new.2 in
+        let undo = ap (λ (r : CutPoint). r.mark.undo) new.2 in
         (omega arith, omega arith))
-        (λ old. was.rising one other p q old (ap (mark_at other) (sym (before_mark-noted_marked one sub place places (ap is_some old))) ∙ f))
-        (noted_or_old sub one place p places e);
+        (λ old. was.rising one other p q old (ap (mark_at other) (sym (before_mark-noted_marked one sub point points (ap is_some old))) ∙ f))
+        (noted_or_old sub one point p points e);
   }
 
-  pub marked_after_note : (sub : ℕ) (place : Place) → sub ≢ top → place.items ≡ length survivors → place.mark.undo ≡ length inverses
-      → (r : Result (Unit {0}) OutOfMemory) (left : List (ℕ × Place)) → OnOk r (left ≡ noted sub place places) → OnErr r (left ≡ places) → IsMarked top survivors left inverses
-  marked_after_note sub place below here mark (Ok u) left ok err = subst (λ (ps : List (ℕ × Place)). IsMarked top survivors ps inverses) (sym ok) (marked_noted sub place below here mark)
-  marked_after_note sub place below here mark (Err e) left ok err = subst (λ (ps : List (ℕ × Place)). IsMarked top survivors ps inverses) (sym err) was
+  pub marked_after_note : (sub : ℕ) (point : CutPoint) → sub ≢ top → point.items ≡ length survivors → point.mark.undo ≡ length inverses
+      → (r : Result (Unit {0}) OutOfMemory) (left : List (ℕ × CutPoint)) → OnOk r (left ≡ noted sub point points) → OnErr r (left ≡ points) → IsMarked top survivors left inverses
+  marked_after_note sub point below here mark (Ok u) left ok err = subst (λ (ps : List (ℕ × CutPoint)). IsMarked top survivors ps inverses) (sym ok) (marked_noted sub point below here mark)
+  marked_after_note sub point below here mark (Err e) left ok err = subst (λ (ps : List (ℕ × CutPoint)). IsMarked top survivors ps inverses) (sym err) was
 
   -- one more item, of a subtransaction that has its savepoint, where each other that has one is named
-  pub marked_more : (sub : ℕ) (item : Item) (more : List Inverse) → ((other : ℕ) → is_of other item ≡ (sub == other)) → (sub ≢ top → IsSome (mark_at sub places))
-      → ((other : ℕ) → other ≢ sub → IsSome (mark_at other places) → IsTrue (list_any (is_of other) survivors)) → length inverses ≤ length more
-      → IsMarked top (survivors ++ item ∷ []) places more
+  pub marked_more : (sub : ℕ) (item : Item) (more : List Inverse) → ((other : ℕ) → is_of other item ≡ (sub == other)) → (sub ≢ top → IsSome (mark_at sub points))
+      → ((other : ℕ) → other ≢ sub → IsSome (mark_at other points) → IsTrue (list_any (is_of other) survivors)) → length inverses ≤ length more
+      → IsMarked top (survivors ++ item ∷ []) points more
   marked_more sub item more of noted named longer = record {
     top_unmarked = was.top_unmarked;
     marked = λ other p e.
@@ -263,7 +263,7 @@ module _ (top : ℕ) (survivors : List Item) (places : List (ℕ × Place)) (inv
         (cases_eq other sub)
         ∙ was.marked other p e ∙ sym (take-append-le p.items survivors (item ∷ []) bounds.0);
     unmarked = λ other ne e.
-        let differs : sub ≢ other = λ same. (let some = noted (λ is. ne (sym same ∙ is)) in let gone = ap (λ s. is_some (mark_at s places)) same ∙ ap is_some e in let both = sym some ∙ gone in cc) in
+        let differs : sub ≢ other = λ same. (let some = noted (λ is. ne (sym same ∙ is)) in let gone = ap (λ s. is_some (mark_at s points)) same ∙ ap is_some e in let both = sym some ∙ gone in cc) in
         before-more other survivors item (of other ∙ ne_eqb sub other differs) (was.unmarked other ne e);
     within = λ other p e.
         let bounds = was.within other p e in
@@ -273,48 +273,48 @@ module _ (top : ℕ) (survivors : List Item) (places : List (ℕ × Place)) (inv
   }
 
   -- a cut to a savepoint
-  pub marked_cut : (sub : ℕ) (p : Place) (left : List Inverse) → mark_at sub places ≡ Some p → p.mark.undo ≤ length left → IsMarked top (take p.items survivors) (before_mark sub places) left
+  pub marked_cut : (sub : ℕ) (p : CutPoint) (left : List Inverse) → mark_at sub points ≡ Some p → p.mark.undo ≤ length left → IsMarked top (take p.items survivors) (before_mark sub points) left
   marked_cut sub p left at undone =
       let bounds = was.within sub p at in
       let long = length-take-le p.items survivors bounds.0 in
       record {
-        top_unmarked = elim (mark_at top (before_mark sub places)) as (λ o. mark_at top (before_mark sub places) ≡ o → mark_at top (before_mark sub places) ≡ None) [
+        top_unmarked = elim (mark_at top (before_mark sub points)) as (λ o. mark_at top (before_mark sub points) ≡ o → mark_at top (before_mark sub points) ≡ None) [
           | None ↦ λ e. e
-          | Some q ↦ λ e. absurd (let some = marked_before sub top places q e in let both = sym some ∙ was.top_unmarked in cc)
+          | Some q ↦ λ e. absurd (let some = marked_before sub top points q e in let both = sym some ∙ was.top_unmarked in cc)
         ] refl;
         marked = λ other q e.
             let lower = was.rising sub other p q at e in
-            before-take other p.items survivors ∙ ap (take p.items) (was.marked other q (marked_before sub other places q e))
+            before-take other p.items survivors ∙ ap (take p.items) (was.marked other q (marked_before sub other points q e))
             ∙ take-shorter p.items q.items survivors lower.0 ∙ sym (take-take q.items p.items survivors lower.0);
         unmarked = λ other ne e.
             before-take other p.items survivors
-            ∙ elim (mark_at other places) as (λ o. mark_at other places ≡ o → take p.items (before_savepoint other survivors) ≡ take p.items survivors) [
+            ∙ elim (mark_at other points) as (λ o. mark_at other points ≡ o → take p.items (before_savepoint other survivors) ≡ take p.items survivors) [
               | None ↦ λ none. ap (take p.items) (was.unmarked other ne none)
               | Some q ↦ λ some. ap (take p.items) (was.marked other q some) ∙ ⊎_elim
                   (λ (same : sub ≡ other).
-                  let one : Some p ≡ Some q = sym at ∙ ap (λ s. mark_at s places) same ∙ some in
+                  let one : Some p ≡ Some q = sym at ∙ ap (λ s. mark_at s points) same ∙ some in
                   let equal : p ≡ q = cc in
-                  let items = ap (λ (r : Place). r.items) equal in
+                  let items = ap (λ (r : CutPoint). r.items) equal in
                   take-take p.items q.items survivors (omega arith))
                   (λ behind. take-take p.items q.items survivors (was.rising other sub q p some behind).0)
-                  (one_or_behind sub other places p q at some e)
+                  (one_or_behind sub other points p q at some e)
             ] refl;
         within = λ other q e. let lower = was.rising sub other p q at e in (omega arith, omega arith);
-        rising = λ one other q r e f. was.rising one other q r (marked_before sub one places q e) (ap (mark_at other) (sym (before_before sub one places q e)) ∙ f);
+        rising = λ one other q r e f. was.rising one other q r (marked_before sub one points q e) (ap (mark_at other) (sym (before_before sub one points q e)) ∙ f);
       }
 
-  pub marked_uncut : (sub : ℕ) → mark_at sub places ≡ None → IsMarked top survivors (before_mark sub places) inverses
-  marked_uncut sub none = subst (λ (ps : List (ℕ × Place)). IsMarked top survivors ps inverses) (sym (before_mark-unmarked sub places (ap is_some none))) was
+  pub marked_uncut : (sub : ℕ) → mark_at sub points ≡ None → IsMarked top survivors (before_mark sub points) inverses
+  marked_uncut sub none = subst (λ (ps : List (ℕ × CutPoint)). IsMarked top survivors ps inverses) (sym (before_mark-unmarked sub points (ap is_some none))) was
 
   -- what a cut leaves named: those before it, if each but the one that is cut was
-  pub named_cut : (sub : ℕ) (p : Place) → mark_at sub places ≡ Some p → ((other : ℕ) → other ≢ sub → IsSome (mark_at other places) → IsTrue (list_any (is_of other) survivors))
-      → (other : ℕ) → IsSome (mark_at other (before_mark sub places)) → IsTrue (list_any (is_of other) (take p.items survivors))
+  pub named_cut : (sub : ℕ) (p : CutPoint) → mark_at sub points ≡ Some p → ((other : ℕ) → other ≢ sub → IsSome (mark_at other points) → IsTrue (list_any (is_of other) survivors))
+      → (other : ℕ) → IsSome (mark_at other (before_mark sub points)) → IsTrue (list_any (is_of other) (take p.items survivors))
   named_cut sub p at named other some =
-      elim (mark_at other (before_mark sub places)) as (λ o. mark_at other (before_mark sub places) ≡ o → IsTrue (list_any (is_of other) (take p.items survivors))) [
+      elim (mark_at other (before_mark sub points)) as (λ o. mark_at other (before_mark sub points) ≡ o → IsTrue (list_any (is_of other) (take p.items survivors))) [
         | None ↦ λ none. absurd (let both = sym some ∙ ap is_some none in cc)
         | Some q ↦ λ there.
-            let differs : other ≢ sub = λ same. (let gone = ap (λ s. mark_at s (before_mark sub places)) same ∙ unmarked_before sub places in let both = sym there ∙ gone in cc) in
-            let was_there = marked_before sub other places q there in
+            let differs : other ≢ sub = λ same. (let gone = ap (λ s. mark_at s (before_mark sub points)) same ∙ unmarked_before sub points in let both = sym there ∙ gone in cc) in
+            let was_there = marked_before sub other points q there in
             let any = named other differs (ap is_some was_there) in
             let lower = was.rising sub other p q at there in
             ⊎_elim
@@ -325,22 +325,22 @@ module _ (top : ℕ) (survivors : List Item) (places : List (ℕ × Place)) (inv
             (cases_Bool (list_any (is_of other) (take p.items survivors)))
       ] refl
 
-  pub named_more : (sub : ℕ) (item : Item) → is_of sub item ≡ true → ((other : ℕ) → other ≢ sub → IsSome (mark_at other places) → IsTrue (list_any (is_of other) survivors))
-      → (other : ℕ) → IsSome (mark_at other places) → IsTrue (list_any (is_of other) (survivors ++ item ∷ []))
+  pub named_more : (sub : ℕ) (item : Item) → is_of sub item ≡ true → ((other : ℕ) → other ≢ sub → IsSome (mark_at other points) → IsTrue (list_any (is_of other) survivors))
+      → (other : ℕ) → IsSome (mark_at other points) → IsTrue (list_any (is_of other) (survivors ++ item ∷ []))
   named_more sub item here named other some = ⊎_elim
       (λ (same : other ≡ sub). any-last other survivors item (ap (λ s. is_of s item) same ∙ here))
       (λ differs. any-more other survivors (item ∷ []) (named other differs some))
       (cases_eq other sub)
 
   -- the items that a rollback leaves
-  pub survivors_cut : (sub : ℕ) (p : Place) → mark_at sub places ≡ Some p → after_item top survivors (BackTo sub) ≡ take p.items survivors
+  pub survivors_cut : (sub : ℕ) (p : CutPoint) → mark_at sub points ≡ Some p → after_item top survivors (BackTo sub) ≡ take p.items survivors
   survivors_cut sub p at =
       ⊎_elim
-      (λ (same : sub ≡ top). absurd (let none = ap (λ s. mark_at s places) same ∙ was.top_unmarked in let both = sym at ∙ none in cc))
+      (λ (same : sub ≡ top). absurd (let none = ap (λ s. mark_at s points) same ∙ was.top_unmarked in let both = sym at ∙ none in cc))
       (λ differs. rw (ne_eqb sub top differs) (was.marked sub p at))
       (cases_eq sub top)
 
-  pub survivors_kept : (sub : ℕ) → mark_at sub places ≡ None → after_item top survivors (BackTo sub) ≡ survivors
+  pub survivors_kept : (sub : ℕ) → mark_at sub points ≡ None → after_item top survivors (BackTo sub) ≡ survivors
   survivors_kept sub none =
       ⊎_elim
       (λ (same : sub ≡ top). rw (eq-eqb sub top same))
@@ -349,56 +349,56 @@ module _ (top : ℕ) (survivors : List Item) (places : List (ℕ × Place)) (inv
 
 -- ---- the marks alone
 
-pub mark_at-marks_of : (sub : ℕ) (places : List (ℕ × Place)) → mark_at sub (marks_of places) ≡ option_map (λ (p : Place). p.mark) (mark_at sub places)
+pub mark_at-marks_of : (sub : ℕ) (points : List (ℕ × CutPoint)) → mark_at sub (marks_of points) ≡ option_map (λ (p : CutPoint). p.mark) (mark_at sub points)
 mark_at-marks_of sub [] = refl
-mark_at-marks_of sub (p ∷ places) =
+mark_at-marks_of sub (p ∷ points) =
     ⊎_elim
-    (λ named. mark_at-named sub (p.0, p.1.mark) (marks_of places) named ∙ ap (option_map (λ (q : Place). q.mark)) (sym (mark_at-named sub p places named)))
-    (λ other. mark_at-other sub (p.0, p.1.mark) (marks_of places) other ∙ mark_at-marks_of sub places ∙ ap (option_map (λ (q : Place). q.mark)) (sym (mark_at-other sub p places other)))
+    (λ named. mark_at-named sub (p.0, p.1.mark) (marks_of points) named ∙ ap (option_map (λ (q : CutPoint). q.mark)) (sym (mark_at-named sub p points named)))
+    (λ other. mark_at-other sub (p.0, p.1.mark) (marks_of points) other ∙ mark_at-marks_of sub points ∙ ap (option_map (λ (q : CutPoint). q.mark)) (sym (mark_at-other sub p points other)))
     (cases_Bool (p.0 == sub))
 
-pub before_mark-marks_of : (sub : ℕ) (places : List (ℕ × Place)) → before_mark sub (marks_of places) ≡ marks_of (before_mark sub places)
+pub before_mark-marks_of : (sub : ℕ) (points : List (ℕ × CutPoint)) → before_mark sub (marks_of points) ≡ marks_of (before_mark sub points)
 before_mark-marks_of sub [] = refl
-before_mark-marks_of sub (p ∷ places) =
+before_mark-marks_of sub (p ∷ points) =
     ⊎_elim
-    (λ named. before_mark-named sub (p.0, p.1.mark) (marks_of places) named ∙ ap marks_of (sym (before_mark-named sub p places named)))
-    (λ other. before_mark-other sub (p.0, p.1.mark) (marks_of places) other ∙ ap (λ (ms : List (ℕ × Mark)). (p.0, p.1.mark) ∷ ms) (before_mark-marks_of sub places) ∙ ap marks_of (sym (before_mark-other sub p places other)))
+    (λ named. before_mark-named sub (p.0, p.1.mark) (marks_of points) named ∙ ap marks_of (sym (before_mark-named sub p points named)))
+    (λ other. before_mark-other sub (p.0, p.1.mark) (marks_of points) other ∙ ap (λ (ms : List (ℕ × Mark)). (p.0, p.1.mark) ∷ ms) (before_mark-marks_of sub points) ∙ ap marks_of (sym (before_mark-other sub p points other)))
     (cases_Bool (p.0 == sub))
 
-marks_of-last : (sub : ℕ) (place : Place) (places : List (ℕ × Place)) → marks_of (places ++ (sub, place) ∷ []) ≡ marks_of places ++ (sub, place.mark) ∷ []
-marks_of-last sub place [] = refl
-marks_of-last sub place (p ∷ places) = ap (λ (ms : List (ℕ × Mark)). (p.0, p.1.mark) ∷ ms) (marks_of-last sub place places)
+marks_of-last : (sub : ℕ) (point : CutPoint) (points : List (ℕ × CutPoint)) → marks_of (points ++ (sub, point) ∷ []) ≡ marks_of points ++ (sub, point.mark) ∷ []
+marks_of-last sub point [] = refl
+marks_of-last sub point (p ∷ points) = ap (λ (ms : List (ℕ × Mark)). (p.0, p.1.mark) ∷ ms) (marks_of-last sub point points)
 
-is_some-map : (o : Option Place) → is_some (option_map (λ (p : Place). p.mark) o) ≡ is_some o
+is_some-map : (o : Option CutPoint) → is_some (option_map (λ (p : CutPoint). p.mark) o) ≡ is_some o
 is_some-map None = refl
 is_some-map (Some p) = refl
 
-pub marked-marks_of : (sub : ℕ) (places : List (ℕ × Place)) → is_some (mark_at sub (marks_of places)) ≡ is_some (mark_at sub places)
-marked-marks_of sub places = ap is_some (mark_at-marks_of sub places) ∙ is_some-map (mark_at sub places)
+pub marked-marks_of : (sub : ℕ) (points : List (ℕ × CutPoint)) → is_some (mark_at sub (marks_of points)) ≡ is_some (mark_at sub points)
+marked-marks_of sub points = ap is_some (mark_at-marks_of sub points) ∙ is_some-map (mark_at sub points)
 
-pub noted-marks_of : (sub : ℕ) (place : Place) (places : List (ℕ × Place)) → marks_of (noted sub place places) ≡ noted sub place.mark (marks_of places)
-noted-marks_of sub place places =
-    let same = marked-marks_of sub places in
+pub noted-marks_of : (sub : ℕ) (point : CutPoint) (points : List (ℕ × CutPoint)) → marks_of (noted sub point points) ≡ noted sub point.mark (marks_of points)
+noted-marks_of sub point points =
+    let same = marked-marks_of sub points in
     ⊎_elim
-    (λ there. ap (λ b. marks_of (if b then places else (places ++ (sub, place) ∷ []))) there ∙ sym (ap (λ b. if b then marks_of places else (marks_of places ++ (sub, place.mark) ∷ [])) (same ∙ there)))
+    (λ there. ap (λ b. marks_of (if b then points else (points ++ (sub, point) ∷ []))) there ∙ sym (ap (λ b. if b then marks_of points else (marks_of points ++ (sub, point.mark) ∷ [])) (same ∙ there)))
     (λ none.
-    ap (λ b. marks_of (if b then places else (places ++ (sub, place) ∷ []))) none ∙ marks_of-last sub place places
-    ∙ sym (ap (λ b. if b then marks_of places else (marks_of places ++ (sub, place.mark) ∷ [])) (same ∙ none)))
-    (cases_Bool (is_some (mark_at sub places)))
+    ap (λ b. marks_of (if b then points else (points ++ (sub, point) ∷ []))) none ∙ marks_of-last sub point points
+    ∙ sym (ap (λ b. if b then marks_of points else (marks_of points ++ (sub, point.mark) ∷ [])) (same ∙ none)))
+    (cases_Bool (is_some (mark_at sub points)))
 
-pub all_named : (survivors : List Item) (places : List (ℕ × Place)) → ((other : ℕ) → IsSome (mark_at other places) → IsTrue (list_any (is_of other) survivors))
-    → (other : ℕ) → IsSome (mark_at other (marks_of places)) → IsTrue (list_any (is_of other) survivors)
-all_named survivors places named other some = named other (sym (marked-marks_of other places) ∙ some)
+pub all_named : (survivors : List Item) (points : List (ℕ × CutPoint)) → ((other : ℕ) → IsSome (mark_at other points) → IsTrue (list_any (is_of other) survivors))
+    → (other : ℕ) → IsSome (mark_at other (marks_of points)) → IsTrue (list_any (is_of other) survivors)
+all_named survivors points named other some = named other (sym (marked-marks_of other points) ∙ some)
 
-is_some-noted : {M : Type 0} (sub : ℕ) (place : M) (marks : List (ℕ × M)) → is_some (mark_at sub (noted sub place marks)) ≡ true
-is_some-noted sub place marks =
+is_some-noted : {M : Type 0} (sub : ℕ) (point : M) (marks : List (ℕ × M)) → is_some (mark_at sub (noted sub point marks)) ≡ true
+is_some-noted sub point marks =
     ⊎_elim
-    (λ there. ap is_some (mark_at-noted_marked sub sub place marks there) ∙ there)
-    (λ none. ap is_some (mark_at-noted_same sub place marks none))
+    (λ there. ap is_some (mark_at-noted_marked sub sub point marks there) ∙ there)
+    (λ none. ap is_some (mark_at-noted_same sub point marks none))
     (cases_Bool (is_some (mark_at sub marks)))
 
-pub noted_there : (sub : ℕ) (place : Place) (places left : List (ℕ × Place)) → left ≡ noted sub place places → IsSome (mark_at sub (marks_of left))
-noted_there sub place places left is = marked-marks_of sub left ∙ ap (λ (ps : List (ℕ × Place)). is_some (mark_at sub ps)) is ∙ is_some-noted sub place places
+pub noted_there : (sub : ℕ) (point : CutPoint) (points left : List (ℕ × CutPoint)) → left ≡ noted sub point points → IsSome (mark_at sub (marks_of left))
+noted_there sub point points left is = marked-marks_of sub left ∙ ap (λ (ps : List (ℕ × CutPoint)). is_some (mark_at sub ps)) is ∙ is_some-noted sub point points
 
 -- ---- what its callers know
 
@@ -413,60 +413,60 @@ module _ (a : Inside) (r : Record) (v : record_in a ≡ r) (sub : ℕ) where
   are_named named other differs some = subst (λ (q : Record). AreNamed q sub) (sym v) named other differs (marked-marks_of other a.savepoints ∙ some)
 
   -- after a note, whether it was refused or not
-  pub named_noted : AreAllNamed r → (place : Place) (e : Result (Unit {0}) OutOfMemory) (left : List (ℕ × Place)) → OnOk e (left ≡ noted sub place a.savepoints) → OnErr e (left ≡ a.savepoints)
+  pub named_noted : AreAllNamed r → (point : CutPoint) (e : Result (Unit {0}) OutOfMemory) (left : List (ℕ × CutPoint)) → OnOk e (left ≡ noted sub point a.savepoints) → OnErr e (left ≡ a.savepoints)
       → (other : ℕ) → other ≢ sub → IsSome (mark_at other (marks_of left)) → IsTrue (list_any (is_of other) a.survivors.items)
-  named_noted named place e left ok err other differs some =
+  named_noted named point e left ok err other differs some =
       let all : AreAllNamed (record_in a) = subst AreAllNamed (sym v) named in
       let was : IsSome (mark_at other left) = sym (marked-marks_of other left) ∙ some in
       all other (marked-marks_of other a.savepoints ∙ before e ok err was)
     where
-      before : (e : Result (Unit {0}) OutOfMemory) → OnOk e (left ≡ noted sub place a.savepoints) → OnErr e (left ≡ a.savepoints) → IsSome (mark_at other left) → IsSome (mark_at other a.savepoints)
-      before (Err x) ok err was = ap (λ (ps : List (ℕ × Place)). is_some (mark_at other ps)) (sym err) ∙ was
+      before : (e : Result (Unit {0}) OutOfMemory) → OnOk e (left ≡ noted sub point a.savepoints) → OnErr e (left ≡ a.savepoints) → IsSome (mark_at other left) → IsSome (mark_at other a.savepoints)
+      before (Err x) ok err was = ap (λ (ps : List (ℕ × CutPoint)). is_some (mark_at other ps)) (sym err) ∙ was
       before (Ok x) ok err was =
           ⊎_elim
           (λ there. there)
           (λ none.
-          absurd (let still = unmarked_noted_other other sub place a.savepoints (ne_eqb sub other (λ same. differs (sym same))) none in
-          let now = ap (λ (ps : List (ℕ × Place)). is_some (mark_at other ps)) (sym ok) ∙ was in let both = sym now ∙ still in cc))
+          absurd (let still = unmarked_noted_other other sub point a.savepoints (ne_eqb sub other (λ same. differs (sym same))) none in
+          let now = ap (λ (ps : List (ℕ × CutPoint)). is_some (mark_at other ps)) (sym ok) ∙ was in let both = sym now ∙ still in cc))
           (cases_Bool (is_some (mark_at other a.savepoints)))
 
-  pub named_uncut : mark_at sub a.savepoints ≡ None → AreNamed r sub → (left : List (ℕ × Place)) → left ≡ before_mark sub a.savepoints
+  pub named_uncut : mark_at sub a.savepoints ≡ None → AreNamed r sub → (left : List (ℕ × CutPoint)) → left ≡ before_mark sub a.savepoints
       → (other : ℕ) → IsSome (mark_at other (marks_of left)) → IsTrue (list_any (is_of other) a.survivors.items)
   named_uncut none named left is other some =
       let all : left ≡ a.savepoints = is ∙ before_mark-unmarked sub a.savepoints (ap is_some none) in
-      let was : IsSome (mark_at other a.savepoints) = ap (λ (ps : List (ℕ × Place)). is_some (mark_at other ps)) (sym all) ∙ sym (marked-marks_of other left) ∙ some in
+      let was : IsSome (mark_at other a.savepoints) = ap (λ (ps : List (ℕ × CutPoint)). is_some (mark_at other ps)) (sym all) ∙ sym (marked-marks_of other left) ∙ some in
       let differs : other ≢ sub = λ same. (let gone = ap (λ s. is_some (mark_at s a.savepoints)) same ∙ ap is_some none in let both = sym was ∙ gone in cc) in
       are_named named other differs was
 
-  pub mark_seen : mark_at sub r.marks ≡ option_map (λ (p : Place). p.mark) (mark_at sub a.savepoints)
+  pub mark_seen : mark_at sub r.marks ≡ option_map (λ (p : CutPoint). p.mark) (mark_at sub a.savepoints)
   mark_seen = ap (λ (q : Record). mark_at sub q.marks) (sym v) ∙ mark_at-marks_of sub a.savepoints
 
   pub since_none : mark_at sub a.savepoints ≡ None → inverses_since sub r ≡ []
-  since_none none = ap (λ o. after_mark o r.log.inverses) (mark_seen ∙ ap (option_map (λ (p : Place). p.mark)) none)
+  since_none none = ap (λ o. after_mark o r.log.inverses) (mark_seen ∙ ap (option_map (λ (p : CutPoint). p.mark)) none)
 
   pub before_none : mark_at sub a.savepoints ≡ None → inverses_before sub r ≡ a.undo.inverses
-  before_none none = ap (λ o. up_to_mark o r.log.inverses) (mark_seen ∙ ap (option_map (λ (p : Place). p.mark)) none) ∙ ap (λ (q : Record). q.log.inverses) (sym v)
+  before_none none = ap (λ o. up_to_mark o r.log.inverses) (mark_seen ∙ ap (option_map (λ (p : CutPoint). p.mark)) none) ∙ ap (λ (q : Record). q.log.inverses) (sym v)
 
-  pub since_mark : (p : Place) → mark_at sub a.savepoints ≡ Some p → inverses_since sub r ≡ drop p.mark.undo a.undo.inverses
+  pub since_mark : (p : CutPoint) → mark_at sub a.savepoints ≡ Some p → inverses_since sub r ≡ drop p.mark.undo a.undo.inverses
   since_mark p at =
-      ap (λ o. after_mark o r.log.inverses) (mark_seen ∙ ap (option_map (λ (q : Place). q.mark)) at) ∙ ap (λ (q : Record). drop p.mark.undo q.log.inverses) (sym v)
+      ap (λ o. after_mark o r.log.inverses) (mark_seen ∙ ap (option_map (λ (q : CutPoint). q.mark)) at) ∙ ap (λ (q : Record). drop p.mark.undo q.log.inverses) (sym v)
 
-  pub before_place : (p : Place) → mark_at sub a.savepoints ≡ Some p → inverses_before sub r ≡ take p.mark.undo a.undo.inverses
-  before_place p at =
-      ap (λ o. up_to_mark o r.log.inverses) (mark_seen ∙ ap (option_map (λ (q : Place). q.mark)) at) ∙ ap (λ (q : Record). take p.mark.undo q.log.inverses) (sym v)
+  pub before_point : (p : CutPoint) → mark_at sub a.savepoints ≡ Some p → inverses_before sub r ≡ take p.mark.undo a.undo.inverses
+  before_point p at =
+      ap (λ o. up_to_mark o r.log.inverses) (mark_seen ∙ ap (option_map (λ (q : CutPoint). q.mark)) at) ∙ ap (λ (q : Record). take p.mark.undo q.log.inverses) (sym v)
 
   pub top_seen : mark_at a.top a.savepoints ≡ None → mark_at r.top r.marks ≡ None
-  top_seen none = ap (λ (q : Record). mark_at q.top q.marks) (sym v) ∙ mark_at-marks_of a.top a.savepoints ∙ ap (option_map (λ (p : Place). p.mark)) none
+  top_seen none = ap (λ (q : Record). mark_at q.top q.marks) (sym v) ∙ mark_at-marks_of a.top a.savepoints ∙ ap (option_map (λ (p : CutPoint). p.mark)) none
 
-  pub note_seen : (place : Place) (left : List (ℕ × Place)) (held : ℕ) → sub ≢ a.top → place.mark ≡ record { undo = length a.undo.inverses; held = held } → left ≡ noted sub place a.savepoints
+  pub note_seen : (point : CutPoint) (left : List (ℕ × CutPoint)) (held : ℕ) → sub ≢ a.top → point.mark ≡ record { undo = length a.undo.inverses; held = held } → left ≡ noted sub point a.savepoints
       → record (record_in a) { marks = marks_of left } ≡ with_note sub held r
-  note_seen place left held differs mark is =
-      let marks = ap marks_of is ∙ noted-marks_of sub place a.savepoints ∙ ap (λ (m : Mark). noted sub m (marks_of a.savepoints)) mark
+  note_seen point left held differs mark is =
+      let marks = ap marks_of is ∙ noted-marks_of sub point a.savepoints ∙ ap (λ (m : Mark). noted sub m (marks_of a.savepoints)) mark
       ∙ sym (ap (λ b. if b then marks_of a.savepoints else noted sub (record { undo = length a.undo.inverses; held = held }) (marks_of a.savepoints)) (ne_eqb sub a.top differs)) in
       ap (λ (ms : List (ℕ × Mark)). let q : Record = record (record_in a) { marks = ms } in q) marks ∙ ap (with_note sub held) v
 
   pub cut_seen : after_item a.top a.survivors.items (BackTo sub) ≡ after_item r.top r.survivors (BackTo sub)
   cut_seen = ap (λ (q : Record). after_item q.top q.survivors (BackTo sub)) v
 
-  pub marks_cut : (left : List (ℕ × Place)) → left ≡ before_mark sub a.savepoints → marks_of left ≡ before_mark sub r.marks
+  pub marks_cut : (left : List (ℕ × CutPoint)) → left ≡ before_mark sub a.savepoints → marks_of left ≡ before_mark sub r.marks
   marks_cut left is = ap marks_of is ∙ sym (before_mark-marks_of sub a.savepoints) ∙ ap (λ (q : Record). before_mark sub q.marks) v

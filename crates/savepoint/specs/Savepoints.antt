@@ -44,7 +44,7 @@ savepoints items = marking [] items
 abbrev pub before_first : {M : Type 0} → ℕ → List (Item × M) → List (Item × M)
 before_first {M} sub items = take_while (λ (i : Item × M). not (is_of sub i.0)) items
 
--- The map has just the place of each subtransaction's mark.
-pub record HasPlaces {M : Type 0} (places : BTreeMap ℕ ℕ) (marks : List (ℕ × M)) : Type 0 where
-  pub named : (sub place : ℕ) → get nat_cmp places sub ≡ Some place → slice_get (subs_of marks) place ≡ Some sub
-  pub found : (sub place : ℕ) → slice_get (subs_of marks) place ≡ Some sub → get nat_cmp places sub ≡ Some place
+-- The map has just the index of each subtransaction's mark.
+pub record HasIndexes {M : Type 0} (indexes : BTreeMap ℕ ℕ) (marks : List (ℕ × M)) : Type 0 where
+  pub named : (sub index : ℕ) → get nat_cmp indexes sub ≡ Some index → slice_get (subs_of marks) index ≡ Some sub
+  pub found : (sub index : ℕ) → slice_get (subs_of marks) index ≡ Some sub → get nat_cmp indexes sub ≡ Some index

@@ -4,7 +4,7 @@ use model::Change;
 /// A transaction's or subtransaction's number at the publisher.
 pub type Xid = u32;
 
-/// A place in the publisher's write-ahead log.
+/// A position in the publisher's write-ahead log.
 pub type Lsn = u64;
 
 /// One item of a transaction, in stream order.

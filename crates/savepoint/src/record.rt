@@ -21,7 +21,7 @@ use undo::UndoLog;
 
 // Where a savepoint stands: how many items come before it, and its mark.
 #[derive(Clone, Copy, Debug, PartialEq, Eq)]
-struct Place {
+struct CutPoint {
     items: usize,
     mark: Mark,
 }
@@ -32,7 +32,7 @@ struct Place {
 pub struct TxRecord {
     top: Xid,
     survivors: Vec<Item>,
-    savepoints: Savepoints<Place>,
+    savepoints: Savepoints<CutPoint>,
     undo: UndoLog,
 }
 
@@ -82,7 +82,7 @@ impl TxRecord {
             held,
         };
         let items = self.survivors.len();
-        self.savepoints.note(sub, Place { items, mark })
+        self.savepoints.note(sub, CutPoint { items, mark })
     }
 
     /// The mark of a subtransaction's savepoint, if it has one.
@@ -93,8 +93,8 @@ impl TxRecord {
         ensures within { IfSome result (λ mark. mark.undo ≤ length self.now.log.inverses) }
         ensures top { mark_at self.now.top self.now.marks ≡ None }
     {
-        let place = self.savepoints.mark_of(sub)?;
-        Some(place.mark)
+        let point = self.savepoints.mark_of(sub)?;
+        Some(point.mark)
     }
 
     /// Drops a subtransaction's savepoint, all later ones and all later items: those survive that
@@ -108,8 +108,8 @@ impl TxRecord {
         ensures top { self.new.top ≡ self.old.top }
         ensures room { self.old.room ≤ self.new.room }
     {
-        if let Some(place) = self.savepoints.cut(sub) {
-            self.survivors.truncate(place.items);
+        if let Some(point) = self.savepoints.cut(sub) {
+            self.survivors.truncate(point.items);
         }
     }
 
@@ -130,10 +130,10 @@ impl TxRecord {
         ensures schema { t.new.schema ≡ t.old.schema }
         ensures room { Keeps (content_undone t.old (inverses_since sub self.old)).room t.new.room }
     {
-        let place = self.savepoints.cut(sub)?;
-        self.survivors.truncate(place.items);
-        self.undo.undo_to(t, place.mark.undo);
-        Some(place.mark)
+        let point = self.savepoints.cut(sub)?;
+        self.survivors.truncate(point.items);
+        self.undo.undo_to(t, point.mark.undo);
+        Some(point.mark)
     }
 
     /// Makes room for one more item and its inverse. A refusal changes nothing but room.

@@ -16,18 +16,18 @@ use std::marker::Model;
 #[derive(Drop)]
 pub struct Savepoints<M> {
     marks: Vec<(Xid, M)>,
-    places: BTreeMap<Xid, usize>,
+    indexes: BTreeMap<Xid, usize>,
 }
 
 impl<M> Model for Savepoints<M> {
     ghost use Rattle.std.specs.Prelude.{ℕ, List};
-    ghost use Rattle.savepoint.specs.Savepoints.{HasPlaces};
+    ghost use Rattle.savepoint.specs.Savepoints.{HasIndexes};
 
     ghost Value = { List (ℕ × M) };
 
     ghost view = { λ s. s.marks.items };
 
-    ghost invariant = { λ s. HasPlaces s.places s.marks.items };
+    ghost invariant = { λ s. HasIndexes s.indexes s.marks.items };
 }
 
 impl<M: Copy> Savepoints<M> {
@@ -37,7 +37,7 @@ impl<M: Copy> Savepoints<M> {
     {
         Savepoints {
             marks: Vec::new(alloc),
-            places: BTreeMap::new(alloc),
+            indexes: BTreeMap::new(alloc),
         }
     }
 
@@ -47,12 +47,12 @@ impl<M: Copy> Savepoints<M> {
         ensures ok { OnOk result (self.new ≡ noted sub mark self.old) }
         ensures err { OnErr result (self.new ≡ self.old) }
     {
-        if self.places.contains_key(&sub) {
+        if self.indexes.contains_key(&sub) {
             return Ok(());
         }
-        let place = self.marks.len();
+        let index = self.marks.len();
         self.marks.push((sub, mark))?;
-        if self.places.insert(sub, place).is_err() {
+        if self.indexes.insert(sub, index).is_err() {
             self.marks.pop();
             return Err(OutOfMemory);
         }
@@ -63,8 +63,8 @@ impl<M: Copy> Savepoints<M> {
     pub fn mark_of(&self, sub: Xid) -> Option<M>
         ensures { result ≡ mark_at sub self.now }
     {
-        let place = *self.places.get(&sub)?;
-        let (_, mark) = self.marks[place];
+        let index = *self.indexes.get(&sub)?;
+        let (_, mark) = self.marks[index];
         Some(mark)
     }
 
@@ -74,11 +74,11 @@ impl<M: Copy> Savepoints<M> {
         ensures mark { result ≡ mark_at sub self.old }
         ensures rest { self.new ≡ before_mark sub self.old }
     {
-        let place = *self.places.get(&sub)?;
-        let (_, mark) = self.marks[place];
-        while self.marks.len() > place {
+        let index = *self.indexes.get(&sub)?;
+        let (_, mark) = self.marks[index];
+        while self.marks.len() > index {
             if let Some((dropped, _)) = self.marks.pop() {
-                self.places.remove(&dropped);
+                self.indexes.remove(&dropped);
             }
         }
         Some(mark)

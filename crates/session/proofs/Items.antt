@@ -14,8 +14,8 @@ use Rattle.relcache.specs.Answer.{IsFaultOf}
 use Rattle.relcache.specs.Published.{learnt}
 use Rattle.savepoint.specs.declared.item.Item.{Item}
 use Rattle.savepoint.specs.declared.item.Item.TheVariants.{Change, Touch, BackTo}
-use Rattle.session.specs.declared.place.Place.{Place}
-use Rattle.session.specs.declared.place.Place.TheVariants.{Outside, Begun, Block}
+use Rattle.session.specs.declared.phase.Phase.{Phase}
+use Rattle.session.specs.declared.phase.Phase.TheVariants.{Outside, Begun, Block}
 use Rattle.session.specs.declared.fault.SessionFault.{SessionFault}
 use Rattle.session.specs.declared.fault.SessionFault.TheVariants.{NotInTransaction, UnknownTransaction, SpoolFull}
 use Rattle.session.specs.declared.fault.Refused.{Refused}
@@ -41,12 +41,12 @@ some_and P None is = absurd is
 some_and P (Some x) is = (x, refl, is)
 
 -- the transaction of a block is open
-pub block_open : (h : State) (xid : ℕ) → h.place ≡ Block xid → IsHere h.place h.transactions → (o : Open) × (map.get h.transactions xid ≡ Some o) × (o.way ≢ Direct)
-block_open h xid e here = let P : Place → Type 0 = λ p. IsHere p h.transactions in some_and (λ o. o.way ≢ Direct) (map.get h.transactions xid) (subst P e here)
+pub block_open : (h : State) (xid : ℕ) → h.phase ≡ Block xid → IsHere h.phase h.transactions → (o : Open) × (map.get h.transactions xid ≡ Some o) × (o.way ≢ Direct)
+block_open h xid e here = let P : Phase → Type 0 = λ p. IsHere p h.transactions in some_and (λ o. o.way ≢ Direct) (map.get h.transactions xid) (subst P e here)
 
 -- the one that was begun is, and goes directly
-pub begun_open : (h : State) (xid final : ℕ) → h.place ≡ Begun xid final → IsHere h.place h.transactions → (o : Open) × (map.get h.transactions xid ≡ Some o) × (o.way ≡ Direct)
-begun_open h xid final e here = let P : Place → Type 0 = λ p. IsHere p h.transactions in some_and (λ o. o.way ≡ Direct) (map.get h.transactions xid) (subst P e here)
+pub begun_open : (h : State) (xid final : ℕ) → h.phase ≡ Begun xid final → IsHere h.phase h.transactions → (o : Open) × (map.get h.transactions xid ≡ Some o) × (o.way ≡ Direct)
+begun_open h xid final e here = let P : Phase → Type 0 = λ p. IsHere p h.transactions in some_and (λ o. o.way ≡ Direct) (map.get h.transactions xid) (subst P e here)
 
 -- an open transaction that keeps its way
 goes_still : (Q : Way → Type 0) (m : Transactions) (xid x : ℕ) (o p : Open) → map.get m xid ≡ Some o → p.way ≡ o.way → IsSomeAnd (map.get m x) (λ q. Q q.way) → IsSomeAnd (map.get (map.insert m xid p) x) (λ q. Q q.way)
@@ -66,7 +66,7 @@ goes_still Q m xid x o p some way is =
     subst P (sym new) is)
     (cases_Bool (eq_by_cmp nat_cmp x xid))
 
-here_still : (place : Place) (m : Transactions) (xid : ℕ) (o p : Open) → map.get m xid ≡ Some o → p.way ≡ o.way → IsHere place m → IsHere place (map.insert m xid p)
+here_still : (phase : Phase) (m : Transactions) (xid : ℕ) (o p : Open) → map.get m xid ≡ Some o → p.way ≡ o.way → IsHere phase m → IsHere phase (map.insert m xid p)
 here_still Outside m xid o p some way here = tt
 here_still (Begun x final) m xid o p some way here = goes_still (λ w. w ≡ Direct) m xid x o p some way here
 here_still (Block x) m xid o p some way here = goes_still (λ w. w ≢ Direct) m xid x o p some way here
@@ -94,21 +94,21 @@ within_dropped g xid Worker streamed = tt
 within_dropped g xid Spooled streamed = tt
 
 -- where no transaction is begun, none goes directly
-pub none_direct : (place : Place) (m : Transactions) (xid : ℕ) (o : Open) → begun_at place ≡ None → GoesAlone place m → map.get m xid ≡ Some o → o.way ≢ Direct
-none_direct place m xid o none alone some direct = let no : None ≡ Some xid = sym none ∙ alone xid o some direct in cc
+pub none_direct : (phase : Phase) (m : Transactions) (xid : ℕ) (o : Open) → begun_at phase ≡ None → GoesAlone phase m → map.get m xid ≡ Some o → o.way ≢ Direct
+none_direct phase m xid o none alone some direct = let no : None ≡ Some xid = sym none ∙ alone xid o some direct in cc
 
 pub gives-admitted : (g : Setting) (v w : Holder) (h : State) (xid : ℕ) (o : Open) (item : Item) (size : ℕ) (back : Option Item) (next : Next) (step : Step) → StandsFor g v h → map.get h.transactions xid ≡ Some o → next ≡ Ok (gives h xid item size o)
     → back ≡ given_back o.way item → Keeps g w.transactions (map.insert h.transactions xid (with_item o item size)) → IsOfTables (length g.catalog) item → (o.way ≡ Direct → IsChange item)
-    → w.place ≡ v.place → w.relations ≡ v.relations → w.position ≡ v.position → step ≡ step_given xid back
+    → w.phase ≡ v.phase → w.relations ≡ v.relations → w.position ≡ v.position → step ≡ step_given xid back
     → IsAdmitted g w h next step
-gives-admitted g v w h xid o item size back next step stands some e given kept of_tables directly place relations position is = record {
+gives-admitted g v w h xid o item size back next step stands some e given kept of_tables directly phase relations position is = record {
   state = gives h xid item size o;
   told = Gives xid o.way item size;
   stepped = e;
   stands = record {
-    place = place ∙ stands.place;
-    here = here_still h.place h.transactions xid o (with_item o item size) some refl stands.here;
-    alone = alone_insert h.place h.place h.transactions xid (with_item o item size) stands.alone (λ x begun. begun) (λ direct. stands.alone xid o some direct);
+    phase = phase ∙ stands.phase;
+    here = here_still h.phase h.transactions xid o (with_item o item size) some refl stands.here;
+    alone = alone_insert h.phase h.phase h.transactions xid (with_item o item size) stands.alone (λ x begun. begun) (λ direct. stands.alone xid o some direct);
     transactions = kept;
     relations = rw relations stands.relations;
     position = position ∙ stands.position;
@@ -156,22 +156,22 @@ changes-full g h xid sub size o why planned some full =
     let fault = has_room-full g h.transactions size (map.get h.transactions xid) o why some full in
     ap (λ f. of_open f (λ p. if has_room g h.transactions size p.way then plans planned (λ c. gives h xid (Change sub c) size p) else refuse SpoolFull)) some ∙ rw (fault.0, fault.1)
 
-line_at : (g : Setting) (h : State) (size : ℕ) (sub : Option ℕ) (planned : Result Alteration RelFault) (place : Place) → h.place ≡ place
-    → change_line g h size sub planned ≡ at place (refuse NotInTransaction) (λ xid final. changes g h xid xid size planned) (λ xid. changes g h xid (named sub xid) size planned)
-line_at g h size sub planned place e = ap (λ p. at p (refuse NotInTransaction) (λ xid final. changes g h xid xid size planned) (λ xid. changes g h xid (named sub xid) size planned)) e
+line_at : (g : Setting) (h : State) (size : ℕ) (sub : Option ℕ) (planned : Result Alteration RelFault) (phase : Phase) → h.phase ≡ phase
+    → change_line g h size sub planned ≡ at phase (refuse NotInTransaction) (λ xid final. changes g h xid xid size planned) (λ xid. changes g h xid (named sub xid) size planned)
+line_at g h size sub planned phase e = ap (λ p. at p (refuse NotInTransaction) (λ xid final. changes g h xid xid size planned) (λ xid. changes g h xid (named sub xid) size planned)) e
 
-pub line_outside : (g : Setting) (h : State) (size : ℕ) (sub : Option ℕ) (planned : Result Alteration RelFault) → h.place ≡ Outside → change_line g h size sub planned ≡ refuse NotInTransaction
+pub line_outside : (g : Setting) (h : State) (size : ℕ) (sub : Option ℕ) (planned : Result Alteration RelFault) → h.phase ≡ Outside → change_line g h size sub planned ≡ refuse NotInTransaction
 line_outside g h size sub planned e = line_at g h size sub planned Outside e
 
-pub line_begun : (g : Setting) (h : State) (size : ℕ) (sub : Option ℕ) (xid final : ℕ) (o : Open) (planned : Result Alteration RelFault) → h.place ≡ Begun xid final → map.get h.transactions xid ≡ Some o → has_room g h.transactions size o.way ≡ true
+pub line_begun : (g : Setting) (h : State) (size : ℕ) (sub : Option ℕ) (xid final : ℕ) (o : Open) (planned : Result Alteration RelFault) → h.phase ≡ Begun xid final → map.get h.transactions xid ≡ Some o → has_room g h.transactions size o.way ≡ true
     → change_line g h size sub planned ≡ plans planned (λ c. gives h xid (Change xid c) size o)
 line_begun g h size sub xid final o planned e some room = line_at g h size sub planned (Begun xid final) e ∙ changes-room g h xid xid size o planned some room
 
-pub line_block : (g : Setting) (h : State) (size : ℕ) (sub : Option ℕ) (xid : ℕ) (o : Open) (planned : Result Alteration RelFault) → h.place ≡ Block xid → map.get h.transactions xid ≡ Some o → has_room g h.transactions size o.way ≡ true
+pub line_block : (g : Setting) (h : State) (size : ℕ) (sub : Option ℕ) (xid : ℕ) (o : Open) (planned : Result Alteration RelFault) → h.phase ≡ Block xid → map.get h.transactions xid ≡ Some o → has_room g h.transactions size o.way ≡ true
     → change_line g h size sub planned ≡ plans planned (λ c. gives h xid (Change (named sub xid) c) size o)
 line_block g h size sub xid o planned e some room = line_at g h size sub planned (Block xid) e ∙ changes-room g h xid (named sub xid) size o planned some room
 
-pub line_full : (g : Setting) (h : State) (size : ℕ) (sub : Option ℕ) (xid : ℕ) (o : Open) (why : SessionFault) (planned : Result Alteration RelFault) → h.place ≡ Block xid → map.get h.transactions xid ≡ Some o → spool_fault g h.transactions size (map.get h.transactions xid) ≡ Some why
+pub line_full : (g : Setting) (h : State) (size : ℕ) (sub : Option ℕ) (xid : ℕ) (o : Open) (why : SessionFault) (planned : Result Alteration RelFault) → h.phase ≡ Block xid → map.get h.transactions xid ≡ Some o → spool_fault g h.transactions size (map.get h.transactions xid) ≡ Some why
     → change_line g h size sub planned ≡ refuse why
 line_full g h size sub xid o why planned e some full = line_at g h size sub planned (Block xid) e ∙ changes-full g h xid (named sub xid) size o why planned some full
 
@@ -198,12 +198,12 @@ fault_of_relation faults.OutOfMemory planned next is e = tt
 
 -- a refusal after which the relations are known as before
 pub relation_refused : (g : Setting) (v w : Holder) (h : State) (next : Next) (result : Result Step Refused) (fault : RelFault) → StandsFor g v h → Knows g w.relations h.relations
-    → w.place ≡ v.place → w.transactions ≡ v.transactions → w.position ≡ v.position → IsErrAnd result (λ r. r ≡ of_relation fault) → IsCause next (of_relation fault)
+    → w.phase ≡ v.phase → w.transactions ≡ v.transactions → w.position ≡ v.position → IsErrAnd result (λ r. r ≡ of_relation fault) → IsCause next (of_relation fault)
     → Follows g w h next result
-relation_refused g v w h next (Ok s) fault stands known place transactions position is cause = absurd is
-relation_refused g v w h next (Err r) fault stands known place transactions position is cause = record {
+relation_refused g v w h next (Ok s) fault stands known phase transactions position is cause = absurd is
+relation_refused g v w h next (Err r) fault stands known phase transactions position is cause = record {
   stands = record {
-    place = place ∙ stands.place;
+    phase = phase ∙ stands.phase;
     here = stands.here;
     alone = stands.alone;
     transactions = rw transactions stands.transactions;
@@ -214,9 +214,9 @@ relation_refused g v w h next (Err r) fault stands known place transactions posi
 }
 
 -- the session once the relations are known anew
-pub stands_known : (g : Setting) (v w : Holder) (h : State) → StandsFor g v h → Knows g w.relations h.relations → w.place ≡ v.place → w.transactions ≡ v.transactions → w.position ≡ v.position → StandsFor g w h
-stands_known g v w h stands known place transactions position = record {
-  place = place ∙ stands.place;
+pub stands_known : (g : Setting) (v w : Holder) (h : State) → StandsFor g v h → Knows g w.relations h.relations → w.phase ≡ v.phase → w.transactions ≡ v.transactions → w.position ≡ v.position → StandsFor g w h
+stands_known g v w h stands known phase transactions position = record {
+  phase = phase ∙ stands.phase;
   here = stands.here;
   alone = stands.alone;
   transactions = rw transactions stands.transactions;
@@ -235,24 +235,24 @@ tells_learnt h t r (Commits c) is = record { present = is.present; later = is.la
 tells_learnt h t r (Aborts xid way) is = (is.0, is.1, record { present = is.2.present; transactions = is.2.transactions; position = is.2.position; past = is.2.past })
 
 -- outside of blocks
-abbrev pub IsAtRest : Place → Type 0
-IsAtRest place = (place ≡ Outside) ⊎ ((xid : ℕ) × (final : ℕ) × (place ≡ Begun xid final))
+abbrev pub IsAtRest : Phase → Type 0
+IsAtRest phase = (phase ≡ Outside) ⊎ ((xid : ℕ) × (final : ℕ) × (phase ≡ Begun xid final))
 
-pub at_rest : (place : Place) (next : Next) (block : ℕ → Next) → IsAtRest place → at place next (λ _ _. next) block ≡ next
-at_rest place next block is =
+pub at_rest : (phase : Phase) (next : Next) (block : ℕ → Next) → IsAtRest phase → at phase next (λ _ _. next) block ≡ next
+at_rest phase next block is =
     ⊎_elim
-    (λ (outside : place ≡ Outside). ap (λ p. at p next (λ _ _. next) block) outside)
-    (λ (begun : (xid : ℕ) × (final : ℕ) × (place ≡ Begun xid final)). ap (λ p. at p next (λ _ _. next) block) begun.2)
+    (λ (outside : phase ≡ Outside). ap (λ p. at p next (λ _ _. next) block) outside)
+    (λ (begun : (xid : ℕ) × (final : ℕ) × (phase ≡ Begun xid final)). ap (λ p. at p next (λ _ _. next) block) begun.2)
     is
 
 pub learns-admitted : (g : Setting) (v w : Holder) (h : State) (r : Relation) (next : Next) → StandsFor g v h → next ≡ Ok (learns h r) → Knows g w.relations (learnt h.relations r)
-    → w.place ≡ v.place → w.transactions ≡ v.transactions → w.position ≡ v.position → IsAdmitted g w h next steps.Nothing
-learns-admitted g v w h r next stands e known place transactions position = record {
+    → w.phase ≡ v.phase → w.transactions ≡ v.transactions → w.position ≡ v.position → IsAdmitted g w h next steps.Nothing
+learns-admitted g v w h r next stands e known phase transactions position = record {
   state = learns h r;
   told = Nothing;
   stepped = e;
   stands = record {
-    place = place ∙ stands.place;
+    phase = phase ∙ stands.phase;
     here = stands.here;
     alone = stands.alone;
     transactions = rw transactions stands.transactions;
@@ -305,20 +305,20 @@ cause-learns g h r xid sub size (Rel f) is = touches-learns_refused g h r xid su
 cause-learns g h r xid sub size OutOfMemory is = tt
 
 -- a relation message in a block that has no room
-pub relation_full : (g : Setting) (v : Holder) (h : State) (r : Relation) (xid sub size : ℕ) (a : Next) (b : ℕ → ℕ → Next) (next : ℕ → Next) (result : Result Step Refused) (why : Refused) → h.place ≡ Block xid
-    → next xid ≡ touches g (learns h r) xid sub size → IsRefusedAs g v h (touches g h xid sub size) why → result ≡ Err why → Follows g v h (at h.place a b next) result
+pub relation_full : (g : Setting) (v : Holder) (h : State) (r : Relation) (xid sub size : ℕ) (a : Next) (b : ℕ → ℕ → Next) (next : ℕ → Next) (result : Result Step Refused) (why : Refused) → h.phase ≡ Block xid
+    → next xid ≡ touches g (learns h r) xid sub size → IsRefusedAs g v h (touches g h xid sub size) why → result ≡ Err why → Follows g v h (at h.phase a b next) result
 relation_full g v h r xid sub size a b next (Ok s) why block line refused is = cc
 relation_full g v h r xid sub size a b next (Err e) why block line refused is =
     let same : e ≡ why = cc in
     let P : Next → Type 0 = λ n. IsCause n why in
-    let whole : at h.place a b next ≡ touches g (learns h r) xid sub size = ap (λ p. at p a b next) block ∙ line in
+    let whole : at h.phase a b next ≡ touches g (learns h r) xid sub size = ap (λ p. at p a b next) block ∙ line in
     record { stands = refused.stands; cause = rw same (subst P (sym whole) (cause-learns g h r xid sub size why refused.cause)) }
 
 -- a relation message in a block: the item is taken, and then the relation is learnt
 pub relation_taken : (g : Setting) (v w : Holder) (h : State) (r : Relation) (xid sub size : ℕ) (next : Next) (step : Step) → next ≡ touches g (learns h r) xid sub size → (taken : IsAdmitted g v h (touches g h xid sub size) step)
-    → Knows g w.relations (learnt h.relations r) → w.place ≡ v.place → w.transactions ≡ v.transactions → w.position ≡ v.position
+    → Knows g w.relations (learnt h.relations r) → w.phase ≡ v.phase → w.transactions ≡ v.transactions → w.position ≡ v.position
     → IsAdmitted g w h next step
-relation_taken g v w h r xid sub size next step line taken known place transactions position =
+relation_taken g v w h r xid sub size next step line taken known phase transactions position =
     let touched = is_touched g h xid sub size taken.state taken.stepped in
     record {
       state = learns taken.state r;
@@ -328,7 +328,7 @@ relation_taken g v w h r xid sub size next step line taken known place transacti
           ∙ touches-taken g (learns h r) xid sub size touched.o touched.present touched.room
           ∙ sym (ap (λ s. Ok (learns s r)) touched.is);
       stands = record {
-        place = place ∙ taken.stands.place;
+        phase = phase ∙ taken.stands.phase;
         here = taken.stands.here;
         alone = taken.stands.alone;
         transactions = rw transactions taken.stands.transactions;
@@ -343,13 +343,13 @@ relation_taken g v w h r xid sub size next step line taken known place transacti
 -- the session once the item is dropped again, since the relation was not learnt
 pub relation_undone : (g : Setting) (u v w : Holder) (h : State) (xid sub size : ℕ) (step : Step) → StandsFor g u h → (taken : IsAdmitted g v h (touches g h xid sub size) step)
     → ((m : Transactions) (o : Open) (item : Item) (bytes : ℕ) → map.get m xid ≡ Some o → Survives item → Keeps g v.transactions (map.insert m xid (with_item o item bytes)) → Keeps g w.transactions m)
-    → Knows g w.relations taken.state.relations → w.place ≡ v.place → w.position ≡ v.position → StandsFor g w h
-relation_undone g u v w h xid sub size step was taken undoes known place position =
+    → Knows g w.relations taken.state.relations → w.phase ≡ v.phase → w.position ≡ v.position → StandsFor g w h
+relation_undone g u v w h xid sub size step was taken undoes known phase position =
     let touched = is_touched g h xid sub size taken.state taken.stepped in
     let P : State → Type 0 = λ t. Keeps g v.transactions t.transactions in
     let Q : State → Type 0 = λ t. Knows g w.relations t.relations in
     record {
-      place = place ∙ taken.stands.place ∙ ap (λ t. t.place) touched.is;
+      phase = phase ∙ taken.stands.phase ∙ ap (λ t. t.phase) touched.is;
       here = was.here;
       alone = was.alone;
       transactions = undoes h.transactions touched.o (Touch sub) size touched.present tt (subst P touched.is taken.stands.transactions);
@@ -377,24 +377,24 @@ says_dropped xid Direct = refl
 says_dropped xid Worker = refl
 says_dropped xid Spooled = refl
 
-pub drops-admitted : (g : Setting) (v w : Holder) (h : State) (m : StreamAbort) (o : Open) (step : Step) → StandsFor g v h → h.place ≡ Outside → map.get h.transactions m.xid ≡ Some o → m.subtransaction ≡ m.xid
-    → Keeps g w.transactions (map.remove h.transactions m.xid) → w.place ≡ v.place → w.relations ≡ v.relations → w.position ≡ v.position → step ≡ step_dropped m.xid (is_spooled o.way)
+pub drops-admitted : (g : Setting) (v w : Holder) (h : State) (m : StreamAbort) (o : Open) (step : Step) → StandsFor g v h → h.phase ≡ Outside → map.get h.transactions m.xid ≡ Some o → m.subtransaction ≡ m.xid
+    → Keeps g w.transactions (map.remove h.transactions m.xid) → w.phase ≡ v.phase → w.relations ≡ v.relations → w.position ≡ v.position → step ≡ step_dropped m.xid (is_spooled o.way)
     → IsAdmitted g w h (Ok (aborts h m)) step
-drops-admitted g v w h m o step stands outside some whole kept place relations position is = record {
+drops-admitted g v w h m o step stands outside some whole kept phase relations position is = record {
   state = record h { transactions = map.remove h.transactions m.xid };
   told = Aborts m.xid o.way;
   stepped = ap Ok (aborts_found h m (Some o) some ∙ rw (eq-eqb m.subtransaction m.xid whole));
   stands = record {
-    place = place ∙ stands.place;
-    here = let P : Place → Type 0 = λ p. IsHere p (map.remove h.transactions m.xid) in subst P (sym outside) tt;
-    alone = alone_at Outside h.place (map.remove h.transactions m.xid) (alone_remove h.place h.transactions m.xid stands.alone (nothing_begun h.place m.xid outside)) (sym (none_begun h.place outside));
+    phase = phase ∙ stands.phase;
+    here = let P : Phase → Type 0 = λ p. IsHere p (map.remove h.transactions m.xid) in subst P (sym outside) tt;
+    alone = alone_at Outside h.phase (map.remove h.transactions m.xid) (alone_remove h.phase h.transactions m.xid stands.alone (nothing_begun h.phase m.xid outside)) (sym (none_begun h.phase outside));
     transactions = kept;
     relations = rw relations stands.relations;
     position = position ∙ stands.position;
   };
   tells = (o, refl, record { present = some; transactions = refl; position = refl; past = refl });
   says = rw is (says_dropped m.xid o.way);
-  within = within_dropped g m.xid o.way (none_direct h.place h.transactions m.xid o (none_begun h.place outside) stands.alone some);
+  within = within_dropped g m.xid o.way (none_direct h.phase h.transactions m.xid o (none_begun h.phase outside) stands.alone some);
 }
 
 -- the rollback of a subtransaction is an item
@@ -413,20 +413,20 @@ given_back-free Spooled item e = cc
 
 -- ---- further blocks
 
-pub goes_on-admitted : (g : Setting) (v w : Holder) (h : State) (xid : ℕ) → StandsFor g v h → h.place ≡ Outside → map.contains_key h.transactions xid ≡ true
-    → w.place ≡ Block xid → w.transactions ≡ v.transactions → w.relations ≡ v.relations → w.position ≡ v.position → IsAdmitted g w h (goes_on h xid) steps.Nothing
-goes_on-admitted g v w h xid stands outside is_open place transactions relations position =
+pub goes_on-admitted : (g : Setting) (v w : Holder) (h : State) (xid : ℕ) → StandsFor g v h → h.phase ≡ Outside → map.contains_key h.transactions xid ≡ true
+    → w.phase ≡ Block xid → w.transactions ≡ v.transactions → w.relations ≡ v.relations → w.position ≡ v.position → IsAdmitted g w h (goes_on h xid) steps.Nothing
+goes_on-admitted g v w h xid stands outside is_open phase transactions relations position =
     let o = present h.transactions xid is_open in
-    let streamed : o.0.way ≢ Direct = λ direct. let no : None ≡ Some xid = sym (none_begun h.place outside) ∙ stands.alone xid o.0 o.1 direct in cc in
+    let streamed : o.0.way ≢ Direct = λ direct. let no : None ≡ Some xid = sym (none_begun h.phase outside) ∙ stands.alone xid o.0 o.1 direct in cc in
     let P : Option Open → Type 0 = λ f. IsSomeAnd f (λ p. p.way ≢ Direct) in
     record {
-      state = record h { place = Block xid };
+      state = record h { phase = Block xid };
       told = Nothing;
       stepped = rw is_open;
       stands = record {
-        place = place;
+        phase = phase;
         here = subst P (sym o.1) streamed;
-        alone = alone_at h.place (Block xid) h.transactions stands.alone (none_begun h.place outside);
+        alone = alone_at h.phase (Block xid) h.transactions stands.alone (none_begun h.phase outside);
         transactions = rw transactions stands.transactions;
         relations = rw relations stands.relations;
         position = position ∙ stands.position;

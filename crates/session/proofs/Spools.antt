@@ -10,8 +10,8 @@ use Rattle.savepoint.specs.declared.item.Item.{Item}
 use Rattle.savepoint.specs.declared.item.Item.TheVariants.{Change, Touch, BackTo, Last}
 use Rattle.savepoint.specs.Survivors.{is_of}
 use Rattle.savepoint.specs.Savepoints.{mark_at, before_mark, noted, noted_by, marking, savepoints, before_first}
-use Rattle.savepoint.proofs.Cutting.{IsNumbered, count_before_first, first_mark, first_mark-place, mark_at-savepoints, before_mark-savepoints, before_first-unmarked, mark_at-noted_same, before_mark-noted_same}
-use Rattle.session.specs.Sized.{bytes_of, item_of, size_of, numbered, is_place, without_mark, unnoted_by, IsSpool}
+use Rattle.savepoint.proofs.Cutting.{IsNumbered, count_before_first, first_mark, first_mark-index, mark_at-savepoints, before_mark-savepoints, before_first-unmarked, mark_at-noted_same, before_mark-noted_same}
+use Rattle.session.specs.Sized.{bytes_of, item_of, size_of, numbered, is_at_index, without_mark, unnoted_by, IsSpool}
 
 -- ---- lists side by side
 
@@ -89,33 +89,33 @@ count-lt sub mark (x ∷ xs) e =
 -- ---- a cut
 
 -- where the mark of a subtransaction stands
-place_is : (items : List Item) (sub place : ℕ) → mark_at sub (savepoints (numbered 0 items)) ≡ Some place → place ≡ count_before_first sub (numbered 0 items)
-place_is items sub place e =
-    let at = first_mark-place (λ k. k) 0 sub (numbered 0 items) place (IsNumbered-numbered 0 items) (sym (mark_at-savepoints sub (numbered 0 items)) ∙ e) in
+index_is : (items : List Item) (sub index : ℕ) → mark_at sub (savepoints (numbered 0 items)) ≡ Some index → index ≡ count_before_first sub (numbered 0 items)
+index_is items sub index e =
+    let at = first_mark-index (λ k. k) 0 sub (numbered 0 items) index (IsNumbered-numbered 0 items) (sym (mark_at-savepoints sub (numbered 0 items)) ∙ e) in
     omega (arith, at)
 
 length-numbered : (n : ℕ) (items : List Item) → length (numbered n items) ≡ length items
 length-numbered n [] = refl
 length-numbered n (i ∷ items) = ap suc (length-numbered (suc n) items)
 
-pub place_within : (items : List Item) (sizes : List ℕ) (marks : List (ℕ × ℕ)) (sub place : ℕ) → IsSpool items sizes marks → mark_at sub marks ≡ Some place → place ≤ length items
-place_within items sizes marks sub place h e =
-    let at = place_is items sub place (ap (mark_at sub) (sym h.marked) ∙ e) in
+pub index_within : (items : List Item) (sizes : List ℕ) (marks : List (ℕ × ℕ)) (sub index : ℕ) → IsSpool items sizes marks → mark_at sub marks ≡ Some index → index ≤ length items
+index_within items sizes marks sub index h e =
+    let at = index_is items sub index (ap (mark_at sub) (sym h.marked) ∙ e) in
     omega (arith, at, count-le sub (numbered 0 items), length-numbered 0 items)
 
-pub IsSpool-cut : (items : List Item) (sizes : List ℕ) (marks : List (ℕ × ℕ)) (sub place : ℕ) → IsSpool items sizes marks → mark_at sub marks ≡ Some place → IsSpool (take place items) (take place sizes) (before_mark sub marks)
-IsSpool-cut items sizes marks sub place h e =
-    let at = place_is items sub place (ap (mark_at sub) (sym h.marked) ∙ e) in
+pub IsSpool-cut : (items : List Item) (sizes : List ℕ) (marks : List (ℕ × ℕ)) (sub index : ℕ) → IsSpool items sizes marks → mark_at sub marks ≡ Some index → IsSpool (take index items) (take index sizes) (before_mark sub marks)
+IsSpool-cut items sizes marks sub index h e =
+    let at = index_is items sub index (ap (mark_at sub) (sym h.marked) ∙ e) in
     record {
-      paired = length-take place sizes ∙ ap (λ n. min place n) h.paired ∙ sym (length-take place items);
-      marked = ap (before_mark sub) h.marked ∙ before_mark-savepoints sub (numbered 0 items) ∙ ap (λ n. savepoints (take n (numbered 0 items))) (sym at) ∙ ap savepoints (sym (numbered-take place 0 items));
+      paired = length-take index sizes ∙ ap (λ n. min index n) h.paired ∙ sym (length-take index items);
+      marked = ap (before_mark sub) h.marked ∙ before_mark-savepoints sub (numbered 0 items) ∙ ap (λ n. savepoints (take n (numbered 0 items))) (sym at) ∙ ap savepoints (sym (numbered-take index 0 items));
     }
 
-pub zip-cut : (items : List Item) (sizes : List ℕ) (marks : List (ℕ × ℕ)) (sub place : ℕ) → IsSpool items sizes marks → mark_at sub marks ≡ Some place → zip (take place items) (take place sizes) ≡ before_first sub (zip items sizes)
-zip-cut items sizes marks sub place h e =
-    let at = place_is items sub place (ap (mark_at sub) (sym h.marked) ∙ e) in
+pub zip-cut : (items : List Item) (sizes : List ℕ) (marks : List (ℕ × ℕ)) (sub index : ℕ) → IsSpool items sizes marks → mark_at sub marks ≡ Some index → zip (take index items) (take index sizes) ≡ before_first sub (zip items sizes)
+zip-cut items sizes marks sub index h e =
+    let at = index_is items sub index (ap (mark_at sub) (sym h.marked) ∙ e) in
     let same = count-same sub (numbered 0 items) (zip items sizes) (map_items-numbered 0 items ∙ sym (map_items-zip items sizes h.paired)) in
-    zip-take place items sizes ∙ ap (λ n. take n (zip items sizes)) (at ∙ same)
+    zip-take index items sizes ∙ ap (λ n. take n (zip items sizes)) (at ∙ same)
 
 -- without a mark nothing is cut
 pub IsSpool-uncut : (items : List Item) (sizes : List ℕ) (marks : List (ℕ × ℕ)) (sub : ℕ) → IsSpool items sizes marks → mark_at sub marks ≡ None → IsSpool items sizes (before_mark sub marks)
@@ -164,7 +164,7 @@ without_mark-noted : (items : List Item) (sub : ℕ) → without_mark sub (lengt
 without_mark-noted items sub = ⊎_elim
     (λ marked.
     let mark = some_or_none _ marked in
-    let at = place_is items sub mark.0 mark.1 in
+    let at = index_is items sub mark.0 mark.1 in
     let first = sym (mark_at-savepoints sub (numbered 0 items)) ∙ mark.1 in
     let lt = count-lt sub mark.0 (numbered 0 items) first in
     let apart : (mark.0 == length items) ≡ false = ne_eqb mark.0 (length items) (λ same. omega (arith, at, lt, length-numbered 0 items)) in
@@ -172,7 +172,7 @@ without_mark-noted items sub = ⊎_elim
     (λ unmarked.
     let here = mark_at-noted_same sub (length items) (savepoints (numbered 0 items)) unmarked in
     let cut = before_mark-noted_same sub (length items) (savepoints (numbered 0 items)) unmarked in
-    ap (λ o. if is_place (length items) o then before_mark sub (noted sub (length items) (savepoints (numbered 0 items))) else noted sub (length items) (savepoints (numbered 0 items))) here ∙ rw (eq-eqb (length items) (length items) refl) cut)
+    ap (λ o. if is_at_index (length items) o then before_mark sub (noted sub (length items) (savepoints (numbered 0 items))) else noted sub (length items) (savepoints (numbered 0 items))) here ∙ rw (eq-eqb (length items) (length items) refl) cut)
     (cases_Bool (is_some (mark_at sub (savepoints (numbered 0 items)))))
 
 unnoted-noted : (items : List Item) (item : Item) → unnoted_by item (length items) (noted_by item (length items) (savepoints (numbered 0 items))) ≡ savepoints (numbered 0 items)
@@ -197,8 +197,8 @@ bytes_of-zip items sizes e = ap sum (map_sizes-zip items sizes e)
 pub sum-push : (sizes : List ℕ) (size : ℕ) → sum (sizes ++ size ∷ []) ≡ size + sum sizes
 sum-push sizes size = omega (arith, sum_by_push (λ (n : ℕ). n) sizes size)
 
-pub sum-split : (place : ℕ) (sizes : List ℕ) → sum (drop place sizes) + sum (take place sizes) ≡ sum sizes
-sum-split place sizes = omega (arith, sum_by-take-drop (λ (n : ℕ). n) sizes place)
+pub sum-split : (index : ℕ) (sizes : List ℕ) → sum (drop index sizes) + sum (take index sizes) ≡ sum sizes
+sum-split index sizes = omega (arith, sum_by-take-drop (λ (n : ℕ). n) sizes index)
 
 -- ---- what a push left
 

@@ -5,8 +5,8 @@ use Rattle.std.specs.Ordering.{nat_cmp, eq_by_cmp}
 use Rattle.std.specs.Cmp.{nat_cmp_total}
 use Rattle.std.proofs.lemmas.Bool.{cases_Bool}
 use Rattle.std.specs.FinMap as map
-use Rattle.session.specs.declared.place.Place.{Place}
-use Rattle.session.specs.declared.place.Place.TheVariants.{Outside, Begun, Block}
+use Rattle.session.specs.declared.phase.Phase.{Phase}
+use Rattle.session.specs.declared.phase.Phase.TheVariants.{Outside, Begun, Block}
 use Rattle.session.specs.declared.fault.SessionFault.{SessionFault}
 use Rattle.session.specs.declared.fault.Refused.{Refused}
 use Rattle.session.specs.declared.fault.Refused.TheVariants.{Msg, Session, Rel, OutOfMemory}
@@ -47,13 +47,13 @@ fault_is_cause fault t next OutOfMemory e is = tt
 
 -- ---- outside of transactions
 
-at_outside : (place : Place) (outside : Next) (begun : ℕ → ℕ → Next) (block : ℕ → Next) → place ≡ Outside → at place outside begun block ≡ outside
-at_outside place outside begun block e = ap (λ p. at p outside begun block) e
+at_outside : (phase : Phase) (outside : Next) (begun : ℕ → ℕ → Next) (block : ℕ → Next) → phase ≡ Outside → at phase outside begun block ≡ outside
+at_outside phase outside begun block e = ap (λ p. at p outside begun block) e
 
 -- ---- the transaction that goes directly
 
 -- with one more transaction open
-pub alone_insert : (p q : Place) (m : Transactions) (xid : ℕ) (o : Open) → GoesAlone p m → ((x : ℕ) → begun_at p ≡ Some x → begun_at q ≡ Some x) → (o.way ≡ Direct → begun_at q ≡ Some xid) → GoesAlone q (map.insert m xid o)
+pub alone_insert : (p q : Phase) (m : Transactions) (xid : ℕ) (o : Open) → GoesAlone p m → ((x : ℕ) → begun_at p ≡ Some x → begun_at q ≡ Some x) → (o.way ≡ Direct → begun_at q ≡ Some xid) → GoesAlone q (map.insert m xid o)
 alone_insert p q m xid o alone same here x other is_open direct =
     ⊎_elim
     (λ (tie : eq_by_cmp nat_cmp x xid ≡ true).
@@ -70,7 +70,7 @@ alone_insert p q m xid o alone same here x other is_open direct =
     way_of d (Some p) = p.way
 
 -- with a transaction closed, where it was the begun one or none was begun
-pub alone_remove : (p : Place) (m : Transactions) (xid : ℕ) → GoesAlone p m → ((x : ℕ) → begun_at p ≡ Some x → x ≡ xid) → GoesAlone Outside (map.remove m xid)
+pub alone_remove : (p : Phase) (m : Transactions) (xid : ℕ) → GoesAlone p m → ((x : ℕ) → begun_at p ≡ Some x → x ≡ xid) → GoesAlone Outside (map.remove m xid)
 alone_remove p m xid alone only x other is_open direct =
     ⊎_elim
     (λ (tie : eq_by_cmp nat_cmp x xid ≡ true).
@@ -82,36 +82,36 @@ alone_remove p m xid alone only x other is_open direct =
     (cases_Bool (eq_by_cmp nat_cmp x xid))
 
 -- elsewhere, where the same is begun
-pub alone_at : (p q : Place) (m : Transactions) → GoesAlone p m → begun_at p ≡ begun_at q → GoesAlone q m
+pub alone_at : (p q : Phase) (m : Transactions) → GoesAlone p m → begun_at p ≡ begun_at q → GoesAlone q m
 alone_at p q m alone same x o is_open direct = sym same ∙ alone x o is_open direct
 
-pub none_begun : (p : Place) → p ≡ Outside → begun_at p ≡ None
+pub none_begun : (p : Phase) → p ≡ Outside → begun_at p ≡ None
 none_begun p e = ap begun_at e
 
-pub nothing_begun : (p : Place) (xid : ℕ) → p ≡ Outside → (x : ℕ) → begun_at p ≡ Some x → x ≡ xid
+pub nothing_begun : (p : Phase) (xid : ℕ) → p ≡ Outside → (x : ℕ) → begun_at p ≡ Some x → x ≡ xid
 nothing_begun p xid e x begun = let no : None ≡ Some x = sym (none_begun p e) ∙ begun in cc
 
-pub only_begun : (p : Place) (xid final : ℕ) → p ≡ Begun xid final → (x : ℕ) → begun_at p ≡ Some x → x ≡ xid
+pub only_begun : (p : Phase) (xid final : ℕ) → p ≡ Begun xid final → (x : ℕ) → begun_at p ≡ Some x → x ≡ xid
 only_begun p xid final e x begun = let same : Some xid ≡ Some x = sym (ap begun_at e) ∙ begun in cc
 
 -- the state once the transaction has begun
 abbrev pub begun : State → Begin → State
-begun h m = record h { place = Begun m.xid m.final_lsn; transactions = map.insert h.transactions m.xid (opened Direct) }
+begun h m = record h { phase = Begun m.xid m.final_lsn; transactions = map.insert h.transactions m.xid (opened Direct) }
 
-pub begins-admitted : (g : Setting) (v w : Holder) (h : State) (m : Begin) (b : ℕ → ℕ → Next) (c : ℕ → Next) → StandsFor g v h → v.place ≡ Outside
+pub begins-admitted : (g : Setting) (v w : Holder) (h : State) (m : Begin) (b : ℕ → ℕ → Next) (c : ℕ → Next) → StandsFor g v h → v.phase ≡ Outside
     → (room_fault h.transactions m.xid ≡ None) × Keeps g w.transactions (map.insert h.transactions m.xid (opened Direct))
-    → w.place ≡ Begun m.xid m.final_lsn → w.relations ≡ v.relations → w.position ≡ v.position
-    → IsAdmitted g w h (at h.place (begins h m) b c) (steps.Begin m.xid)
-begins-admitted g v w h m b c stands outside opened_is place relations position = record {
+    → w.phase ≡ Begun m.xid m.final_lsn → w.relations ≡ v.relations → w.position ≡ v.position
+    → IsAdmitted g w h (at h.phase (begins h m) b c) (steps.Begin m.xid)
+begins-admitted g v w h m b c stands outside opened_is phase relations position = record {
   state = begun h m;
   told = Opens m.xid Direct;
-  stepped = at_outside h.place (begins h m) b c (sym stands.place ∙ outside) ∙ ap (λ o. unless_fault o (begun h m)) opened_is.0;
+  stepped = at_outside h.phase (begins h m) b c (sym stands.phase ∙ outside) ∙ ap (λ o. unless_fault o (begun h m)) opened_is.0;
   stands = record {
-    place = place;
+    phase = phase;
     here = rw (get-insert_same h.transactions m.xid (opened Direct)) refl;
     alone =
-        let none = none_begun h.place (sym stands.place ∙ outside) in
-        alone_insert h.place (Begun m.xid m.final_lsn) h.transactions m.xid (opened Direct) stands.alone (λ x begun. let no : None ≡ Some x = sym none ∙ begun in cc) (λ direct. refl);
+        let none = none_begun h.phase (sym stands.phase ∙ outside) in
+        alone_insert h.phase (Begun m.xid m.final_lsn) h.transactions m.xid (opened Direct) stands.alone (λ x begun. let no : None ≡ Some x = sym none ∙ begun in cc) (λ direct. refl);
     transactions = opened_is.1;
     relations = rw relations stands.relations;
     position = position ∙ stands.position;
@@ -121,38 +121,38 @@ begins-admitted g v w h m b c stands outside opened_is place relations position 
   within = tt;
 }
 
-pub begins-refused : (g : Setting) (v w : Holder) (h : State) (m : Begin) (b : ℕ → ℕ → Next) (c : ℕ → Next) (result : Result Step Refused) (r : Refused) → StandsFor g v h → v.place ≡ Outside
+pub begins-refused : (g : Setting) (v w : Holder) (h : State) (m : Begin) (b : ℕ → ℕ → Next) (c : ℕ → Next) (result : Result Step Refused) (r : Refused) → StandsFor g v h → v.phase ≡ Outside
     → Keeps g w.transactions h.transactions × IsFault (room_fault h.transactions m.xid) r
-    → w.place ≡ v.place → w.relations ≡ v.relations → w.position ≡ v.position → result ≡ Err r
-    → Follows g w h (at h.place (begins h m) b c) result
-begins-refused g v w h m b c (Ok s) r stands outside kept place relations position is = cc
-begins-refused g v w h m b c (Err e) r stands outside kept place relations position is =
+    → w.phase ≡ v.phase → w.relations ≡ v.relations → w.position ≡ v.position → result ≡ Err r
+    → Follows g w h (at h.phase (begins h m) b c) result
+begins-refused g v w h m b c (Ok s) r stands outside kept phase relations position is = cc
+begins-refused g v w h m b c (Err e) r stands outside kept phase relations position is =
     let same : e ≡ r = cc in
     record {
       stands = record {
-        place = place ∙ stands.place;
+        phase = phase ∙ stands.phase;
         here = stands.here;
         alone = stands.alone;
         transactions = kept.0;
         relations = rw relations stands.relations;
         position = position ∙ stands.position;
       };
-      cause = rw same (fault_is_cause (room_fault h.transactions m.xid) (begun h m) (at h.place (begins h m) b c) r (at_outside h.place (begins h m) b c (sym stands.place ∙ outside)) kept.1);
+      cause = rw same (fault_is_cause (room_fault h.transactions m.xid) (begun h m) (at h.phase (begins h m) b c) r (at_outside h.phase (begins h m) b c (sym stands.phase ∙ outside)) kept.1);
     }
 
 -- ---- in a block
 
-pub stops-admitted : (g : Setting) (v w : Holder) (h : State) (xid : ℕ) (a : Next) (b : ℕ → ℕ → Next) → StandsFor g v h → v.place ≡ Block xid
-    → w.place ≡ Outside → w.transactions ≡ v.transactions → w.relations ≡ v.relations → w.position ≡ v.position
-    → IsAdmitted g w h (at h.place a b (λ _. Ok (leaves_block h))) steps.Nothing
-stops-admitted g v w h xid a b stands block place transactions relations position = record {
+pub stops-admitted : (g : Setting) (v w : Holder) (h : State) (xid : ℕ) (a : Next) (b : ℕ → ℕ → Next) → StandsFor g v h → v.phase ≡ Block xid
+    → w.phase ≡ Outside → w.transactions ≡ v.transactions → w.relations ≡ v.relations → w.position ≡ v.position
+    → IsAdmitted g w h (at h.phase a b (λ _. Ok (leaves_block h))) steps.Nothing
+stops-admitted g v w h xid a b stands block phase transactions relations position = record {
   state = leaves_block h;
   told = Nothing;
-  stepped = ap (λ p. at p a b (λ _. Ok (leaves_block h))) (sym stands.place ∙ block);
+  stepped = ap (λ p. at p a b (λ _. Ok (leaves_block h))) (sym stands.phase ∙ block);
   stands = record {
-    place = place;
+    phase = phase;
     here = tt;
-    alone = alone_at h.place Outside h.transactions stands.alone (ap begun_at (sym stands.place ∙ block));
+    alone = alone_at h.phase Outside h.transactions stands.alone (ap begun_at (sym stands.phase ∙ block));
     transactions = rw transactions stands.transactions;
     relations = rw relations stands.relations;
     position = position ∙ stands.position;
@@ -183,27 +183,27 @@ said xid false = refl
 
 -- the state once its first block is open
 abbrev pub streamed : State → ℕ → Way → State
-streamed h xid way = record h { place = Block xid; transactions = map.insert h.transactions xid (opened way) }
+streamed h xid way = record h { phase = Block xid; transactions = map.insert h.transactions xid (opened way) }
 
 -- a worker is given only where there are any
 within_opened : (g : Setting) (n xid : ℕ) (got : Bool) → got ≡ nat_lt n g.workers → IsWithin g (Opens xid (way_if got))
 within_opened g n xid true e = let free : n < g.workers = ltb-true n g.workers (sym e) in omega arith
 within_opened g n xid false e = tt
 
-pub opens-admitted : (g : Setting) (v w : Holder) (h : State) (xid : ℕ) (got : Bool) (step : Step) → StandsFor g v h → h.place ≡ Outside
+pub opens-admitted : (g : Setting) (v w : Holder) (h : State) (xid : ℕ) (got : Bool) (step : Step) → StandsFor g v h → h.phase ≡ Outside
     → (room_fault h.transactions xid ≡ None) × (got ≡ nat_lt (working h.transactions) g.workers) × Keeps g w.transactions (map.insert h.transactions xid (opened (way_if got)))
-    → w.place ≡ Block xid → w.relations ≡ v.relations → w.position ≡ v.position → step ≡ step_if xid got
+    → w.phase ≡ Block xid → w.relations ≡ v.relations → w.position ≡ v.position → step ≡ step_if xid got
     → IsAdmitted g w h (opens h xid (next_way g h) (Block xid)) step
-opens-admitted g v w h xid got step stands outside kept place relations position is = record {
+opens-admitted g v w h xid got step stands outside kept phase relations position is = record {
   state = streamed h xid (way_if got);
   told = Opens xid (way_if got);
   stepped =
       let way : next_way g h ≡ way_if got = ap (λ b. if b then Worker else Spooled) (sym kept.1) ∙ chosen got in
       ap (λ o. unless_fault o (streamed h xid (next_way g h))) kept.0 ∙ ap (λ way'. Ok (streamed h xid way')) way;
   stands = record {
-    place = place;
+    phase = phase;
     here = rw (get-insert_same h.transactions xid (opened (way_if got))) (not_direct got);
-    alone = alone_insert h.place (Block xid) h.transactions xid (opened (way_if got)) stands.alone (λ x begun. let no : None ≡ Some x = sym (none_begun h.place outside) ∙ begun in cc) (λ direct. absurd (not_direct got direct));
+    alone = alone_insert h.phase (Block xid) h.transactions xid (opened (way_if got)) stands.alone (λ x begun. let no : None ≡ Some x = sym (none_begun h.phase outside) ∙ begun in cc) (λ direct. absurd (not_direct got direct));
     transactions = kept.2;
     relations = rw relations stands.relations;
     position = position ∙ stands.position;
@@ -215,14 +215,14 @@ opens-admitted g v w h xid got step stands outside kept place relations position
 
 pub opens-refused : (g : Setting) (v w : Holder) (h : State) (xid : ℕ) (result : Result Step Refused) (r : Refused) → StandsFor g v h
     → Keeps g w.transactions h.transactions × IsFault (room_fault h.transactions xid) r
-    → w.place ≡ v.place → w.relations ≡ v.relations → w.position ≡ v.position → result ≡ Err r
+    → w.phase ≡ v.phase → w.relations ≡ v.relations → w.position ≡ v.position → result ≡ Err r
     → Follows g w h (opens h xid (next_way g h) (Block xid)) result
-opens-refused g v w h xid (Ok s) r stands kept place relations position is = cc
-opens-refused g v w h xid (Err e) r stands kept place relations position is =
+opens-refused g v w h xid (Ok s) r stands kept phase relations position is = cc
+opens-refused g v w h xid (Err e) r stands kept phase relations position is =
     let same : e ≡ r = cc in
     record {
       stands = record {
-        place = place ∙ stands.place;
+        phase = phase ∙ stands.phase;
         here = stands.here;
         alone = stands.alone;
         transactions = kept.0;
@@ -244,7 +244,7 @@ abbrev pub final : ℕ → CommitInfo → Open → Committed
 final xid info o = record { xid = xid; way = o.way; items = o.items; info = info }
 
 abbrev pub closed : State → ℕ → CommitInfo → Open → State
-closed h xid info o = record h { place = Outside; transactions = map.remove h.transactions xid; position = info.end; past = h.past ++ final xid info o ∷ [] }
+closed h xid info o = record h { phase = Outside; transactions = map.remove h.transactions xid; position = info.end; past = h.past ++ final xid info o ∷ [] }
 
 pub closes-unknown : (h : State) (xid commit end : ℕ) → map.get h.transactions xid ≡ None → commits h xid commit end ≡ refuse UnknownTransaction
 closes-unknown h xid commit end none = ap (λ o. of_open o (λ p. closes h xid (record { commit = commit; end = end }) p)) none
@@ -257,17 +257,17 @@ closes-new h xid commit end o some lt = ap (λ p. of_open p (λ q. closes h xid 
 
 pub closes-admitted : (g : Setting) (v w : Holder) (h : State) (xid commit end : ℕ) (way : Keeping) (step : Step) → StandsFor g v h
     → (o : Open) × (map.get h.transactions xid ≡ Some o) × (way ≡ keeping_of xid o.items o.way) × Keeps g w.transactions (map.remove h.transactions xid)
-    → ((x : ℕ) → begun_at h.place ≡ Some x → x ≡ xid) → h.position < end → w.place ≡ Outside → w.relations ≡ v.relations → w.position ≡ end
+    → ((x : ℕ) → begun_at h.phase ≡ Some x → x ≡ xid) → h.position < end → w.phase ≡ Outside → w.relations ≡ v.relations → w.position ≡ end
     → ((c : Committed) → c.xid ≡ xid → c.info ≡ record { commit = commit; end = end } → items_kept way ≡ handed_out c.xid c.way c.items → HandsOut c step)
     → IsAdmitted g w h (commits h xid commit end) step
-closes-admitted g v w h xid commit end way step stands was only later place relations position hands = record {
+closes-admitted g v w h xid commit end way step stands was only later phase relations position hands = record {
   state = closed h xid (record { commit = commit; end = end }) was.0;
   told = Commits (final xid (record { commit = commit; end = end }) was.0);
   stepped = closes-new h xid commit end was.0 was.1 later;
   stands = record {
-    place = place;
+    phase = phase;
     here = tt;
-    alone = alone_remove h.place h.transactions xid stands.alone only;
+    alone = alone_remove h.phase h.transactions xid stands.alone only;
     transactions = was.3;
     relations = rw relations stands.relations;
     position = position;
@@ -277,15 +277,15 @@ closes-admitted g v w h xid commit end way step stands was only later place rela
   within = tt;
 }
 
--- ---- what holds in one place holds of the line
+-- ---- what holds in one phase holds of the line
 
-pub follows_outside : (g : Setting) (v : Holder) (h : State) (next : Next) (b : ℕ → ℕ → Next) (c : ℕ → Next) (result : Result Step Refused) → h.place ≡ Outside → Follows g v h next result → Follows g v h (at h.place next b c) result
+pub follows_outside : (g : Setting) (v : Holder) (h : State) (next : Next) (b : ℕ → ℕ → Next) (c : ℕ → Next) (result : Result Step Refused) → h.phase ≡ Outside → Follows g v h next result → Follows g v h (at h.phase next b c) result
 follows_outside g v h next b c result e follows = let P : Next → Type 0 = λ n. Follows g v h n result in subst P (sym (ap (λ p. at p next b c) e)) follows
 
-pub follows_begun : (g : Setting) (v : Holder) (h : State) (xid final : ℕ) (a : Next) (next : ℕ → ℕ → Next) (c : ℕ → Next) (result : Result Step Refused) → h.place ≡ Begun xid final → Follows g v h (next xid final) result → Follows g v h (at h.place a next c) result
+pub follows_begun : (g : Setting) (v : Holder) (h : State) (xid final : ℕ) (a : Next) (next : ℕ → ℕ → Next) (c : ℕ → Next) (result : Result Step Refused) → h.phase ≡ Begun xid final → Follows g v h (next xid final) result → Follows g v h (at h.phase a next c) result
 follows_begun g v h xid final a next c result e follows = let P : Next → Type 0 = λ n. Follows g v h n result in subst P (sym (ap (λ p. at p a next c) e)) follows
 
-pub follows_block : (g : Setting) (v : Holder) (h : State) (xid : ℕ) (a : Next) (b : ℕ → ℕ → Next) (next : ℕ → Next) (result : Result Step Refused) → h.place ≡ Block xid → Follows g v h (next xid) result → Follows g v h (at h.place a b next) result
+pub follows_block : (g : Setting) (v : Holder) (h : State) (xid : ℕ) (a : Next) (b : ℕ → ℕ → Next) (next : ℕ → Next) (result : Result Step Refused) → h.phase ≡ Block xid → Follows g v h (next xid) result → Follows g v h (at h.phase a b next) result
 follows_block g v h xid a b next result e follows = let P : Next → Type 0 = λ n. Follows g v h n result in subst P (sym (ap (λ p. at p a b next) e)) follows
 
 pub follows_same : (g : Setting) (v : Holder) (h : State) (next other : Next) (result : Result Step Refused) → other ≡ next → Follows g v h next result → Follows g v h other result
@@ -295,8 +295,8 @@ follows_same g v h next other result e follows = let P : Next → Type 0 = λ n.
 pub stays : (g : Setting) (v : Holder) (h : State) (next : Next) → StandsFor g v h → next ≡ Ok h → IsAdmitted g v h next steps.Nothing
 stays g v h next stands e = record { state = h; told = Nothing; stepped = e; stands = stands; tells = record { transactions = refl; position = refl; past = refl }; says = refl; within = tt }
 
--- what is the same in each place
-pub at_same : (place : Place) (next : Next) → at place next (λ _ _. next) (λ _. next) ≡ next
+-- what is the same in each phase
+pub at_same : (phase : Phase) (next : Next) → at phase next (λ _ _. next) (λ _. next) ≡ next
 at_same Outside next = refl
 at_same (Begun xid final) next = refl
 at_same (Block xid) next = refl

@@ -7,8 +7,8 @@ use Rattle.messages.specs.declared.message.Message.{Message}
 use Rattle.messages.specs.Messages.{Spelled, Stands}
 use Rattle.session.specs.declared.fault.Refused.{Refused}
 use Rattle.session.specs.declared.fault.Refused.TheVariants.{Msg, Session, Rel, OutOfMemory}
-use Rattle.session.specs.declared.place.Place.{Place}
-use Rattle.session.specs.declared.place.Place.TheVariants.{Outside, Begun, Block}
+use Rattle.session.specs.declared.phase.Phase.{Phase}
+use Rattle.session.specs.declared.phase.Phase.TheVariants.{Outside, Begun, Block}
 use Rattle.session.specs.declared.session.Session.{Session as Holder}
 use Rattle.session.specs.declared.step.Step.{Step}
 use Rattle.session.specs.Refusals.{of_message}
@@ -23,7 +23,7 @@ IsOneMessage = (payload : List ℕ) (inside : Bool) (m n : Message) → Spelled 
 
 admits_one : IsOneMessage → (g : Setting) (s : State) (payload : List ℕ) (m n : Message) (t u : State) → Admits g s payload m t → Admits g s payload n u → t ≡ u
 admits_one one g s payload m n t u a b =
-    let same : m ≡ n = one payload (in_block s.place) m n a.spelled b.spelled in
+    let same : m ≡ n = one payload (in_block s.phase) m n a.spelled b.spelled in
     let both : Ok t ≡ Ok u = sym a.stepped ∙ ap (step g s (length payload)) same ∙ b.stepped in
     cc
 
@@ -36,14 +36,14 @@ leads_to_one one g s (payload ∷ payloads) t u a b =
 
 -- ---- the answer to a payload
 
-refusal_of : (g : Setting) (h : State) (payload : List ℕ) (m : Message) (r : Refused) → Spelled payload (in_block h.place) m → IsCause (step g h (length payload) m) r → IsRefusal g h payload r
+refusal_of : (g : Setting) (h : State) (payload : List ℕ) (m : Message) (r : Refused) → Spelled payload (in_block h.phase) m → IsCause (step g h (length payload) m) r → IsRefusal g h payload r
 refusal_of g h payload m (Msg fault) spelled is = absurd is
 refusal_of g h payload m (Session fault) spelled is = (m, spelled, is)
 refusal_of g h payload m (Rel fault) spelled is = (m, spelled, is)
 refusal_of g h payload m OutOfMemory spelled is = tt
 
 -- what follows the table at a message is the answer to a payload that spells it
-pub takes_spelled : (g : Setting) (v : Holder) (h : State) (payload : List ℕ) (inside : Bool) (size : ℕ) (m : Message) (result : Result Step Refused) → Spelled payload inside m → inside ≡ in_block h.place → size ≡ length payload
+pub takes_spelled : (g : Setting) (v : Holder) (h : State) (payload : List ℕ) (inside : Bool) (size : ℕ) (m : Message) (result : Result Step Refused) → Spelled payload inside m → inside ≡ in_block h.phase → size ≡ length payload
     → Follows g v h (step g h size m) result → Takes g v h payload result
 takes_spelled g v h payload inside size m (Ok answer) spelled here long follows =
     let P : Bool → Type 0 = λ b. Spelled payload b m in
@@ -63,7 +63,7 @@ takes_spelled g v h payload inside size m (Err r) spelled here long follows =
     record { stands = follows.stands; cause = refusal_of g h payload m r (subst P here spelled) (subst Q long follows.cause) }
 
 -- a fault that stands in the payload, or that memory was refused
-fault_refuses : (g : Setting) (h : State) (payload : List ℕ) (fault : MsgFault) → (fault ≡ faults.OutOfMemory) ⊎ Stands payload (in_block h.place) fault → IsRefusal g h payload (of_message fault)
+fault_refuses : (g : Setting) (h : State) (payload : List ℕ) (fault : MsgFault) → (fault ≡ faults.OutOfMemory) ⊎ Stands payload (in_block h.phase) fault → IsRefusal g h payload (of_message fault)
 fault_refuses g h payload faults.OutOfMemory is = tt
 fault_refuses g h payload faults.UnknownTag is = ⊎_elim (λ e. cc) (λ stands. stands) is
 fault_refuses g h payload faults.Short is = ⊎_elim (λ e. cc) (λ stands. stands) is
@@ -76,7 +76,7 @@ fault_refuses g h payload faults.NegativeCount is = ⊎_elim (λ e. cc) (λ stan
 fault_refuses g h payload faults.TwoPhase is = ⊎_elim (λ e. cc) (λ stands. stands) is
 
 -- the answer to a payload that is no message
-pub takes_fault : (g : Setting) (v : Holder) (h : State) (payload : List ℕ) (inside : Bool) (fault : MsgFault) (result : Result Step Refused) → StandsFor g v h → (fault ≡ faults.OutOfMemory) ⊎ Stands payload inside fault → inside ≡ in_block h.place
+pub takes_fault : (g : Setting) (v : Holder) (h : State) (payload : List ℕ) (inside : Bool) (fault : MsgFault) (result : Result Step Refused) → StandsFor g v h → (fault ≡ faults.OutOfMemory) ⊎ Stands payload inside fault → inside ≡ in_block h.phase
     → IsErrAnd result (λ r. r ≡ of_message fault) → Takes g v h payload result
 takes_fault g v h payload inside fault (Ok answer) stands is here err = absurd err
 takes_fault g v h payload inside fault (Err r) stands is here err =
@@ -85,10 +85,10 @@ takes_fault g v h payload inside fault (Err r) stands is here err =
 
 -- ---- in a block or not
 
-pub inside_block : (place : Place) (xid : ℕ) (inside : Bool) → place ≡ Block xid → inside ≡ true → inside ≡ in_block place
-inside_block place xid inside block is = is ∙ sym (ap in_block block)
+pub inside_block : (phase : Phase) (xid : ℕ) (inside : Bool) → phase ≡ Block xid → inside ≡ true → inside ≡ in_block phase
+inside_block phase xid inside block is = is ∙ sym (ap in_block block)
 
-pub inside_none : (place : Place) (inside : Bool) → ((xid : ℕ) → place ≡ Block xid → ⊥) → inside ≡ false → inside ≡ in_block place
+pub inside_none : (phase : Phase) (inside : Bool) → ((xid : ℕ) → phase ≡ Block xid → ⊥) → inside ≡ false → inside ≡ in_block phase
 inside_none Outside inside apart is = is
 inside_none (Begun xid final) inside apart is = is
 inside_none (Block xid) inside apart is = absurd (apart xid refl)

@@ -9,7 +9,7 @@ use Rattle.session.specs.Table.{step}
 
 -- The payload spells a message that the table admits, and that leaves the state.
 pub record Admits (g : Setting) (s : State) (payload : List ℕ) (m : Message) (t : State) : Type 0 where
-  pub spelled : Spelled payload (in_block s.place) m
+  pub spelled : Spelled payload (in_block s.phase) m
   pub stepped : step g s (length payload) m ≡ Ok t
 
 -- The payloads, one after another, lead from the state to this one.
@@ -23,12 +23,12 @@ IsLawful g payloads t = Leads g start payloads t
 
 -- The payload spells a message that the table refuses.
 abbrev pub IsRefusedBy : Setting → State → List ℕ → Refused → Type 0
-IsRefusedBy g s payload refused = (m : Message) × Spelled payload (in_block s.place) m × (step g s (length payload) m ≡ Err refused)
+IsRefusedBy g s payload refused = (m : Message) × Spelled payload (in_block s.phase) m × (step g s (length payload) m ≡ Err refused)
 
 -- Why the payload is refused in this state: a fault stands in it, or it spells a message that may not come
 -- here, or that does not fit its relation. Memory may be refused at any time.
 abbrev pub IsRefusal : Setting → State → List ℕ → Refused → Type 0
-IsRefusal g s payload (Msg fault) = Stands payload (in_block s.place) fault
+IsRefusal g s payload (Msg fault) = Stands payload (in_block s.phase) fault
 IsRefusal g s payload (Session fault) = IsRefusedBy g s payload (Session fault)
 IsRefusal g s payload (Rel fault) = IsRefusedBy g s payload (Rel fault)
 IsRefusal g s payload OutOfMemory = Unit {0}

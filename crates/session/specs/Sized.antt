@@ -18,20 +18,20 @@ size_of i = i.1
 abbrev pub bytes_of : SizedItems → ℕ
 bytes_of items = sum (map size_of items)
 
-abbrev pub is_place : ℕ → Option ℕ → Bool
-is_place place None = false
-is_place place (Some at) = at == place
+abbrev pub is_at_index : ℕ → Option ℕ → Bool
+is_at_index index None = false
+is_at_index index (Some at) = at == index
 
--- the marks without the subtransaction's, if that stands at this place
+-- the marks without the subtransaction's, if that stands at this index
 abbrev pub without_mark : ℕ → ℕ → List (ℕ × ℕ) → List (ℕ × ℕ)
-without_mark sub place marks = if is_place place (mark_at sub marks) then before_mark sub marks else marks
+without_mark sub index marks = if is_at_index index (mark_at sub marks) then before_mark sub marks else marks
 
--- the marks without the one that the item set at this place, if it set one
+-- the marks without the one that the item set at this index, if it set one
 abbrev pub unnoted_by : Item → ℕ → List (ℕ × ℕ) → List (ℕ × ℕ)
-unnoted_by (Change sub c) place marks = without_mark sub place marks
-unnoted_by (Touch sub) place marks = without_mark sub place marks
-unnoted_by (BackTo sub) place marks = marks
-unnoted_by Last place marks = marks
+unnoted_by (Change sub c) index marks = without_mark sub index marks
+unnoted_by (Touch sub) index marks = without_mark sub index marks
+unnoted_by (BackTo sub) index marks = marks
+unnoted_by Last index marks = marks
 
 -- items, each beside the number of those before it, from n on
 abbrev pub numbered : ℕ → List Item → List (Item × ℕ)

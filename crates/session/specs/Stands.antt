@@ -140,9 +140,9 @@ IsPlanned g v relations planned result =
 
 -- The session stands for the state that the messages so far have left.
 pub record StandsFor (g : Setting) (v : Holder) (h : State) : Type 0 where
-  pub place : v.place ≡ h.place
-  pub here : IsHere h.place h.transactions
-  pub alone : GoesAlone h.place h.transactions
+  pub phase : v.phase ≡ h.phase
+  pub here : IsHere h.phase h.transactions
+  pub alone : GoesAlone h.phase h.transactions
   pub transactions : Keeps g v.transactions h.transactions
   pub relations : Knows g v.relations h.relations
   pub position : v.position ≡ h.position

@@ -13,8 +13,8 @@ use Rattle.savepoint.specs.declared.item.Item.TheVariants.{Change, Touch, BackTo
 use Rattle.savepoint.specs.declared.item.CommitInfo.{CommitInfo}
 use Rattle.savepoint.specs.Savepoints.{before_first}
 use Rattle.relcache.specs.Published.{Relations}
-use Rattle.session.specs.declared.place.Place.{Place}
-use Rattle.session.specs.declared.place.Place.TheVariants.{Outside, Begun, Block}
+use Rattle.session.specs.declared.phase.Phase.{Phase}
+use Rattle.session.specs.declared.phase.Phase.TheVariants.{Outside, Begun, Block}
 use Rattle.session.specs.Sized.{SizedItems, bytes_of}
 
 -- Where the items of an open transaction go: applied as they come, to its worker, or kept until it commits.
@@ -40,7 +40,7 @@ abbrev pub Transactions : Type 0
 Transactions = FinMap nat_cmp Open
 
 pub record State : Type 0 where
-  pub place : Place
+  pub phase : Phase
   pub transactions : Transactions
   -- as last learnt
   pub relations : Relations
@@ -51,7 +51,7 @@ pub record State : Type 0 where
 
 -- before the first message
 abbrev pub start : State
-start = record { place = Outside; transactions = map.empty; relations = []; position = 0; past = [] }
+start = record { phase = Outside; transactions = map.empty; relations = []; position = 0; past = [] }
 
 -- how many workers there are, how many bytes of payloads the spools may keep, and the subscriber's tables
 pub record Setting : Type 0 where
@@ -60,7 +60,7 @@ pub record Setting : Type 0 where
   pub catalog : List Definition
 
 -- a message is read as one in a block of a streamed transaction
-abbrev pub in_block : Place → Bool
+abbrev pub in_block : Phase → Bool
 in_block Outside = false
 in_block (Begun xid final) = false
 in_block (Block xid) = true
@@ -111,17 +111,17 @@ is_direct Worker = false
 is_direct Spooled = false
 
 -- The transaction that was begun is open and goes directly; that of a block is open and streamed.
-abbrev pub IsHere : Place → Transactions → Type 0
+abbrev pub IsHere : Phase → Transactions → Type 0
 IsHere Outside transactions = Unit {0}
 IsHere (Begun xid final) transactions = IsSomeAnd (map.get transactions xid) (λ o. o.way ≡ Direct)
 IsHere (Block xid) transactions = IsSomeAnd (map.get transactions xid) (λ o. o.way ≢ Direct)
 
 -- the transaction that was begun
-abbrev pub begun_at : Place → Option ℕ
+abbrev pub begun_at : Phase → Option ℕ
 begun_at Outside = None
 begun_at (Begun xid final) = Some xid
 begun_at (Block xid) = None
 
 -- No open transaction but the one that was begun goes directly.
-abbrev pub GoesAlone : Place → Transactions → Type 0
-GoesAlone place transactions = (xid : ℕ) (o : Open) → map.get transactions xid ≡ Some o → o.way ≡ Direct → begun_at place ≡ Some xid
+abbrev pub GoesAlone : Phase → Transactions → Type 0
+GoesAlone phase transactions = (xid : ℕ) (o : Open) → map.get transactions xid ≡ Some o → o.way ≡ Direct → begun_at phase ≡ Some xid

@@ -1,4 +1,4 @@
--- The session table: what each message does in each place, a line a message, and a column each for
+-- The session table: what each message does in each phase, a line a message, and a column each for
 -- outside of transactions, between Begin and Commit, and in a block of a streamed transaction.
 use Rattle.std.specs.Prelude.{ℕ, ◌+◌, ◌==◌, Bool, true, List, [], ◌∷◌, ◌++◌, Option, Some, None, unwrap_or, Result, Ok, Err, nat_lt, nat_le, if◌then◌else◌}
 use Rattle.std.specs.FinMap as map
@@ -22,8 +22,8 @@ use Rattle.relcache.specs.Published.{Relations, learnt}
 use Rattle.relcache.specs.Mapping.{resolved}
 use Rattle.relcache.specs.Planning.{planned}
 use Rattle.relcache.specs.Steps.{◌>>=◌}
-use Rattle.session.specs.declared.place.Place.{Place}
-use Rattle.session.specs.declared.place.Place.TheVariants.{Outside, Begun, Block}
+use Rattle.session.specs.declared.phase.Phase.{Phase}
+use Rattle.session.specs.declared.phase.Phase.TheVariants.{Outside, Begun, Block}
 use Rattle.session.specs.declared.fault.SessionFault.{SessionFault}
 use Rattle.session.specs.declared.fault.SessionFault.TheVariants.{NotInTransaction, NestedBegin, BlockOpen, NoBlock, UnknownTransaction, AlreadyOpen, OldCommit, CommitMismatch, SpoolFull, TooManyOpen}
 use Rattle.session.specs.declared.fault.Refused.{Refused}
@@ -59,8 +59,8 @@ abbrev pub unless_fault : Option SessionFault → State → Next
 unless_fault None t = Ok t
 unless_fault (Some fault) t = refuse fault
 
-abbrev pub opens : State → ℕ → Way → Place → Next
-opens s xid way place = unless_fault (room_fault s.transactions xid) (record s { place = place; transactions = map.insert s.transactions xid (opened way) })
+abbrev pub opens : State → ℕ → Way → Phase → Next
+opens s xid way phase = unless_fault (room_fault s.transactions xid) (record s { phase = phase; transactions = map.insert s.transactions xid (opened way) })
 
 -- a streamed transaction gets a worker as long as there are any, and is spooled otherwise
 abbrev pub next_way : Setting → State → Way
@@ -71,13 +71,13 @@ begins s m = opens s m.xid Direct (Begun m.xid m.final_lsn)
 
 -- a further block of an open transaction
 abbrev pub goes_on : State → ℕ → Next
-goes_on s xid = if is_open s xid then Ok (record s { place = Block xid }) else refuse UnknownTransaction
+goes_on s xid = if is_open s xid then Ok (record s { phase = Block xid }) else refuse UnknownTransaction
 
 abbrev pub streams : Setting → State → StreamStart → Next
 streams g s m = if m.is_first then opens s m.xid (next_way g s) (Block m.xid) else goes_on s m.xid
 
 abbrev pub leaves_block : State → State
-leaves_block s = record s { place = Outside }
+leaves_block s = record s { phase = Outside }
 
 -- ---- items
 
@@ -122,7 +122,7 @@ abbrev pub closes : State → ℕ → CommitInfo → Open → Next
 closes s xid info o =
     if nat_le info.end s.position then refuse OldCommit
     else Ok (record s {
-      place = Outside;
+      phase = Outside;
       transactions = map.remove s.transactions xid;
       position = info.end;
       past = s.past ++ (record { xid = xid; way = o.way; items = o.items; info = info }) ∷ [];
@@ -170,7 +170,7 @@ truncate_change g s oids = do
 
 -- ---- the table
 
-abbrev pub at : Place → Next → (ℕ → ℕ → Next) → (ℕ → Next) → Next
+abbrev pub at : Phase → Next → (ℕ → ℕ → Next) → (ℕ → Next) → Next
 at Outside outside begun block = outside
 at (Begun xid final) outside begun block = begun xid final
 at (Block xid) outside begun block = block xid
@@ -178,21 +178,21 @@ at (Block xid) outside begun block = block xid
 -- a change needs a transaction; between Begin and Commit it names that one
 abbrev pub change_line : Setting → State → ℕ → Option ℕ → Result Alteration RelFault → Next
 change_line g s size sub planned =
-    at s.place (refuse NotInTransaction) (λ xid final. changes g s xid xid size planned) (λ xid. changes g s xid (named sub xid) size planned)
+    at s.phase (refuse NotInTransaction) (λ xid final. changes g s xid xid size planned) (λ xid. changes g s xid (named sub xid) size planned)
 
 -- What a message does whose payload has this length.
 abbrev pub step : Setting → State → ℕ → Message → Next
-step g s size (messages.Begin m) = at s.place (begins s m) (λ xid final. refuse NestedBegin) (λ xid. refuse BlockOpen)
-step g s size (messages.Commit m) = at s.place (refuse NotInTransaction) (λ xid final. commits_begun s xid final m) (λ xid. refuse BlockOpen)
-step g s size (messages.Origin m) = at s.place (refuse NotInTransaction) (λ xid final. Ok s) (λ xid. Ok s)
-step g s size (messages.Message m) = at s.place (Ok s) (λ xid final. Ok s) (λ xid. Ok s)
-step g s size (messages.Relation sub r) = at s.place (Ok (learns s r)) (λ xid final. Ok (learns s r)) (λ xid. touches g (learns s r) xid (named sub xid) size)
-step g s size (messages.TypeName m) = at s.place (Ok s) (λ xid final. Ok s) (λ xid. touches g s xid (named m.xid xid) size)
+step g s size (messages.Begin m) = at s.phase (begins s m) (λ xid final. refuse NestedBegin) (λ xid. refuse BlockOpen)
+step g s size (messages.Commit m) = at s.phase (refuse NotInTransaction) (λ xid final. commits_begun s xid final m) (λ xid. refuse BlockOpen)
+step g s size (messages.Origin m) = at s.phase (refuse NotInTransaction) (λ xid final. Ok s) (λ xid. Ok s)
+step g s size (messages.Message m) = at s.phase (Ok s) (λ xid final. Ok s) (λ xid. Ok s)
+step g s size (messages.Relation sub r) = at s.phase (Ok (learns s r)) (λ xid final. Ok (learns s r)) (λ xid. touches g (learns s r) xid (named sub xid) size)
+step g s size (messages.TypeName m) = at s.phase (Ok s) (λ xid final. Ok s) (λ xid. touches g s xid (named m.xid xid) size)
 step g s size (messages.Insert m) = change_line g s size m.xid (row_change g s m.oid (rows.Insert m.new))
 step g s size (messages.Update m) = change_line g s size m.xid (row_change g s m.oid (rows.Update m.old m.new))
 step g s size (messages.Delete m) = change_line g s size m.xid (row_change g s m.oid (rows.Delete m.old))
 step g s size (messages.Truncate m) = change_line g s size m.xid (truncate_change g s m.relations)
-step g s size (messages.StreamStart m) = at s.place (streams g s m) (λ xid final. refuse NestedBegin) (λ xid. refuse BlockOpen)
-step g s size messages.StreamStop = at s.place (refuse NoBlock) (λ xid final. refuse NoBlock) (λ xid. Ok (leaves_block s))
-step g s size (messages.StreamCommit m) = at s.place (commits s m.xid m.commit_lsn m.end_lsn) (λ xid final. refuse NestedBegin) (λ xid. refuse BlockOpen)
-step g s size (messages.StreamAbort m) = at s.place (Ok (aborts s m)) (λ xid final. refuse NestedBegin) (λ xid. refuse BlockOpen)
+step g s size (messages.StreamStart m) = at s.phase (streams g s m) (λ xid final. refuse NestedBegin) (λ xid. refuse BlockOpen)
+step g s size messages.StreamStop = at s.phase (refuse NoBlock) (λ xid final. refuse NoBlock) (λ xid. Ok (leaves_block s))
+step g s size (messages.StreamCommit m) = at s.phase (commits s m.xid m.commit_lsn m.end_lsn) (λ xid final. refuse NestedBegin) (λ xid. refuse BlockOpen)
+step g s size (messages.StreamAbort m) = at s.phase (Ok (aborts s m)) (λ xid final. refuse NestedBegin) (λ xid. refuse BlockOpen)

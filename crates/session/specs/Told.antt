@@ -3,7 +3,7 @@ use Rattle.std.specs.Prelude.{◌≡◌, ℕ, ◌<◌, List, [], ◌∷◌, ◌+
 use Rattle.std.specs.FinMap as map
 use Rattle.savepoint.specs.declared.item.Item.{Item}
 use Rattle.savepoint.specs.declared.item.Item.TheVariants.{Change, Touch, BackTo, Last}
-use Rattle.session.specs.declared.place.Place.TheVariants.{Outside}
+use Rattle.session.specs.declared.phase.Phase.TheVariants.{Outside}
 use Rattle.session.specs.Sized.{item_of}
 use Rattle.session.specs.State.{Way, Direct, Worker, Spooled, Open, Committed, State, kept}
 use Rattle.session.specs.Table.{opened}
@@ -46,7 +46,7 @@ IsChange Last = ⊥
 pub record IsCommitting (s t : State) (c : Committed) : Type 0 where
   pub present : map.get s.transactions c.xid ≡ Some (record { way = c.way; items = c.items })
   pub later : s.position < c.info.end
-  pub outside : t.place ≡ Outside
+  pub outside : t.phase ≡ Outside
   pub transactions : t.transactions ≡ map.remove s.transactions c.xid
   pub position : t.position ≡ c.info.end
   pub past : t.past ≡ s.past ++ c ∷ []

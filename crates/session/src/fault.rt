@@ -33,7 +33,7 @@ pub enum SessionFault {
     /// A commit whose end is not past the last commit's end.
     #[error("an old commit")]
     OldCommit = 7,
-    /// A Commit at another place of the log than its Begin said.
+    /// A Commit at another position of the log than its Begin said.
     #[error("the commit is not that of its begin")]
     CommitMismatch = 8,
     /// The spools have no room for a further item.

@@ -28,7 +28,7 @@
 // and `savepoint`, which has the items of transactions and cuts them at savepoints.
 mod fault;
 pub mod laws;
-mod place;
+mod phase;
 mod relations;
 mod session;
 mod spool;

@@ -3,7 +3,7 @@ ghost use Rattle.std.specs.Prelude.{◌≡◌, ◌≢◌, ◌^◌, ◌<◌, true
 ghost use Rattle.session.specs.Kept.{items_kept};
 
 use crate::fault::{Refused, SessionFault};
-use crate::place::Place;
+use crate::phase::Phase;
 use crate::relations::Relations;
 use crate::step::Step;
 use crate::transactions::{Transactions, Way};
@@ -20,7 +20,7 @@ use std::alloc::Global;
 #[derive(Drop)]
 pub struct Session {
     alloc: Global,
-    place: Place,
+    phase: Phase,
     transactions: Transactions,
     relations: Relations,
     /// The end of the last commit; 0 before the first.
@@ -35,7 +35,7 @@ impl Session {
     ghost use Rattle.session.specs.Table as table;
     ghost use Rattle.session.specs.Stands.{StandsFor, Follows, IsAdmitted, IsChangeOf, IsOfTables, Survives, Takes};
     ghost use Rattle.session.specs.declared.fault.SessionFault.TheVariants as faults;
-    ghost use Rattle.session.specs.declared.place.Place.TheVariants as places;
+    ghost use Rattle.session.specs.declared.phase.Phase.TheVariants as phases;
     ghost use Rattle.messages.specs.declared.message.Message.TheVariants as messages;
 
     /// The session at the start of a stream, with so many workers, whose spools may keep so many
@@ -45,7 +45,7 @@ impl Session {
     {
         Session {
             alloc,
-            place: Place::Outside,
+            phase: Phase::Outside,
             transactions: Transactions::new(alloc, workers, spool),
             relations: Relations::new(alloc),
             position: 0,
@@ -67,7 +67,7 @@ impl Session {
         ensures { (g : Setting) (h : State) → g.catalog ≡ catalog.now → StandsFor g self.old h
             → Takes g self.new h payload.now result }
     {
-        let in_block = matches!(self.place, Place::Block(_));
+        let in_block = matches!(self.phase, Phase::Block(_));
         let message = decode(alloc, payload, in_block)?;
         self.message(catalog, message, payload.len() as u64)
     }
@@ -108,35 +108,35 @@ impl Session {
 
     fn begin(&mut self, m: &Begin) -> Result<Step, Refused>
         ensures { (g : Setting) (h : State) → StandsFor g self.old h
-            → Follows g self.new h (table.at h.place (table.begins h m.now) (λ _ _. table.refuse faults.NestedBegin) (λ _. table.refuse faults.BlockOpen)) result }
+            → Follows g self.new h (table.at h.phase (table.begins h m.now) (λ _ _. table.refuse faults.NestedBegin) (λ _. table.refuse faults.BlockOpen)) result }
     {
-        match self.place {
-            Place::Outside => {
+        match self.phase {
+            Phase::Outside => {
                 self.transactions.begin(m.xid)?;
-                self.place = Place::Begun {
+                self.phase = Phase::Begun {
                     xid: m.xid,
                     final_lsn: m.final_lsn,
                 };
                 Ok(Step::Begin(m.xid))
             }
-            Place::Begun { .. } => Err(SessionFault::NestedBegin.into()),
-            Place::Block(_) => Err(SessionFault::BlockOpen.into()),
+            Phase::Begun { .. } => Err(SessionFault::NestedBegin.into()),
+            Phase::Block(_) => Err(SessionFault::BlockOpen.into()),
         }
     }
 
     fn commit(&mut self, m: &Commit) -> Result<Step, Refused>
         ensures { (g : Setting) (h : State) → StandsFor g self.old h
-            → Follows g self.new h (table.at h.place (table.refuse faults.NotInTransaction) (λ xid final. table.commits_begun h xid final m.now) (λ _. table.refuse faults.BlockOpen)) result }
+            → Follows g self.new h (table.at h.phase (table.refuse faults.NotInTransaction) (λ xid final. table.commits_begun h xid final m.now) (λ _. table.refuse faults.BlockOpen)) result }
     {
-        match self.place {
-            Place::Outside => Err(SessionFault::NotInTransaction.into()),
-            Place::Begun { xid, final_lsn } => {
+        match self.phase {
+            Phase::Outside => Err(SessionFault::NotInTransaction.into()),
+            Phase::Begun { xid, final_lsn } => {
                 if m.commit_lsn != final_lsn {
                     return Err(SessionFault::CommitMismatch.into());
                 }
                 self.close(xid, m.commit_lsn, m.end_lsn)
             }
-            Place::Block(_) => Err(SessionFault::BlockOpen.into()),
+            Phase::Block(_) => Err(SessionFault::BlockOpen.into()),
         }
     }
 
@@ -144,29 +144,29 @@ impl Session {
 
     fn stream_start(&mut self, m: &StreamStart) -> Result<Step, Refused>
         ensures { (g : Setting) (h : State) → StandsFor g self.old h
-            → Follows g self.new h (table.at h.place (table.streams g h m.now) (λ _ _. table.refuse faults.NestedBegin) (λ _. table.refuse faults.BlockOpen)) result }
+            → Follows g self.new h (table.at h.phase (table.streams g h m.now) (λ _ _. table.refuse faults.NestedBegin) (λ _. table.refuse faults.BlockOpen)) result }
     {
-        match self.place {
-            Place::Outside => {
+        match self.phase {
+            Phase::Outside => {
                 if m.is_first {
                     self.open(m.xid)
                 } else {
                     self.go_on(m.xid)
                 }
             }
-            Place::Begun { .. } => Err(SessionFault::NestedBegin.into()),
-            Place::Block(_) => Err(SessionFault::BlockOpen.into()),
+            Phase::Begun { .. } => Err(SessionFault::NestedBegin.into()),
+            Phase::Block(_) => Err(SessionFault::BlockOpen.into()),
         }
     }
 
     fn stream_stop(&mut self) -> Result<Step, Refused>
         ensures { (g : Setting) (h : State) → StandsFor g self.old h
-            → Follows g self.new h (table.at h.place (table.refuse faults.NoBlock) (λ _ _. table.refuse faults.NoBlock) (λ _. Ok (table.leaves_block h))) result }
+            → Follows g self.new h (table.at h.phase (table.refuse faults.NoBlock) (λ _ _. table.refuse faults.NoBlock) (λ _. Ok (table.leaves_block h))) result }
     {
-        match self.place {
-            Place::Outside | Place::Begun { .. } => Err(SessionFault::NoBlock.into()),
-            Place::Block(_) => {
-                self.place = Place::Outside;
+        match self.phase {
+            Phase::Outside | Phase::Begun { .. } => Err(SessionFault::NoBlock.into()),
+            Phase::Block(_) => {
+                self.phase = Phase::Outside;
                 Ok(Step::Nothing)
             }
         }
@@ -174,23 +174,23 @@ impl Session {
 
     fn stream_commit(&mut self, m: &StreamCommit) -> Result<Step, Refused>
         ensures { (g : Setting) (h : State) → StandsFor g self.old h
-            → Follows g self.new h (table.at h.place (table.commits h m.now.xid m.now.commit_lsn m.now.end_lsn) (λ _ _. table.refuse faults.NestedBegin) (λ _. table.refuse faults.BlockOpen)) result }
+            → Follows g self.new h (table.at h.phase (table.commits h m.now.xid m.now.commit_lsn m.now.end_lsn) (λ _ _. table.refuse faults.NestedBegin) (λ _. table.refuse faults.BlockOpen)) result }
     {
-        match self.place {
-            Place::Outside => self.close(m.xid, m.commit_lsn, m.end_lsn),
-            Place::Begun { .. } => Err(SessionFault::NestedBegin.into()),
-            Place::Block(_) => Err(SessionFault::BlockOpen.into()),
+        match self.phase {
+            Phase::Outside => self.close(m.xid, m.commit_lsn, m.end_lsn),
+            Phase::Begun { .. } => Err(SessionFault::NestedBegin.into()),
+            Phase::Block(_) => Err(SessionFault::BlockOpen.into()),
         }
     }
 
     fn stream_abort(&mut self, m: &StreamAbort) -> Result<Step, Refused>
         ensures { (g : Setting) (h : State) → StandsFor g self.old h
-            → Follows g self.new h (table.at h.place (Ok (table.aborts h m.now)) (λ _ _. table.refuse faults.NestedBegin) (λ _. table.refuse faults.BlockOpen)) result }
+            → Follows g self.new h (table.at h.phase (Ok (table.aborts h m.now)) (λ _ _. table.refuse faults.NestedBegin) (λ _. table.refuse faults.BlockOpen)) result }
     {
-        match self.place {
-            Place::Outside => Ok(self.abort(m)),
-            Place::Begun { .. } => Err(SessionFault::NestedBegin.into()),
-            Place::Block(_) => Err(SessionFault::BlockOpen.into()),
+        match self.phase {
+            Phase::Outside => Ok(self.abort(m)),
+            Phase::Begun { .. } => Err(SessionFault::NestedBegin.into()),
+            Phase::Block(_) => Err(SessionFault::BlockOpen.into()),
         }
     }
 
@@ -198,12 +198,12 @@ impl Session {
 
     fn origin(&self) -> Result<Step, Refused>
         ensures { (g : Setting) (h : State) → StandsFor g self.now h
-            → Follows g self.now h (table.at h.place (table.refuse faults.NotInTransaction) (λ _ _. Ok h) (λ _. Ok h)) result }
+            → Follows g self.now h (table.at h.phase (table.refuse faults.NotInTransaction) (λ _ _. Ok h) (λ _. Ok h)) result }
     {
-        match self.place {
-            Place::Outside => Err(SessionFault::NotInTransaction.into()),
-            Place::Begun { .. } => Ok(Step::Nothing),
-            Place::Block(_) => Ok(Step::Nothing),
+        match self.phase {
+            Phase::Outside => Err(SessionFault::NotInTransaction.into()),
+            Phase::Begun { .. } => Ok(Step::Nothing),
+            Phase::Block(_) => Ok(Step::Nothing),
         }
     }
 
@@ -216,12 +216,12 @@ impl Session {
         ensures { (g : Setting) (h : State) → StandsFor g self.old h
             → Follows g self.new h (table.step g h size (messages.Relation sub relation.now)) result }
     {
-        match self.place {
-            Place::Outside | Place::Begun { .. } => {
+        match self.phase {
+            Phase::Outside | Phase::Begun { .. } => {
                 self.relations.learn(relation)?;
                 Ok(Step::Nothing)
             }
-            Place::Block(xid) => {
+            Phase::Block(xid) => {
                 let step = self.touch(xid, sub.unwrap_or(xid), size)?;
                 if let Err(fault) = self.relations.learn(relation) {
                     self.transactions.drop_last(xid);
@@ -234,17 +234,17 @@ impl Session {
 
     fn type_name(&mut self, sub: Option<Xid>, size: u64) -> Result<Step, Refused>
         ensures { (g : Setting) (h : State) → StandsFor g self.old h
-            → Follows g self.new h (table.at h.place (Ok h) (λ _ _. Ok h) (λ xid. table.touches g h xid (table.named sub xid) size)) result }
+            → Follows g self.new h (table.at h.phase (Ok h) (λ _ _. Ok h) (λ xid. table.touches g h xid (table.named sub xid) size)) result }
     {
-        match self.place {
-            Place::Outside | Place::Begun { .. } => Ok(Step::Nothing),
-            Place::Block(xid) => self.touch(xid, sub.unwrap_or(xid), size),
+        match self.phase {
+            Phase::Outside | Phase::Begun { .. } => Ok(Step::Nothing),
+            Phase::Block(xid) => self.touch(xid, sub.unwrap_or(xid), size),
         }
     }
 
     /// Takes an item that changes no row, in a block of its transaction.
     fn touch(&mut self, xid: Xid, sub: Xid, size: u64) -> Result<Step, Refused>
-        ensures { (g : Setting) (h : State) → StandsFor g self.old h → h.place ≡ places.Block xid
+        ensures { (g : Setting) (h : State) → StandsFor g self.old h → h.phase ≡ phases.Block xid
             → Follows g self.new h (table.touches g h xid sub size) result }
     {
         self.transactions.check_spool(xid, size)?;
@@ -281,10 +281,10 @@ impl Session {
     fn change_of(&self, sub: Option<Xid>, size: u64) -> Result<(Xid, Xid), SessionFault>
         ensures { (g : Setting) (h : State) → StandsFor g self.now h → IsChangeOf g h size sub result }
     {
-        match self.place {
-            Place::Outside => Err(SessionFault::NotInTransaction),
-            Place::Begun { xid, .. } => Ok((xid, xid)),
-            Place::Block(xid) => {
+        match self.phase {
+            Phase::Outside => Err(SessionFault::NotInTransaction),
+            Phase::Begun { xid, .. } => Ok((xid, xid)),
+            Phase::Block(xid) => {
                 self.transactions.check_spool(xid, size)?;
                 Ok((xid, sub.unwrap_or(xid)))
             }
@@ -307,11 +307,11 @@ impl Session {
 
     /// Opens a streamed transaction and its first block.
     fn open(&mut self, xid: Xid) -> Result<Step, Refused>
-        ensures { (g : Setting) (h : State) → StandsFor g self.old h → h.place ≡ places.Outside
-            → Follows g self.new h (table.opens h xid (table.next_way g h) (places.Block xid)) result }
+        ensures { (g : Setting) (h : State) → StandsFor g self.old h → h.phase ≡ phases.Outside
+            → Follows g self.new h (table.opens h xid (table.next_way g h) (phases.Block xid)) result }
     {
         let has_worker = self.transactions.stream(xid)?;
-        self.place = Place::Block(xid);
+        self.phase = Phase::Block(xid);
         if has_worker {
             Ok(Step::Open(xid))
         } else {
@@ -321,20 +321,20 @@ impl Session {
 
     /// Opens a further block of a streamed transaction.
     fn go_on(&mut self, xid: Xid) -> Result<Step, Refused>
-        ensures { (g : Setting) (h : State) → StandsFor g self.old h → h.place ≡ places.Outside
+        ensures { (g : Setting) (h : State) → StandsFor g self.old h → h.phase ≡ phases.Outside
             → Follows g self.new h (table.goes_on h xid) result }
     {
         if !self.transactions.contains(xid) {
             return Err(SessionFault::UnknownTransaction.into());
         }
-        self.place = Place::Block(xid);
+        self.phase = Phase::Block(xid);
         Ok(Step::Nothing)
     }
 
     /// Commits a transaction. Nothing is begun afterwards.
     fn close(&mut self, xid: Xid, commit: Lsn, end: Lsn) -> Result<Step, Refused>
         ensures { (g : Setting) (h : State) → StandsFor g self.old h
-            → ((begun : ℕ) → begun_at h.place ≡ Some begun → begun ≡ xid)
+            → ((begun : ℕ) → begun_at h.phase ≡ Some begun → begun ≡ xid)
             → Follows g self.new h (table.commits h xid commit end) result }
     {
         if self.transactions.contains(xid) && end <= self.position {
@@ -342,7 +342,7 @@ impl Session {
         }
         match self.transactions.close(xid) {
             Some(way) => {
-                self.place = Place::Outside;
+                self.phase = Phase::Outside;
                 self.position = end;
                 let items = handed_out(self.alloc, way);
                 Ok(Step::Commit(xid, CommitInfo { commit, end }, items))
@@ -353,7 +353,7 @@ impl Session {
 
     /// Rolls back a subtransaction, or the whole transaction if that is the one named.
     fn abort(&mut self, m: &StreamAbort) -> Step
-        ensures { (g : Setting) (h : State) → StandsFor g self.old h → h.place ≡ places.Outside
+        ensures { (g : Setting) (h : State) → StandsFor g self.old h → h.phase ≡ phases.Outside
             → IsAdmitted g self.new h (Ok (table.aborts h m.now)) result }
     {
         if m.subtransaction == m.xid {

@@ -84,10 +84,10 @@ impl Spool {
         ensures freed { bytes_of self.old < 2 ^ 64 → result + bytes_of self.new ≡ bytes_of self.old }
     {
         match self.savepoints.cut(sub) {
-            Some(place) => {
-                let freed = total_from(&self.sizes, place);
-                self.items.truncate(place);
-                self.sizes.truncate(place);
+            Some(index) => {
+                let freed = total_from(&self.sizes, index);
+                self.items.truncate(index);
+                self.sizes.truncate(index);
                 freed
             }
             None => 0,
@@ -103,33 +103,33 @@ impl Spool {
 }
 
 /// Sets the savepoint of the subtransaction that an item names, if it is the first to name it.
-fn note(savepoints: &mut Savepoints<usize>, item: &Item, place: usize) -> Result<(), OutOfMemory>
-    ensures ok { OnOk result (savepoints.new ≡ noted_by item.now place savepoints.old) }
+fn note(savepoints: &mut Savepoints<usize>, item: &Item, index: usize) -> Result<(), OutOfMemory>
+    ensures ok { OnOk result (savepoints.new ≡ noted_by item.now index savepoints.old) }
     ensures err { OnErr result (savepoints.new ≡ savepoints.old) }
 {
     match item {
-        Item::Change { sub, .. } | Item::Touch(sub) => savepoints.note(*sub, place),
+        Item::Change { sub, .. } | Item::Touch(sub) => savepoints.note(*sub, index),
         Item::BackTo(_) | Item::Last => Ok(()),
     }
 }
 
-/// Drops the savepoint of the subtransaction that an item names, if it stands at the item's place.
-fn unnote(savepoints: &mut Savepoints<usize>, item: &Item, place: usize)
-    ensures { savepoints.new ≡ unnoted_by item.now place savepoints.old }
+/// Drops the savepoint of the subtransaction that an item names, if it stands at the item's index.
+fn unnote(savepoints: &mut Savepoints<usize>, item: &Item, index: usize)
+    ensures { savepoints.new ≡ unnoted_by item.now index savepoints.old }
 {
     if let Item::Change { sub, .. } | Item::Touch(sub) = item
-        && savepoints.mark_of(*sub) == Some(place)
+        && savepoints.mark_of(*sub) == Some(index)
     {
         savepoints.cut(*sub);
     }
 }
 
-/// The sum of the sizes from a place on, if it fits.
-fn total_from(sizes: &[u64], place: usize) -> u64
-    requires { place ≤ length sizes.now }
-    ensures { sum (drop place sizes.now) < 2 ^ 64 → result ≡ sum (drop place sizes.now) }
+/// The sum of the sizes from an index on, if it fits.
+fn total_from(sizes: &[u64], index: usize) -> u64
+    requires { index ≤ length sizes.now }
+    ensures { sum (drop index sizes.now) < 2 ^ 64 → result ≡ sum (drop index sizes.now) }
 {
-    total(&sizes[place..])
+    total(&sizes[index..])
 }
 
 /// The sum of sizes, if it fits.

@@ -6,10 +6,10 @@ use Rattle.savepoint.proofs.record.TxRecord.cut.Goals as goal
 pub invariant_of-self : goal.invariant_of-self
 invariant_of-self c =
     let a = c.self.inside in
-    let at : mark_at c.args.sub a.savepoints ≡ Some c.in-Some.place = sym c.in-Some.ensures.mark in
-    let bounds = c.self.invariant.within c.args.sub c.in-Some.place at in
+    let at : mark_at c.args.sub a.savepoints ≡ Some c.in-Some.point = sym c.in-Some.ensures.mark in
+    let bounds = c.self.invariant.within c.args.sub c.in-Some.point at in
     rw (c.truncate.ensures.items, c.in-Some.ensures.rest)
-    (marked_cut a.top a.survivors.items a.savepoints a.undo.inverses c.self.invariant c.args.sub c.in-Some.place a.undo.inverses at bounds.1)
+    (marked_cut a.top a.survivors.items a.savepoints a.undo.inverses c.self.invariant c.args.sub c.in-Some.point a.undo.inverses at bounds.1)
 
 pub invariant_of-self-in_default : goal.invariant_of-self-in_default
 invariant_of-self-in_default c =
@@ -19,8 +19,8 @@ invariant_of-self-in_default c =
 pub returns-in-Some-clause-survivors : goal.returns-in-Some-clause-survivors
 returns-in-Some-clause-survivors c =
     let a = c.self.inside in
-    let at : mark_at c.args.sub a.savepoints ≡ Some c.in-Some.place = sym c.in-Some.ensures.mark in
-    c.truncate.ensures.items ∙ sym (survivors_cut a.top a.survivors.items a.savepoints a.undo.inverses c.self.invariant c.args.sub c.in-Some.place at) ∙ cut_seen a c.args.self.now c.self.view_is c.args.sub
+    let at : mark_at c.args.sub a.savepoints ≡ Some c.in-Some.point = sym c.in-Some.ensures.mark in
+    c.truncate.ensures.items ∙ sym (survivors_cut a.top a.survivors.items a.savepoints a.undo.inverses c.self.invariant c.args.sub c.in-Some.point at) ∙ cut_seen a c.args.self.now c.self.view_is c.args.sub
 
 pub returns-in_default-clause-survivors : goal.returns-in_default-clause-survivors
 returns-in_default-clause-survivors c =
@@ -36,9 +36,9 @@ returns-in_default-clause-marks c = marks_cut c.self.inside c.args.self.now c.se
 pub returns-in-Some-clause-named : goal.returns-in-Some-clause-named
 returns-in-Some-clause-named c named =
     let a = c.self.inside in
-    let at : mark_at c.args.sub a.savepoints ≡ Some c.in-Some.place = sym c.in-Some.ensures.mark in
+    let at : mark_at c.args.sub a.savepoints ≡ Some c.in-Some.point = sym c.in-Some.ensures.mark in
     rw (c.truncate.ensures.items, c.in-Some.ensures.rest)
-    (all_named (take c.in-Some.place.items a.survivors.items) (before_mark c.args.sub a.savepoints) (named_cut a.top a.survivors.items a.savepoints a.undo.inverses c.self.invariant c.args.sub c.in-Some.place at (are_named a c.args.self.now c.self.view_is c.args.sub named)))
+    (all_named (take c.in-Some.point.items a.survivors.items) (before_mark c.args.sub a.savepoints) (named_cut a.top a.survivors.items a.savepoints a.undo.inverses c.self.invariant c.args.sub c.in-Some.point at (are_named a c.args.self.now c.self.view_is c.args.sub named)))
 
 pub returns-in_default-clause-named : goal.returns-in_default-clause-named
 returns-in_default-clause-named c named =

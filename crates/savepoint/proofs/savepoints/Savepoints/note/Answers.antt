@@ -1,11 +1,11 @@
 use Rattle.std.proofs.Common.{◌≡◌, sym, ◌∙◌, Option, Some, None, refl, Result, Ok, Err, false}
 use Rattle.std.specs.Prelude.{OnOk, is_err, is_some}
-use Rattle.savepoint.proofs.Indexed.{is_some-mark_at, HasPlaces-push, noted-marked, noted-unmarked}
+use Rattle.savepoint.proofs.Indexed.{is_some-mark_at, HasIndexes-push, noted-marked, noted-unmarked}
 use Rattle.savepoint.proofs.savepoints.Savepoints.note.Goals as goal
 
 pub returns-then-contains_key-clause-ok : goal.returns-then-contains_key-clause-ok
 returns-then-contains_key-clause-ok g c =
-    let marked = sym (is_some-mark_at c.self.inside.places c.self.inside.marks.items c.args.sub c.self.invariant) ∙ sym c.contains_key.ensures ∙ c.if-contains_key.true in
+    let marked = sym (is_some-mark_at c.self.inside.indexes c.self.inside.marks.items c.args.sub c.self.invariant) ∙ sym c.contains_key.ensures ∙ c.if-contains_key.true in
     let e = noted-marked c.args.sub c.args.mark c.self.inside.marks.items marked in
     rw (← c.self.view_is) (sym e)
 
@@ -24,10 +24,10 @@ invariant_of-self-else-is_err g c =
     let done = sym c.is_err.ensures.value ∙ c.if-is_err.false in
     let step = at_ok c.insert.result _ done c.insert.ensures.updates in
     rw c.in_ok-push.ensures.items
-    (HasPlaces-push c.self.inside.places c.insert.new.self c.self.inside.marks.items c.args.sub c.args.mark c.self.invariant absent (rw (← c.self.inside.marks.ok.0, ← c.len-place.ensures) step))
+    (HasIndexes-push c.self.inside.indexes c.insert.new.self c.self.inside.marks.items c.args.sub c.args.mark c.self.invariant absent (rw (← c.self.inside.marks.ok.0, ← c.len-index.ensures) step))
 
 pub returns-clause-ok : goal.returns-clause-ok
 returns-clause-ok g c =
-    let unmarked = sym (is_some-mark_at c.self.inside.places c.self.inside.marks.items c.args.sub c.self.invariant) ∙ sym c.contains_key.ensures ∙ c.if-contains_key.false in
+    let unmarked = sym (is_some-mark_at c.self.inside.indexes c.self.inside.marks.items c.args.sub c.self.invariant) ∙ sym c.contains_key.ensures ∙ c.if-contains_key.false in
     let e = noted-unmarked c.args.sub c.args.mark c.self.inside.marks.items unmarked in
     rw (← c.self.view_is) (c.in_ok-push.ensures.items ∙ sym e)

@@ -10,7 +10,7 @@ use Rattle.session.proofs.session.Session.abort.Goals as goal
 pub returns-in_default : goal.returns-in_default
 returns-in_default c = λ g h stands outside.
     let none = c.in_default.ensures g h.transactions stands.transactions in
-    aborts-unknown g _ h c.args.m.now (record { place = stands.place; here = stands.here; alone = stands.alone; transactions = none.1; relations = stands.relations; position = stands.position }) none.0
+    aborts-unknown g _ h c.args.m.now (record { phase = stands.phase; here = stands.here; alone = stands.alone; transactions = none.1; relations = stands.relations; position = stands.position }) none.0
 
 pub returns-then-is_spooled : goal.returns-then-is_spooled
 returns-then-is_spooled c = λ g h stands outside.
@@ -27,7 +27,7 @@ returns-then-m c = λ g h stands outside.
 pub returns-then-not-contains : goal.returns-then-not-contains
 returns-then-not-contains c = λ g h stands outside.
     let none = absent h.transactions c.args.m.now.xid (sym (c.contains.ensures g h.transactions stands.transactions) ∙ c.if-not-contains.true) in
-    aborts-unknown g _ h c.args.m.now (record { place = stands.place; here = stands.here; alone = stands.alone; transactions = stands.transactions; relations = stands.relations; position = stands.position }) none
+    aborts-unknown g _ h c.args.m.now (record { phase = stands.phase; here = stands.here; alone = stands.alone; transactions = stands.transactions; relations = stands.relations; position = stands.position }) none
 
 pub returns-then-roll_back : goal.returns-then-roll_back
 returns-then-roll_back c = λ g h stands outside.
@@ -35,7 +35,7 @@ returns-then-roll_back c = λ g h stands outside.
     let o = present h.transactions m.xid (sym (c.contains.ensures g h.transactions stands.transactions) ∙ c.if-not-contains.false) in
     let part : m.subtransaction ≢ m.xid = c.if-m.false in
     let back = c.roll_back.ensures g h.transactions o.0 stands.transactions o.1 part in
-    gives-admitted g c.args.self.now _ h m.xid o.0 (BackTo m.subtransaction) 0 None _ _ stands o.1 (ap Ok (aborts-back h m o.0 o.1 part)) (given_back-kept o.0.way (BackTo m.subtransaction) (sym back.0 ∙ c.if-roll_back.true)) back.1 tt (λ direct. absurd (none_direct h.place h.transactions m.xid o.0 (none_begun h.place outside) stands.alone o.1 direct)) refl refl refl refl
+    gives-admitted g c.args.self.now _ h m.xid o.0 (BackTo m.subtransaction) 0 None _ _ stands o.1 (ap Ok (aborts-back h m o.0 o.1 part)) (given_back-kept o.0.way (BackTo m.subtransaction) (sym back.0 ∙ c.if-roll_back.true)) back.1 tt (λ direct. absurd (none_direct h.phase h.transactions m.xid o.0 (none_begun h.phase outside) stands.alone o.1 direct)) refl refl refl refl
 
 pub returns : goal.returns
 returns c = λ g h stands outside.
@@ -43,4 +43,4 @@ returns c = λ g h stands outside.
     let o = present h.transactions m.xid (sym (c.contains.ensures g h.transactions stands.transactions) ∙ c.if-not-contains.false) in
     let part : m.subtransaction ≢ m.xid = c.if-m.false in
     let back = c.roll_back.ensures g h.transactions o.0 stands.transactions o.1 part in
-    gives-admitted g c.args.self.now _ h m.xid o.0 (BackTo m.subtransaction) 0 (Some (BackTo m.subtransaction)) _ _ stands o.1 (ap Ok (aborts-back h m o.0 o.1 part)) (given_back-free o.0.way (BackTo m.subtransaction) (sym back.0 ∙ c.if-roll_back.false)) back.1 tt (λ direct. absurd (none_direct h.place h.transactions m.xid o.0 (none_begun h.place outside) stands.alone o.1 direct)) refl refl refl refl
+    gives-admitted g c.args.self.now _ h m.xid o.0 (BackTo m.subtransaction) 0 (Some (BackTo m.subtransaction)) _ _ stands o.1 (ap Ok (aborts-back h m o.0 o.1 part)) (given_back-free o.0.way (BackTo m.subtransaction) (sym back.0 ∙ c.if-roll_back.false)) back.1 tt (λ direct. absurd (none_direct h.phase h.transactions m.xid o.0 (none_begun h.phase outside) stands.alone o.1 direct)) refl refl refl refl

@@ -5,17 +5,17 @@ use Rattle.session.proofs.session.Session.admit.Goals as goal
 use Rattle.session.proofs.session.Session.admit.Goals.{Joined-matches, in-Block, in_default}
 
 -- a payload is read as one in a block exactly in a block
-inside : (c : Joined-matches) → c.match-matches.matches ≡ in_block c.args.self.now.place
+inside : (c : Joined-matches) → c.match-matches.matches ≡ in_block c.args.self.now.phase
 inside c = elim c.match-matches.branch [
-  | in-Block w ↦ inside_block c.args.self.now.place _ c.match-matches.matches w.in-Block.is w.matches-is
-  | in_default w ↦ inside_none c.args.self.now.place c.match-matches.matches (λ xid block. w.in_default.not-Block xid block) w.matches-is
+  | in-Block w ↦ inside_block c.args.self.now.phase _ c.match-matches.matches w.in-Block.is w.matches-is
+  | in_default w ↦ inside_none c.args.self.now.phase c.match-matches.matches (λ xid block. w.in_default.not-Block xid block) w.matches-is
 ]
 
 pub returns-in_err-message : goal.returns-in_err-message
 returns-in_err-message c = λ g h same stands.
-    takes_fault g _ h c.args.payload.now c.match-matches.matches c.in_err-message.field-0.0 c.from_residual.result (record { place = stands.place; here = stands.here; alone = stands.alone; transactions = stands.transactions; relations = stands.relations; position = stands.position })
-    c.in_err-message.ensures.fault (inside (goal.at.returns-in_err-message c).Joined-matches ∙ ap in_block stands.place) c.from_residual.ensures.1
+    takes_fault g _ h c.args.payload.now c.match-matches.matches c.in_err-message.field-0.0 c.from_residual.result (record { phase = stands.phase; here = stands.here; alone = stands.alone; transactions = stands.transactions; relations = stands.relations; position = stands.position })
+    c.in_err-message.ensures.fault (inside (goal.at.returns-in_err-message c).Joined-matches ∙ ap in_block stands.phase) c.from_residual.ensures.1
 
 pub returns : goal.returns
 returns c = λ g h same stands.
-    takes_spelled g c.message.new.self h c.args.payload.now c.match-matches.matches c.len.result c.in_ok-message.message c.message.result c.in_ok-message.ensures.spelled (inside (goal.at.returns c).Joined-matches ∙ ap in_block stands.place) c.len.ensures.value (c.message.ensures g h same stands)
+    takes_spelled g c.message.new.self h c.args.payload.now c.match-matches.matches c.len.result c.in_ok-message.message c.message.result c.in_ok-message.ensures.spelled (inside (goal.at.returns c).Joined-matches ∙ ap in_block stands.phase) c.len.ensures.value (c.message.ensures g h same stands)

@@ -11,7 +11,7 @@ returns-then-end-self c = λ g h stands only.
     let is_open : map.contains_key h.transactions c.args.xid ≡ true = sym (c.contains.ensures g h.transactions stands.transactions) ∙ c.if-contains.true in
     let o = present h.transactions c.args.xid is_open in
     record {
-      stands = record { place = stands.place; here = stands.here; alone = stands.alone; transactions = stands.transactions; relations = stands.relations; position = stands.position };
+      stands = record { phase = stands.phase; here = stands.here; alone = stands.alone; transactions = stands.transactions; relations = stands.relations; position = stands.position };
       cause = rw c.into.ensures (closes-old h c.args.xid c.args.commit c.args.end o.0 o.1 (omega (arith, c.if-end-self.true, stands.position)));
     }
 
@@ -19,7 +19,7 @@ pub returns-in-None : goal.returns-in-None
 returns-in-None c = λ g h stands only.
     let none = c.in-None.ensures g h.transactions stands.transactions in
     record {
-      stands = record { place = stands.place; here = stands.here; alone = stands.alone; transactions = none.1; relations = stands.relations; position = stands.position };
+      stands = record { phase = stands.phase; here = stands.here; alone = stands.alone; transactions = none.1; relations = stands.relations; position = stands.position };
       cause = rw c.into-in-None.ensures (closes-unknown h c.args.xid c.args.commit c.args.end none.0);
     }
 

@@ -7,7 +7,7 @@ pub returns-then-not-contains : goal.returns-then-not-contains
 returns-then-not-contains c = λ g h stands outside.
     let closed : map.contains_key h.transactions c.args.xid ≡ false = sym (c.contains.ensures g h.transactions stands.transactions) ∙ c.if-not-contains.true in
     record {
-      stands = record { place = stands.place; here = stands.here; alone = stands.alone; transactions = stands.transactions; relations = stands.relations; position = stands.position };
+      stands = record { phase = stands.phase; here = stands.here; alone = stands.alone; transactions = stands.transactions; relations = stands.relations; position = stands.position };
       cause = rw c.into.ensures (rw closed refl);
     }
 

@@ -6,7 +6,7 @@ pub returns-in-Commit : goal.returns-in-Commit
 returns-in-Commit c = λ g h same stands. rw c.in-Commit.is (c.commit.ensures g h stands)
 
 pub returns-in-Message : goal.returns-in-Message
-returns-in-Message c = λ g h same stands. rw c.in-Message.is (stays g c.args.self.now h _ stands (at_same h.place (Ok h)))
+returns-in-Message c = λ g h same stands. rw c.in-Message.is (stays g c.args.self.now h _ stands (at_same h.phase (Ok h)))
 
 pub returns-in-TypeName : goal.returns-in-TypeName
 returns-in-TypeName c = λ g h same stands. rw c.in-TypeName.is (c.type_name.ensures g h stands)

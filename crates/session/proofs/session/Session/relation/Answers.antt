@@ -1,6 +1,6 @@
 use Rattle.std.proofs.Common.{◌≡◌, sym, ap, subst, ◌∙◌, refl}
 use Rattle.std.specs.Prelude.{Ok}
-use Rattle.session.specs.declared.place.Place.TheVariants.{Block}
+use Rattle.session.specs.declared.phase.Phase.TheVariants.{Block}
 use Rattle.session.specs.Table as table
 use Rattle.session.proofs.Steps.{err_is}
 use Rattle.session.proofs.Items.{IsAtRest, at_rest, learns-admitted, relation_refused, relation_full, relation_taken, relation_undone, is_touched}
@@ -13,18 +13,18 @@ returns-in_err-learn-in-Outside c = λ g h stands.
 
 pub returns-in_ok-learn-in-Outside : goal.returns-in_ok-learn-in-Outside
 returns-in_ok-learn-in-Outside c = λ g h stands.
-    learns-admitted g c.args.self.now _ h c.args.relation.now _ stands (at_rest h.place _ _ (subst IsAtRest stands.place c.in-Outside.is)) (c.in_ok-learn-in-Outside.ensures g h.relations stands.relations) refl refl refl
+    learns-admitted g c.args.self.now _ h c.args.relation.now _ stands (at_rest h.phase _ _ (subst IsAtRest stands.phase c.in-Outside.is)) (c.in_ok-learn-in-Outside.ensures g h.relations stands.relations) refl refl refl
 
 pub returns-in_err-step-in-Block : goal.returns-in_err-step-in-Block
 returns-in_err-step-in-Block c = λ g h stands.
-    let block : h.place ≡ Block c.in-Block.xid = sym stands.place ∙ c.in-Block.is in
+    let block : h.phase ≡ Block c.in-Block.xid = sym stands.phase ∙ c.in-Block.is in
     relation_full g _ h c.args.relation.now c.in-Block.xid c.unwrap_or.result c.args.size _ _ _ c.from_residual-in_err-step-in-Block.result c.in_err-step-in-Block.field-0.0 block
     (ap (λ sub. table.touches g (table.learns h c.args.relation.now) c.in-Block.xid sub c.args.size) (sym c.unwrap_or.ensures)) (c.in_err-step-in-Block.ensures g h stands block)
     (err_is c.from_residual-in_err-step-in-Block.result _ c.from_residual-in_err-step-in-Block.ensures.1)
 
 pub returns-in-Err : goal.returns-in-Err
 returns-in-Err c = λ g h stands.
-    let block : h.place ≡ Block c.in-Block.xid = sym stands.place ∙ c.in-Block.is in
+    let block : h.phase ≡ Block c.in-Block.xid = sym stands.phase ∙ c.in-Block.is in
     let taken = c.in_ok-step-in-Block.ensures g h stands block in
     let kept = c.in-Err.ensures g taken.state.relations taken.stands.relations in
     record {
@@ -34,7 +34,7 @@ returns-in-Err c = λ g h stands.
 
 pub returns-in_default : goal.returns-in_default
 returns-in_default c = λ g h stands.
-    let block : h.place ≡ Block c.in-Block.xid = sym stands.place ∙ c.in-Block.is in
+    let block : h.phase ≡ Block c.in-Block.xid = sym stands.phase ∙ c.in-Block.is in
     let taken = c.in_ok-step-in-Block.ensures g h stands block in
     let touched = is_touched g h c.in-Block.xid c.unwrap_or.result c.args.size taken.state taken.stepped in
     let known = c.in_default.ensures g taken.state.relations taken.stands.relations in

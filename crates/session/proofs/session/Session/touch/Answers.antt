@@ -14,4 +14,4 @@ pub returns : goal.returns
 returns c = λ g h stands block.
     let o = block_open h c.args.xid block stands.here in
     let room = has_room-none g h.transactions c.args.size _ o.0 o.1 (c.in_ok-check_spool.ensures g h.transactions stands.transactions) in
-    follows_same g _ h _ _ c.take.result (touches-taken g h c.args.xid c.args.sub c.args.size o.0 o.1 room) (c.take.ensures g h o.0 stands o.1 room tt tt (none_direct h.place h.transactions c.args.xid o.0 (ap begun_at block) stands.alone o.1))
+    follows_same g _ h _ _ c.take.result (touches-taken g h c.args.xid c.args.sub c.args.size o.0 o.1 room) (c.take.ensures g h o.0 stands o.1 room tt tt (none_direct h.phase h.transactions c.args.xid o.0 (ap begun_at block) stands.alone o.1))

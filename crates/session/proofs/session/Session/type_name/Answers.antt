@@ -1,13 +1,13 @@
 use Rattle.std.proofs.Common.{◌≡◌, sym, subst, ◌∙◌}
-use Rattle.session.specs.declared.place.Place.TheVariants.{Block}
+use Rattle.session.specs.declared.phase.Phase.TheVariants.{Block}
 use Rattle.session.proofs.Steps.{stays, follows_block}
 use Rattle.session.proofs.Items.{at_rest, IsAtRest}
 use Rattle.session.proofs.session.Session.type_name.Goals as goal
 
 pub returns-in-Outside : goal.returns-in-Outside
-returns-in-Outside c = λ g h stands. stays g _ h _ stands (at_rest h.place _ _ (subst IsAtRest stands.place c.in-Outside.is))
+returns-in-Outside c = λ g h stands. stays g _ h _ stands (at_rest h.phase _ _ (subst IsAtRest stands.phase c.in-Outside.is))
 
 pub returns-in-Block : goal.returns-in-Block
 returns-in-Block c = λ g h stands.
-    let block : h.place ≡ Block c.in-Block.xid = sym stands.place ∙ c.in-Block.is in
+    let block : h.phase ≡ Block c.in-Block.xid = sym stands.phase ∙ c.in-Block.is in
     follows_block g _ h c.in-Block.xid _ _ _ c.touch.result block (rw c.unwrap_or.ensures at (c.touch.ensures g h stands block))

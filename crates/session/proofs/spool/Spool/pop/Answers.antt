@@ -19,8 +19,8 @@ was c =
 
 pub invariant_of-self-2 : goal.invariant_of-self-2
 invariant_of-self-2 c =
-    let place : c.len.result ≡ length c.pop.new.self.items = omega (arith, c.len.ensures, c.pop.new.self.ok.0) in
-    let marks = c.unnote.ensures ∙ ap (λ n. unnoted_by c.in-Some.item n c.self.inside.savepoints) place in
+    let index : c.len.result ≡ length c.pop.new.self.items = omega (arith, c.len.ensures, c.pop.new.self.ok.0) in
+    let marks = c.unnote.ensures ∙ ap (λ n. unnoted_by c.in-Some.item n c.self.inside.savepoints) index in
     rw marks (after c)
 
 pub returns-clause-rest : goal.returns-clause-rest

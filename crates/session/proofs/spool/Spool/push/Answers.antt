@@ -11,12 +11,12 @@ items_are c = pushed c.push.result _ _ _ _ c.push.ensures.items c.unwrap.ensures
 sizes_are : (c : goal.After-unwrap-2) → c.push-2.new.self.items ≡ c.self.inside.sizes.items ++ c.args.size ∷ []
 sizes_are c = pushed c.push-2.result _ _ _ _ c.push-2.ensures.items c.unwrap-2.ensures ∙ ap (λ ns. ns ++ c.args.size ∷ []) c.reserve-2.ensures.items
 
-place_is : (c : goal.After-unwrap-2) → c.len.result ≡ length c.self.inside.items.items
-place_is c = omega (arith, c.len.ensures, c.reserve.ensures.len, c.self.inside.items.ok.0)
+index_is : (c : goal.After-unwrap-2) → c.len.result ≡ length c.self.inside.items.items
+index_is c = omega (arith, c.len.ensures, c.reserve.ensures.len, c.self.inside.items.ok.0)
 
 pub invariant_of-self-2 : goal.invariant_of-self-2
 invariant_of-self-2 c =
-    let marks = c.in_ok-note.ensures.ok ∙ ap (λ n. noted_by c.args.item n c.self.inside.savepoints) (place_is c) in
+    let marks = c.in_ok-note.ensures.ok ∙ ap (λ n. noted_by c.args.item n c.self.inside.savepoints) (index_is c) in
     rw (items_are c, sizes_are c, marks) (IsSpool-push c.self.inside.items.items c.self.inside.sizes.items c.self.inside.savepoints c.args.item c.args.size c.self.invariant)
 
 pub returns-clause-ok : goal.returns-clause-ok

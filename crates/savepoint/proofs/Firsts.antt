@@ -10,41 +10,41 @@ use Rattle.savepoint.specs.Savepoints.{mark_at, subs_of}
 abbrev pub IsUnmarked : {M : Type 0} → ℕ → List (ℕ × M) → Type 0
 IsUnmarked sub marks = (j : ℕ) → slice_get (subs_of marks) j ≡ Some sub → ⊥
 
--- the mark at this place is the first of the subtransaction's
-pub record IsFirst {M : Type 0} (sub place : ℕ) (marks : List (ℕ × M)) : Type 0 where
-  pub here : slice_get (subs_of marks) place ≡ Some sub
-  pub before : (j : ℕ) → j < place → slice_get (subs_of marks) j ≡ Some sub → ⊥
+-- the mark at this index is the first of the subtransaction's
+pub record IsFirst {M : Type 0} (sub index : ℕ) (marks : List (ℕ × M)) : Type 0 where
+  pub here : slice_get (subs_of marks) index ≡ Some sub
+  pub before : (j : ℕ) → j < index → slice_get (subs_of marks) j ≡ Some sub → ⊥
 
--- the mark of a place
+-- the mark at an index
 abbrev pub mark_in : {M : Type 0} → List (ℕ × M) → ℕ → Option M
-mark_in {M} marks place = option_map (λ (m : ℕ × M). m.1) (slice_get marks place)
+mark_in {M} marks index = option_map (λ (m : ℕ × M). m.1) (slice_get marks index)
 
 -- how many marks stand before the subtransaction's
 abbrev pub count_before : {M : Type 0} → ℕ → List (ℕ × M) → ℕ
 count_before {M} sub marks = prefix_len (λ (m : ℕ × M). not (m.0 == sub)) marks
 
-pub count_before-IsFirst : {M : Type 0} (sub place : ℕ) (marks : List (ℕ × M)) → IsFirst sub place marks → count_before sub marks ≡ place
-count_before-IsFirst sub place [] h = let e = h.here in cc
+pub count_before-IsFirst : {M : Type 0} (sub index : ℕ) (marks : List (ℕ × M)) → IsFirst sub index marks → count_before sub marks ≡ index
+count_before-IsFirst sub index [] h = let e = h.here in cc
 count_before-IsFirst sub zero (m ∷ marks) h = let e = h.here in grind (arith, common_steps)
-count_before-IsFirst sub (suc place) (m ∷ marks) h =
+count_before-IsFirst sub (suc index) (m ∷ marks) h =
     let other = h.before 0 (omega arith) in
-    let rest = count_before-IsFirst sub place marks (record { here = h.here; before = λ j lt e. h.before (suc j) (omega arith) e }) in
+    let rest = count_before-IsFirst sub index marks (record { here = h.here; before = λ j lt e. h.before (suc j) (omega arith) e }) in
     grind (arith, common_steps)
 
-pub mark_at-IsFirst : {M : Type 0} (sub place : ℕ) (marks : List (ℕ × M)) → IsFirst sub place marks → mark_at sub marks ≡ mark_in marks place
-mark_at-IsFirst sub place [] h = let e = h.here in cc
+pub mark_at-IsFirst : {M : Type 0} (sub index : ℕ) (marks : List (ℕ × M)) → IsFirst sub index marks → mark_at sub marks ≡ mark_in marks index
+mark_at-IsFirst sub index [] h = let e = h.here in cc
 mark_at-IsFirst sub zero (m ∷ marks) h = let e = h.here in grind (arith, common_steps)
-mark_at-IsFirst sub (suc place) (m ∷ marks) h =
+mark_at-IsFirst sub (suc index) (m ∷ marks) h =
     let other = h.before 0 (omega arith) in
-    let rest = mark_at-IsFirst sub place marks (record { here = h.here; before = λ j lt e. h.before (suc j) (omega arith) e }) in
+    let rest = mark_at-IsFirst sub index marks (record { here = h.here; before = λ j lt e. h.before (suc j) (omega arith) e }) in
     grind (arith, common_steps)
 
-pub is_some-mark_at-IsFirst : {M : Type 0} (sub place : ℕ) (marks : List (ℕ × M)) → IsFirst sub place marks → is_some (mark_at sub marks) ≡ true
-is_some-mark_at-IsFirst sub place [] h = let e = h.here in cc
+pub is_some-mark_at-IsFirst : {M : Type 0} (sub index : ℕ) (marks : List (ℕ × M)) → IsFirst sub index marks → is_some (mark_at sub marks) ≡ true
+is_some-mark_at-IsFirst sub index [] h = let e = h.here in cc
 is_some-mark_at-IsFirst sub zero (m ∷ marks) h = let e = h.here in grind (arith, common_steps)
-is_some-mark_at-IsFirst sub (suc place) (m ∷ marks) h =
+is_some-mark_at-IsFirst sub (suc index) (m ∷ marks) h =
     let other = h.before 0 (omega arith) in
-    let rest = is_some-mark_at-IsFirst sub place marks (record { here = h.here; before = λ j lt e. h.before (suc j) (omega arith) e }) in
+    let rest = is_some-mark_at-IsFirst sub index marks (record { here = h.here; before = λ j lt e. h.before (suc j) (omega arith) e }) in
     grind (arith, common_steps)
 
 pub count_before-IsUnmarked : {M : Type 0} (sub : ℕ) (marks : List (ℕ × M)) → IsUnmarked sub marks → count_before sub marks ≡ length marks
