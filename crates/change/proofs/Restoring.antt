@@ -10,7 +10,8 @@ use Rattle.model.specs.Rows.{Rows, Schema, IsValid, keys_at, key_of}
 use Rattle.model.specs.Effect.{first_taken, back, undone}
 use Rattle.model.specs.EditLaws.{overlay_one, overlay_two}
 use Rattle.model.specs.ValidLaws.{own_key_of_valid, free_of_valid}
-use Rattle.indexes.specs.Content.{Content, Keeps, IsTable, SameElsewhere, SameRoomElsewhere, table_of}
+use Rattle.model.specs.Cells.{table_of}
+use Rattle.indexes.specs.Content.{Content, Keeps, IsTable, SameElsewhere, SameRoomElsewhere}
 use Rattle.indexes.specs.Table.{cells_in}
 use Rattle.change.specs.declared.inverse.Wiped.{Wiped}
 use Rattle.change.specs.declared.inverse.Inverse.TheVariants.{Put, Replace}

@@ -13,7 +13,8 @@ use Rattle.model.specs.Rows.{Place, Rows, Schema, keys_at}
 use Rattle.model.specs.Effect.{Edits, effect, inverse, back, undone}
 use Rattle.model.specs.EditLaws.{same_rows, same_edits}
 use Rattle.model.specs.EffectLaws.{is_named, standing_row, get_effect_wipe, get_inverse_wipe}
-use Rattle.indexes.specs.Content.{Content, Keeps, IsTable, SameElsewhere, SameRoomElsewhere, table_of}
+use Rattle.model.specs.Cells.{table_of}
+use Rattle.indexes.specs.Content.{Content, Keeps, IsTable, SameElsewhere, SameRoomElsewhere}
 use Rattle.indexes.specs.Table.{cells_in}
 use Rattle.change.specs.declared.inverse.Wiped.{Wiped}
 use Rattle.change.specs.declared.inverse.Inverse.TheVariants.{Unwipe}

@@ -11,7 +11,8 @@ use Rattle.model.specs.declared.row.Row.{Row}
 use Rattle.model.specs.declared.cell.Cell.{Cell}
 use Rattle.model.specs.Rows.{Rows, Schema, keys_at, IsValid}
 use Rattle.model.specs.Effect.{Edits, one_edit, back, undone}
-use Rattle.indexes.specs.Content.{Content, HasRoom, table_of}
+use Rattle.model.specs.Cells.{table_of}
+use Rattle.indexes.specs.Content.{Content, HasRoom}
 use Rattle.indexes.specs.Table.{cells_in}
 use Rattle.change.specs.declared.inverse.Wiped.{Wiped}
 use Rattle.change.specs.declared.inverse.Inverse.{Inverse}
