@@ -3,8 +3,8 @@ use Rattle.std.proofs.Common.{◌≡◌, ◌≢◌, ℕ, [], ◌∷◌, ◌++◌
 use Rattle.std.specs.Prelude.{◌⊎◌, IsSomeAnd}
 use Rattle.std.specs.FinMap as finite
 use Rattle.std.proofs.lemmas.Bool.{cases_eq}
-use Rattle.savepoint.specs.declared.item.Item.{Item}
-use Rattle.savepoint.specs.Survivors.{changes_of}
+use Rattle.model.specs.declared.item.Item.{Item}
+use Rattle.model.specs.Survivors.{changes_of}
 use Rattle.session.specs.declared.place.Place.{Place}
 use Rattle.session.specs.declared.place.Place.TheVariants.{Outside, Begun, Block}
 use Rattle.session.specs.State.{Direct, Open, Transactions, State, IsHere, GoesAlone, begun_at}

@@ -6,8 +6,8 @@ use Rattle.model.specs.Effect.{effect}
 use Rattle.model.specs.declared.change.Change.{Change}
 use Rattle.change.specs.declared.outcome.Clash.{Clash}
 use Rattle.change.specs.declared.outcome.Clash.TheVariants as clashes
-use Rattle.savepoint.specs.declared.item.Item.{Item}
-use Rattle.savepoint.specs.Survivors.{changes_of}
+use Rattle.model.specs.declared.item.Item.{Item}
+use Rattle.model.specs.Survivors.{changes_of}
 use Rattle.messages.specs.declared.message.Message.{Message}
 use Rattle.session.specs.declared.fault.Refused.{Refused}
 use Rattle.session.specs.declared.fault.Refused.TheVariants as refusals

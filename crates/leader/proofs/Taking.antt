@@ -11,11 +11,11 @@ use Rattle.model.specs.Rows.{Rows, Schema, keys_of}
 use Rattle.model.specs.Effect.{serial}
 use Rattle.model.specs.EffectLaws.{serial_append}
 use Rattle.model.specs.declared.change.Change.{Change as Alteration}
-use Rattle.savepoint.specs.declared.item.Item.{Item}
-use Rattle.savepoint.specs.declared.item.Item.TheVariants.{Change, Touch, BackTo, Last}
-use Rattle.savepoint.specs.declared.item.CommitInfo.{CommitInfo}
+use Rattle.model.specs.declared.item.Item.{Item}
+use Rattle.model.specs.declared.item.Item.TheVariants.{Change, Touch, BackTo, Last}
+use Rattle.model.specs.declared.item.CommitInfo.{CommitInfo}
 use Rattle.savepoint.specs.Savepoints.{before_first}
-use Rattle.savepoint.specs.Survivors.{changes_of}
+use Rattle.model.specs.Survivors.{changes_of}
 use Rattle.messages.specs.declared.message.Message.{Message}
 use Rattle.session.specs.declared.session.Session.{Session as Holder}
 use Rattle.session.specs.declared.step.Step.{Step}

@@ -17,9 +17,9 @@ use Rattle.change.specs.declared.outcome.Clash.{Clash}
 use Rattle.undo.specs.Undo.{content_back, CanUndo, AreKnownAll}
 use Rattle.undo.specs.UndoLaws.{rows_undone, content_undone_last, schema_undone}
 use Rattle.session.specs.Named.{AreNamed}
-use Rattle.savepoint.specs.declared.item.Item.{Item}
-use Rattle.savepoint.specs.declared.item.Item.TheVariants.{Change as ItemChange, Touch, BackTo, Last}
-use Rattle.savepoint.specs.Survivors.{changes_of}
+use Rattle.model.specs.declared.item.Item.{Item}
+use Rattle.model.specs.declared.item.Item.TheVariants.{Change as ItemChange, Touch, BackTo, Last}
+use Rattle.model.specs.Survivors.{changes_of}
 use Rattle.leader.specs.Work.{Standing, rows_now, IsClear, Refuses, IsRefusedIn}
 
 -- putting the inverse of a change back gives the rows before it

@@ -6,7 +6,7 @@
 use Rattle.std.specs.Prelude.{ℕ, List, [], ◌∷◌, ◌++◌, map, flat_map, Option, Some, None}
 use Rattle.std.specs.FinMap as finite
 use Rattle.model.specs.declared.change.Change.{Change}
-use Rattle.savepoint.specs.Survivors.{survivors, changes_of}
+use Rattle.model.specs.Survivors.{survivors, changes_of}
 use Rattle.session.specs.declared.place.Place.{Place}
 use Rattle.session.specs.declared.place.Place.TheVariants.{Outside, Begun, Block}
 use Rattle.session.specs.Sized.{SizedItems, item_of}

@@ -4,7 +4,7 @@ ghost use Rattle.model.specs.Effect.{effect, undone};
 ghost use Rattle.change.specs.Applied.{AreTables};
 ghost use Rattle.change.specs.Inverse.{edits_of};
 ghost use Rattle.undo.specs.Undo.{CanUndo};
-ghost use Rattle.savepoint.specs.Survivors.{changes_of};
+ghost use Rattle.model.specs.Survivors.{changes_of};
 ghost use Rattle.session.specs.Named.{AreNamed};
 ghost use Rattle.session.specs.Stands.{IsOfTables};
 ghost use Rattle.leader.specs.Work.{Passes, IsClear, Refuses, IsRefusedIn, rows_now};

@@ -10,11 +10,11 @@ use Rattle.std.proofs.lemmas.List.Sums.{take_while-cons}
 use Rattle.std.proofs.lemmas.Grind.{common_steps}
 use Rattle.std.proofs.Math.Seq.{take-length}
 use Rattle.change.specs.declared.inverse.Inverse.{Inverse}
-use Rattle.savepoint.specs.declared.item.Item.{Item}
-use Rattle.savepoint.specs.declared.item.Item.TheVariants.{Change, Touch, BackTo, Last}
-use Rattle.savepoint.specs.declared.item.Mark.{Mark}
+use Rattle.model.specs.declared.item.Item.{Item}
+use Rattle.model.specs.declared.item.Item.TheVariants.{Change, Touch, BackTo, Last}
+use Rattle.savepoint.specs.declared.mark.Mark.{Mark}
 use Rattle.savepoint.specs.declared.record.Place.{Place}
-use Rattle.savepoint.specs.Survivors.{is_of, before_savepoint, after_item}
+use Rattle.model.specs.Survivors.{is_of, before_savepoint, after_item}
 use Rattle.savepoint.specs.Savepoints.{mark_at, before_mark, noted}
 use Rattle.savepoint.specs.declared.record.TxRecord.TheInside.{Inside}
 use Rattle.savepoint.specs.Record.{Record, noted_unless_top, IsNoted, AreNamed, AreAllNamed, after_mark, up_to_mark, inverses_since, inverses_before}

@@ -8,9 +8,9 @@ use Rattle.std.specs.Prelude.{◌≢◌, ℕ, ◌==◌, List, [], Option, Some, 
 use Rattle.std.specs.List.{list_any}
 use Rattle.change.specs.declared.inverse.Inverse.{Inverse}
 use Rattle.undo.specs.Undo.{Log}
-use Rattle.savepoint.specs.declared.item.Item.{Item}
-use Rattle.savepoint.specs.declared.item.Mark.{Mark}
-use Rattle.savepoint.specs.Survivors.{is_of}
+use Rattle.model.specs.declared.item.Item.{Item}
+use Rattle.savepoint.specs.declared.mark.Mark.{Mark}
+use Rattle.model.specs.Survivors.{is_of}
 use Rattle.savepoint.specs.Savepoints.{mark_at, noted}
 
 pub record Record : Type 0 where

@@ -3,9 +3,9 @@ use Rattle.std.specs.Prelude.{ℕ, List, refl}
 use Rattle.std.specs.Coded.{Coded, code_by, coded×, coded_ℕ, coded_list}
 use Rattle.undo.specs.Undo.{Log}
 use Rattle.undo.specs.LogCode.{log_code}
-use Rattle.savepoint.specs.contracts.item.Item as item_type
-use Rattle.savepoint.specs.declared.item.Item.{Item}
-use Rattle.savepoint.specs.declared.item.Mark.{Mark}
+use Rattle.model.specs.contracts.item.Item as item_type
+use Rattle.model.specs.declared.item.Item.{Item}
+use Rattle.savepoint.specs.declared.mark.Mark.{Mark}
 use Rattle.savepoint.specs.Record.{Record}
 
 abbrev pub mark_code : Coded Mark

@@ -1,11 +1,11 @@
 -- What the record of an open transaction keeps.
 use Rattle.std.specs.Prelude.{◌≡◌, ◌≢◌, ℕ, ◌-◌, ◌≤◌, List, length, take, map, Some, None, vec_len, vec_capacity}
 use Rattle.change.specs.declared.inverse.Inverse.{Inverse}
-use Rattle.savepoint.specs.declared.item.Item.{Item}
-use Rattle.savepoint.specs.declared.item.Mark.{Mark}
+use Rattle.model.specs.declared.item.Item.{Item}
+use Rattle.savepoint.specs.declared.mark.Mark.{Mark}
 use Rattle.savepoint.specs.declared.record.Place.{Place}
 use Rattle.savepoint.specs.declared.record.TxRecord.TheInside.{Inside}
-use Rattle.savepoint.specs.Survivors.{before_savepoint}
+use Rattle.model.specs.Survivors.{before_savepoint}
 use Rattle.savepoint.specs.Savepoints.{mark_at, before_mark}
 use Rattle.savepoint.specs.Record.{Record}
 

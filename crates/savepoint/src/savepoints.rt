@@ -2,8 +2,7 @@
 ghost use Rattle.std.specs.Prelude.{◌≡◌, [], OnOk, OnErr};
 ghost use Rattle.savepoint.specs.Savepoints.{mark_at, noted, before_mark};
 
-use crate::item::Xid;
-use model::OutOfMemory;
+use model::{OutOfMemory, Xid};
 use std::alloc::Global;
 use std::collections::BTreeMap;
 use std::marker::Model;

@@ -12,8 +12,8 @@ use Rattle.relcache.specs.declared.fault.RelFault.{RelFault}
 use Rattle.relcache.specs.declared.fault.RelFault.TheVariants as faults
 use Rattle.relcache.specs.Answer.{IsFaultOf}
 use Rattle.relcache.specs.Published.{learnt}
-use Rattle.savepoint.specs.declared.item.Item.{Item}
-use Rattle.savepoint.specs.declared.item.Item.TheVariants.{Change, Touch, BackTo}
+use Rattle.model.specs.declared.item.Item.{Item}
+use Rattle.model.specs.declared.item.Item.TheVariants.{Change, Touch, BackTo}
 use Rattle.session.specs.declared.place.Place.{Place}
 use Rattle.session.specs.declared.place.Place.TheVariants.{Outside, Begun, Block}
 use Rattle.session.specs.declared.fault.SessionFault.{SessionFault}

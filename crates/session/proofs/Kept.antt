@@ -18,8 +18,8 @@ use Rattle.session.specs.declared.fault.Refused.{Refused}
 use Rattle.session.specs.declared.fault.Refused.TheVariants.{Session}
 use Rattle.session.specs.declared.transactions.Way.TheVariants as keepings
 use Rattle.session.specs.Sized.{SizedItems, size_of, bytes_of}
-use Rattle.savepoint.specs.declared.item.Item.{Item}
-use Rattle.savepoint.specs.declared.item.Item.TheVariants.{Change, Touch, BackTo, Last}
+use Rattle.model.specs.declared.item.Item.{Item}
+use Rattle.model.specs.declared.item.Item.TheVariants.{Change, Touch, BackTo, Last}
 use Rattle.savepoint.specs.Savepoints.{before_first}
 use Rattle.session.proofs.Spools.{sum-push, take-front}
 use Rattle.session.specs.Table.{opened, room_fault, has_room}

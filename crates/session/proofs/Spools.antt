@@ -6,9 +6,9 @@ use Rattle.std.proofs.Math.Seq.{take-append_seam}
 use Rattle.std.specs.Prelude.{map, is_some, is_ok, sum, Result, Ok, ◌-◌}
 use Rattle.std.specs.List.{zip}
 use Rattle.std.proofs.lemmas.Bool.{cases_Bool, eq-eqb, ne_eqb}
-use Rattle.savepoint.specs.declared.item.Item.{Item}
-use Rattle.savepoint.specs.declared.item.Item.TheVariants.{Change, Touch, BackTo, Last}
-use Rattle.savepoint.specs.Survivors.{is_of}
+use Rattle.model.specs.declared.item.Item.{Item}
+use Rattle.model.specs.declared.item.Item.TheVariants.{Change, Touch, BackTo, Last}
+use Rattle.model.specs.Survivors.{is_of}
 use Rattle.savepoint.specs.Savepoints.{mark_at, before_mark, noted, noted_by, marking, savepoints, before_first}
 use Rattle.savepoint.proofs.Cutting.{IsNumbered, count_before_first, first_mark, first_mark-place, mark_at-savepoints, before_mark-savepoints, before_first-unmarked, mark_at-noted_same, before_mark-noted_same}
 use Rattle.session.specs.Sized.{bytes_of, item_of, size_of, numbered, is_place, without_mark, unnoted_by, IsSpool}

@@ -21,7 +21,7 @@ use Rattle.session.specs.Told.{Nothing, Opens, Commits, handed_out}
 use Rattle.session.specs.Stands.{way_if, Says, HandsOut, keeping_of, StandsFor, Keeps, IsFault, IsCause, IsWithin, Follows, IsAdmitted}
 use Rattle.session.specs.Kept.{items_kept}
 use Rattle.session.specs.Sized.{SizedItems}
-use Rattle.savepoint.specs.declared.item.CommitInfo.{CommitInfo}
+use Rattle.model.specs.declared.item.CommitInfo.{CommitInfo}
 use Rattle.session.specs.declared.transactions.Way.{Way as Keeping}
 use Rattle.session.specs.declared.fault.SessionFault.TheVariants.{UnknownTransaction, OldCommit}
 use Rattle.std.proofs.lemmas.Bool.{le-leb, lt-leb}

@@ -1,6 +1,6 @@
 -- What is kept of a transaction, as it gets items, drops them and hands them out.
 use Rattle.std.specs.Prelude.{ℕ, ◌-◌, List, [], ◌∷◌, ◌++◌, length, take, map, Bool, true, false, Option, Some, None}
-use Rattle.savepoint.specs.declared.item.Item.{Item}
+use Rattle.model.specs.declared.item.Item.{Item}
 use Rattle.session.specs.declared.transactions.Way.{Way}
 use Rattle.session.specs.declared.transactions.Way.TheVariants.{Direct, Worker, Spooled}
 use Rattle.savepoint.specs.Savepoints.{before_first}

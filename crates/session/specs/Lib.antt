@@ -13,4 +13,4 @@ pub use Rattle.relcache.specs.Planning
 pub use Rattle.relcache.specs.Fits
 pub use Rattle.relcache.specs.Published
 pub use Rattle.savepoint.specs.Savepoints
-pub use Rattle.savepoint.specs.Survivors
+pub use Rattle.model.specs.Survivors

@@ -1,7 +1,7 @@
 -- Items with the lengths of their payloads, as a spool keeps them.
 use Rattle.std.specs.Prelude.{◌≡◌, ℕ, suc, List, [], ◌∷◌, length, map, sum, ◌==◌, Bool, false, Option, Some, None, if◌then◌else◌}
-use Rattle.savepoint.specs.declared.item.Item.{Item}
-use Rattle.savepoint.specs.declared.item.Item.TheVariants.{Change, Touch, BackTo, Last}
+use Rattle.model.specs.declared.item.Item.{Item}
+use Rattle.model.specs.declared.item.Item.TheVariants.{Change, Touch, BackTo, Last}
 use Rattle.savepoint.specs.Savepoints.{savepoints, mark_at, before_mark}
 
 -- items, each with the length of its payload in bytes

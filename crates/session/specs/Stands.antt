@@ -12,8 +12,8 @@ use Rattle.relcache.specs.Answer.{IsFaultOf}
 use Rattle.relcache.specs.Fits.{FitsCatalog}
 use Rattle.relcache.specs.Mapping.{Mapped, resolved}
 use Rattle.relcache.specs.Published.{Relations}
-use Rattle.savepoint.specs.declared.item.Item.{Item}
-use Rattle.savepoint.specs.declared.item.Item.TheVariants.{Change, Touch, BackTo, Last}
+use Rattle.model.specs.declared.item.Item.{Item}
+use Rattle.model.specs.declared.item.Item.TheVariants.{Change, Touch, BackTo, Last}
 use Rattle.session.specs.declared.fault.Refused.{Refused}
 use Rattle.session.specs.declared.fault.Refused.TheVariants.{Msg, Session, Rel, OutOfMemory}
 use Rattle.session.specs.declared.fault.SessionFault.{SessionFault}

@@ -8,9 +8,9 @@ use Rattle.std.specs.Ordering.{nat_cmp}
 use Rattle.std.specs.FinMap as map
 use Rattle.std.specs.FinMap.{FinMap}
 use Rattle.model.specs.Definition.{Definition}
-use Rattle.savepoint.specs.declared.item.Item.{Item}
-use Rattle.savepoint.specs.declared.item.Item.TheVariants.{Change, Touch, BackTo, Last}
-use Rattle.savepoint.specs.declared.item.CommitInfo.{CommitInfo}
+use Rattle.model.specs.declared.item.Item.{Item}
+use Rattle.model.specs.declared.item.Item.TheVariants.{Change, Touch, BackTo, Last}
+use Rattle.model.specs.declared.item.CommitInfo.{CommitInfo}
 use Rattle.savepoint.specs.Savepoints.{before_first}
 use Rattle.relcache.specs.Published.{Relations}
 use Rattle.session.specs.declared.place.Place.{Place}

@@ -5,9 +5,9 @@ use Rattle.std.specs.FinMap as map
 use Rattle.model.specs.Definition.{Definition}
 use Rattle.model.specs.declared.change.Change.{Change as Alteration}
 use Rattle.model.specs.declared.change.Change.TheVariants.{Wipe}
-use Rattle.savepoint.specs.declared.item.Item.{Item}
-use Rattle.savepoint.specs.declared.item.Item.TheVariants.{Change, Touch, BackTo}
-use Rattle.savepoint.specs.declared.item.CommitInfo.{CommitInfo}
+use Rattle.model.specs.declared.item.Item.{Item}
+use Rattle.model.specs.declared.item.Item.TheVariants.{Change, Touch, BackTo}
+use Rattle.model.specs.declared.item.CommitInfo.{CommitInfo}
 use Rattle.messages.specs.declared.message.Message.{Message}
 use Rattle.messages.specs.declared.message.Message.TheVariants as messages
 use Rattle.messages.specs.declared.message.Begin.{Begin}

@@ -88,8 +88,8 @@ impl Transactions {
     ghost use Rattle.std.specs.Prelude.{◌≡◌};
     ghost use Rattle.std.specs.FinMap as map;
     ghost use Rattle.std.specs.Prelude.{ℕ, ◌+◌, ◌≢◌, true, nat_le};
-    ghost use Rattle.savepoint.specs.declared.item.Item.{Item as AnyItem};
-    ghost use Rattle.savepoint.specs.declared.item.Item.TheVariants as items;
+    ghost use Rattle.model.specs.declared.item.Item.{Item as AnyItem};
+    ghost use Rattle.model.specs.declared.item.Item.TheVariants as items;
     ghost use Rattle.session.specs.State.{Setting, Transactions as OpenMap, Open, spooled};
     ghost use Rattle.session.specs.Stands.{Keeps, RoomIs, IsOpened, IsStreamed, IsClosed, IsItemTaken, Survives, spool_fault, with_item};
     ghost use Rattle.session.specs.Kept.{is_spooled, is_spooled_open};

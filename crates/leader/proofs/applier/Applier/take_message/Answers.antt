@@ -1,6 +1,6 @@
 use Rattle.std.proofs.Common.{[], ◌∷◌, refl, ap, subst, ◌∙◌}
 use Rattle.model.specs.Rows.{Rows}
-use Rattle.savepoint.specs.Survivors.{changes_of}
+use Rattle.model.specs.Survivors.{changes_of}
 use Rattle.session.specs.State.{Setting}
 use Rattle.session.specs.Stands.{IsTaken}
 use Rattle.session.specs.declared.step.Step.TheVariants as steps

@@ -1,6 +1,6 @@
 use Rattle.std.proofs.Common.{◌≡◌, ◌++◌, ◌∷◌, sym, ◌∙◌, ap, subst}
 use Rattle.std.specs.Vec.Iter.{into_iter_items}
-use Rattle.savepoint.specs.Survivors.{changes_of}
+use Rattle.model.specs.Survivors.{changes_of}
 use Rattle.leader.specs.Work.{IsRefusedIn, rows_now}
 use Rattle.leader.proofs.Working.{item_applied, item_clear, item_refused, if_err, taken_front}
 use Rattle.leader.proofs.work.Work.take_all.Goals as goal

@@ -1,6 +1,6 @@
 use Rattle.std.proofs.Common.{◌≡◌, ◌≢◌, sym, ap, ◌∙◌, refl, true, false, Some, None}
 use Rattle.std.specs.Prelude.{Ok}
-use Rattle.savepoint.specs.declared.item.Item.TheVariants.{BackTo}
+use Rattle.model.specs.declared.item.Item.TheVariants.{BackTo}
 use Rattle.session.specs.Kept.{is_spool, is_spooled}
 use Rattle.session.proofs.Kept.{present, absent, is_spool-keeping}
 use Rattle.session.proofs.Items.{aborts-unknown, drops-admitted, step_dropped, aborts-back, gives-admitted, given_back-kept, given_back-free, none_direct}

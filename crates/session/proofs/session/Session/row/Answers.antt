@@ -1,7 +1,7 @@
 use Rattle.std.proofs.Common.{ap, ◌∙◌, refl}
 use Rattle.session.specs.Table.{row_change, plans, gives}
 use Rattle.session.specs.Stands.{StandsFor}
-use Rattle.savepoint.specs.declared.item.Item.TheVariants.{Change}
+use Rattle.model.specs.declared.item.Item.TheVariants.{Change}
 use Rattle.session.proofs.Steps.{follows_same}
 use Rattle.session.proofs.Items.{relation_refused, fault_of_relation, stands_known}
 use Rattle.session.proofs.session.Session.row.Goals as goal

@@ -1,5 +1,5 @@
 use Rattle.std.proofs.Common.{◌≡◌, ◌+◌, ◌<◌, ◌^◌, sym, ap, ◌∙◌, arith, refl, false}
-use Rattle.savepoint.specs.declared.item.Item.TheVariants.{BackTo}
+use Rattle.model.specs.declared.item.Item.TheVariants.{BackTo}
 use Rattle.session.specs.State.{Open, spooled_by}
 use Rattle.session.specs.Kept.{cut_back, bytes_kept, is_spool, is_spooled}
 use Rattle.session.specs.Stands.{keeping_of, with_item}

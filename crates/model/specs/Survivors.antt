@@ -1,8 +1,8 @@
 -- Which items of a transaction survive its rollbacks.
 use Rattle.std.specs.Prelude.{ℕ, ◌==◌, Bool, false, List, [], ◌∷◌, ◌++◌, not, take_while, if◌then◌else◌}
 use Rattle.model.specs.declared.change.Change.{Change as Alteration}
-use Rattle.savepoint.specs.declared.item.Item.{Item}
-use Rattle.savepoint.specs.declared.item.Item.TheVariants.{Change, Touch, BackTo, Last}
+use Rattle.model.specs.declared.item.Item.{Item}
+use Rattle.model.specs.declared.item.Item.TheVariants.{Change, Touch, BackTo, Last}
 
 -- the item names this subtransaction
 abbrev pub is_of : ℕ → Item → Bool
