@@ -13,4 +13,5 @@ pub mod ValidLaws
 pub mod EffectLaws
 pub mod Laws
 pub mod Cells
+pub mod Footprint
 pub mod Survivors

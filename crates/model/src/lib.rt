@@ -13,6 +13,7 @@
 //   specs/Rows           all rows of all tables as one finite map; valid rows
 //   specs/Effect         what a change does, and what takes it back
 //   specs/Cells          cells, and those that a row fills
+//   specs/Footprint      the cells that a change looks up or alters
 //   specs/Survivors      the items of a transaction that survive its rollbacks
 //
 // The laws of these words are lemmas of `specs/` too, where the layers above can cite them:
