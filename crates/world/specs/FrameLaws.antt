@@ -218,7 +218,7 @@ module _ (schema : Schema) (at table number : ℕ) (columns : List ℕ) (values 
 
 -- ---- what each change leaves
 
-or_false : (a b : Bool) → b ≡ false → (a || b) ≡ a
+pub or_false : (a b : Bool) → b ≡ false → (a || b) ≡ a
 or_false true b e = refl
 or_false false b e = e
 
@@ -263,7 +263,7 @@ not_named cell (table ∷ tables) free = neither _ _ (apart cell free.0) (not_na
     apart (Whole t) e = e
 
 module _ (schema : Schema) (rows : Rows) (tables : List ℕ) where
-  left_by_wipe : (table : ℕ) → is_named tables table ≡ false → (key : Key) → get rows (table, key) ≡ get (effect schema rows (Wipe tables)) (table, key)
+  pub left_by_wipe : (table : ℕ) → is_named tables table ≡ false → (key : Key) → get rows (table, key) ≡ get (effect schema rows (Wipe tables)) (table, key)
   left_by_wipe table not key = sym (get_effect_wipe schema rows tables (table, key) ∙ ap (λ b. cond b None (get rows (table, key))) not)
 
   wipe_leaves : (cell : Cell) → FreeOf cell (map Whole tables) → SameAt schema rows (effect schema rows (Wipe tables)) cell

@@ -8,3 +8,6 @@ pub mod Laws
 pub mod TakenBesideLaws
 pub mod ShapeLaws
 pub mod FrameLaws
+pub mod AlikeLaws
+pub mod SerialLaws
+pub mod LiveLaws
