@@ -9,8 +9,8 @@ use Rattle.std.proofs.lemmas.Option.{unwrap_or-slice_get}
 use Rattle.model.specs.declared.key.Key.{Key}
 use Rattle.model.specs.declared.row.Row.{Row}
 use Rattle.model.specs.Key.{key_cmp}
-use Rattle.model.specs.Rows.{Place, Rows, Schema, keys_at, values_in, taken, IsValid}
-use Rattle.model.specs.Effect.{is_taken, first_taken}
+use Rattle.model.specs.Rows.{Place, Rows, Schema, keys_at, values_in, are_taken, IsValid}
+use Rattle.model.specs.Effect.{are_taken_unless_null, first_taken}
 use Rattle.model.specs.EditLaws.{is_place, place_is, place_cases, same_place, get_remove_same, get_remove_other}
 use Rattle.model.specs.TakenLaws.{taken_by_row, row_of_taken}
 use Rattle.model.specs.ValidLaws.{part_remove}
@@ -37,9 +37,9 @@ module _ (schema : Schema) (rows : Rows) (valid : IsValid schema rows) (table nu
   abbrev rest : Rows
   rest = remove rows (table, key)
 
-  holders_own : ◌≡◌ {A = Place} (table, holder) (table, key) → taken rest table columns values ≡ false
+  holders_own : ◌≡◌ {A = Place} (table, holder) (table, key) → are_taken rest table columns values ≡ false
   holders_own is =
-      elim (cases_Bool (taken rest table columns values)) [
+      elim (cases_Bool (are_taken rest table columns values)) [
         | inl found ↦
             let twin = row_of_taken rest table columns values found in
             let same : holder ≡ twin.key = valid.unique table (number - 1) columns holder twin.key row twin.row values is_unique at (part_remove rows (table, key) (table, twin.key) twin.row twin.at) has twin.has in
@@ -53,7 +53,7 @@ module _ (schema : Schema) (rows : Rows) (valid : IsValid schema rows) (table nu
   key_tests = place_in_table table holder key
 
   -- the values are taken in the rest exactly if another key holds them
-  pub taken_in_rest : taken rest table columns values ≡ not (eq_by_cmp key_cmp holder key)
+  pub taken_in_rest : are_taken rest table columns values ≡ not (eq_by_cmp key_cmp holder key)
   taken_in_rest =
       elim (place_cases (table, holder) (table, key)) [
         | inl is ↦ holders_own is ∙ ap not (sym (same_place (table, key)) ∙ ap (λ (p : Place). is_place p (table, key)) (sym is) ∙ key_tests)
@@ -63,9 +63,9 @@ module _ (schema : Schema) (rows : Rows) (valid : IsValid schema rows) (table nu
       ]
 
 -- where no row has the values, none of the rest has them
-pub free_in_rest : (rows : Rows) (table : ℕ) (columns : List ℕ) (values key : Key) → taken rows table columns values ≡ false → taken (remove rows (table, key)) table columns values ≡ false
+pub free_in_rest : (rows : Rows) (table : ℕ) (columns : List ℕ) (values key : Key) → are_taken rows table columns values ≡ false → are_taken (remove rows (table, key)) table columns values ≡ false
 free_in_rest rows table columns values key free =
-    elim (cases_Bool (taken (remove rows (table, key)) table columns values)) [
+    elim (cases_Bool (are_taken (remove rows (table, key)) table columns values)) [
       | inl found ↦
           let twin = row_of_taken (remove rows (table, key)) table columns values found in
           absurd (true≢false (sym (taken_by_row rows table columns values twin.key twin.row (part_remove rows (table, key) (table, twin.key) twin.row twin.at) twin.has) ∙ free))
@@ -78,17 +78,17 @@ free_in_rest rows table columns values key free =
 pub first_taken_next : (rows : Rows) (table : ℕ) (row : Row) (uniques : List (List ℕ)) (i : ℕ) → i < length uniques
     → (columns : List ℕ) → columns ≡ unwrap_or (slice_get uniques i) []
     → first_taken rows table row (i + 1) (drop i uniques)
-    ≡ (if is_taken rows table columns (values_in columns row) then Some (i + 1) else first_taken rows table row ((i + 1) + 1) (drop (i + 1) uniques))
+    ≡ (if are_taken_unless_null rows table columns (values_in columns row) then Some (i + 1) else first_taken rows table row ((i + 1) + 1) (drop (i + 1) uniques))
 first_taken_next rows table row uniques i below columns is =
     ap (first_taken rows table row (i + 1)) (drop-cons uniques i [] below)
-    ∙ ap (λ (c : List ℕ). if is_taken rows table c (values_in c row) then Some (i + 1) else first_taken rows table row (suc (i + 1)) (drop (suc i) uniques))
+    ∙ ap (λ (c : List ℕ). if are_taken_unless_null rows table c (values_in c row) then Some (i + 1) else first_taken rows table row (suc (i + 1)) (drop (suc i) uniques))
     (sym (unwrap_or-slice_get uniques i []) ∙ sym is)
-    ∙ ap (λ n. if is_taken rows table columns (values_in columns row) then Some (i + 1) else first_taken rows table row n (drop (suc i) uniques)) (sym (add-one (i + 1)))
-    ∙ ap (λ n. if is_taken rows table columns (values_in columns row) then Some (i + 1) else first_taken rows table row ((i + 1) + 1) (drop n uniques)) (sym (add-one i))
+    ∙ ap (λ n. if are_taken_unless_null rows table columns (values_in columns row) then Some (i + 1) else first_taken rows table row n (drop (suc i) uniques)) (sym (add-one (i + 1)))
+    ∙ ap (λ n. if are_taken_unless_null rows table columns (values_in columns row) then Some (i + 1) else first_taken rows table row ((i + 1) + 1) (drop n uniques)) (sym (add-one i))
 
 -- a row that has them is the least that clashes
 pub first_taken_found : (rows : Rows) (table : ℕ) (row : Row) (uniques : List (List ℕ)) (i : ℕ) → i < length uniques
-    → (columns : List ℕ) → columns ≡ unwrap_or (slice_get uniques i) [] → is_taken rows table columns (values_in columns row) ≡ true
+    → (columns : List ℕ) → columns ≡ unwrap_or (slice_get uniques i) [] → are_taken_unless_null rows table columns (values_in columns row) ≡ true
     → first_taken rows table row (i + 1) (drop i uniques) ≡ Some (i + 1)
 first_taken_found rows table row uniques i below columns is found =
     first_taken_next rows table row uniques i below columns is
@@ -96,7 +96,7 @@ first_taken_found rows table row uniques i below columns is found =
 
 -- none has them, so the rest of the unique keys decide
 pub first_taken_passed : (rows : Rows) (table : ℕ) (row : Row) (uniques : List (List ℕ)) (i : ℕ) → i < length uniques
-    → (columns : List ℕ) → columns ≡ unwrap_or (slice_get uniques i) [] → is_taken rows table columns (values_in columns row) ≡ false
+    → (columns : List ℕ) → columns ≡ unwrap_or (slice_get uniques i) [] → are_taken_unless_null rows table columns (values_in columns row) ≡ false
     → first_taken rows table row (i + 1) (drop i uniques) ≡ first_taken rows table row ((i + 1) + 1) (drop (i + 1) uniques)
 first_taken_passed rows table row uniques i below columns is none =
     first_taken_next rows table row uniques i below columns is
@@ -112,8 +112,8 @@ pub not_found : {X : Type 0} (found : Option X) (b : Bool) → is_some found ≡
 not_found found b tells is = sym tells ∙ ap is_some is
 
 -- none of all rows has them, so none of the rest
-pub free_without : (rows : Rows) (table : ℕ) (cs : List ℕ) (values : Option Key) (except : Option (Bor Key)) → is_taken rows table cs values ≡ false
-    → is_taken (without rows table except) table cs values ≡ false
+pub free_without : (rows : Rows) (table : ℕ) (cs : List ℕ) (values : Option Key) (except : Option (Bor Key)) → are_taken_unless_null rows table cs values ≡ false
+    → are_taken_unless_null (without rows table except) table cs values ≡ false
 free_without rows table cs values None free = free
 free_without rows table cs None (Some key) free = refl
 free_without rows table cs (Some values) (Some key) free = free_in_rest rows table cs values key.now free

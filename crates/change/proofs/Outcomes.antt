@@ -9,9 +9,9 @@ use Rattle.model.specs.declared.change.Change.{Change}
 use Rattle.model.specs.declared.change.Change.TheVariants.{Put as PutRow, Set, Remove}
 use Rattle.model.specs.declared.change.ColumnPatch.{ColumnPatch}
 use Rattle.model.specs.Rows.{Place, Rows, Schema, keys_at, key_of, IsValid}
-use Rattle.model.specs.Effect.{Edits, one_edit, Done, Clashes, Unique, placed, placed_at, unless_taken, patched, replaced, removed, outcome, effect, inverse, back, first_taken}
-use Rattle.model.specs.EditLaws.{same_edits, is_place, same_place, place_is, place_cases, get_insert_same, get_insert_other, get_remove_same, get_remove_other, get_edit, get_one_edit, overlay_one, overlay_two, stood_one, stood_two}
-use Rattle.model.specs.EffectLaws.{placed_free, effect_of, inverse_of, back_of_inverse}
+use Rattle.model.specs.Effect.{Edits, one_edit, Done, Clashes, Unique, row_outcome, row_outcome_at, unless_taken, patch_row, set_outcome, remove_outcome, outcome, effect, inverse, back, first_taken}
+use Rattle.model.specs.EditLaws.{same_edits, is_place, same_place, place_is, place_cases, get_insert_same, get_insert_other, get_remove_same, get_remove_other, get_edit, get_one_edit, overlay_one, overlay_two, rows_under_one, rows_under_two}
+use Rattle.model.specs.EffectLaws.{row_outcome_free, effect_of, inverse_of, back_of_inverse}
 use Rattle.indexes.specs.Content.{Content, Keeps}
 use Rattle.change.specs.Applied.{IsSound}
 use Rattle.change.specs.declared.inverse.Inverse.{Inverse}
@@ -47,7 +47,7 @@ module _ (old new : Content) (table : ℕ) (key copy : Key) (row : Row) (same : 
   remove_there = ap (λ (k : Key). get old.rows (table, k)) (sym same) ∙ at_copy
 
   remove_done : outcome old.schema old.rows asked ≡ Done (one_edit (table, key) None)
-  remove_done = ap (removed (table, key)) remove_there
+  remove_done = ap (remove_outcome (table, key)) remove_there
 
   pub remove_ok : new.rows ≡ effect old.schema old.rows asked
   remove_ok =
@@ -56,7 +56,7 @@ module _ (old new : Content) (table : ℕ) (key copy : Key) (row : Row) (same : 
 
   pub remove_inverse : edits_of (Put table copy row) ≡ inverse old.schema old.rows asked
   remove_inverse =
-      ap (λ (k : Key). one_edit (table, k) (Some row)) same ∙ ap (one_edit (table, key)) (sym remove_there) ∙ sym (stood_one old.rows (table, key) None)
+      ap (λ (k : Key). one_edit (table, k) (Some row)) same ∙ ap (one_edit (table, key)) (sym remove_there) ∙ sym (rows_under_one old.rows (table, key) None)
       ∙ sym (inverse_of old.schema old.rows asked (Done (one_edit (table, key) None)) remove_done)
 
   pub remove_can : CanPutBack new (Put table copy row)
@@ -74,7 +74,7 @@ module _ (old new : Content) (table : ℕ) (row : Row) (key copy : Key) (same : 
   asked_put = PutRow table row
 
   pub put_done : outcome old.schema old.rows asked_put ≡ Done (one_edit (table, key) (Some row))
-  put_done = placed_free old.schema old.rows map_of.empty table row key own free none
+  put_done = row_outcome_free old.schema old.rows map_of.empty table row key own free none
 
   pub put_ok : new.rows ≡ effect old.schema old.rows asked_put
   put_ok =
@@ -83,7 +83,7 @@ module _ (old new : Content) (table : ℕ) (row : Row) (key copy : Key) (same : 
 
   pub put_inverse : edits_of (Take table copy) ≡ inverse old.schema old.rows asked_put
   put_inverse =
-      ap (λ (k : Key). one_edit (table, k) None) same ∙ ap (one_edit (table, key)) (sym free) ∙ sym (stood_one old.rows (table, key) (Some row))
+      ap (λ (k : Key). one_edit (table, k) None) same ∙ ap (one_edit (table, key)) (sym free) ∙ sym (rows_under_one old.rows (table, key) (Some row))
       ∙ sym (inverse_of old.schema old.rows asked_put (Done (one_edit (table, key) (Some row))) put_done)
 
   stands : IsSome (get new.rows (table, copy))
@@ -123,16 +123,16 @@ apart_orders p q edit other apart = same_edits _ _ (λ r.
 
 -- it is looked up, and the patched row comes into the rest
 pub set_as_placed : (schema : Schema) (rows : Rows) (table : ℕ) (key : Key) (patch : List ColumnPatch) (was row : Row)
-    → get rows (table, key) ≡ Some was → row ≡ patched patch was
-    → outcome schema rows (Set table key patch) ≡ placed schema (remove rows (table, key)) (one_edit (table, key) None) table row
+    → get rows (table, key) ≡ Some was → row ≡ patch_row patch was
+    → outcome schema rows (Set table key patch) ≡ row_outcome schema (remove rows (table, key)) (one_edit (table, key) None) table row
 set_as_placed schema rows table key patch was row there row_is =
-    ap (replaced schema rows (table, key) patch) there ∙ ap (placed schema (remove rows (table, key)) (one_edit (table, key) None) table) (sym row_is)
+    ap (set_outcome schema rows (table, key) patch) there ∙ ap (row_outcome schema (remove rows (table, key)) (one_edit (table, key) None) table) (sym row_is)
 
 -- a row stands at its key
 pub placed_held : (schema : Schema) (rows : Rows) (edits : Edits) (table : ℕ) (row : Row) (key : Key)
-    → key_of schema table row ≡ Some key → is_some (get rows (table, key)) ≡ true → placed schema rows edits table row ≡ Clashes (Unique table 0)
+    → key_of schema table row ≡ Some key → is_some (get rows (table, key)) ≡ true → row_outcome schema rows edits table row ≡ Clashes (Unique table 0)
 placed_held schema rows edits table row key own held =
-    ap (placed_at schema rows edits table row) own
+    ap (row_outcome_at schema rows edits table row) own
     ∙ ap (λ b. if b then Clashes (Unique table 0) else unless_taken table (first_taken rows table row 1 (keys_at schema table).uniques) (insert edits (table, key) (Some row))) held
 
 pub none_of : (row : Option Row) → is_some row ≡ false → row ≡ None
@@ -141,7 +141,7 @@ none_of (Some row) e = cc
 
 module _ (old new : Content) (table : ℕ) (key stood_at : Key) (new_key stands_at : Key) (patch : List ColumnPatch) (was row : Row)
     (same_key : stood_at ≡ key) (same_new : stands_at ≡ new_key) (sound : IsSound old) (known : table < length old.schema)
-    (there : get old.rows (table, key) ≡ Some was) (row_is : row ≡ patched patch was)
+    (there : get old.rows (table, key) ≡ Some was) (row_is : row ≡ patch_row patch was)
     (own : key_of old.schema table row ≡ Some new_key) (free : get (remove old.rows (table, key)) (table, new_key) ≡ None)
     (none : first_taken (remove old.rows (table, key)) table row 1 (keys_at old.schema table).uniques ≡ None)
     (schema : new.schema ≡ old.schema) (rows : new.rows ≡ insert (remove old.rows (table, key)) (table, new_key) row)
@@ -155,7 +155,7 @@ module _ (old new : Content) (table : ℕ) (key stood_at : Key) (new_key stands_
   pub set_done : outcome old.schema old.rows asked_set ≡ Done set_edits
   set_done =
       set_as_placed old.schema old.rows table key patch was row there row_is
-      ∙ placed_free old.schema (remove old.rows (table, key)) (one_edit (table, key) None) table row new_key own free none
+      ∙ row_outcome_free old.schema (remove old.rows (table, key)) (one_edit (table, key) None) table row new_key own free none
 
   pub set_ok : new.rows ≡ effect old.schema old.rows asked_set
   set_ok =
@@ -192,7 +192,7 @@ module _ (old new : Content) (table : ℕ) (key stood_at : Key) (new_key stands_
       ap (λ (k : Key). insert (one_edit (table, k) None) (table, stood_at) (Some was)) same_new
       ∙ ap (λ (k : Key). insert (one_edit new_place None) (table, k) (Some was)) same_key
       ∙ edits_found
-      ∙ sym (stood_two old.rows old_place new_place None (Some row))
+      ∙ sym (rows_under_two old.rows old_place new_place None (Some row))
       ∙ sym (inverse_of old.schema old.rows asked_set (Done set_edits) set_done)
 
   set_stands : IsSome (get new.rows (table, stands_at))

@@ -4,16 +4,16 @@ use Rattle.std.proofs.Common.{zero, sym, ◌∙◌, ap, arith, take-suc, add-one
 use Rattle.model.specs.declared.value.Value.{Value}
 use Rattle.model.specs.declared.row.Row.{Row}
 use Rattle.model.specs.declared.change.ColumnPatch.{ColumnPatch}
-use Rattle.model.specs.Effect.{patched, patched_value}
+use Rattle.model.specs.Effect.{patch_row, patch_value}
 
-pub length_patched : (ps : List ColumnPatch) (row : Row) → length (patched ps row) ≡ length row
+pub length_patched : (ps : List ColumnPatch) (row : Row) → length (patch_row ps row) ≡ length row
 length_patched [] row = refl
 length_patched (p ∷ ps) [] = refl
 length_patched (p ∷ ps) (v ∷ row) = ap suc (length_patched ps row)
 
 -- a column that the patch has
 pub patched_at : (ps : List ColumnPatch) (row : Row) (i : ℕ) (p : ColumnPatch) (d e : Option Value) → i < length ps → i < length row
-    → get_or (patched ps row) i d ≡ patched_value (get_or ps i p) (get_or row i e)
+    → get_or (patch_row ps row) i d ≡ patch_value (get_or ps i p) (get_or row i e)
 patched_at [] row i p d e below within = absurd (omega arith)
 patched_at (q ∷ ps) [] i p d e below within = absurd (omega arith)
 patched_at (q ∷ ps) (v ∷ row) zero p d e below within = refl
@@ -21,7 +21,7 @@ patched_at (q ∷ ps) (v ∷ row) (suc i) p d e below within = patched_at ps row
 
 -- one past its end
 pub patched_past : (ps : List ColumnPatch) (row : Row) (i : ℕ) (d e : Option Value) → length ps ≤ i → i < length row
-    → get_or (patched ps row) i d ≡ get_or row i e
+    → get_or (patch_row ps row) i d ≡ get_or row i e
 patched_past [] row i d e past within = same_default row i d e within
   where
     same_default : (row : Row) (i : ℕ) (d e : Option Value) → i < length row → get_or row i d ≡ get_or row i e
@@ -37,17 +37,17 @@ pub take_more : (xs : Row) (i : ℕ) (v d : Option Value) → i < length xs → 
 take_more xs i v d within is = ap (λ x. take i xs ++ x ∷ []) is ∙ sym (ap (λ n. take n xs) (add-one i) ∙ take-suc xs i d within)
 
 module _ (ps : List ColumnPatch) (row : Row) (i : ℕ) (value : Option Value) where
-  pub column_patched : (p : ColumnPatch) (old : Option Value) → i < length ps → i < length row → p ≡ get_or ps i p → old ≡ get_or row i old → value ≡ patched_value p old
-      → value ≡ get_or (patched ps row) i None
+  pub column_patched : (p : ColumnPatch) (old : Option Value) → i < length ps → i < length row → p ≡ get_or ps i p → old ≡ get_or row i old → value ≡ patch_value p old
+      → value ≡ get_or (patch_row ps row) i None
   column_patched p old below within p_is old_is is =
-      is ∙ ap (λ q. patched_value q old) p_is ∙ ap (patched_value (get_or ps i p)) old_is ∙ sym (patched_at ps row i p None old below within)
+      is ∙ ap (λ q. patch_value q old) p_is ∙ ap (patch_value (get_or ps i p)) old_is ∙ sym (patched_at ps row i p None old below within)
 
-  pub column_kept : (old : Option Value) → length ps ≤ i → i < length row → old ≡ get_or row i old → value ≡ old → value ≡ get_or (patched ps row) i None
+  pub column_kept : (old : Option Value) → length ps ≤ i → i < length row → old ≡ get_or row i old → value ≡ old → value ≡ get_or (patch_row ps row) i None
   column_kept old past within old_is is = is ∙ old_is ∙ sym (patched_past ps row i None old past within)
 
 -- the row once each column is there
-pub all_columns : (ps : List ColumnPatch) (row : Row) (i : ℕ) → length row ≤ i → take i (patched ps row) ≡ patched ps row
-all_columns ps row i past = let len : length (patched ps row) ≤ i = omega (arith, length_patched ps row) in take_all i (patched ps row) len
+pub all_columns : (ps : List ColumnPatch) (row : Row) (i : ℕ) → length row ≤ i → take i (patch_row ps row) ≡ patch_row ps row
+all_columns ps row i past = let len : length (patch_row ps row) ≤ i = omega (arith, length_patched ps row) in take_all i (patch_row ps row) len
 
-pub within_patched : (ps : List ColumnPatch) (row : Row) (i : ℕ) → i < length row → i < length (patched ps row)
+pub within_patched : (ps : List ColumnPatch) (row : Row) (i : ℕ) → i < length row → i < length (patch_row ps row)
 within_patched ps row i within = omega (arith, length_patched ps row)

@@ -7,7 +7,7 @@ use Rattle.model.specs.declared.key.Key.{Key}
 use Rattle.model.specs.declared.row.Row.{Row}
 use Rattle.model.specs.declared.cell.Cell.{Cell}
 use Rattle.model.specs.Rows.{Rows, Schema, IsValid, keys_at, key_of}
-use Rattle.model.specs.Effect.{first_taken, back, undone}
+use Rattle.model.specs.Effect.{first_taken, back, all_back}
 use Rattle.model.specs.EditLaws.{overlay_one, overlay_two}
 use Rattle.model.specs.ValidLaws.{own_key_of_valid, free_of_valid}
 use Rattle.model.specs.Cells.{table_of}
@@ -15,8 +15,8 @@ use Rattle.indexes.specs.Content.{Content, Keeps, IsTable, SameElsewhere, SameRo
 use Rattle.indexes.specs.Table.{cells_in}
 use Rattle.change.specs.declared.inverse.Wiped.{Wiped}
 use Rattle.change.specs.declared.inverse.Inverse.TheVariants.{Put, Replace}
-use Rattle.change.specs.Inverse.{standing, HasNoRows, is_elsewhere, room_with, room_unwiped, AreEmpty, AreKnown, CanUnwipe, CanPutBack}
-use Rattle.change.specs.EditsLaws.{back_standing, number_is_not}
+use Rattle.change.specs.Inverse.{rows_held, HasNoRows, is_elsewhere, room_with, room_unwiped, AreEmpty, AreKnown, CanUnwipe, CanPutBack}
+use Rattle.change.specs.EditsLaws.{back_rows_held, number_is_not}
 use Rattle.change.specs.InverseLaws.{filter_contains, unwiped_last, known_last, empty_last, room_unwiped_last, room_unwiped_keeps}
 
 module _ (t : Content) (table : ℕ) (key : Key) (row : Row) (can : CanPutBack t (Put table key row)) where
@@ -55,17 +55,17 @@ not_false false e = refl
 module _ (t new : Content) (all ws : List Wiped) (w : Wiped) (split : all ≡ ws ++ w ∷ []) (can : CanUnwipe t all)
     (schema : new.schema ≡ t.schema) (held : IsTable new.rows w.table w.contents.rows) (elsewhere : SameElsewhere t.rows new.rows w.table)
     (room : Keeps (cells_in w.table w.contents) new.room) (room_elsewhere : SameRoomElsewhere t.room new.room w.table) where
-  parted_empty : AreEmpty (back t.rows (standing w)) ws × HasNoRows t.rows w.table
+  parted_empty : AreEmpty (back t.rows (rows_held w)) ws × HasNoRows t.rows w.table
   parted_empty = empty_last t.rows ws w (subst (AreEmpty t.rows) split can.empty)
 
-  given_back : new.rows ≡ back t.rows (standing w)
-  given_back = back_standing t.rows new.rows w parted_empty.1 held elsewhere
+  given_back : new.rows ≡ back t.rows (rows_held w)
+  given_back = back_rows_held t.rows new.rows w parted_empty.1 held elsewhere
 
   -- the same tables come of what is left
-  pub unwiped_rows : undone new.rows (map standing ws) ≡ undone t.rows (map standing all)
+  pub unwiped_rows : all_back new.rows (map rows_held ws) ≡ all_back t.rows (map rows_held all)
   unwiped_rows =
-      ap (λ (r : Rows). undone r (map standing ws)) given_back ∙ sym (unwiped_last t.rows ws w)
-      ∙ ap (λ (l : List Wiped). undone t.rows (map standing l)) (sym split)
+      ap (λ (r : Rows). all_back r (map rows_held ws)) given_back ∙ sym (unwiped_last t.rows ws w)
+      ∙ ap (λ (l : List Wiped). all_back t.rows (map rows_held l)) (sym split)
 
   pub unwiped_can : CanUnwipe new ws
   unwiped_can = record {

@@ -10,18 +10,18 @@ use Rattle.model.specs.declared.row.Row.{Row}
 use Rattle.model.specs.declared.cell.Cell.{Cell}
 use Rattle.model.specs.declared.change.Change.TheVariants.{Wipe}
 use Rattle.model.specs.Rows.{Place, Rows, Schema, keys_at}
-use Rattle.model.specs.Effect.{Edits, effect, inverse, back, undone}
+use Rattle.model.specs.Effect.{Edits, effect, inverse, back, all_back}
 use Rattle.model.specs.EditLaws.{same_rows, same_edits}
-use Rattle.model.specs.EffectLaws.{is_named, standing_row, get_effect_wipe, get_inverse_wipe}
+use Rattle.model.specs.EffectLaws.{is_named, row_before_wipe, get_effect_wipe, get_inverse_wipe}
 use Rattle.model.specs.Cells.{table_of}
 use Rattle.indexes.specs.Content.{Content, Keeps, IsTable, SameElsewhere, SameRoomElsewhere}
 use Rattle.indexes.specs.Table.{cells_in}
 use Rattle.change.specs.declared.inverse.Wiped.{Wiped}
 use Rattle.change.specs.declared.inverse.Inverse.TheVariants.{Unwipe}
-use Rattle.change.specs.Edits.{together}
-use Rattle.change.specs.EditsLaws.{or_else, get_over, as_edit, get_standing_at, get_standing_other, back_standing, number_is, number_is_not}
-use Rattle.change.specs.Inverse.{standing, HasNoRows, is_elsewhere, room_with, room_unwiped, AreKnown, AreEmpty, CanUnwipe, CanPutBack}
-use Rattle.change.specs.InverseLaws.{standing_last, unwiped_last, room_unwiped_last, known_more, empty_more, contains_filter, room_unwiped_keeps}
+use Rattle.change.specs.Edits.{laid_together}
+use Rattle.change.specs.EditsLaws.{or_else, get_over, as_edit, get_rows_held_at, get_rows_held_other, back_rows_held, number_is, number_is_not}
+use Rattle.change.specs.Inverse.{rows_held, HasNoRows, is_elsewhere, room_with, room_unwiped, AreKnown, AreEmpty, CanUnwipe, CanPutBack}
+use Rattle.change.specs.InverseLaws.{rows_held_last, unwiped_last, room_unwiped_last, known_more, empty_more, contains_filter, room_unwiped_keeps}
 use Rattle.change.specs.Applied.{IsSound}
 use Rattle.change.proofs.Outcomes.{can_put_back}
 
@@ -35,14 +35,14 @@ or_else_none : {X : Type 0} (a : Option X) → or_else a None ≡ a
 or_else_none None = refl
 or_else_none (Some a) = refl
 
-get_together_last : (es : List Edits) (f : Edits) (p : Place) → get (together (es ++ f ∷ [])) p ≡ or_else (get (together es) p) (get f p)
+get_together_last : (es : List Edits) (f : Edits) (p : Place) → get (laid_together (es ++ f ∷ [])) p ≡ or_else (get (laid_together es) p) (get f p)
 get_together_last [] f p =
-    get_over f (together []) p ∙ ap (or_else (get f p)) (get-empty place_cmp p) ∙ or_else_none (get f p) ∙ ap (λ e. or_else e (get f p)) (sym (get-empty place_cmp p))
+    get_over f (laid_together []) p ∙ ap (or_else (get f p)) (get-empty place_cmp p) ∙ or_else_none (get f p) ∙ ap (λ e. or_else e (get f p)) (sym (get-empty place_cmp p))
 get_together_last (e ∷ es) f p =
-    get_over e (together (es ++ f ∷ [])) p
+    get_over e (laid_together (es ++ f ∷ [])) p
     ∙ ap (or_else (get e p)) (get_together_last es f p)
-    ∙ or_else_assoc (get e p) (get (together es) p) (get f p)
-    ∙ ap (λ x. or_else x (get f p)) (sym (get_over e (together es) p))
+    ∙ or_else_assoc (get e p) (get (laid_together es) p) (get f p)
+    ∙ ap (λ x. or_else x (get f p)) (sym (get_over e (laid_together es) p))
 
 -- ---- the tables named so far
 
@@ -67,13 +67,13 @@ left_elsewhere : (named : Bool) (row : Option Row) → cond named None row ≡ c
 left_elsewhere true row = refl
 left_elsewhere false row = refl
 
-edited_here : (named : Bool) (row : Option Row) → or_else (standing_row named row) (as_edit (cond named None row)) ≡ standing_row (named || true) row
+edited_here : (named : Bool) (row : Option Row) → or_else (row_before_wipe named row) (as_edit (cond named None row)) ≡ row_before_wipe (named || true) row
 edited_here true None = refl
 edited_here true (Some row) = refl
 edited_here false None = refl
 edited_here false (Some row) = refl
 
-edited_elsewhere : (named : Bool) (row : Option Row) → or_else (standing_row named row) None ≡ standing_row (named || false) row
+edited_elsewhere : (named : Bool) (row : Option Row) → or_else (row_before_wipe named row) None ≡ row_before_wipe (named || false) row
 edited_elsewhere true None = refl
 edited_elsewhere true (Some row) = refl
 edited_elsewhere false None = refl
@@ -90,9 +90,9 @@ read_again (x ∷ xs) (suc i) d e below = read_again xs i d e (omega arith)
 pub record IsWiped (start t : Content) (named : List ℕ) (ws : List Wiped) : Type 0 where
   pub schema : t.schema ≡ start.schema
   pub rows : (p : Place) → get t.rows p ≡ cond (is_named named p.0) None (get start.rows p)
-  pub edits : (p : Place) → get (together (map standing ws)) p ≡ standing_row (is_named named p.0) (get start.rows p)
+  pub edits : (p : Place) → get (laid_together (map rows_held ws)) p ≡ row_before_wipe (is_named named p.0) (get start.rows p)
   pub can : CanUnwipe t ws
-  pub undone : undone t.rows (map standing ws) ≡ start.rows
+  pub undone : all_back t.rows (map rows_held ws) ≡ start.rows
   pub room : Keeps start.room (room_unwiped t.room ws)
 
 pub nothing_wiped : (start : Content) → IsWiped start start [] []
@@ -105,7 +105,7 @@ nothing_wiped start = record {
   room = λ cell is. is;
 }
   where
-    none_standing : (row : Option Row) → None ≡ standing_row false row
+    none_standing : (row : Option Row) → None ≡ row_before_wipe false row
     none_standing None = refl
     none_standing (Some row) = refl
 
@@ -121,23 +121,23 @@ module _ (start t new : Content) (tables : List ℕ) (i : ℕ) (ws : List Wiped)
   more_rows p true is = subst (λ (n : ℕ). get new.rows (n, p.1) ≡ None) (sym (number_is p.0 w.table is)) (empty p.1) ∙ gone_here (before p) (get start.rows p)
   more_rows p false is = elsewhere p.0 p.1 (number_is_not p.0 w.table is) ∙ far.rows p ∙ left_elsewhere (before p) (get start.rows p)
 
-  given : (p : Place) (b : Bool) → (p.0 == w.table) ≡ b → or_else (standing_row (before p) (get start.rows p)) (get (standing w) p) ≡ standing_row (before p || b) (get start.rows p)
+  given : (p : Place) (b : Bool) → (p.0 == w.table) ≡ b → or_else (row_before_wipe (before p) (get start.rows p)) (get (rows_held w) p) ≡ row_before_wipe (before p || b) (get start.rows p)
   given p true is =
-      ap (or_else (standing_row (before p) (get start.rows p)))
-      (subst (λ (n : ℕ). get (standing w) (n, p.1) ≡ as_edit (get t.rows (n, p.1))) (sym (number_is p.0 w.table is)) (get_standing_at w p.1 ∙ ap as_edit (sym (out p.1)))
+      ap (or_else (row_before_wipe (before p) (get start.rows p)))
+      (subst (λ (n : ℕ). get (rows_held w) (n, p.1) ≡ as_edit (get t.rows (n, p.1))) (sym (number_is p.0 w.table is)) (get_rows_held_at w p.1 ∙ ap as_edit (sym (out p.1)))
       ∙ ap as_edit (far.rows p))
       ∙ edited_here (before p) (get start.rows p)
-  given p false is = ap (or_else (standing_row (before p) (get start.rows p))) (get_standing_other w p is) ∙ edited_elsewhere (before p) (get start.rows p)
+  given p false is = ap (or_else (row_before_wipe (before p) (get start.rows p))) (get_rows_held_other w p is) ∙ edited_elsewhere (before p) (get start.rows p)
 
-  more_edits : (p : Place) → get (together (map standing (ws ++ w ∷ []))) p ≡ standing_row (before p || (p.0 == w.table)) (get start.rows p)
+  more_edits : (p : Place) → get (laid_together (map rows_held (ws ++ w ∷ []))) p ≡ row_before_wipe (before p || (p.0 == w.table)) (get start.rows p)
   more_edits p =
-      ap (λ (es : List Edits). get (together es) p) (standing_last ws w)
-      ∙ get_together_last (map standing ws) (standing w) p
-      ∙ ap (λ e. or_else e (get (standing w) p)) (far.edits p)
+      ap (λ (es : List Edits). get (laid_together es) p) (rows_held_last ws w)
+      ∙ get_together_last (map rows_held ws) (rows_held w) p
+      ∙ ap (λ e. or_else e (get (rows_held w) p)) (far.edits p)
       ∙ given p (p.0 == w.table) refl
 
-  was : t.rows ≡ back new.rows (standing w)
-  was = back_standing new.rows t.rows w empty out (λ other key apart. sym (elsewhere other key apart))
+  was : t.rows ≡ back new.rows (rows_held w)
+  was = back_rows_held new.rows t.rows w empty out (λ other key apart. sym (elsewhere other key apart))
 
   kept : Keeps t.room (room_with new.room w)
   kept cell is = by (table_of cell == w.table) refl
@@ -152,12 +152,12 @@ module _ (start t new : Content) (tables : List ℕ) (i : ℕ) (ws : List Wiped)
   one_more_wiped = record {
     schema = schema ∙ far.schema;
     rows = λ p. more_rows p (p.0 == w.table) refl ∙ ap (λ b. cond b None (get start.rows p)) (sym (named_more tables i w.table p.0 below item));
-    edits = λ p. more_edits p ∙ ap (λ b. standing_row b (get start.rows p)) (sym (named_more tables i w.table p.0 below item));
+    edits = λ p. more_edits p ∙ ap (λ b. row_before_wipe b (get start.rows p)) (sym (named_more tables i w.table p.0 below item));
     can = record {
       known = subst (λ (s : Schema). AreKnown s (ws ++ w ∷ [])) (sym schema) (known_more t.schema ws w far.can.known (known, keys));
       empty = empty_more new.rows ws w (subst (λ (r : Rows). AreEmpty r ws) was far.can.empty) empty;
     };
-    undone = unwiped_last new.rows ws w ∙ ap (λ (r : Rows). undone r (map standing ws)) (sym was) ∙ far.undone;
+    undone = unwiped_last new.rows ws w ∙ ap (λ (r : Rows). all_back r (map rows_held ws)) (sym was) ∙ far.undone;
     room = λ cell is. subst (λ (r : List Cell). Contains r cell) (sym (room_unwiped_last new.room ws w))
         (room_unwiped_keeps t.room (room_with new.room w) ws kept cell (far.room cell is));
   }
@@ -172,9 +172,9 @@ module _ (start t : Content) (tables : List ℕ) (i : ℕ) (wiped : Vec Wiped Gl
   wipe_ok = same_rows _ _ (λ p.
       far.rows p ∙ ap (λ ts. cond (is_named ts p.0) None (get start.rows p)) all_named ∙ sym (get_effect_wipe start.schema start.rows tables p))
 
-  pub wipe_inverse : together (map standing wiped.items) ≡ inverse start.schema start.rows (Wipe tables)
+  pub wipe_inverse : laid_together (map rows_held wiped.items) ≡ inverse start.schema start.rows (Wipe tables)
   wipe_inverse = same_edits _ _ (λ p.
-      far.edits p ∙ ap (λ ts. standing_row (is_named ts p.0) (get start.rows p)) all_named ∙ sym (get_inverse_wipe start.schema start.rows tables p))
+      far.edits p ∙ ap (λ ts. row_before_wipe (is_named ts p.0) (get start.rows p)) all_named ∙ sym (get_inverse_wipe start.schema start.rows tables p))
 
   pub wipe_can : CanPutBack t (Unwipe wiped)
   wipe_can =

@@ -1,6 +1,5 @@
 -- How a change came out, as its answer says.
 --     IsSound      what the tables keep
---     AreTables      the tables of a change are there
 --     Answers      an answer tells the outcome
 --     IfDone, room_after      what holds of the inverse, if the change was done; the room that is there once it is put back
 --     without      the rows but the one at a key
@@ -28,13 +27,7 @@ pub record IsSound (t : Content) : Type 0 where
   pub valid : IsValid t.schema t.rows
   pub room : (table : ℕ) (key : Key) (row : Row) → get t.rows (table, key) ≡ Some row → HasRoom t.room t.schema table row
 
--- the tables that the change names are there
-abbrev pub AreTables : Schema → Change → Type 0
-AreTables schema (Put table row) = table < length schema
-AreTables schema (Set table key patch) = table < length schema
-AreTables schema (Remove table key) = table < length schema
-AreTables schema (Wipe tables) = All (λ table. table < length schema) tables
-
+-- the change was done, and neither skipped nor refused
 abbrev pub IsDone : Outcome → Type 0
 IsDone (Done edits) = Unit {0}
 IsDone Skip = ⊥

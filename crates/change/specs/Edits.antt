@@ -1,19 +1,21 @@
 -- Edits over edits.
---     over, together      the edits of one, and those of the other where it has none; of a list, where the first has the say
+--     laid_over, laid_together      the edits of one, and those of the other where it has none; of a list, where the first has the say
 use Rattle.std.specs.Prelude.{List, [], ◌∷◌, Option}
 use Rattle.std.specs.FinMap as map_of
 use Rattle.model.specs.declared.row.Row.{Row}
 use Rattle.model.specs.Rows.{Place}
 use Rattle.model.specs.Effect.{Edits}
 
+-- the edits with these put in; at one place the first of these has the say
 abbrev pub insert_all : List (Place × Option Row) → Edits → Edits
 insert_all [] edits = edits
 insert_all (e ∷ es) edits = map_of.insert (insert_all es edits) e.0 e.1
 
 -- the edits of the first, and of the second at other places
-abbrev pub over : Edits → Edits → Edits
-over edits others = insert_all (map_of.entries edits) others
+abbrev pub laid_over : Edits → Edits → Edits
+laid_over edits others = insert_all (map_of.entries edits) others
 
-abbrev pub together : List Edits → Edits
-together [] = map_of.empty
-together (edits ∷ rest) = over edits (together rest)
+-- the edits of a list as one; at one place the first that has an edit has the say
+abbrev pub laid_together : List Edits → Edits
+laid_together [] = map_of.empty
+laid_together (edits ∷ rest) = laid_over edits (laid_together rest)

@@ -1,5 +1,5 @@
 -- The laws of inverses.
---     CanUnwipe_last, unwiped_last, ..      the last table that was emptied, apart from those before it
+--     rows_held_last, unwiped_last, ..      the last table that was emptied, apart from those before it
 --     room_unwiped_keeps, room_back_keeps, CanPutBack_keeps      with more room
 --     back_unwipe      what stood where a wipe altered the tables, put back
 use Rattle.std.specs.Prelude.{◌≡◌, Bool, true, false, cond, List, [], ◌∷◌, ◌++◌, map, Contains, filter, refl}
@@ -7,25 +7,25 @@ use Rattle.std.proofs.Common.{sym, ◌∙◌, ap, subst, inl, inr, ◌⊎◌, ar
 use Rattle.std.proofs.lemmas.List.Elements.{Contains-append_left, Contains-append_right, Contains-append_cases, Contains-push, Contains-push_cases}
 use Rattle.model.specs.declared.cell.Cell.{Cell}
 use Rattle.model.specs.Rows.{Rows, Schema, IsValid}
-use Rattle.model.specs.Effect.{Edits, back, undone}
-use Rattle.model.specs.EffectLaws.{undone_append}
+use Rattle.model.specs.Effect.{Edits, back, all_back}
+use Rattle.model.specs.EffectLaws.{all_back_append}
 use Rattle.indexes.specs.Content.{Content, Keeps}
 use Rattle.indexes.specs.Table.{cells_in}
 use Rattle.change.specs.declared.inverse.Wiped.{Wiped}
 use Rattle.change.specs.declared.inverse.Inverse.{Inverse}
 use Rattle.change.specs.declared.inverse.Inverse.TheVariants.{Take, Put, Replace, Unwipe}
-use Rattle.change.specs.Inverse.{standing, HasNoRows, BelongsTo, is_elsewhere, room_with, room_unwiped, room_back, AreEmpty, AreKnown, IsKnown, AsLeft, HasItsRoom, edits_of, CanPutBack}
-use Rattle.change.specs.Edits.{together}
+use Rattle.change.specs.Inverse.{rows_held, HasNoRows, BelongsTo, is_elsewhere, room_with, room_unwiped, room_back, AreEmpty, AreKnown, IsKnown, AsLeft, HasItsRoom, edits_of, CanPutBack}
+use Rattle.change.specs.Edits.{laid_together}
 use Rattle.change.specs.EditsLaws.{back_together}
 
 -- ---- the last of the emptied tables
 
-pub standing_last : (ws : List Wiped) (w : Wiped) → map standing (ws ++ w ∷ []) ≡ map standing ws ++ standing w ∷ []
-standing_last [] w = refl
-standing_last (first ∷ ws) w = ap (λ (es : List Edits). standing first ∷ es) (standing_last ws w)
+pub rows_held_last : (ws : List Wiped) (w : Wiped) → map rows_held (ws ++ w ∷ []) ≡ map rows_held ws ++ rows_held w ∷ []
+rows_held_last [] w = refl
+rows_held_last (first ∷ ws) w = ap (λ (es : List Edits). rows_held first ∷ es) (rows_held_last ws w)
 
-pub unwiped_last : (rows : Rows) (ws : List Wiped) (w : Wiped) → undone rows (map standing (ws ++ w ∷ [])) ≡ undone (back rows (standing w)) (map standing ws)
-unwiped_last rows ws w = ap (undone rows) (standing_last ws w) ∙ undone_append rows (map standing ws) (standing w ∷ [])
+pub unwiped_last : (rows : Rows) (ws : List Wiped) (w : Wiped) → all_back rows (map rows_held (ws ++ w ∷ [])) ≡ all_back (back rows (rows_held w)) (map rows_held ws)
+unwiped_last rows ws w = ap (all_back rows) (rows_held_last ws w) ∙ all_back_append rows (map rows_held ws) (rows_held w ∷ [])
 
 pub room_unwiped_last : (room : List Cell) (ws : List Wiped) (w : Wiped) → room_unwiped room (ws ++ w ∷ []) ≡ room_unwiped (room_with room w) ws
 room_unwiped_last room [] w = refl
@@ -39,13 +39,13 @@ pub known_more : (schema : Schema) (ws : List Wiped) (w : Wiped) → AreKnown sc
 known_more schema [] w known last = (tt, last)
 known_more schema (first ∷ ws) w known last = (known_more schema ws w known.0 last, known.1)
 
-pub empty_last : (rows : Rows) (ws : List Wiped) (w : Wiped) → AreEmpty rows (ws ++ w ∷ []) → AreEmpty (back rows (standing w)) ws × HasNoRows rows w.table
+pub empty_last : (rows : Rows) (ws : List Wiped) (w : Wiped) → AreEmpty rows (ws ++ w ∷ []) → AreEmpty (back rows (rows_held w)) ws × HasNoRows rows w.table
 empty_last rows [] w empty = (tt, empty.1)
 empty_last rows (first ∷ ws) w empty =
     let rest = empty_last rows ws w empty.0 in
     ((rest.0, subst (λ (r : Rows). HasNoRows r first.table) (unwiped_last rows ws w) empty.1), rest.1)
 
-pub empty_more : (rows : Rows) (ws : List Wiped) (w : Wiped) → AreEmpty (back rows (standing w)) ws → HasNoRows rows w.table → AreEmpty rows (ws ++ w ∷ [])
+pub empty_more : (rows : Rows) (ws : List Wiped) (w : Wiped) → AreEmpty (back rows (rows_held w)) ws → HasNoRows rows w.table → AreEmpty rows (ws ++ w ∷ [])
 empty_more rows [] w empty last = (tt, last)
 empty_more rows (first ∷ ws) w empty last =
     (empty_more rows ws w empty.0 last, subst (λ (r : Rows). HasNoRows r first.table) (sym (unwiped_last rows ws w)) empty.1)
@@ -141,5 +141,5 @@ CanPutBack_keeps t more inverse schema rows keeps can = record {
 }
 
 -- what emptied tables held, together
-pub back_unwipe : (rows : Rows) (ws : List Wiped) → back rows (together (map standing ws)) ≡ undone rows (map standing ws)
-back_unwipe rows ws = back_together rows (map standing ws)
+pub back_unwipe : (rows : Rows) (ws : List Wiped) → back rows (laid_together (map rows_held ws)) ≡ all_back rows (map rows_held ws)
+back_unwipe rows ws = back_together rows (map rows_held ws)

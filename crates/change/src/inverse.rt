@@ -1,9 +1,9 @@
 // What takes a change back.
 ghost use Rattle.std.specs.Prelude.{◌≡◌, ◌++◌, [], ◌∷◌, length, map};
 ghost use Rattle.std.specs.FinMap.{get, insert, remove};
-ghost use Rattle.model.specs.Effect.{back, undone};
+ghost use Rattle.model.specs.Effect.{back, all_back};
 ghost use Rattle.indexes.specs.Content.{Keeps};
-ghost use Rattle.change.specs.Inverse.{edits_of, room_back, CanPutBack, CanUnwipe, standing, room_unwiped};
+ghost use Rattle.change.specs.Inverse.{edits_of, room_back, CanPutBack, CanUnwipe, rows_held, room_unwiped};
 
 use indexes::{Contents, Tables};
 use model::{Key, Row, TableId};
@@ -66,7 +66,7 @@ pub fn put_back(t: &mut Tables, inverse: Inverse)
 pub(crate) fn unwipe_all(t: &mut Tables, wiped: Vec<Wiped>)
     requires { CanUnwipe t.old wiped.items }
     ensures schema { t.new.schema ≡ t.old.schema }
-    ensures rows { t.new.rows ≡ undone t.old.rows (map standing wiped.items) }
+    ensures rows { t.new.rows ≡ all_back t.old.rows (map rows_held wiped.items) }
     ensures room { Keeps (room_unwiped t.old.room wiped.items) t.new.room }
 {
     let mut wiped = wiped;

@@ -3,10 +3,11 @@ ghost use Rattle.std.specs.Prelude.{◌≡◌, ◌+◌, ◌-◌, ◌<◌, ◌≤
 ghost use Rattle.std.specs.FinMap.{get, remove};
 ghost use Rattle.model.specs.declared.change.Change.TheVariants.{Put, Set, Remove, Wipe};
 ghost use Rattle.model.specs.Rows.{IsValid, keys_at, values_in};
-ghost use Rattle.model.specs.Effect.{first_taken, is_taken, patched, patched_value, outcome, effect, inverse};
+ghost use Rattle.model.specs.Effect.{first_taken, are_taken_unless_null, patch_row, patch_value, outcome, effect, inverse};
 ghost use Rattle.indexes.specs.Content.{Keeps, unique_columns};
 ghost use Rattle.change.specs.Inverse.{edits_of, CanPutBack};
-ghost use Rattle.change.specs.Applied.{AreTables, Answers, IsSound, IfDone, room_after, without};
+ghost use Rattle.model.specs.Named.{NamesTables};
+ghost use Rattle.change.specs.Applied.{Answers, IsSound, IfDone, room_after, without};
 
 use crate::inverse::{Inverse, Wiped, unwipe_all};
 use indexes::Tables;
@@ -57,7 +58,7 @@ impl From<AllocError> for Clash {
 
 /// Applies a change to the tables.
 pub fn apply(alloc: Global, t: &mut Tables, c: &Change) -> Result<Applied, Clash>
-    requires { AreTables t.old.schema c.now }
+    requires { NamesTables (length t.old.schema) c.now }
     ensures answer { Answers (outcome t.old.schema t.old.rows c.now) result }
     ensures ok { OnOk result (t.new.rows ≡ effect t.old.schema t.old.rows c.now) }
     ensures err { OnErr result (t.new.rows ≡ t.old.rows) }
@@ -169,7 +170,7 @@ fn remove(t: &mut Tables, table: TableId, key: &Key) -> Result<Applied, Clash>
 
 /// Tables are emptied, one after another.
 fn wipe(alloc: Global, t: &mut Tables, tables: &[TableId]) -> Result<Applied, Clash>
-    requires known { AreTables t.old.schema (Wipe tables.now) }
+    requires known { NamesTables (length t.old.schema) (Wipe tables.now) }
     requires sound { IsSound t.old }
     ensures answer { Answers (outcome t.old.schema t.old.rows (Wipe tables.now)) result }
     ensures ok { OnOk result (t.new.rows ≡ effect t.old.schema t.old.rows (Wipe tables.now)) }
@@ -197,7 +198,7 @@ fn wipe(alloc: Global, t: &mut Tables, tables: &[TableId]) -> Result<Applied, Cl
 
 /// The row after an update. A column past the patch's end is kept.
 fn patched_row(alloc: Global, old: &RowView<'_>, patch: &Patch) -> Result<Row, OutOfMemory>
-    ensures { IfOk result (λ row. row ≡ patched patch.now old.now) }
+    ensures { IfOk result (λ row. row ≡ patch_row patch.now old.now) }
 {
     let row = old.to_row()?;
     let olds = row.values();
@@ -205,7 +206,7 @@ fn patched_row(alloc: Global, old: &RowView<'_>, patch: &Patch) -> Result<Row, O
     let mut values = Vec::with_capacity(alloc, olds.len())?;
     for column in 0..olds.len() {
         let value = if column < patches.len() {
-            patched_value(&patches[column], &olds[column])?
+            patch_value(&patches[column], &olds[column])?
         } else {
             copy_value(&olds[column])?
         };
@@ -215,8 +216,8 @@ fn patched_row(alloc: Global, old: &RowView<'_>, patch: &Patch) -> Result<Row, O
 }
 
 /// A column after an update.
-fn patched_value(patch: &ColumnPatch, old: &Option<Value>) -> Result<Option<Value>, OutOfMemory>
-    ensures { IfOk result (λ value. value ≡ patched_value patch.now old.now) }
+fn patch_value(patch: &ColumnPatch, old: &Option<Value>) -> Result<Option<Value>, OutOfMemory>
+    ensures { IfOk result (λ value. value ≡ patch_value patch.now old.now) }
 {
     match patch {
         ColumnPatch::Keep => copy_value(old),
@@ -263,7 +264,7 @@ fn has_twin(t: &Tables, table: TableId, number: usize, row: &Row, except: Option
     requires known { table < length t.now.schema }
     requires sound { IsSound t.now }
     requires number { (1 ≤ number) × (number ≤ length (keys_at t.now.schema table).uniques) }
-    ensures { result ≡ is_taken (without t.now.rows table except.entry) table (unique_columns t.now.schema table number) (values_in (unique_columns t.now.schema table number) row.now) }
+    ensures { result ≡ are_taken_unless_null (without t.now.rows table except.entry) table (unique_columns t.now.schema table number) (values_in (unique_columns t.now.schema table number) row.now) }
 {
     match t.find_twin(table, number, row) {
         None => false,

@@ -1,6 +1,7 @@
 // That the calls succeed with ample memory, what they then answer, and that what was done is taken back.
-ghost use Rattle.std.specs.Prelude.{IsTrue};
-ghost use Rattle.change.specs.Applied.{AreTables, IfDone};
+ghost use Rattle.std.specs.Prelude.{IsTrue, length};
+ghost use Rattle.model.specs.Named.{NamesTables};
+ghost use Rattle.change.specs.Applied.{IfDone};
 ghost use Rattle.change.specs.Inverse.{CanPutBack};
 
 use crate::{Applied, Change, Clash, ColumnPatch, Patch, TableIds, apply, put_back};
@@ -112,7 +113,7 @@ fn change(alloc: Global, call: &Call) -> Result<Change, OutOfMemory> {
 
 /// Whether the tables of a change are there.
 fn are_there(t: &Tables, c: &Change) -> bool
-    ensures { IsTrue result → AreTables t.now.schema c.now }
+    ensures { IsTrue result → NamesTables (length t.now.schema) c.now }
 {
     match c {
         Change::Put { table, .. } | Change::Set { table, .. } | Change::Remove { table, .. } => {

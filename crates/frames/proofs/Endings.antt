@@ -5,7 +5,7 @@ use Rattle.frames.specs.declared.fault.FrameFault.{FrameFault}
 use Rattle.frames.specs.declared.fault.FrameFault.TheVariants.{ServerError, UnknownFrame, BadLength, TooLarge, UnknownCopyTag}
 use Rattle.frames.specs.declared.item.CopyItem.{CopyItem}
 use Rattle.frames.specs.Wire.{tag_of, length_of, content_of, header_fault, copy_item, is_tag, is_length, copy_data, copy_done, error_response, xlog_data, keepalive, wal_of, keepalive_of}
-use Rattle.frames.specs.Stream.{Front, Part, Refused, Skipped, Given, Closing, front, whole, given, checked, Ending, Waits, Closed, Broken, Reading, reading, reading_from, ending_of, IsFrameFault}
+use Rattle.frames.specs.Stream.{Front, Part, Refused, Skipped, Given, Closing, front, frame_front, content_front, header_front, Ending, Waits, Closed, Broken, Reading, reading, reading_from, ending_of, IsFrameFault}
 use Rattle.frames.proofs.Fronts.{Shrinks, Shrinks-front}
 use Rattle.frames.proofs.Streams.{reading_by_front}
 
@@ -39,34 +39,34 @@ unfolding copy_item
 copy_item-sound content =
     item_sound (eqb (slice_index content 0) xlog_data) (leb 25 (length content)) (eqb (slice_index content 0) keepalive) (eqb (length content) 18) (wal_of content) (keepalive_of content)
 
-given-sound : (r : Result CopyItem FrameFault) (rest : List ℕ) → IfErr r IsFrameFault → IsSound (given r rest)
-given-sound (Ok item) rest h = tt
-given-sound (Err fault) rest h = h
+content_front-sound : (r : Result CopyItem FrameFault) (rest : List ℕ) → IfErr r IsFrameFault → IsSound (content_front r rest)
+content_front-sound (Ok item) rest h = tt
+content_front-sound (Err fault) rest h = h
 
-whole_sound : (a b c : Bool) (r : Result CopyItem FrameFault) (rest : List ℕ) → IfErr r IsFrameFault → IsSound (cond a (given r rest) (cond b Closing (cond c (Refused ServerError) (Skipped rest))))
-whole_sound true b c r rest h = given-sound r rest h
+whole_sound : (a b c : Bool) (r : Result CopyItem FrameFault) (rest : List ℕ) → IfErr r IsFrameFault → IsSound (cond a (content_front r rest) (cond b Closing (cond c (Refused ServerError) (Skipped rest))))
+whole_sound true b c r rest h = content_front-sound r rest h
 whole_sound false true c r rest h = tt
 whole_sound false false true r rest h = tt
 whole_sound false false false r rest h = tt
 
-whole-sound : (frame rest : List ℕ) → IsSound (whole frame rest)
-unfolding whole
-whole-sound frame rest =
+frame_front-sound : (frame rest : List ℕ) → IsSound (frame_front frame rest)
+unfolding frame_front
+frame_front-sound frame rest =
     whole_sound (eqb (tag_of frame) copy_data) (eqb (tag_of frame) copy_done) (eqb (tag_of frame) error_response) (copy_item (content_of frame)) rest (copy_item-sound (content_of frame))
 
 sound_cond : (b : Bool) (x y : Front) → IsSound x → IsSound y → IsSound (cond b x y)
 sound_cond true x y p q = p
 sound_cond false x y p q = q
 
-checked-sound : (h : Option FrameFault) (len : ℕ) (bytes : List ℕ) → IfSome h IsFrameFault → IsSound (checked h len bytes)
-checked-sound (Some fault) len bytes p = p
-checked-sound None len bytes p = sound_cond (ltb len (length bytes)) (whole (take (len + 1) bytes) (drop (len + 1) bytes)) Part (whole-sound (take (len + 1) bytes) (drop (len + 1) bytes)) tt
+header_front-sound : (h : Option FrameFault) (len : ℕ) (bytes : List ℕ) → IfSome h IsFrameFault → IsSound (header_front h len bytes)
+header_front-sound (Some fault) len bytes p = p
+header_front-sound None len bytes p = sound_cond (ltb len (length bytes)) (frame_front (take (len + 1) bytes) (drop (len + 1) bytes)) Part (frame_front-sound (take (len + 1) bytes) (drop (len + 1) bytes)) tt
 
 front-sound : (bytes : List ℕ) → IsSound (front bytes)
 unfolding front
 front-sound bytes =
-    sound_cond (ltb (length bytes) 5) Part (checked (header_fault (tag_of bytes) (length_of bytes)) (length_of bytes) bytes) tt
-    (checked-sound _ (length_of bytes) bytes (header_fault-sound (tag_of bytes) (length_of bytes)))
+    sound_cond (ltb (length bytes) 5) Part (header_front (header_fault (tag_of bytes) (length_of bytes)) (length_of bytes) bytes) tt
+    (header_front-sound _ (length_of bytes) bytes (header_fault-sound (tag_of bytes) (length_of bytes)))
 
 -- what is known of an ending
 abbrev IsEnding : Ending → Type 0

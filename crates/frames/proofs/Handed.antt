@@ -3,31 +3,31 @@ use Rattle.std.specs.Prelude.{IfSome, option_to_list}
 use Rattle.std.proofs.Common.{◌≡◌, ℕ, List, [], ◌∷◌, ◌++◌, Option, Some, None, refl, sym, ap, ◌∙◌, subst, append_assoc, append-nil}
 use Rattle.frames.specs.declared.fault.FrameFault.TheVariants.{Device, OutOfMemory}
 use Rattle.frames.specs.declared.item.CopyItem.{CopyItem}
-use Rattle.frames.specs.Stream.{Ending, Waits, Closed, Broken, Reading, behind, reading, reading_within, copy_items, resumed}
+use Rattle.frames.specs.Stream.{Ending, Waits, Closed, Broken, Reading, after_items, reading, reading_within, copy_items, reading_after}
 use Rattle.frames.specs.Reads.{Reads, HasRead}
 use Rattle.frames.proofs.Streams.{reading-append}
 
 -- items that were read before
-pub Reads-behind : (all bytes : List ℕ) (given more : List CopyItem) (e : Ending) → reading all ≡ behind given (reading bytes) → Reads bytes more e → Reads all (given ++ more) e
-Reads-behind all bytes given more (Waits rest) p h = (ap (λ x. given ++ x) h.0 ∙ sym (ap (λ (r : Reading). r.items) p), ap (λ (r : Reading). r.ending) p ∙ h.1)
-Reads-behind all bytes given more Closed p h = (ap (λ x. given ++ x) h.0 ∙ sym (ap (λ (r : Reading). r.items) p), ap (λ (r : Reading). r.ending) p ∙ h.1)
-Reads-behind all bytes given more (Broken Device) p h = ap (λ x. given ++ x) h ∙ sym (ap (λ (r : Reading). r.items) p)
-Reads-behind all bytes given more (Broken OutOfMemory) p h = (h.0, append_assoc given more h.0 ∙ ap (λ x. given ++ x) h.1 ∙ sym (ap (λ (r : Reading). r.items) p))
-Reads-behind all bytes given more (Broken fault) p h = (ap (λ x. given ++ x) h.0 ∙ sym (ap (λ (r : Reading). r.items) p), ap (λ (r : Reading). r.ending) p ∙ h.1)
+pub Reads-after_items : (all bytes : List ℕ) (given more : List CopyItem) (e : Ending) → reading all ≡ after_items given (reading bytes) → Reads bytes more e → Reads all (given ++ more) e
+Reads-after_items all bytes given more (Waits rest) p h = (ap (λ x. given ++ x) h.0 ∙ sym (ap (λ (r : Reading). r.items) p), ap (λ (r : Reading). r.ending) p ∙ h.1)
+Reads-after_items all bytes given more Closed p h = (ap (λ x. given ++ x) h.0 ∙ sym (ap (λ (r : Reading). r.items) p), ap (λ (r : Reading). r.ending) p ∙ h.1)
+Reads-after_items all bytes given more (Broken Device) p h = ap (λ x. given ++ x) h ∙ sym (ap (λ (r : Reading). r.items) p)
+Reads-after_items all bytes given more (Broken OutOfMemory) p h = (h.0, append_assoc given more h.0 ∙ ap (λ x. given ++ x) h.1 ∙ sym (ap (λ (r : Reading). r.items) p))
+Reads-after_items all bytes given more (Broken fault) p h = (ap (λ x. given ++ x) h.0 ∙ sym (ap (λ (r : Reading). r.items) p), ap (λ (r : Reading). r.ending) p ∙ h.1)
 
 -- of bytes in two pieces, where the first ends inside a frame or between two
-pub reading-waits : (fed piece rest : List ℕ) (items : List CopyItem) → Reads fed items (Waits rest) → reading (fed ++ piece) ≡ behind items (reading (rest ++ piece))
-reading-waits fed piece rest items h = reading-append fed piece ∙ ap (λ e. behind (copy_items fed) (resumed e piece)) h.1 ∙ ap (λ x. behind x (reading (rest ++ piece))) (sym h.0)
+pub reading-waits : (fed piece rest : List ℕ) (items : List CopyItem) → Reads fed items (Waits rest) → reading (fed ++ piece) ≡ after_items items (reading (rest ++ piece))
+reading-waits fed piece rest items h = reading-append fed piece ∙ ap (λ e. after_items (copy_items fed) (reading_after e piece)) h.1 ∙ ap (λ x. after_items x (reading (rest ++ piece))) (sym h.0)
 
 -- what a piece adds
 pub HasRead-more : (fed piece rest : List ℕ) (out kept given : List CopyItem) (e : Ending) → Reads fed (out ++ kept) (Waits rest) → Reads (rest ++ piece) given e → Reads (fed ++ piece) (out ++ (kept ++ given)) e
 HasRead-more fed piece rest out kept given e h more =
-    subst (λ x. Reads (fed ++ piece) x e) (append_assoc out kept given) (Reads-behind (fed ++ piece) (rest ++ piece) (out ++ kept) given e (reading-waits fed piece rest (out ++ kept) h) more)
+    subst (λ x. Reads (fed ++ piece) x e) (append_assoc out kept given) (Reads-after_items (fed ++ piece) (rest ++ piece) (out ++ kept) given e (reading-waits fed piece rest (out ++ kept) h) more)
 
 -- bytes after CopyDone add nothing
 pub Reads-closed : (fed piece : List ℕ) (items : List CopyItem) → Reads fed items Closed → Reads (fed ++ piece) items Closed
 Reads-closed fed piece items h =
-    let p = reading-append fed piece ∙ ap (λ e. behind (copy_items fed) (resumed e piece)) h.1 in
+    let p = reading-append fed piece ∙ ap (λ e. after_items (copy_items fed) (reading_after e piece)) h.1 in
     (h.0 ∙ sym (append-nil (copy_items fed)) ∙ sym (ap (λ (r : Reading). r.items) p), ap (λ (r : Reading). r.ending) p)
 
 -- before the first byte

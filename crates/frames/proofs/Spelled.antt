@@ -9,7 +9,7 @@ use Rattle.frames.specs.declared.item.CopyItem.TheVariants.{Wal, Keepalive, Done
 use Rattle.frames.specs.declared.fault.FrameFault.TheVariants.{ServerError}
 use Rattle.std.specs.Prelude.{not, slice_index}
 use Rattle.frames.specs.Wire.{tag_of, length_of, content_of, header_fault, copy_item, copy_data, copy_done, error_response, notice_response, parameter_status, int32, int64, bytes_at, wal_of, keepalive_of, spelled32, spelled64, spelled_frame, spelled_wal, spelled_keepalive}
-use Rattle.frames.specs.Stream.{Front, Part, Refused, Skipped, Given, Closing, front, whole, given, checked, Closed, Broken, reading, reading_from, behind}
+use Rattle.frames.specs.Stream.{Front, Part, Refused, Skipped, Given, Closing, front, frame_front, content_front, header_front, Closed, Broken, reading, reading_from, after_items}
 use Rattle.frames.proofs.Streams.{reading_by_front}
 
 length-spelled32 : (n : ℕ) → length (spelled32 n) ≡ 4
@@ -44,20 +44,20 @@ content_of-spelled : (tag : ℕ) (content : List ℕ) → content_of (spelled_fr
 content_of-spelled tag content = let n = length content + 4 in drop_at (spelled32 n) content 4 (length-spelled32 n)
 
 front_checked : (tag len : ℕ) (bytes : List ℕ) → tag_of bytes ≡ tag → length_of bytes ≡ len → header_fault tag len ≡ None → 5 ≤ length bytes → len < length bytes
-    → front bytes ≡ whole (take (len + 1) bytes) (drop (len + 1) bytes)
+    → front bytes ≡ frame_front (take (len + 1) bytes) (drop (len + 1) bytes)
 unfolding front
 front_checked tag len bytes p q none five fits =
     cond-false (ltb (length bytes) 5) Part _ (le-ltb (length bytes) 5 five)
-    ∙ ap (λ x. checked (header_fault x (length_of bytes)) (length_of bytes) bytes) p ∙ ap (λ x. checked (header_fault tag x) x bytes) q ∙ ap (λ x. checked x len bytes) none
+    ∙ ap (λ x. header_front (header_fault x (length_of bytes)) (length_of bytes) bytes) p ∙ ap (λ x. header_front (header_fault tag x) x bytes) q ∙ ap (λ x. header_front x len bytes) none
     ∙ cond-true (ltb len (length bytes)) _ Part (lt-ltb len (length bytes) fits)
 
-front_spelled : (tag : ℕ) (content rest : List ℕ) → length content + 4 ≤ 67108864 → header_fault tag (length content + 4) ≡ None → front (spelled_frame tag content ++ rest) ≡ whole (spelled_frame tag content) rest
+front_spelled : (tag : ℕ) (content rest : List ℕ) → length content + 4 ≤ 67108864 → header_fault tag (length content + 4) ≡ None → front (spelled_frame tag content ++ rest) ≡ frame_front (spelled_frame tag content) rest
 front_spelled tag content rest h none =
     let size : length (spelled_frame tag content) ≡ length content + 4 + 1 = length-spelled tag content in
     let all : length (spelled_frame tag content ++ rest) ≡ length content + 4 + 1 + length rest = length-append (spelled_frame tag content) rest ∙ ap (λ x. x + length rest) size in
     front_checked tag (length content + 4) (spelled_frame tag content ++ rest) refl (length_of-spelled tag content rest (omega arith)) none (omega arith) (omega arith)
-    ∙ ap (λ x. whole x (drop (length content + 4 + 1) (spelled_frame tag content ++ rest))) (take_at (spelled_frame tag content) rest _ size)
-    ∙ ap (whole (spelled_frame tag content)) (drop_at (spelled_frame tag content) rest _ size)
+    ∙ ap (λ x. frame_front x (drop (length content + 4 + 1) (spelled_frame tag content ++ rest))) (take_at (spelled_frame tag content) rest _ size)
+    ∙ ap (frame_front (spelled_frame tag content)) (drop_at (spelled_frame tag content) rest _ size)
 
 header_data : (n : ℕ) → 5 ≤ n → n ≤ 67108864 → header_fault copy_data n ≡ None
 unfolding header_fault
@@ -80,18 +80,18 @@ unfolding header_fault
 header_done = refl
 
 -- what a frame gives, and then the rest
-reading_spelled : (tag : ℕ) (content rest : List ℕ) (f : Front) → length content + 4 ≤ 67108864 → header_fault tag (length content + 4) ≡ None → whole (spelled_frame tag content) rest ≡ f
+reading_spelled : (tag : ℕ) (content rest : List ℕ) (f : Front) → length content + 4 ≤ 67108864 → header_fault tag (length content + 4) ≡ None → frame_front (spelled_frame tag content) rest ≡ f
     → reading (spelled_frame tag content ++ rest) ≡ reading_from f (spelled_frame tag content ++ rest) reading
 reading_spelled tag content rest f h none p =
     reading_by_front (spelled_frame tag content ++ rest) ∙ ap (λ x. reading_from x (spelled_frame tag content ++ rest) reading) (front_spelled tag content rest h none ∙ p)
 
 -- a CopyData frame
 reading_data : (content rest : List ℕ) (item : CopyItem) → 0 < length content → length content + 4 ≤ 67108864 → copy_item content ≡ Ok item
-    → reading (spelled_frame copy_data content ++ rest) ≡ behind (item ∷ []) (reading rest)
-unfolding whole
+    → reading (spelled_frame copy_data content ++ rest) ≡ after_items (item ∷ []) (reading rest)
+unfolding frame_front
 reading_data content rest item some h p =
     reading_spelled copy_data content rest (Given item rest) h (header_data (length content + 4) (omega arith) h)
-    (ap (λ x. given (copy_item x) rest) (content_of-spelled copy_data content) ∙ ap (λ x. given x rest) p)
+    (ap (λ x. content_front (copy_item x) rest) (content_of-spelled copy_data content) ∙ ap (λ x. content_front x rest) p)
 
 module _ (start end clock : ℕ) (payload : List ℕ) where
   length-wal : length (spelled_wal start end clock payload) ≡ length payload + 25
@@ -119,7 +119,7 @@ module _ (start end clock : ℕ) (payload : List ℕ) where
       rw enough (ap Ok (wal_of-spelled p q))
 
   pub reading_wal : (rest : List ℕ) → start < 2 ^ 64 → end < 2 ^ 64 → length payload + 29 ≤ 67108864
-      → reading (spelled_frame copy_data (spelled_wal start end clock payload) ++ rest) ≡ behind (Wal start end payload ∷ []) (reading rest)
+      → reading (spelled_frame copy_data (spelled_wal start end clock payload) ++ rest) ≡ after_items (Wal start end payload ∷ []) (reading rest)
   reading_wal rest p q h =
       let l = length-wal in reading_data (spelled_wal start end clock payload) rest (Wal start end payload) (omega arith) (omega arith) (copy_item-wal p q)
 
@@ -147,22 +147,22 @@ module _ (end clock reply : ℕ) where
       rw exact (ap Ok (keepalive_of-spelled p))
 
   pub reading_keepalive : (rest : List ℕ) → end < 2 ^ 64
-      → reading (spelled_frame copy_data (spelled_keepalive end clock reply) ++ rest) ≡ behind (Keepalive end (not (eqb reply 0)) ∷ []) (reading rest)
+      → reading (spelled_frame copy_data (spelled_keepalive end clock reply) ++ rest) ≡ after_items (Keepalive end (not (eqb reply 0)) ∷ []) (reading rest)
   reading_keepalive rest p =
       let l = length-keepalive in reading_data (spelled_keepalive end clock reply) rest (Keepalive end (not (eqb reply 0))) (omega arith) (omega arith) (copy_item-keepalive p)
 
 pub reading_done : (rest : List ℕ) → reading (spelled_frame copy_done [] ++ rest) ≡ record { items = Done ∷ []; ending = Closed }
-unfolding whole
+unfolding frame_front
 reading_done rest = reading_spelled copy_done [] rest Closing (omega arith) header_done refl
 
 pub reading_notice : (content rest : List ℕ) → length content + 4 ≤ 67108864 → reading (spelled_frame notice_response content ++ rest) ≡ reading rest
-unfolding whole
+unfolding frame_front
 reading_notice content rest h = reading_spelled notice_response content rest (Skipped rest) h (header_notice (length content + 4) (omega arith) h) refl
 
 pub reading_parameter : (content rest : List ℕ) → length content + 4 ≤ 67108864 → reading (spelled_frame parameter_status content ++ rest) ≡ reading rest
-unfolding whole
+unfolding frame_front
 reading_parameter content rest h = reading_spelled parameter_status content rest (Skipped rest) h (header_parameter (length content + 4) (omega arith) h) refl
 
 pub reading_error : (content rest : List ℕ) → length content + 4 ≤ 67108864 → reading (spelled_frame error_response content ++ rest) ≡ record { items = []; ending = Broken ServerError }
-unfolding whole
+unfolding frame_front
 reading_error content rest h = reading_spelled error_response content rest (Refused ServerError) h (header_error (length content + 4) (omega arith) h) refl

@@ -4,16 +4,16 @@ use Rattle.frames.specs.declared.fault.FrameFault.{FrameFault}
 use Rattle.frames.specs.declared.fault.FrameFault.TheVariants.{Device, OutOfMemory}
 use Rattle.frames.specs.declared.item.CopyItem.{CopyItem}
 use Rattle.frames.specs.declared.item.CopyItem.TheVariants.{Done}
-use Rattle.frames.specs.Stream.{Front, Part, Refused, Skipped, Given, Closing, front, Ending, Waits, Closed, Broken, Reading, behind, reading_from, reading, copy_items, ending_of}
+use Rattle.frames.specs.Stream.{Front, Part, Refused, Skipped, Given, Closing, front, Ending, Waits, Closed, Broken, Reading, after_items, reading_from, reading, copy_items, ending_of}
 use Rattle.frames.specs.Reads.{Reads}
 use Rattle.frames.specs.Steps.{UnlessMemory}
 use Rattle.frames.proofs.Fronts.{Shrinks, Shrinks-front}
 use Rattle.frames.proofs.Streams.{reading_by_front}
-use Rattle.frames.proofs.Handed.{Reads-behind}
+use Rattle.frames.proofs.Handed.{Reads-after_items}
 
 -- the items grew by those of the frames before the rest
 abbrev pub Progress : List CopyItem → List CopyItem → List ℕ → List ℕ → Type 0
-Progress before items all rest = (given : List CopyItem) × (items ≡ before ++ given) × (reading all ≡ behind given (reading rest))
+Progress before items all rest = (given : List CopyItem) × (items ≡ before ++ given) × (reading all ≡ after_items given (reading rest))
 
 -- the items grew by all that the bytes give, which end so
 abbrev pub Finished : List CopyItem → List CopyItem → List ℕ → Ending → Type 0
@@ -32,18 +32,18 @@ pub shorter_given : (old new : List ℕ) (item : CopyItem) → front old ≡ Giv
 shorter_given old new item p = subst (λ f. Shrinks f (length old)) p (Shrinks-front old)
 
 pub Progress-skipped : (before items : List CopyItem) (all old new : List ℕ) → Progress before items all old → front old ≡ Skipped new → Progress before items all new
-Progress-skipped before items all old new h p = (h.0, h.1, h.2 ∙ ap (behind h.0) (by_front old _ p))
+Progress-skipped before items all old new h p = (h.0, h.1, h.2 ∙ ap (after_items h.0) (by_front old _ p))
 
 pub Progress-given : (before items more : List CopyItem) (all old new : List ℕ) (item : CopyItem) → Progress before items all old → front old ≡ Given item new → more ≡ items ++ item ∷ [] → Progress before more all new
 Progress-given before items more all old new item h p q = (
   h.0 ++ item ∷ [],
   q ∙ ap (λ x. x ++ item ∷ []) h.1 ∙ append_assoc before h.0 (item ∷ []),
-  h.2 ∙ ap (behind h.0) (by_front old _ p) ∙ ap (λ x. record { items = x; ending = ending_of new }) (sym (append_assoc h.0 (item ∷ []) (copy_items new))),
+  h.2 ∙ ap (after_items h.0) (by_front old _ p) ∙ ap (λ x. record { items = x; ending = ending_of new }) (sym (append_assoc h.0 (item ∷ []) (copy_items new))),
 )
 
 finish : (before items kept more : List CopyItem) (all old : List ℕ) (e : Ending) → Progress before items all old → kept ≡ items ++ more → Reads old more e → Finished before kept all e
 finish before items kept more all old e h q r =
-    (h.0 ++ more, q ∙ ap (λ x. x ++ more) h.1 ∙ append_assoc before h.0 more, Reads-behind all old h.0 more e h.2 r)
+    (h.0 ++ more, q ∙ ap (λ x. x ++ more) h.1 ∙ append_assoc before h.0 more, Reads-after_items all old h.0 more e h.2 r)
 
 same : (items : List CopyItem) → items ≡ items ++ []
 same items = sym (append-nil items)

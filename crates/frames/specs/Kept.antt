@@ -4,5 +4,5 @@ use Rattle.frames.specs.Stream.{Reading}
 use Rattle.frames.specs.Steps.{ending_in}
 
 -- the items not handed out, and where it stands
-abbrev pub kept : Inside → Reading
-kept f = record { items = f.items.items; ending = ending_in f.state f.unread.items }
+abbrev pub reading_left : Inside → Reading
+reading_left f = record { items = f.items.items; ending = ending_in f.state f.unread.items }

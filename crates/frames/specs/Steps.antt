@@ -23,10 +23,10 @@ TakesFrame (Ok taken.Closing) old new = front old ≡ Closing
 TakesFrame (Err fault) old new = UnlessMemory fault (front old ≡ Refused fault)
 
 -- where a reader stands that took all whole frames off: its answer says whether CopyDone was among them
-abbrev pub stands : Result Bool FrameFault → List ℕ → Ending
-stands (Ok true) rest = Closed
-stands (Ok false) rest = Waits rest
-stands (Err fault) rest = Broken fault
+abbrev pub ending_after : Result Bool FrameFault → List ℕ → Ending
+ending_after (Ok true) rest = Closed
+ending_after (Ok false) rest = Waits rest
+ending_after (Err fault) rest = Broken fault
 
 -- where a reader stands, with these bytes of a frame that isn't whole
 abbrev pub ending_in : State → List ℕ → Ending

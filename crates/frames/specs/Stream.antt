@@ -16,24 +16,24 @@ pub data Front : Type 0 where
   Closing : Front
 
 -- a CopyData frame with what comes of its content
-abbrev pub given : Result CopyItem FrameFault → List ℕ → Front
-given (Ok item) rest = Given item rest
-given (Err fault) rest = Refused fault
+abbrev pub content_front : Result CopyItem FrameFault → List ℕ → Front
+content_front (Ok item) rest = Given item rest
+content_front (Err fault) rest = Refused fault
 
 -- a whole frame, and the bytes after it
-unfoldable pub whole : List ℕ → List ℕ → Front
-whole frame rest =
-    if tag_of frame == copy_data then given (copy_item (content_of frame)) rest
+unfoldable pub frame_front : List ℕ → List ℕ → Front
+frame_front frame rest =
+    if tag_of frame == copy_data then content_front (copy_item (content_of frame)) rest
     else (if tag_of frame == copy_done then Closing else (if tag_of frame == error_response then Refused ServerError else Skipped rest))
 
 -- the frame of a header that was checked, if all of it is there
-abbrev pub checked : Option FrameFault → ℕ → List ℕ → Front
-checked (Some fault) len bytes = Refused fault
-checked None len bytes = if nat_lt len (length bytes) then whole (take (len + 1) bytes) (drop (len + 1) bytes) else Part
+abbrev pub header_front : Option FrameFault → ℕ → List ℕ → Front
+header_front (Some fault) len bytes = Refused fault
+header_front None len bytes = if nat_lt len (length bytes) then frame_front (take (len + 1) bytes) (drop (len + 1) bytes) else Part
 
 -- how the stream of these bytes begins
 unfoldable pub front : List ℕ → Front
-front bytes = if nat_lt (length bytes) 5 then Part else checked (header_fault (tag_of bytes) (length_of bytes)) (length_of bytes) bytes
+front bytes = if nat_lt (length bytes) 5 then Part else header_front (header_fault (tag_of bytes) (length_of bytes)) (length_of bytes) bytes
 
 -- Where a stream stands: it waits for the rest of a frame of which these bytes have come (none at a frame's edge),
 -- it was closed by CopyDone, or it was refused.
@@ -48,15 +48,15 @@ pub record Reading : Type 0 where
   pub ending : Ending
 
 -- these items first
-abbrev pub behind : List CopyItem → Reading → Reading
-behind items r = record { items = items ++ r.items; ending = r.ending }
+abbrev pub after_items : List CopyItem → Reading → Reading
+after_items items r = record { items = items ++ r.items; ending = r.ending }
 
 -- what a stream gives that begins so, and of which the rest is read so
 abbrev pub reading_from : Front → List ℕ → (List ℕ → Reading) → Reading
 reading_from Part bytes read = record { items = []; ending = Waits bytes }
 reading_from (Refused fault) bytes read = record { items = []; ending = Broken fault }
 reading_from (Skipped rest) bytes read = read rest
-reading_from (Given item rest) bytes read = behind (item ∷ []) (read rest)
+reading_from (Given item rest) bytes read = after_items (item ∷ []) (read rest)
 reading_from Closing bytes read = record { items = Done ∷ []; ending = Closed }
 
 -- what at most n frames give
@@ -77,10 +77,10 @@ abbrev pub ending_of : List ℕ → Ending
 ending_of bytes = (reading bytes).ending
 
 -- what more bytes give at an ending
-abbrev pub resumed : Ending → List ℕ → Reading
-resumed (Waits rest) more = reading (rest ++ more)
-resumed Closed more = record { items = []; ending = Closed }
-resumed (Broken fault) more = record { items = []; ending = Broken fault }
+abbrev pub reading_after : Ending → List ℕ → Reading
+reading_after (Waits rest) more = reading (rest ++ more)
+reading_after Closed more = record { items = []; ending = Closed }
+reading_after (Broken fault) more = record { items = []; ending = Broken fault }
 
 -- the faults of frames: UnknownFrame, BadLength, TooLarge, UnknownCopyTag and ServerError
 abbrev pub IsFrameFault : FrameFault → Type 0

@@ -10,15 +10,19 @@ use Rattle.frames.specs.declared.item.CopyItem.TheVariants.{Wal, Keepalive}
 abbrev pub copy_data : ℕ
 copy_data = 100
 
+-- the tag of CopyDone: 'c'
 abbrev pub copy_done : ℕ
 copy_done = 99
 
+-- the tag of NoticeResponse: 'N'
 abbrev pub notice_response : ℕ
 notice_response = 78
 
+-- the tag of ParameterStatus: 'S'
 abbrev pub parameter_status : ℕ
 parameter_status = 83
 
+-- the tag of ErrorResponse: 'E'
 abbrev pub error_response : ℕ
 error_response = 69
 
@@ -26,6 +30,7 @@ error_response = 69
 abbrev pub xlog_data : ℕ
 xlog_data = 119
 
+-- the first byte of a Primary keepalive message: 'k'
 abbrev pub keepalive : ℕ
 keepalive = 107
 
@@ -41,6 +46,7 @@ int64 bytes = from_be_bytes w64 bytes
 unfoldable pub spelled32 : ℕ → List ℕ
 spelled32 n = to_be_bytes w32 n
 
+-- the spelling of an Int64: eight bytes, the most significant first
 unfoldable pub spelled64 : ℕ → List ℕ
 spelled64 n = to_be_bytes w64 n
 
@@ -52,9 +58,11 @@ bytes_at place n bytes = take n (drop place bytes)
 abbrev pub tag_of : List ℕ → ℕ
 tag_of frame = slice_index frame 0
 
+-- the length in a frame's header: of itself and the content
 abbrev pub length_of : List ℕ → ℕ
 length_of frame = int32 (bytes_at 1 4 frame)
 
+-- a frame's content, behind its tag and length
 abbrev pub content_of : List ℕ → List ℕ
 content_of frame = drop 5 frame
 
@@ -91,8 +99,10 @@ copy_item content =
 abbrev pub spelled_frame : ℕ → List ℕ → List ℕ
 spelled_frame tag content = tag ∷ [] ++ spelled32 (length content + 4) ++ content
 
+-- the spelling of XLogData: 'w', start, end, clock, the data
 abbrev pub spelled_wal : ℕ → ℕ → ℕ → List ℕ → List ℕ
 spelled_wal start end clock payload = xlog_data ∷ [] ++ spelled64 start ++ spelled64 end ++ spelled64 clock ++ payload
 
+-- the spelling of a Primary keepalive message: 'k', end, clock, whether a reply is wanted
 abbrev pub spelled_keepalive : ℕ → ℕ → ℕ → List ℕ
 spelled_keepalive end clock reply = keepalive ∷ [] ++ spelled64 end ++ spelled64 clock ++ reply ∷ []

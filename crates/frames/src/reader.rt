@@ -5,7 +5,7 @@ ghost use Rattle.frames.specs.declared.item.CopyItem.{CopyItem};
 ghost use Rattle.frames.specs.declared.fault.FrameFault.{FrameFault};
 ghost use Rattle.frames.specs.Stream.{Waits, Closed, Broken, ending_of};
 ghost use Rattle.frames.specs.Reads.{Reads, HasRead, Answers, fault_of, fault_at_end, HasEnded, AtEndOf, IsStreamFault};
-ghost use Rattle.frames.specs.Steps.{stands, ending_in, IsStreamState};
+ghost use Rattle.frames.specs.Steps.{ending_after, ending_in, IsStreamState};
 ghost use Rattle.frames.specs.Device.{HasFailed};
 
 use crate::wire::{Taken, take_frame};
@@ -41,15 +41,15 @@ impl Model for Frames {
 
     ghost Value = { Reading };
 
-    ghost use Rattle.frames.specs.Kept.{kept};
+    ghost use Rattle.frames.specs.Kept.{reading_left};
 
-    ghost view = { kept };
+    ghost view = { reading_left };
 }
 
 // Takes all whole frames off the unread bytes, and adds their items. It answers whether CopyDone was among them.
 fn take_frames(unread: &mut BytesMut, items: &mut VecDeque<CopyItem>) -> Result<bool, FrameFault>
     ensures read { (given : List CopyItem) × (items.new.items ≡ items.old.items ++ given)
-        × Reads unread.old.items given (stands result unread.new.items) }
+        × Reads unread.old.items given (ending_after result unread.new.items) }
     ensures kind { IfErr result IsStreamFault }
 {
     loop {

@@ -108,7 +108,7 @@ pub(crate) enum Taken {
 }
 
 // Takes the first frame off, if it is whole.
-#[tactic(auto, unfolding(crate::specs::Stream::front, crate::specs::Stream::whole))]
+#[tactic(auto, unfolding(crate::specs::Stream::front, crate::specs::Stream::frame_front))]
 pub(crate) fn take_frame(unread: &mut BytesMut) -> Result<Taken, FrameFault>
     ensures frame { TakesFrame result unread.old.items unread.new.items }
     ensures kind { IfErr result IsStreamFault }

@@ -7,7 +7,7 @@ use Rattle.model.specs.declared.key.Key.{Key}
 use Rattle.model.specs.declared.row.Row.{Row as Record}
 use Rattle.model.specs.declared.cell.Cell.{Cell}
 use Rattle.model.specs.declared.cell.Cell.TheVariants.{Row, Uniq}
-use Rattle.model.specs.Rows.{values_in, keys_at, taken, TableKeys}
+use Rattle.model.specs.Rows.{values_in, keys_at, are_taken, TableKeys}
 use Rattle.model.specs.TakenLaws.{taken_by_row}
 use Rattle.indexes.specs.Table.{Spot, TableContent, unique_spots, IsOfSettled, IsFilled, IsSound, cell_of_key, cell_at, cells_in}
 use Rattle.indexes.specs.Content.{Content}
@@ -53,7 +53,7 @@ module _ (ts : List TableContent) (seen : Content) (v : gathered ts ≡ seen) (i
       let is = row_spot i p.0.0 p.0.1 key p.2 in
       gone p.0 (inl is) (λ filled. key_free (free ts seen v i t at key none) (subst (λ (s : Spot). IsFilled t.keys t.rows s) is filled)) p.1
 
-  values_free : (j : ℕ) (columns : List ℕ) (values : Key) → slice_get t.keys.uniques j ≡ Some columns → taken seen.rows i columns values ≡ false
+  values_free : (j : ℕ) (columns : List ℕ) (values : Key) → slice_get t.keys.uniques j ≡ Some columns → are_taken seen.rows i columns values ≡ false
       → IsFilled t.keys t.rows (suc j, values) → ⊥
   values_free j columns values there none filled = elim (spot_of t.keys filled.1 (suc j, values) filled.3) [
     | inl (own, has, same) ↦ let n : suc j ≡ 0 = ap (λ (s : Spot). s.0) same in omega arith
@@ -66,7 +66,7 @@ module _ (ts : List TableContent) (seen : Content) (v : gathered ts ≡ seen) (i
   ]
 
   pub values_gone : (j : ℕ) (columns : List ℕ) (values : Key) → slice_get (keys_at seen.schema i).uniques j ≡ Some columns → values_in columns row ≡ Some values
-      → taken seen.rows i columns values ≡ false → Contains (cells_from 0 (slice_set ts i new)) (Uniq i (j + 1) values) → ⊥
+      → are_taken seen.rows i columns values ≡ false → Contains (cells_from 0 (slice_set ts i new)) (Uniq i (j + 1) values) → ⊥
   values_gone j columns values there has none h =
       let number_is : j + 1 ≡ suc j = omega arith in
       let there_is = subst (λ (n : ℕ). Contains (cells_from 0 (slice_set ts i new)) (Uniq i n values)) number_is h in

@@ -10,7 +10,7 @@ use Rattle.model.specs.declared.row.Row.{Row}
 use Rattle.model.specs.Key.{key_cmp, key_cmp_total}
 use Rattle.model.specs.Exact.{place_cmp_exact}
 use Rattle.model.specs.Rows.{Place, Rows, Schema, TableKeys, place_cmp, place_cmp_total, values_in, keys_at, IsValid}
-use Rattle.model.specs.Effect.{first_taken, is_taken}
+use Rattle.model.specs.Effect.{first_taken, are_taken_unless_null}
 use Rattle.model.specs.TakenLaws.{taken_by_row, first_taken_none}
 use Rattle.rows.specs.KeyLaws.{one_or_apart, same_key}
 use Rattle.indexes.specs.Table.{TableContent, NoClash, IsSound}
@@ -175,7 +175,7 @@ pub no_clash : (keys : TableKeys) (rows : Rows) (own : FinMap key_cmp Row) (tabl
 no_clash keys rows own table row is none i columns key values twin at there has mine =
     let free = first_taken_none rows table row 1 keys.uniques none i columns at in
     let taken = taken_by_row rows table columns values key twin (is key ∙ there) has in
-    true≢false (sym taken ∙ sym (ap (is_taken rows table columns) mine) ∙ free)
+    true≢false (sym taken ∙ sym (ap (are_taken_unless_null rows table columns) mine) ∙ free)
 
 pub sound_after : (ts : List TableContent) (i : ℕ) (t new : TableContent) → slice_get ts i ≡ Some t → AllSound ts → IsSound new → AllSound (slice_set ts i new)
 sound_after ts i t new at all sound j s there = elim (same_or_not j i) [

@@ -10,9 +10,9 @@ use Rattle.model.specs.declared.row.Row.{Row as Record}
 use Rattle.model.specs.declared.cell.Cell.{Cell}
 use Rattle.model.specs.declared.cell.Cell.TheVariants.{Row}
 use Rattle.model.specs.Key.{key_cmp}
-use Rattle.model.specs.Rows.{TableKeys, place_cmp, values_in, key_of, keys_at, taken, IsValid}
+use Rattle.model.specs.Rows.{TableKeys, place_cmp, values_in, key_of, keys_at, are_taken, IsValid}
 use Rattle.model.specs.Cells.{cells_of, table_of}
-use Rattle.model.specs.Effect.{first_taken, is_taken}
+use Rattle.model.specs.Effect.{first_taken, are_taken_unless_null}
 use Rattle.model.specs.TableRows.{rows_of_table}
 use Rattle.model.specs.TakenLaws.{taken_by_row, row_of_taken}
 use Rattle.indexes.specs.Table.{Spot, TableContent, spots_of, KeepsSpots, NoClash, HasValues, IsTwin, IsSound, unique_at, cell_at, cells_in}
@@ -74,9 +74,9 @@ module _ (ts : List TableContent) (seen : Content) (v : gathered ts ≡ seen) (i
   unique_is number = ap (λ (k : TableKeys). unique_at k number) (sym seen_keys)
 
   pub taken_found : (number : ℕ) (values : Key) (r : Option (Bor Key)) → IfSome r (λ key. HasValues t.rows (unique_at t.keys number) key.now values)
-      → IfNone r ((key : Key) → ¬ HasValues t.rows (unique_at t.keys number) key values) → is_some r ≡ taken seen.rows i (unique_columns seen.schema i number) values
+      → IfNone r ((key : Key) → ¬ HasValues t.rows (unique_at t.keys number) key values) → is_some r ≡ are_taken seen.rows i (unique_columns seen.schema i number) values
   taken_found number values None found missed =
-      elim (taken seen.rows i (unique_columns seen.schema i number) values) as (λ b. taken seen.rows i (unique_columns seen.schema i number) values ≡ b → false ≡ b) [
+      elim (are_taken seen.rows i (unique_columns seen.schema i number) values) as (λ b. are_taken seen.rows i (unique_columns seen.schema i number) values ≡ b → false ≡ b) [
         | true ↦ λ e.
             let r = row_of_taken seen.rows i (unique_columns seen.schema i number) values e in
             absurd (missed r.key (r.row, sym (seen_get r.key) ∙ r.at, ap (λ cs. values_in cs r.row) (unique_is number) ∙ r.has))
@@ -93,15 +93,15 @@ module _ (ts : List TableContent) (seen : Content) (v : gathered ts ≡ seen) (i
   -- a row's values, of a row that has them or not
   pub taken_twin : (number : ℕ) (row : Record) (r : Option (Bor Key)) → IfSome r (λ key. IsTwin t.rows (unique_at t.keys number) key.now row)
       → IfNone r ((key : Key) → ¬ IsTwin t.rows (unique_at t.keys number) key row)
-      → is_some r ≡ is_taken seen.rows i (unique_columns seen.schema i number) (values_in (unique_columns seen.schema i number) row)
+      → is_some r ≡ are_taken_unless_null seen.rows i (unique_columns seen.schema i number) (values_in (unique_columns seen.schema i number) row)
   taken_twin number row None found missed =
-      elim (values_in (unique_columns seen.schema i number) row) as (λ o. values_in (unique_columns seen.schema i number) row ≡ o → false ≡ is_taken seen.rows i (unique_columns seen.schema i number) o) [
+      elim (values_in (unique_columns seen.schema i number) row) as (λ o. values_in (unique_columns seen.schema i number) row ≡ o → false ≡ are_taken_unless_null seen.rows i (unique_columns seen.schema i number) o) [
         | None ↦ λ e. refl
         | Some values ↦ λ e. taken_found number values None tt (λ key has. missed key (values, ap (λ cs. values_in cs row) (unique_is number) ∙ e, has))
       ] refl
   taken_twin number row (Some key) found missed =
       let has : values_in (unique_columns seen.schema i number) row ≡ Some found.0 = ap (λ cs. values_in cs row) (sym (unique_is number)) ∙ found.1 in
-      taken_found number found.0 (Some key) found.2 tt ∙ ap (is_taken seen.rows i (unique_columns seen.schema i number)) (sym has)
+      taken_found number found.0 (Some key) found.2 tt ∙ ap (are_taken_unless_null seen.rows i (unique_columns seen.schema i number)) (sym has)
 
   pub twin_found : (number : ℕ) (row : Record) (r : Option (Bor Key)) → IfSome r (λ key. IsTwin t.rows (unique_at t.keys number) key.now row)
       → IfSome r (λ key. (values : Key) × (values_in (unique_columns seen.schema i number) row ≡ Some values)

@@ -5,10 +5,12 @@ use Rattle.model.specs.declared.key.Key.{Key}
 use Rattle.model.specs.declared.row.Row.{Row}
 use Rattle.model.specs.Rows.{value_at}
 
+-- a key with the value first; a null adds nothing
 abbrev pub before_key : Option Value → Key → Key
 before_key None values = values
 before_key (Some v) values = v ∷ values
 
+-- a row's values in these columns, nulls left out
 abbrev pub present : List ℕ → Row → Key
 present [] row = []
 present (column ∷ columns) row = before_key (value_at row column) (present columns row)

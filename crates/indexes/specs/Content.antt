@@ -12,6 +12,7 @@ use Rattle.model.specs.Key.{key_cmp}
 use Rattle.model.specs.Rows.{Rows, Schema, keys_at}
 use Rattle.model.specs.Cells.{cells_of, table_of}
 
+-- all tables as their callers see them: the keys' columns, the rows, and the room
 pub record Content : Type 0 where
   pub schema : Schema  -- the keys of each table, in the catalog's order
   pub rows : Rows  -- all rows of all tables

@@ -28,9 +28,11 @@ pub record IsIndex (columns : List ℕ) (kept : Kept) (entries : Entries) : Type
       → held entries values ≡ Some number
   pub only : (values : Key) (number : ℕ) → held entries values ≡ Some number → Holder columns kept values number
 
+-- the entries of this unique key that have numbers are those of the stored rows' values
 abbrev pub IndexOf : Kept → Unique → Type 0
 IndexOf kept unique = IsIndex unique.columns.items kept unique.entries
 
+-- each row stands at its own key in a slot, no two slots share a number, each index is of these rows
 pub record IsIndexed (primary : List ℕ) (kept : Kept) (uniques : List Unique) : Type 0 where
   pub own_key : (key : Key) (row : Record) → finite.get kept.rows key ≡ Some row → values_in primary row ≡ Some key
   pub each : All (IndexOf kept) uniques
@@ -42,9 +44,11 @@ abbrev pub entry_spots : ℕ → List Unique → List Spot
 entry_spots number [] = []
 entry_spots number (u ∷ us) = map (λ values. (number, values)) (tree.keys u.entries) ++ entry_spots (suc number) us
 
+-- a table's room: the keys that have a slot, and for each unique key the values that have an entry
 abbrev pub room_of : Kept → List Unique → List Spot
 room_of kept uniques = map (λ key. (0, key)) (finite.keys kept.slots) ++ entry_spots 1 uniques
 
+-- a table as its callers see it, from what it keeps
 abbrev pub content_of : Inside → TableContent
 content_of a = record {
   keys = record { primary = a.primary.items; uniques = columns_of a.uniques.items };

@@ -19,11 +19,13 @@ use Rattle.model.specs.Rows.{TableKeys, values_in}
 abbrev pub Spot : Type 0
 Spot = ℕ × Key
 
+-- one table as its callers see it: its keys' columns, its rows by primary key, and its room
 pub record TableContent : Type 0 where
   pub keys : TableKeys
   pub rows : FinMap key_cmp Record
   pub room : List Spot
 
+-- the spot of these values of the key with this number; none where a null is among them
 abbrev pub spot : ℕ → Option Key → List Spot
 spot number None = []
 spot number (Some values) = (number, values) ∷ []
@@ -42,12 +44,15 @@ abbrev pub cell_of_key : ℕ → ℕ → Key → Cell
 cell_of_key table zero values = Row table values
 cell_of_key table (suc number) values = Uniq table (suc number) values
 
+-- a spot as a cell of the table with this number
 abbrev pub cell_at : ℕ → Spot → Cell
 cell_at table s = cell_of_key table s.0 s.1
 
+-- a table's room as cells, the table having this number
 abbrev pub cells_in : ℕ → TableContent → List Cell
 cells_in table t = map (cell_at table) t.room
 
+-- each spot of the one is in the other
 abbrev pub KeepsSpots : List Spot → List Spot → Type 0
 KeepsSpots old new = (s : Spot) → Contains old s → Contains new s
 
@@ -82,6 +87,7 @@ NoClash keys rows row =
     → slice_get keys.uniques i ≡ Some columns → finite.get rows key ≡ Some twin
     → values_in columns twin ≡ Some values → values_in columns row ≢ Some values
 
+-- the table is sound: rows at their own keys, no two agree in a unique key, and each has its room
 pub record IsSound (t : TableContent) : Type 0 where
   pub own_key : (key : Key) (row : Record) → finite.get t.rows key ≡ Some row → values_in t.keys.primary row ≡ Some key
   pub unique : (i : ℕ) (columns : List ℕ) (key other : Key) (row twin : Record) (values : Key)

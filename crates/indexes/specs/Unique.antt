@@ -12,16 +12,20 @@ use Rattle.model.specs.Rows.{values_in}
 use Rattle.indexes.specs.declared.unique.Unique.{Unique}
 use Rattle.indexes.specs.Hashed.{hashed_cmp}
 
+-- an index: from values of a unique key to the number of the row's slot, none where the row went
 abbrev pub Entries : Type 0
 Entries = BTreeMap Key (Option ℕ)
 
+-- the number in an entry, if there is an entry and it has one
 abbrev pub number_in : Option (Option ℕ) → Option ℕ
 number_in None = None
 number_in (Some number) = number
 
+-- the entry for some values, if there is one
 abbrev pub entry_at : Entries → Key → Option (Option ℕ)
 entry_at entries values = tree.get hashed_cmp entries values
 
+-- the number at some values, if there is an entry with one
 abbrev pub held : Entries → Key → Option ℕ
 held entries values = number_in (entry_at entries values)
 
@@ -73,21 +77,26 @@ pub record SettlesEntry (columns : List ℕ) (row : Row) (old new : Entries) : T
 
 -- ---- of an index
 
+-- the index keeps its columns, no number changes, and no entry goes
 pub record KeepsSlots (old new : Unique) : Type 0 where
   pub columns : new.columns.items ≡ old.columns.items
   pub entries : KeepsEntries old.entries new.entries
 
+-- the index has an entry for the row's values, unless one of them is null
 abbrev pub HasSlot : Row → Unique → Type 0
 HasSlot row unique = HasEntry unique.columns.items row unique.entries
 
+-- the number in the index's entry for the row's values is set, if there is one; nothing else changes
 pub record Sets (row : Row) (number : Option ℕ) (old new : Unique) : Type 0 where
   pub columns : new.columns.items ≡ old.columns.items
   pub entries : SetsEntry old.columns.items row number old.entries new.entries
 
+-- the number comes to the row's values in the index; no other changes, and no entry goes
 pub record Puts (row : Row) (number : ℕ) (old new : Unique) : Type 0 where
   pub columns : new.columns.items ≡ old.columns.items
   pub entries : PutsEntry old.columns.items row number old.entries new.entries
 
+-- a number may have come to the row's values in the index; no other changed, and no entry went
 pub record MayPut (row : Row) (old new : Unique) : Type 0 where
   pub columns : new.columns.items ≡ old.columns.items
   pub entries : MayPutEntry old.columns.items row old.entries new.entries
@@ -96,16 +105,19 @@ pub record MayPut (row : Row) (old new : Unique) : Type 0 where
 abbrev pub IsFree : Row → Unique → Type 0
 IsFree row unique = (values : Key) → values_in unique.columns.items row ≡ Some values → held unique.entries values ≡ None
 
+-- the index's entry for the row's values goes if it has no number; nothing else changes
 pub record Settles (row : Row) (old new : Unique) : Type 0 where
   pub columns : new.columns.items ≡ old.columns.items
   pub entries : SettlesEntry old.columns.items row old.entries new.entries
 
 -- ---- of each index of a table
 
+-- each index of a table takes such a step, and there are as many as before
 pub record EachStep (Step : Unique → Unique → Type 0) (old new : List Unique) : Type 0 where
   pub long : length new ≡ length old
   pub each : (k : ℕ) (d : Unique) → k < length old → Step (slice_index_or old k d) (slice_index_or new k d)
 
+-- each index has an entry for the row's values, unless one of them is null
 abbrev pub EachHasSlot : Row → List Unique → Type 0
 EachHasSlot row uniques = (k : ℕ) (d : Unique) → k < length uniques → HasSlot row (slice_index_or uniques k d)
 
@@ -113,6 +125,7 @@ EachHasSlot row uniques = (k : ℕ) (d : Unique) → k < length uniques → HasS
 abbrev pub EachAgrees : Row → Row → List Unique → Type 0
 EachAgrees row other uniques = (k : ℕ) (d : Unique) → k < length uniques → values_in (slice_index_or uniques k d).columns.items row ≡ values_in (slice_index_or uniques k d).columns.items other
 
+-- no number stands at the row's values in any index
 abbrev pub EachIsFree : Row → List Unique → Type 0
 EachIsFree row uniques = (k : ℕ) (d : Unique) → k < length uniques → IsFree row (slice_index_or uniques k d)
 

@@ -7,9 +7,9 @@ ghost use Rattle.model.specs.declared.row.Row.{Row as AnyRow};
 ghost use Rattle.model.specs.declared.cell.Cell.{Cell};
 ghost use Rattle.model.specs.declared.cell.Cell.TheVariants.{Row as RowCell, Uniq};
 ghost use Rattle.model.specs.Cells.{cells_of, table_of};
-ghost use Rattle.model.specs.Rows.{IsValid, keys_at, keys_of, key_of, values_in, taken};
+ghost use Rattle.model.specs.Rows.{IsValid, keys_at, keys_of, key_of, values_in, are_taken};
 ghost use Rattle.model.specs.TableRows.{rows_of_table};
-ghost use Rattle.model.specs.Effect.{first_taken, is_taken};
+ghost use Rattle.model.specs.Effect.{first_taken, are_taken_unless_null};
 ghost use Rattle.indexes.specs.Table.{cells_in};
 ghost use Rattle.indexes.specs.Content.{Keeps, HasRoom, unique_columns, IsTable, SameElsewhere, SameRoomElsewhere};
 
@@ -126,7 +126,7 @@ impl Tables {
     pub fn find_unique(&self, table: usize, number: usize, values: &Key) -> Option<&Key>
         requires known { table < length self.now.schema }
         requires number { (1 ≤ number) × (number ≤ length (keys_at self.now.schema table).uniques) }
-        ensures taken { is_some result ≡ taken self.now.rows table (unique_columns self.now.schema table number) values.now }
+        ensures taken { is_some result ≡ are_taken self.now.rows table (unique_columns self.now.schema table number) values.now }
         ensures key { IfSome result (λ key. (row : AnyRow) × (finite.get self.now.rows (table, key.now) ≡ Some row)
             × (values_in (unique_columns self.now.schema table number) row ≡ Some values.now)) }
     {
@@ -138,7 +138,7 @@ impl Tables {
     pub fn find_twin(&self, table: usize, number: usize, row: &Row) -> Option<&Key>
         requires known { table < length self.now.schema }
         requires number { (1 ≤ number) × (number ≤ length (keys_at self.now.schema table).uniques) }
-        ensures taken { is_some result ≡ is_taken self.now.rows table (unique_columns self.now.schema table number) (values_in (unique_columns self.now.schema table number) row.now) }
+        ensures taken { is_some result ≡ are_taken_unless_null self.now.rows table (unique_columns self.now.schema table number) (values_in (unique_columns self.now.schema table number) row.now) }
         ensures key { IfSome result (λ key. (values : AnyKey) × (values_in (unique_columns self.now.schema table number) row.now ≡ Some values)
             × (twin : AnyRow) × (finite.get self.now.rows (table, key.now) ≡ Some twin) × (values_in (unique_columns self.now.schema table number) twin ≡ Some values)) }
     {
@@ -290,7 +290,7 @@ impl Tables {
         // key, their entry goes.
         ensures slot { finite.get self.old.rows (table, key.now) ≡ None → ¬ Contains self.new.room (RowCell table key.now) }
         ensures values { (i : ℕ) (columns : List ℕ) (values : AnyKey) → slice_get (keys_at self.old.schema table).uniques i ≡ Some columns
-            → values_in columns row.now ≡ Some values → taken self.old.rows table columns values ≡ false → ¬ Contains self.new.room (Uniq table (i + 1) values) }
+            → values_in columns row.now ≡ Some values → are_taken self.old.rows table columns values ≡ false → ¬ Contains self.new.room (Uniq table (i + 1) values) }
 
         // No other cell goes from the room, and none comes.
         ensures fewer { Keeps self.new.room self.old.room }

@@ -6,23 +6,23 @@ use Rattle.model.specs.Effect.{effect}
 use Rattle.model.specs.declared.change.Change.{Change}
 use Rattle.change.specs.declared.outcome.Clash.{Clash}
 use Rattle.change.specs.declared.outcome.Clash.TheVariants as clashes
-use Rattle.savepoint.specs.declared.item.Item.{Item}
-use Rattle.savepoint.specs.Survivors.{changes_of}
+use Rattle.model.specs.declared.item.Item.{Item}
+use Rattle.model.specs.Survivors.{changes_of}
 use Rattle.messages.specs.declared.message.Message.{Message}
 use Rattle.session.specs.declared.fault.Refused.{Refused}
 use Rattle.session.specs.declared.fault.Refused.TheVariants as refusals
 use Rattle.session.specs.State.{State, Setting}
-use Rattle.session.specs.Lawful.{Admits, IsRefusal}
+use Rattle.session.specs.Lawful.{Admits, Refuses}
 use Rattle.leader.specs.declared.applier.Applier.{Applier}
 use Rattle.leader.specs.declared.end.End.{End}
 use Rattle.leader.specs.declared.end.End.TheVariants as ends
-use Rattle.leader.specs.Work.{rows_now, IsClear, IsRefusedIn}
-use Rattle.leader.specs.Commits.{committed, begun, done}
+use Rattle.leader.specs.Work.{rows_now, IsClear, ClashesIn}
+use Rattle.leader.specs.Commits.{committed_changes, begun_changes, all_changes}
 use Rattle.leader.specs.Progress.{Progress}
 use Rattle.leader.specs.Ends.{end_of_refusal, end_of_clash}
 use Rattle.leader.specs.Run.{schema_of}
 use Rattle.leader.specs.Applier.{HasCommits, IsAt, EndsByMessage, TakesMessage}
-use Rattle.leader.proofs.Working.{IsRefusedIn-behind}
+use Rattle.leader.proofs.Working.{ClashesIn-behind}
 use Rattle.leader.proofs.Taking.{rows_at, GoesOn, done_more, not_committed, HasCommits-kept, IsCommitted, done_is}
 
 pub IsClear-front : (schema : Schema) (rows : Rows) (cs ds : List Change) → IsClear schema rows (cs ++ ds) → IsClear schema rows cs
@@ -47,7 +47,7 @@ ends_with g rows b p payload (Err e) end is ends = subst (EndsByMessage g rows b
 
 -- ---- the session refuses a message
 
-pub turned_away : (g : Setting) (rows : Rows) (a b : Applier) (p : Progress) (payload : List ℕ) (r : Refused) → IsAt g rows a p → StaysKept a b → IsRefusal g p.state payload r → EndsByMessage g rows b p payload (end_of_refusal r)
+pub turned_away : (g : Setting) (rows : Rows) (a b : Applier) (p : Progress) (payload : List ℕ) (r : Refused) → IsAt g rows a p → StaysKept a b → Refuses g p.state payload r → EndsByMessage g rows b p payload (end_of_refusal r)
 turned_away g rows a b p payload (refusals.Msg f) at same why = inl (λ first last more. record { commits = stays g rows a b p.state p.state at.commits refl same; clear = at.clear; cause = why })
 turned_away g rows a b p payload (refusals.Session f) at same why = inl (λ first last more. record { commits = stays g rows a b p.state p.state at.commits refl same; clear = at.clear; cause = why })
 turned_away g rows a b p payload (refusals.Rel f) at same why = inl (λ first last more. record { commits = stays g rows a b p.state p.state at.commits refl same; clear = at.clear; cause = why })
@@ -58,18 +58,18 @@ out_of_memory g rows a b p payload at same = inl (λ first last more. record { c
 
 -- ---- a change clashes
 
-committed_clear : (g : Setting) (rows : Rows) (a : Applier) (p : Progress) → IsAt g rows a p → IsClear (schema_of g) rows (committed p.state)
-committed_clear g rows a p at = IsClear-front (schema_of g) rows (committed p.state) (begun p.state) at.clear
+committed_clear : (g : Setting) (rows : Rows) (a : Applier) (p : Progress) → IsAt g rows a p → IsClear (schema_of g) rows (committed_changes p.state)
+committed_clear g rows a p at = IsClear-front (schema_of g) rows (committed_changes p.state) (begun_changes p.state) at.clear
 
 -- changes that were refused on the rows now are refused behind all that was done
-refused_behind : (g : Setting) (rows : Rows) (a : Applier) (p : Progress) (cs : List Change) (clash : Clash) → IsAt g rows a p → IsRefusedIn a.work.schema (rows_now a.work) cs clash → IsRefusedIn (schema_of g) rows (done p.state ++ cs) clash
+refused_behind : (g : Setting) (rows : Rows) (a : Applier) (p : Progress) (cs : List Change) (clash : Clash) → IsAt g rows a p → ClashesIn a.work.schema (rows_now a.work) cs clash → ClashesIn (schema_of g) rows (all_changes p.state ++ cs) clash
 refused_behind g rows a p cs clash at refused =
-    let here = subst (λ (sch : Schema). IsRefusedIn sch (rows_now a.work) cs clash) at.commits.schema refused in
-    IsRefusedIn-behind (schema_of g) rows (done p.state) cs clash at.clear (subst (λ (r : Rows). IsRefusedIn (schema_of g) r cs clash) (rows_at g rows a p at) here)
+    let here = subst (λ (sch : Schema). ClashesIn sch (rows_now a.work) cs clash) at.commits.schema refused in
+    ClashesIn-behind (schema_of g) rows (all_changes p.state) cs clash at.clear (subst (λ (r : Rows). ClashesIn (schema_of g) r cs clash) (rows_at g rows a p at) here)
 
 -- one that came directly: its message was taken
 pub clashed_on : (g : Setting) (rows : Rows) (a b : Applier) (p : Progress) (payload : List ℕ) (m : Message) (t : State) (cs : List Change) (clash : Clash) → IsAt g rows a p → Admits g p.state payload m t → GoesOn g p.state t cs → StaysKept a b
-    → IsRefusedIn a.work.schema (rows_now a.work) cs clash → EndsByMessage g rows b p payload (end_of_clash clash)
+    → ClashesIn a.work.schema (rows_now a.work) cs clash → EndsByMessage g rows b p payload (end_of_clash clash)
 clashed_on g rows a b p payload m t cs clashes.OutOfMemory at admits on same refused = out_of_memory g rows a b p payload at same
 clashed_on g rows a b p payload m t cs (clashes.Unique table key) at admits on same refused =
     inr (
@@ -81,11 +81,11 @@ clashed_on g rows a b p payload m t cs (clashes.Unique table key) at admits on s
           record {
             commits = stays g rows a b p.state t at.commits on.past same;
             clear = subst (λ s. IsClear (schema_of g) rows s) (sym (committed_kept p.state t on.past)) (committed_clear g rows a p at);
-            cause = inl (subst (λ cs'. IsRefusedIn (schema_of g) rows cs' (clashes.Unique table key)) (sym (done_more g p.state t cs on)) (refused_behind g rows a p cs (clashes.Unique table key) at refused));
+            cause = inl (subst (λ cs'. ClashesIn (schema_of g) rows cs' (clashes.Unique table key)) (sym (done_more g p.state t cs on)) (refused_behind g rows a p cs (clashes.Unique table key) at refused));
           },
     )
   where
-    committed_kept : (s u : State) → u.past ≡ s.past → committed u ≡ committed s
+    committed_kept : (s u : State) → u.past ≡ s.past → committed_changes u ≡ committed_changes s
     committed_kept s u e = rw e
 clashed_on g rows a b p payload m t cs (clashes.NullKey table) at admits on same refused =
     inr (
@@ -97,28 +97,28 @@ clashed_on g rows a b p payload m t cs (clashes.NullKey table) at admits on same
           record {
             commits = stays g rows a b p.state t at.commits on.past same;
             clear = subst (λ s. IsClear (schema_of g) rows s) (sym (committed_kept p.state t on.past)) (committed_clear g rows a p at);
-            cause = inl (subst (λ cs'. IsRefusedIn (schema_of g) rows cs' (clashes.NullKey table)) (sym (done_more g p.state t cs on)) (refused_behind g rows a p cs (clashes.NullKey table) at refused));
+            cause = inl (subst (λ cs'. ClashesIn (schema_of g) rows cs' (clashes.NullKey table)) (sym (done_more g p.state t cs on)) (refused_behind g rows a p cs (clashes.NullKey table) at refused));
           },
     )
   where
-    committed_kept : (s u : State) → u.past ≡ s.past → committed u ≡ committed s
+    committed_kept : (s u : State) → u.past ≡ s.past → committed_changes u ≡ committed_changes s
     committed_kept s u e = rw e
 
 -- one of a transaction that the message commits: the message is left
 pub clashed_at_commit : (g : Setting) (rows : Rows) (a b : Applier) (p : Progress) (payload : List ℕ) (m : Message) (t : State) (xid commit end : ℕ) (items : List Item) (clash : Clash) → IsAt g rows a p → Admits g p.state payload m t → IsCommitted g p.state t xid commit end items → StaysKept a b
-    → IsRefusedIn a.work.schema (rows_now a.work) (changes_of items) clash → EndsByMessage g rows b p payload (end_of_clash clash)
+    → ClashesIn a.work.schema (rows_now a.work) (changes_of items) clash → EndsByMessage g rows b p payload (end_of_clash clash)
 clashed_at_commit g rows a b p payload m t xid commit end items clashes.OutOfMemory at admits is same refused = out_of_memory g rows a b p payload at same
 clashed_at_commit g rows a b p payload m t xid commit end items (clashes.Unique table key) at admits is same refused =
     inl (λ first last more.
     record {
       commits = stays g rows a b p.state p.state at.commits refl same;
       clear = committed_clear g rows a p at;
-      cause = inr (m, t, admits, subst (λ cs'. IsRefusedIn (schema_of g) rows cs' (clashes.Unique table key)) (sym (done_is g p.state t xid commit end items is)) (refused_behind g rows a p (changes_of items) (clashes.Unique table key) at refused));
+      cause = inr (m, t, admits, subst (λ cs'. ClashesIn (schema_of g) rows cs' (clashes.Unique table key)) (sym (done_is g p.state t xid commit end items is)) (refused_behind g rows a p (changes_of items) (clashes.Unique table key) at refused));
     })
 clashed_at_commit g rows a b p payload m t xid commit end items (clashes.NullKey table) at admits is same refused =
     inl (λ first last more.
     record {
       commits = stays g rows a b p.state p.state at.commits refl same;
       clear = committed_clear g rows a p at;
-      cause = inr (m, t, admits, subst (λ cs'. IsRefusedIn (schema_of g) rows cs' (clashes.NullKey table)) (sym (done_is g p.state t xid commit end items is)) (refused_behind g rows a p (changes_of items) (clashes.NullKey table) at refused));
+      cause = inr (m, t, admits, subst (λ cs'. ClashesIn (schema_of g) rows cs' (clashes.NullKey table)) (sym (done_is g p.state t xid commit end items is)) (refused_behind g rows a p (changes_of items) (clashes.NullKey table) at refused));
     })

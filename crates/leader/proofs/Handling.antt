@@ -6,7 +6,7 @@ use Rattle.frames.specs.declared.item.CopyItem.TheVariants.{Wal, Keepalive, Done
 use Rattle.session.specs.State.{Setting}
 use Rattle.leader.specs.declared.applier.Applier.{Applier}
 use Rattle.leader.specs.declared.end.End.{End}
-use Rattle.leader.specs.Progress.{Progress, due}
+use Rattle.leader.specs.Progress.{Progress, due_updates}
 use Rattle.leader.specs.Applier.{IsAt, TakesMessage, HandlesItem, HasHandled}
 
 -- the same with a greater position seen
@@ -43,7 +43,7 @@ IsAt-seen g rows a b p seen at same written = record {
 pub handled_wal : (g : Setting) (rows : Rows) (b : Applier) (p : Progress) (first last : ℕ) (payload : List ℕ) (result : Result Bool End) → TakesMessage g rows b (with_seen p (max (max p.seen first) last)) payload result → HandlesItem g rows b p (Wal first last payload) result
 handled_wal g rows b p first last payload (Ok is_commit) taken = record {
   progress = taken.progress;
-  handles = (taken.message, taken.admits, taken.seen, taken.updates ∙ ap (λ c. p.updates ++ due c taken.progress.state taken.progress.seen) taken.commits);
+  handles = (taken.message, taken.admits, taken.seen, taken.updates ∙ ap (λ c. p.updates ++ due_updates c taken.progress.state taken.progress.seen) taken.commits);
   updates = taken.updates;
   at = taken.at;
 }
@@ -51,14 +51,14 @@ handled_wal g rows b p first last payload (Err end) (inl ends) = inl (ends first
 handled_wal g rows b p first last payload (Err end) (inr (m, s, admits, none, ends)) =
     inr (
       record { state = s; seen = max (max p.seen first) last; updates = p.updates },
-      (m, admits, refl, sym (append-nil p.updates) ∙ ap (λ c. p.updates ++ due c s (max (max p.seen first) last)) (sym none)),
+      (m, admits, refl, sym (append-nil p.updates) ∙ ap (λ c. p.updates ++ due_updates c s (max (max p.seen first) last)) (sym none)),
       refl,
       ends,
     )
 
 pub handled_keepalive : (g : Setting) (rows : Rows) (b : Applier) (p : Progress) (last : ℕ) (reply : Bool) → IsAt g rows b (with_seen p (max p.seen last)) → HasHandled g rows b p (Keepalive last reply) reply
 handled_keepalive g rows b p last reply at =
-    let q : Progress = record { state = p.state; seen = max p.seen last; updates = p.updates ++ due reply p.state (max p.seen last) } in
+    let q : Progress = record { state = p.state; seen = max p.seen last; updates = p.updates ++ due_updates reply p.state (max p.seen last) } in
     record {
       progress = q;
       handles = (refl, refl, refl);

@@ -20,7 +20,7 @@ use Rattle.leader.specs.Run.{Devices, devices, IsRun, IsCause, IsOver, IsClearUn
 use Rattle.leader.specs.Applier.{IsAt, HasCome, IsStopCause, StopsAt, Answers, HandlesKept, IsRunOver, end_of}
 use Rattle.leader.proofs.Running.{sent_all, Ticks-nil}
 use Rattle.std.proofs.KnownBytes.{Appends-nil}
-use Rattle.leader.specs.Progress.{beginning}
+use Rattle.leader.specs.Progress.{start_progress}
 
 -- ---- items that are kept
 
@@ -172,9 +172,9 @@ module _ (g : Setting) (rows : Rows) (old new : Devices) (a : Applier) (bytes : 
   over_at_edge (Broken x) known asked unbroken fault same = absurd cc
 
 -- nothing has been handled yet
-pub come_none : (g : Setting) (rows : Rows) (d : Devices) (a : Applier) → IsAt g rows a beginning → HasCome g rows d d a []
+pub come_none : (g : Setting) (rows : Rows) (d : Devices) (a : Applier) → IsAt g rows a start_progress → HasCome g rows d d a []
 come_none g rows d a at = record {
-  progress = beginning;
+  progress = start_progress;
   lawful = refl;
   at = at;
   told = record { times = []; told = Ticks-nil d.times; counted = refl; sent = Appends-nil d.sent; works = refl };

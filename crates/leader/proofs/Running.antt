@@ -15,7 +15,7 @@ use Rattle.leader.specs.declared.end.End.{End}
 use Rattle.leader.specs.declared.end.End.TheVariants as ends
 use Rattle.leader.specs.Clock.{Ticks}
 use Rattle.leader.specs.Ends.{end_of_frame}
-use Rattle.leader.specs.Progress.{Progress, Handles, Leads, beginning, Update, update, status_bytes}
+use Rattle.leader.specs.Progress.{Progress, Handles, Leads, start_progress, Update, update, status_bytes}
 use Rattle.leader.specs.Run.{Devices, IsItemCause, AreAllSent, IsSent}
 use Rattle.leader.specs.Applier.{IsAt, IsUnderWay, EndsByItem, HasHandled, HasTold, HasCome, IsStopCause, StopsAt, Answers}
 
@@ -60,7 +60,7 @@ under_way g rows b p item told h = (g, rows, h.progress, h.at)
 pub come_on : (g : Setting) (rows : Rows) (old new : Devices) (a b : Applier) (handled : List CopyItem) (item : CopyItem) (come : HasCome g rows old new a handled) → HasHandled g rows b come.progress item false → HasCome g rows old new b (handled ++ item ∷ [])
 come_on g rows old new a b handled item come h = record {
   progress = h.progress;
-  lawful = Leads-more g beginning come.progress h.progress handled item come.lawful h.handles;
+  lawful = Leads-more g start_progress come.progress h.progress handled item come.lawful h.handles;
   at = h.at;
   told = subst (HasTold old new) (sym (h.updates ∙ append-nil come.progress.updates)) come.told;
 }
@@ -87,7 +87,7 @@ come_told g rows old mid new a b handled item time written flushed applied come 
     let frame : Appends mid.sent new.sent (frame_at u time) = subst (Appends mid.sent new.sent) (sym (update_is g rows b h.progress time h.at)) appends in
     record {
       progress = h.progress;
-      lawful = Leads-more g beginning p h.progress handled item come.lawful h.handles;
+      lawful = Leads-more g start_progress p h.progress handled item come.lawful h.handles;
       at = h.at;
       told = subst (HasTold old new) (sym h.updates)
           (record {
@@ -159,7 +159,7 @@ stopped g rows old new a b handled item (Err e) end come (inr (q, handles, same,
     (let at = ended more in
     record {
       progress = q;
-      lawful = Leads-more g beginning come.progress q handled item come.lawful handles;
+      lawful = Leads-more g start_progress come.progress q handled item come.lawful handles;
       commits = at.commits;
       clear = at.clear;
       cause = as_stop g rows old new q.state more end at.cause;
@@ -201,7 +201,7 @@ unsent g rows old mid new a b handled item time written flushed applied (Err e) 
     subst (StopsAt g rows old new b (handled ++ item ∷ []) more) (sym is_device)
     (record {
       progress = h.progress;
-      lawful = Leads-more g beginning come.progress h.progress handled item come.lawful h.handles;
+      lawful = Leads-more g start_progress come.progress h.progress handled item come.lawful h.handles;
       commits = h.at.commits;
       clear = h.at.clear;
       cause = fails;
@@ -231,7 +231,7 @@ unsent g rows old mid new a b handled item time written flushed applied (Err e) 
     subst (StopsAt g rows old new b (handled ++ item ∷ []) more) (sym is_memory)
     (record {
       progress = h.progress;
-      lawful = Leads-more g beginning come.progress h.progress handled item come.lawful h.handles;
+      lawful = Leads-more g start_progress come.progress h.progress handled item come.lawful h.handles;
       commits = h.at.commits;
       clear = h.at.clear;
       cause = tt;

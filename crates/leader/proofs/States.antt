@@ -9,12 +9,12 @@ use Rattle.std.proofs.lemmas.Grind.{flat_map-append}
 use Rattle.std.proofs.lemmas.List.{map-append}
 use Rattle.std.proofs.lemmas.List.Sums.{take_while-cons}
 use Rattle.std.proofs.lemmas.Bool.Decides.{nat_tests}
-use Rattle.savepoint.specs.declared.item.Item.{Item}
-use Rattle.savepoint.specs.declared.item.Item.TheVariants.{Change, Touch, BackTo, Last}
-use Rattle.savepoint.specs.Survivors.{survivors, surviving, after_item, before_savepoint, changes_of, is_of}
+use Rattle.model.specs.declared.item.Item.{Item}
+use Rattle.model.specs.declared.item.Item.TheVariants.{Change, Touch, BackTo, Last}
+use Rattle.model.specs.Survivors.{survivors, surviving, after_item, before_savepoint, changes_of, is_of}
 use Rattle.savepoint.specs.Savepoints.{before_first}
 use Rattle.session.specs.Sized.{SizedItems, item_of}
-use Rattle.session.specs.State.{Open, Committed, Transactions, kept, keeping, kept_with}
+use Rattle.session.specs.State.{Open, Committed, OpenTransactions, sized_survivors, sized_surviving, sized_after_item}
 use Rattle.session.specs.Told.{IsChange}
 use Rattle.leader.specs.Commits.{Transaction, surviving_changes, changes_in, last_end}
 use Rattle.leader.specs.Applier.{IsServed, AreServed}
@@ -57,23 +57,23 @@ map-before_first sub (i ∷ items) =
     by_cases rest true = ap (λ is. i.0 ∷ is) rest
     by_cases rest false = refl
 
-map-kept_with : (top : ℕ) (survived : SizedItems) (item : Item) (size : ℕ) → map item_of (kept_with top survived item size) ≡ after_item top (map item_of survived) item
-map-kept_with top survived (Change sub c) size = map-append item_of survived ((Change sub c, size) ∷ [])
-map-kept_with top survived (Touch sub) size = map-append item_of survived ((Touch sub, size) ∷ [])
-map-kept_with top survived (BackTo sub) size = by_cases (sub == top) refl
+map-sized_after_item : (top : ℕ) (survived : SizedItems) (item : Item) (size : ℕ) → map item_of (sized_after_item top survived item size) ≡ after_item top (map item_of survived) item
+map-sized_after_item top survived (Change sub c) size = map-append item_of survived ((Change sub c, size) ∷ [])
+map-sized_after_item top survived (Touch sub) size = map-append item_of survived ((Touch sub, size) ∷ [])
+map-sized_after_item top survived (BackTo sub) size = by_cases (sub == top) refl
   where
-    by_cases : (b : Bool) → (sub == top) ≡ b → map item_of (kept_with top survived (BackTo sub) size) ≡ after_item top (map item_of survived) (BackTo sub)
+    by_cases : (b : Bool) → (sub == top) ≡ b → map item_of (sized_after_item top survived (BackTo sub) size) ≡ after_item top (map item_of survived) (BackTo sub)
     by_cases true e = rw e
     by_cases false e = rw e (map-before_first sub survived)
-map-kept_with top survived Last size = refl
+map-sized_after_item top survived Last size = refl
 
-map-keeping : (top : ℕ) (survived items : SizedItems) → map item_of (keeping top survived items) ≡ surviving top (map item_of survived) (map item_of items)
-map-keeping top survived [] = refl
-map-keeping top survived (i ∷ items) = map-keeping top (kept_with top survived i.0 i.1) items ∙ ap (λ is. surviving top is (map item_of items)) (map-kept_with top survived i.0 i.1)
+map-sized_surviving : (top : ℕ) (survived items : SizedItems) → map item_of (sized_surviving top survived items) ≡ surviving top (map item_of survived) (map item_of items)
+map-sized_surviving top survived [] = refl
+map-sized_surviving top survived (i ∷ items) = map-sized_surviving top (sized_after_item top survived i.0 i.1) items ∙ ap (λ is. surviving top is (map item_of items)) (map-sized_after_item top survived i.0 i.1)
 
 -- what a spool keeps are the survivors
-pub map-kept : (top : ℕ) (items : SizedItems) → map item_of (kept top items) ≡ survivors top (map item_of items)
-map-kept top items = map-keeping top [] items
+pub map-sized_survivors : (top : ℕ) (items : SizedItems) → map item_of (sized_survivors top items) ≡ survivors top (map item_of items)
+map-sized_survivors top items = map-sized_surviving top [] items
 
 -- ---- the open transactions
 
@@ -83,19 +83,19 @@ tied x q e = grind (arith, nat_tests)
 apart : (x q : ℕ) → (x ≡ q → ⊥) → eq_by_cmp nat_cmp q x ≡ false
 apart x q ne = grind (arith, nat_tests)
 
-pub get-inserted : (m : Transactions) (xid : ℕ) (o : Open) → finite.get (finite.insert m xid o) xid ≡ Some o
+pub get-inserted : (m : OpenTransactions) (xid : ℕ) (o : Open) → finite.get (finite.insert m xid o) xid ≡ Some o
 get-inserted m xid o = finite.get-insert nat_cmp_total m xid o xid ∙ rw (tied xid xid refl)
 
-pub get-other : (m : Transactions) (xid : ℕ) (o : Open) (x : ℕ) → (xid ≡ x → ⊥) → finite.get (finite.insert m xid o) x ≡ finite.get m x
+pub get-other : (m : OpenTransactions) (xid : ℕ) (o : Open) (x : ℕ) → (xid ≡ x → ⊥) → finite.get (finite.insert m xid o) x ≡ finite.get m x
 get-other m xid o x ne = finite.get-insert nat_cmp_total m xid o x ∙ rw (apart xid x ne)
 
-pub get-left : (m : Transactions) (xid x : ℕ) → (xid ≡ x → ⊥) → finite.get (finite.remove m xid) x ≡ finite.get m x
+pub get-left : (m : OpenTransactions) (xid x : ℕ) → (xid ≡ x → ⊥) → finite.get (finite.remove m xid) x ≡ finite.get m x
 get-left m xid x ne = finite.get-remove nat_cmp_total m xid x ∙ rw (apart xid x ne)
 
-pub get-gone : (m : Transactions) (xid : ℕ) → finite.get (finite.remove m xid) xid ≡ None
+pub get-gone : (m : OpenTransactions) (xid : ℕ) → finite.get (finite.remove m xid) xid ≡ None
 get-gone m xid = finite.get-remove nat_cmp_total m xid xid ∙ rw (tied xid xid refl)
 
-pub AreServed-insert : (count : ℕ) (m : Transactions) (xid : ℕ) (o : Open) → AreServed count m → IsServed count o → AreServed count (finite.insert m xid o)
+pub AreServed-insert : (count : ℕ) (m : OpenTransactions) (xid : ℕ) (o : Open) → AreServed count m → IsServed count o → AreServed count (finite.insert m xid o)
 AreServed-insert count m xid o are is = λ q found there.
     ⊎_elim
     (λ (same : xid ≡ q).
@@ -104,7 +104,7 @@ AreServed-insert count m xid o are is = λ q found there.
     (λ ne. are q found (sym (finite.get-insert nat_cmp_total m xid o q ∙ rw (apart xid q ne)) ∙ there))
     (cases_eq xid q)
 
-pub AreServed-remove : (count : ℕ) (m : Transactions) (xid : ℕ) → AreServed count m → AreServed count (finite.remove m xid)
+pub AreServed-remove : (count : ℕ) (m : OpenTransactions) (xid : ℕ) → AreServed count m → AreServed count (finite.remove m xid)
 AreServed-remove count m xid are = λ q found there.
     ⊎_elim
     (λ (same : xid ≡ q).

@@ -10,69 +10,70 @@ use Rattle.std.specs.FinMap as finite
 use Rattle.model.specs.Rows.{Rows, Schema, keys_of}
 use Rattle.model.specs.Effect.{serial}
 use Rattle.model.specs.EffectLaws.{serial_append}
-use Rattle.model.specs.declared.change.Change.{Change as Alteration}
-use Rattle.savepoint.specs.declared.item.Item.{Item}
-use Rattle.savepoint.specs.declared.item.Item.TheVariants.{Change, Touch, BackTo, Last}
-use Rattle.savepoint.specs.declared.item.CommitInfo.{CommitInfo}
+use Rattle.model.specs.declared.change.Change as change_type
+use Rattle.model.specs.declared.item.Item.{Item}
+use Rattle.model.specs.declared.item.Item.TheVariants.{Change, Touch, BackTo, Last}
+use Rattle.model.specs.declared.item.CommitInfo.{CommitInfo}
 use Rattle.savepoint.specs.Savepoints.{before_first}
-use Rattle.savepoint.specs.Survivors.{changes_of}
+use Rattle.model.specs.Survivors.{changes_of}
 use Rattle.messages.specs.declared.message.Message.{Message}
-use Rattle.session.specs.declared.session.Session.{Session as Holder}
+use Rattle.session.specs.declared.session.Session as session_type
 use Rattle.session.specs.declared.step.Step.{Step}
 use Rattle.session.specs.declared.step.Step.TheVariants as steps
-use Rattle.session.specs.Stands.{IsOfTables}
+use Rattle.session.specs.Answers.{IsOfTables}
 use Rattle.session.specs.Sized.{SizedItems, item_of}
-use Rattle.session.specs.State.{Way, Direct, Worker, Spooled, Open, Committed, State, Setting, kept, keeping, kept_with}
+use Rattle.session.specs.State.{Way, Direct, Worker, Spooled, Open, Committed, State, Setting, sized_survivors, sized_surviving, sized_after_item}
 use Rattle.session.specs.Lawful.{Admits}
-use Rattle.session.specs.Table.{opened}
-use Rattle.session.specs.Told.{Told, Nothing, Opens, Gives, Commits, Aborts, Tells, handed_out}
-use Rattle.session.specs.Stands.{StandsFor, Says, HandsOut, IsWithin}
+use Rattle.session.specs.Table.{new_open}
+use Rattle.session.specs.Told.{Told, Nothing, Opens, Gives, Commits, Aborts, Tells, items_handed_out}
+use Rattle.session.specs.Represents.{Represents}
+use Rattle.session.specs.Answers.{Says, HandsOut, IsWithin}
 use Rattle.leader.specs.declared.applier.Applier.{Applier}
-use Rattle.leader.specs.Work.{Standing, rows_now, IsClear}
-use Rattle.leader.specs.Commits.{Transaction, transaction_of, transaction, changes_in, surviving_changes, commits, committed, begun, done, last_end}
-use Rattle.leader.specs.Progress.{Progress, commits_from, due}
+use Rattle.leader.specs.Work.{OpenWork, rows_now, IsClear}
+use Rattle.leader.specs.Commits.{Transaction, transaction_of, transaction, changes_in, surviving_changes, commits, committed_changes, begun_changes, all_changes, last_end}
+use Rattle.leader.specs.Progress.{Progress, commits_from, due_updates}
 use Rattle.leader.specs.Run.{schema_of}
 use Rattle.leader.specs.Applier.{AreServed, HasCommits, IsAt, HasTaken}
 use Rattle.leader.proofs.Working.{with_changes, rows_with, IsClear-append}
-use Rattle.leader.proofs.States.{map-kept, last_end-push, changes_in-append, map-before_first, AreServed-insert, AreServed-remove}
+use Rattle.leader.proofs.States.{map-sized_survivors, last_end-push, changes_in-append, map-before_first, AreServed-insert, AreServed-remove}
 use Rattle.leader.proofs.Begun.{IsSane, direct_begun, begun_stays, begun_opened, begun_beside, begun_given, begun_without, begun_outside, unbegun}
 
 -- the rows now are those of all that was done
-pub rows_at : (g : Setting) (rows : Rows) (a : Applier) (p : Progress) → IsAt g rows a p → rows_now a.work ≡ serial (schema_of g) rows (done p.state)
+pub rows_at : (g : Setting) (rows : Rows) (a : Applier) (p : Progress) → IsAt g rows a p → rows_now a.work ≡ serial (schema_of g) rows (all_changes p.state)
 rows_at g rows a p at =
     ap (λ (s : Schema). serial s a.work.base a.work.changes) at.commits.schema
     ∙ ap (λ (b : Rows). serial (schema_of g) b a.work.changes) at.commits.base
-    ∙ ap (serial (schema_of g) (serial (schema_of g) rows (committed p.state))) at.begun
-    ∙ sym (serial_append (schema_of g) rows (committed p.state) (begun p.state))
+    ∙ ap (serial (schema_of g) (serial (schema_of g) rows (committed_changes p.state))) at.begun
+    ∙ sym (serial_append (schema_of g) rows (committed_changes p.state) (begun_changes p.state))
 
 -- ---- a message that commits nothing
 
 -- the state that it leaves, with the changes that it brings into the transaction that was begun
-pub record GoesOn (g : Setting) (s t : State) (cs : List Alteration) : Type 0 where
+pub record GoesOn (g : Setting) (s t : State) (cs : List change_type.Change) : Type 0 where
   pub past : t.past ≡ s.past
   pub position : t.position ≡ s.position
-  pub begun : begun t ≡ begun s ++ cs
+  pub begun : begun_changes t ≡ begun_changes s ++ cs
   pub served : AreServed (length g.catalog) t.transactions
 
-committed_same : (s t : State) → t.past ≡ s.past → committed t ≡ committed s
+committed_same : (s t : State) → t.past ≡ s.past → committed_changes t ≡ committed_changes s
 committed_same s t e = rw e
 
-pub done_more : (g : Setting) (s t : State) (cs : List Alteration) → GoesOn g s t cs → done t ≡ done s ++ cs
-done_more g s t cs on = ap (λ ds. ds ++ begun t) (committed_same s t on.past) ∙ ap (λ ds. committed s ++ ds) on.begun ∙ sym (append_assoc (committed s) (begun s) cs)
+pub done_more : (g : Setting) (s t : State) (cs : List change_type.Change) → GoesOn g s t cs → all_changes t ≡ all_changes s ++ cs
+done_more g s t cs on = ap (λ ds. ds ++ begun_changes t) (committed_same s t on.past) ∙ ap (λ ds. committed_changes s ++ ds) on.begun ∙ sym (append_assoc (committed_changes s) (begun_changes s) cs)
 
 pub not_committed : (s t : State) → t.past ≡ s.past → commits_from s t ≡ false
 not_committed s t e = rw e (le-ltb (length s.past) (length s.past) (omega arith))
 
 -- what is kept of the run once it went on
-pub record IsKept (a b : Applier) (cs : List Alteration) : Type 0 where
+pub record IsKept (a b : Applier) (cs : List change_type.Change) : Type 0 where
   pub catalog : b.catalog ≡ a.catalog
   pub work : b.work ≡ with_changes a.work cs
   pub journal : b.journal.items ≡ a.journal.items
   pub position : b.position ≡ a.position
   pub written : b.written ≡ a.written
 
-pub no_change : (w : Standing) → w ≡ with_changes w []
-no_change w = ap (λ (cs : List Alteration). record { schema = w.schema; base = w.base; changes = cs }) (sym (append-nil w.changes))
+pub no_change : (w : OpenWork) → w ≡ with_changes w []
+no_change w = ap (λ (cs : List change_type.Change). record { schema = w.schema; base = w.base; changes = cs }) (sym (append-nil w.changes))
 
 -- where it stands then
 abbrev pub on_to : Progress → State → Progress
@@ -86,21 +87,21 @@ HasCommits-kept g rows a b s t has past schema base journal position = record {
   position = position ∙ has.position ∙ rw past;
 }
 
-pub went_on : (g : Setting) (rows : Rows) (a b : Applier) (p : Progress) (t : State) (cs : List Alteration) → IsAt g rows a p → GoesOn g p.state t cs → IsKept a b cs → StandsFor g b.session t
-    → IsClear (schema_of g) (serial (schema_of g) rows (done p.state)) cs → IsAt g rows b (on_to p t)
+pub went_on : (g : Setting) (rows : Rows) (a b : Applier) (p : Progress) (t : State) (cs : List change_type.Change) → IsAt g rows a p → GoesOn g p.state t cs → IsKept a b cs → Represents g b.session t
+    → IsClear (schema_of g) (serial (schema_of g) rows (all_changes p.state)) cs → IsAt g rows b (on_to p t)
 went_on g rows a b p t cs at on same session clear = record {
   workers = at.workers;
   catalog = at.catalog ∙ rw same.catalog;
   session = session;
   served = on.served;
-  commits = HasCommits-kept g rows a b p.state t at.commits on.past (ap (λ (w : Standing). w.schema) same.work) (ap (λ (w : Standing). w.base) same.work) same.journal same.position;
+  commits = HasCommits-kept g rows a b p.state t at.commits on.past (ap (λ (w : OpenWork). w.schema) same.work) (ap (λ (w : OpenWork). w.base) same.work) same.journal same.position;
   reached = on.position ∙ at.reached ∙ rw on.past;
-  begun = ap (λ (w : Standing). w.changes) same.work ∙ ap (λ ds. ds ++ cs) at.begun ∙ sym on.begun;
-  clear = subst (IsClear (schema_of g) rows) (sym (done_more g p.state t cs on)) (IsClear-append (schema_of g) rows (done p.state) cs at.clear clear);
+  begun = ap (λ (w : OpenWork). w.changes) same.work ∙ ap (λ ds. ds ++ cs) at.begun ∙ sym on.begun;
+  clear = subst (IsClear (schema_of g) rows) (sym (done_more g p.state t cs on)) (IsClear-append (schema_of g) rows (all_changes p.state) cs at.clear clear);
   seen = same.written ∙ at.seen ∙ rw on.position;
 }
 
-pub taken_on : (g : Setting) (rows : Rows) (a b : Applier) (p : Progress) (payload : List ℕ) (m : Message) (t : State) (cs : List Alteration) → Admits g p.state payload m t → GoesOn g p.state t cs → IsAt g rows b (on_to p t) → HasTaken g rows b p payload false
+pub taken_on : (g : Setting) (rows : Rows) (a b : Applier) (p : Progress) (payload : List ℕ) (m : Message) (t : State) (cs : List change_type.Change) → Admits g p.state payload m t → GoesOn g p.state t cs → IsAt g rows b (on_to p t) → HasTaken g rows b p payload false
 taken_on g rows a b p payload m t cs admits on at = record {
   message = m;
   progress = on_to p t;
@@ -150,8 +151,8 @@ none_handed c (steps.Item xid item) hands is = hands
 none_handed c (steps.Commit xid info items) hands is = is
 none_handed c (steps.Abort xid) hands is = hands
 
-opened_served : (g : Setting) (s t : State) (xid : ℕ) (way : Way) → (way ≡ Worker → ⊥) → AreServed (length g.catalog) s.transactions → t.transactions ≡ finite.insert s.transactions xid (opened way) → AreServed (length g.catalog) t.transactions
-opened_served g s t xid way unserved served e = subst (AreServed (length g.catalog)) (sym e) (AreServed-insert (length g.catalog) s.transactions xid (opened way) served (record { way = unserved; items = All-nil (IsOfTables (length g.catalog)) }))
+opened_served : (g : Setting) (s t : State) (xid : ℕ) (way : Way) → (way ≡ Worker → ⊥) → AreServed (length g.catalog) s.transactions → t.transactions ≡ finite.insert s.transactions xid (new_open way) → AreServed (length g.catalog) t.transactions
+opened_served g s t xid way unserved served e = subst (AreServed (length g.catalog)) (sym e) (AreServed-insert (length g.catalog) s.transactions xid (new_open way) served (record { way = unserved; items = All-nil (IsOfTables (length g.catalog)) }))
 
 -- an opening, an item of a spooled transaction, an abort and what has no effect bring no change
 pub quiet : (g : Setting) (s t : State) (told : Told) (step : Step) → IsSane s → IsSane t → AreServed (length g.catalog) s.transactions → g.workers ≡ 0 → Tells s t told → IsWithin g told → Says told step
@@ -172,7 +173,7 @@ quiet g s t (Opens xid Worker) step first second served none tells within says i
 quiet g s t (Opens xid Spooled) step first second served none tells within says is = record {
   past = tells.past;
   position = tells.position;
-  begun = begun_beside s t xid (opened Spooled) first second tells.transactions (λ e. cc) (λ o there. let no : None ≡ Some o = sym tells.absent ∙ there in cc);
+  begun = begun_beside s t xid (new_open Spooled) first second tells.transactions (λ e. cc) (λ o there. let no : None ≡ Some o = sym tells.absent ∙ there in cc);
   served = opened_served g s t xid Spooled (λ e. cc) served tells.transactions;
 }
 quiet g s t (Gives xid Direct item size) step first second served none tells within says is = absurd (not_quiet step (steps.Item xid item) says is)
@@ -210,7 +211,7 @@ given g s t (Gives xid Direct item size) x i first second served tells within sa
       record {
         past = tells.2.past;
         position = tells.2.position;
-        begun = begun_given s t xid item size o first second tells.2 tells.1 within.1 ∙ ap (λ j. begun s ++ changes_of (j ∷ [])) same;
+        begun = begun_given s t xid item size o first second tells.2 tells.1 within.1 ∙ ap (λ j. begun_changes s ++ changes_of (j ∷ [])) same;
         served = subst (AreServed (length g.catalog)) (sym tells.2.transactions) (served_more g s xid o item size served tells.2.present within.0);
       },
     )
@@ -231,41 +232,41 @@ pub record IsCommitted (g : Setting) (s t : State) (xid commit end : ℕ) (items
   pub info_is : transaction.info ≡ record { commit = commit; end = end }
   pub later : s.position < end
   pub position : t.position ≡ end
-  pub changes : surviving_changes transaction.xid transaction.items ≡ begun s ++ changes_of items
-  pub begun : begun t ≡ []
+  pub changes : surviving_changes transaction.xid transaction.items ≡ begun_changes s ++ changes_of items
+  pub begun : begun_changes t ≡ []
   pub served : AreServed (length g.catalog) t.transactions
   pub named : All (IsOfTables (length g.catalog)) items
 
-changes_handed : (s : State) (xid : ℕ) (way : Way) (items : SizedItems) → (way ≡ Worker → ⊥) → (way ≡ Direct → begun s ≡ surviving_changes xid items) → (way ≢ Direct → begun s ≡ [])
-    → surviving_changes xid items ≡ begun s ++ changes_of (handed_out xid way items)
-changes_handed s xid Direct items unserved here elsewhere = sym (here refl) ∙ sym (append-nil (begun s))
+changes_handed : (s : State) (xid : ℕ) (way : Way) (items : SizedItems) → (way ≡ Worker → ⊥) → (way ≡ Direct → begun_changes s ≡ surviving_changes xid items) → (way ≢ Direct → begun_changes s ≡ [])
+    → surviving_changes xid items ≡ begun_changes s ++ changes_of (items_handed_out xid way items)
+changes_handed s xid Direct items unserved here elsewhere = sym (here refl) ∙ sym (append-nil (begun_changes s))
 changes_handed s xid Worker items unserved here elsewhere = absurd (unserved refl)
 changes_handed s xid Spooled items unserved here elsewhere =
-    ap changes_of (sym (map-kept xid items)) ∙ ap (λ ds. ds ++ changes_of (map item_of (kept xid items))) (sym (elsewhere (λ e. cc)))
+    ap changes_of (sym (map-sized_survivors xid items)) ∙ ap (λ ds. ds ++ changes_of (map item_of (sized_survivors xid items))) (sym (elsewhere (λ e. cc)))
 
 -- the items that survive are among all
 All-before_first : (P : Item → Type 0) (sub : ℕ) (items : SizedItems) → All P (map item_of items) → All P (map item_of (before_first sub items))
 All-before_first P sub items all = subst (All P) (sym (map-before_first sub items)) (All-take P _ (map item_of items) all)
 
-All-kept_with : (P : Item → Type 0) (top : ℕ) (survived : SizedItems) (item : Item) (size : ℕ) → All P (map item_of survived) → P item → All P (map item_of (kept_with top survived item size))
-All-kept_with P top survived (Change sub c) size all here = subst (All P) (sym (map-append item_of survived ((Change sub c, size) ∷ []))) (All-append P (map item_of survived) (Change sub c ∷ []) all (All-cons P (Change sub c) [] here (All-nil P)))
-All-kept_with P top survived (Touch sub) size all here = subst (All P) (sym (map-append item_of survived ((Touch sub, size) ∷ []))) (All-append P (map item_of survived) (Touch sub ∷ []) all (All-cons P (Touch sub) [] here (All-nil P)))
-All-kept_with P top survived (BackTo sub) size all here = by_cases (sub == top)
+All-sized_after_item : (P : Item → Type 0) (top : ℕ) (survived : SizedItems) (item : Item) (size : ℕ) → All P (map item_of survived) → P item → All P (map item_of (sized_after_item top survived item size))
+All-sized_after_item P top survived (Change sub c) size all here = subst (All P) (sym (map-append item_of survived ((Change sub c, size) ∷ []))) (All-append P (map item_of survived) (Change sub c ∷ []) all (All-cons P (Change sub c) [] here (All-nil P)))
+All-sized_after_item P top survived (Touch sub) size all here = subst (All P) (sym (map-append item_of survived ((Touch sub, size) ∷ []))) (All-append P (map item_of survived) (Touch sub ∷ []) all (All-cons P (Touch sub) [] here (All-nil P)))
+All-sized_after_item P top survived (BackTo sub) size all here = by_cases (sub == top)
   where
     by_cases : (b : Bool) → All P (map item_of (if b then survived else before_first sub survived))
     by_cases true = all
     by_cases false = All-before_first P sub survived all
-All-kept_with P top survived Last size all here = all
+All-sized_after_item P top survived Last size all here = all
 
-All-keeping : (P : Item → Type 0) (top : ℕ) (survived items : SizedItems) → All P (map item_of survived) → All P (map item_of items) → All P (map item_of (keeping top survived items))
-All-keeping P top survived [] all more = all
-All-keeping P top survived (i ∷ items) all more =
-    All-keeping P top (kept_with top survived i.0 i.1) items (All-kept_with P top survived i.0 i.1 all (All-head P i.0 (map item_of items) more)) (All-tail P i.0 (map item_of items) more)
+All-sized_surviving : (P : Item → Type 0) (top : ℕ) (survived items : SizedItems) → All P (map item_of survived) → All P (map item_of items) → All P (map item_of (sized_surviving top survived items))
+All-sized_surviving P top survived [] all more = all
+All-sized_surviving P top survived (i ∷ items) all more =
+    All-sized_surviving P top (sized_after_item top survived i.0 i.1) items (All-sized_after_item P top survived i.0 i.1 all (All-head P i.0 (map item_of items) more)) (All-tail P i.0 (map item_of items) more)
 
-handed_named : (P : Item → Type 0) (xid : ℕ) (way : Way) (items : SizedItems) → All P (map item_of items) → All P (handed_out xid way items)
+handed_named : (P : Item → Type 0) (xid : ℕ) (way : Way) (items : SizedItems) → All P (map item_of items) → All P (items_handed_out xid way items)
 handed_named P xid Direct items all = All-nil P
 handed_named P xid Worker items all = All-nil P
-handed_named P xid Spooled items all = All-keeping P xid [] items (All-nil P) all
+handed_named P xid Spooled items all = All-sized_surviving P xid [] items (All-nil P) all
 
 pub committed_by : (g : Setting) (s t : State) (told : Told) (xid commit end : ℕ) (items : Vec Item Global) → IsSane s → IsSane t → AreServed (length g.catalog) s.transactions → Tells s t told → Says told (steps.Commit xid (record { commit = commit; end = end }) items)
     → IsCommitted g s t xid commit end items.items
@@ -289,7 +290,7 @@ committed_by g s t (Commits c) xid commit end items first second served tells sa
       info_is = sym says.1;
       later = subst (λ n. s.position < n) ends tells.later;
       position = tells.position ∙ ends;
-      changes = changes_handed s c.xid c.way c.items was.way (λ direct. direct_begun s c.xid _ first tells.present direct) (λ streamed. unbegun s t c.xid _ first second tells.present streamed tells.transactions tells.outside) ∙ ap (λ is. begun s ++ changes_of is) (sym says.2);
+      changes = changes_handed s c.xid c.way c.items was.way (λ direct. direct_begun s c.xid _ first tells.present direct) (λ streamed. unbegun s t c.xid _ first second tells.present streamed tells.transactions tells.outside) ∙ ap (λ is. begun_changes s ++ changes_of is) (sym says.2);
       begun = begun_outside t tells.outside;
       served = subst (AreServed (length g.catalog)) (sym tells.transactions) (AreServed-remove (length g.catalog) s.transactions c.xid served);
       named = subst (All (IsOfTables (length g.catalog))) (sym says.2) (handed_named (IsOfTables (length g.catalog)) c.xid c.way c.items was.items);
@@ -298,25 +299,25 @@ committed_by g s t (Commits c) xid commit end items first second served tells sa
 -- ---- what a commit leaves of the run
 
 module _ (g : Setting) (s t : State) (xid commit end : ℕ) (items : List Item) (is : IsCommitted g s t xid commit end items) where
-  commits_more : commits t ≡ commits s ++ record { xid = xid; changes = begun s ++ changes_of items; commit = commit; end = end } ∷ []
+  commits_more : commits t ≡ commits s ++ record { xid = xid; changes = begun_changes s ++ changes_of items; commit = commit; end = end } ∷ []
   commits_more =
       ap (map transaction) is.past
       ∙ map-append transaction s.past (is.transaction ∷ [])
       ∙ ap (λ (tx : Transaction). commits s ++ tx ∷ [])
       (ap (λ cs. record { xid = is.transaction.xid; changes = cs; commit = is.transaction.info.commit; end = is.transaction.info.end }) is.changes
-      ∙ ap (λ x. record { xid = x; changes = begun s ++ changes_of items; commit = is.transaction.info.commit; end = is.transaction.info.end }) is.xid_is
-      ∙ ap (λ (i : CommitInfo). record { xid = xid; changes = begun s ++ changes_of items; commit = i.commit; end = i.end }) is.info_is)
+      ∙ ap (λ x. record { xid = x; changes = begun_changes s ++ changes_of items; commit = is.transaction.info.commit; end = is.transaction.info.end }) is.xid_is
+      ∙ ap (λ (i : CommitInfo). record { xid = xid; changes = begun_changes s ++ changes_of items; commit = i.commit; end = i.end }) is.info_is)
 
   -- all that is committed now was done before, and then the items
-  committed_is : committed t ≡ done s ++ changes_of items
+  committed_is : committed_changes t ≡ all_changes s ++ changes_of items
   committed_is =
       ap changes_in commits_more
       ∙ changes_in-append (commits s) _
-      ∙ ap (λ cs. committed s ++ cs) (append-nil (begun s ++ changes_of items))
-      ∙ sym (append_assoc (committed s) (begun s) (changes_of items))
+      ∙ ap (λ cs. committed_changes s ++ cs) (append-nil (begun_changes s ++ changes_of items))
+      ∙ sym (append_assoc (committed_changes s) (begun_changes s) (changes_of items))
 
-  pub done_is : done t ≡ done s ++ changes_of items
-  done_is = ap (λ cs. committed t ++ cs) is.begun ∙ append-nil (committed t) ∙ committed_is
+  pub done_is : all_changes t ≡ all_changes s ++ changes_of items
+  done_is = ap (λ cs. committed_changes t ++ cs) is.begun ∙ append-nil (committed_changes t) ∙ committed_is
 
   ends_at : last_end t.past ≡ end
   ends_at = ap last_end is.past ∙ last_end-push s.past is.transaction ∙ ap (λ (i : CommitInfo). i.end) is.info_is
@@ -326,10 +327,10 @@ module _ (g : Setting) (s t : State) (xid commit end : ℕ) (items : List Item) 
 
 -- the progress that a commit leads to
 abbrev pub committed_to : Progress → State → Progress
-committed_to p t = record { state = t; seen = p.seen; updates = p.updates ++ due true t p.seen }
+committed_to p t = record { state = t; seen = p.seen; updates = p.updates ++ due_updates true t p.seen }
 
-pub commit_taken : (g : Setting) (rows : Rows) (a b : Applier) (p : Progress) (payload : List ℕ) (m : Message) (t : State) (xid commit end : ℕ) (items : List Item) (w : Standing) → IsAt g rows a p → Admits g p.state payload m t → IsCommitted g p.state t xid commit end items → StandsFor g b.session t
-    → IsClear (schema_of g) (serial (schema_of g) rows (done p.state)) (changes_of items)
+pub commit_taken : (g : Setting) (rows : Rows) (a b : Applier) (p : Progress) (payload : List ℕ) (m : Message) (t : State) (xid commit end : ℕ) (items : List Item) (w : OpenWork) → IsAt g rows a p → Admits g p.state payload m t → IsCommitted g p.state t xid commit end items → Represents g b.session t
+    → IsClear (schema_of g) (serial (schema_of g) rows (all_changes p.state)) (changes_of items)
     → w ≡ with_changes a.work (changes_of items) → b.work ≡ record { schema = w.schema; base = rows_now w; changes = [] }
     → map transaction_of b.journal.items ≡ map transaction_of a.journal.items ++ record { xid = xid; changes = w.changes; commit = commit; end = end } ∷ []
     → b.position ≡ end → b.written ≡ max a.written end → b.catalog ≡ a.catalog
@@ -347,23 +348,23 @@ commit_taken g rows a b p payload m t xid commit end items w at admits is sessio
     session = session;
     served = is.served;
     commits = record {
-      schema = ap (λ (v : Standing). v.schema) settled ∙ ap (λ (v : Standing). v.schema) more ∙ at.commits.schema;
+      schema = ap (λ (v : OpenWork). v.schema) settled ∙ ap (λ (v : OpenWork). v.schema) more ∙ at.commits.schema;
       base =
-          ap (λ (v : Standing). v.base) settled ∙ ap rows_now more ∙ rows_with a.work (changes_of items)
+          ap (λ (v : OpenWork). v.base) settled ∙ ap rows_now more ∙ rows_with a.work (changes_of items)
           ∙ ap (λ (sch : Schema). serial sch (rows_now a.work) (changes_of items)) at.commits.schema
           ∙ ap (λ (r : Rows). serial (schema_of g) r (changes_of items)) (rows_at g rows a p at)
-          ∙ sym (serial_append (schema_of g) rows (done p.state) (changes_of items))
+          ∙ sym (serial_append (schema_of g) rows (all_changes p.state) (changes_of items))
           ∙ ap (serial (schema_of g) rows) (sym (committed_is g p.state t xid commit end items is));
       journal =
           journal
           ∙ ap (λ ts. ts ++ record { xid = xid; changes = w.changes; commit = commit; end = end } ∷ []) at.commits.journal
-          ∙ ap (λ cs. commits p.state ++ record { xid = xid; changes = cs; commit = commit; end = end } ∷ []) (ap (λ (v : Standing). v.changes) more ∙ ap (λ cs. cs ++ changes_of items) at.begun)
+          ∙ ap (λ cs. commits p.state ++ record { xid = xid; changes = cs; commit = commit; end = end } ∷ []) (ap (λ (v : OpenWork). v.changes) more ∙ ap (λ cs. cs ++ changes_of items) at.begun)
           ∙ sym (commits_more g p.state t xid commit end items is);
       position = position ∙ sym (ends_at g p.state t xid commit end items is);
     };
     reached = is.position ∙ sym (ends_at g p.state t xid commit end items is);
-    begun = ap (λ (v : Standing). v.changes) settled ∙ sym is.begun;
-    clear = subst (IsClear (schema_of g) rows) (sym (done_is g p.state t xid commit end items is)) (IsClear-append (schema_of g) rows (done p.state) (changes_of items) at.clear clear);
+    begun = ap (λ (v : OpenWork). v.changes) settled ∙ sym is.begun;
+    clear = subst (IsClear (schema_of g) rows) (sym (done_is g p.state t xid commit end items is)) (IsClear-append (schema_of g) rows (all_changes p.state) (changes_of items) at.clear clear);
     seen = written ∙ ap (λ n. max n end) at.seen ∙ ap (max (max p.seen p.state.position)) (sym is.position) ∙ later_max p.seen p.state.position t.position (subst (λ n. p.state.position < n) (sym is.position) is.later);
   };
 }
@@ -384,11 +385,11 @@ pub all_counted : (g : Setting) (rows : Rows) (a : Applier) (p : Progress) (item
 all_counted g rows a p items at all = subst (λ n. All (IsOfTables n) items) (sym (tables_there g rows a p at)) all
 
 -- changes that are clear on the rows now are clear behind all that was done
-pub clear_behind : (g : Setting) (rows : Rows) (a : Applier) (p : Progress) (cs : List Alteration) → IsAt g rows a p → IsClear a.work.schema (rows_now a.work) cs → IsClear (schema_of g) (serial (schema_of g) rows (done p.state)) cs
+pub clear_behind : (g : Setting) (rows : Rows) (a : Applier) (p : Progress) (cs : List change_type.Change) → IsAt g rows a p → IsClear a.work.schema (rows_now a.work) cs → IsClear (schema_of g) (serial (schema_of g) rows (all_changes p.state)) cs
 clear_behind g rows a p cs at clear =
     let here = subst (λ (sch : Schema). IsClear sch (rows_now a.work) cs) at.commits.schema clear in
     subst (λ (r : Rows). IsClear (schema_of g) r cs) (rows_at g rows a p at) here
 
--- a session that stands for a state shows that it is sane
-pub sane : (g : Setting) (v : Holder) (s : State) → StandsFor g v s → IsSane s
-sane g v s stands = record { here = stands.here; alone = stands.alone }
+-- a session that represents a state shows that it is sane
+pub sane : (g : Setting) (v : session_type.Session) (s : State) → Represents g v s → IsSane s
+sane g v s represents = record { here = represents.here; alone = represents.alone }

@@ -1,4 +1,4 @@
--- When what a run keeps stands for a progress, and what handling an item leaves.
+-- When what a run keeps is that of a progress, and what handling an item leaves.
 use Rattle.std.specs.Prelude.{◌≡◌, ◌≢◌, ℕ, ℤ, Bool, false, max, List, [], ◌∷◌, ◌++◌, length, map, Some, Result, Ok, Err, MatchResult, All, ◌⊎◌}
 use Rattle.std.specs.Io.KnownBytes.{Appends, Consumes}
 use Rattle.std.specs.FinMap as finite
@@ -12,16 +12,16 @@ use Rattle.frames.specs.Device.{HasFailed}
 use Rattle.frames.specs.Stream.{Reading, copy_items}
 use Rattle.frames.specs.Reads.{HasRead}
 use Rattle.session.specs.Lawful.{Admits}
-use Rattle.session.specs.Stands.{IsOfTables}
+use Rattle.session.specs.Answers.{IsOfTables}
 use Rattle.session.specs.Sized.{item_of}
-use Rattle.session.specs.State.{Worker, Open, Transactions, State, Setting}
-use Rattle.session.specs.Stands.{StandsFor}
+use Rattle.session.specs.State.{Worker, Open, OpenTransactions, State, Setting}
+use Rattle.session.specs.Represents.{Represents}
 use Rattle.leader.specs.declared.end.End.{End}
 use Rattle.leader.specs.declared.end.End.TheVariants as ends
 use Rattle.leader.specs.declared.applier.Applier.{Applier}
 use Rattle.leader.specs.Work.{IsClear}
-use Rattle.leader.specs.Commits.{transaction_of, commits, committed, begun, done, last_end}
-use Rattle.leader.specs.Progress.{Progress, Handles, Leads, beginning, Update, due, commits_from, status_bytes}
+use Rattle.leader.specs.Commits.{transaction_of, commits, committed_changes, begun_changes, all_changes, last_end}
+use Rattle.leader.specs.Progress.{Progress, Handles, Leads, start_progress, Update, due_updates, commits_from, status_bytes}
 use Rattle.leader.specs.Clock.{Ticks}
 use Rattle.leader.specs.Run.{Devices, schema_of, IsItemCause, IsCause, IsClearUnless, IsSent}
 
@@ -31,13 +31,13 @@ pub record IsServed (count : ℕ) (o : Open) : Type 0 where
   pub items : All (IsOfTables count) (map item_of o.items)
 
 -- So it is with all.
-abbrev pub AreServed : ℕ → Transactions → Type 0
+abbrev pub AreServed : ℕ → OpenTransactions → Type 0
 AreServed count transactions = (xid : ℕ) (o : Open) → finite.get transactions xid ≡ Some o → IsServed count o
 
 -- What is kept of the commits: the rows without open work, the journal, the position.
 pub record HasCommits (g : Setting) (rows : Rows) (a : Applier) (s : State) : Type 0 where
   pub schema : a.work.schema ≡ schema_of g
-  pub base : a.work.base ≡ serial (schema_of g) rows (committed s)
+  pub base : a.work.base ≡ serial (schema_of g) rows (committed_changes s)
   pub journal : map transaction_of a.journal.items ≡ commits s
   pub position : a.position ≡ last_end s.past
 
@@ -45,12 +45,12 @@ pub record HasCommits (g : Setting) (rows : Rows) (a : Applier) (s : State) : Ty
 pub record IsAt (g : Setting) (rows : Rows) (a : Applier) (p : Progress) : Type 0 where
   pub workers : g.workers ≡ 0
   pub catalog : g.catalog ≡ a.catalog.now
-  pub session : StandsFor g a.session p.state
+  pub session : Represents g a.session p.state
   pub served : AreServed (length g.catalog) p.state.transactions
   pub commits : HasCommits g rows a p.state
   pub reached : p.state.position ≡ last_end p.state.past
-  pub begun : a.work.changes ≡ begun p.state
-  pub clear : IsClear (schema_of g) rows (done p.state)
+  pub begun : a.work.changes ≡ begun_changes p.state
+  pub clear : IsClear (schema_of g) rows (all_changes p.state)
   pub seen : a.written ≡ max p.seen p.state.position
 
 -- It is that of some progress.
@@ -72,7 +72,7 @@ pub record HasTaken (g : Setting) (rows : Rows) (a : Applier) (p : Progress) (pa
   pub admits : Admits g p.state payload message progress.state
   pub seen : progress.seen ≡ p.seen
   pub commits : is_commit ≡ commits_from p.state progress.state
-  pub updates : progress.updates ≡ p.updates ++ due is_commit progress.state progress.seen
+  pub updates : progress.updates ≡ p.updates ++ due_updates is_commit progress.state progress.seen
   pub at : IsAt g rows a progress
 
 -- The message ended the run: it may not come or clashes as it commits, or it was taken and clashed then.
@@ -81,6 +81,7 @@ EndsByMessage g rows a p payload end =
     ((first last : ℕ) (more : List CopyItem) → EndsAt g rows a p.state (Wal first last payload ∷ more) end)
     ⊎ ((m : Message) × (s : State) × Admits g p.state payload m s × (commits_from p.state s ≡ false) × ((more : List CopyItem) → EndsAt g rows a s more end))
 
+-- The message was taken, or it ended the run.
 abbrev pub TakesMessage : Setting → Rows → Applier → Progress → List ℕ → Result Bool End → Type 0
 TakesMessage g rows a p payload result = MatchResult result (HasTaken g rows a p payload) (EndsByMessage g rows a p payload)
 
@@ -90,7 +91,7 @@ TakesMessage g rows a p payload result = MatchResult result (HasTaken g rows a p
 pub record HasHandled (g : Setting) (rows : Rows) (a : Applier) (p : Progress) (item : CopyItem) (told : Bool) : Type 0 where
   pub progress : Progress
   pub handles : Handles g p item progress
-  pub updates : progress.updates ≡ p.updates ++ due told progress.state progress.seen
+  pub updates : progress.updates ≡ p.updates ++ due_updates told progress.state progress.seen
   pub at : IsAt g rows a progress
 
 -- The item ended the run: it was not handled, or it was and clashed then.
@@ -99,6 +100,7 @@ EndsByItem g rows a p item end =
     ((more : List CopyItem) → EndsAt g rows a p.state (item ∷ more) end)
     ⊎ ((q : Progress) × Handles g p item q × (q.updates ≡ p.updates) × ((more : List CopyItem) → EndsAt g rows a q.state more end))
 
+-- The item was handled, or it ended the run.
 abbrev pub HandlesItem : Setting → Rows → Applier → Progress → CopyItem → Result Bool End → Type 0
 HandlesItem g rows a p item result = MatchResult result (HasHandled g rows a p item) (EndsByItem g rows a p item)
 
@@ -115,7 +117,7 @@ pub record HasTold (old new : Devices) (updates : List Update) : Type 0 where
 -- These items were handled, and the run goes on from here.
 pub record HasCome (g : Setting) (rows : Rows) (old new : Devices) (a : Applier) (handled : List CopyItem) : Type 0 where
   pub progress : Progress
-  pub lawful : Leads g beginning handled progress
+  pub lawful : Leads g start_progress handled progress
   pub at : IsAt g rows a progress
   pub told : HasTold old new progress.updates
 
@@ -127,7 +129,7 @@ IsStopCause g rows old new s rest end = IsItemCause g rows s rest end
 -- These items were handled, and the run ends here, with those left.
 pub record StopsAt (g : Setting) (rows : Rows) (old new : Devices) (a : Applier) (handled rest : List CopyItem) (end : End) : Type 0 where
   pub progress : Progress
-  pub lawful : Leads g beginning handled progress
+  pub lawful : Leads g start_progress handled progress
   pub commits : HasCommits g rows a progress.state
   pub clear : IsClearUnless g rows progress.state end
   pub cause : IsStopCause g rows old new progress.state rest end
@@ -150,7 +152,7 @@ HandlesKept g rows old new a bytes kept result =
 
 -- the end that an answer says
 abbrev pub end_of : Result (Unit {0}) End → End
-end_of (Ok done) = ends.Clean
+end_of (Ok all_changes) = ends.Clean
 end_of (Err end) = end
 
 -- The run is over, with these items of the bytes left.
@@ -161,7 +163,7 @@ pub record IsRunOver (g : Setting) (rows : Rows) (old new : Devices) (a : Applie
   pub rest : List CopyItem
   pub items : handled ++ rest ≡ copy_items bytes
   pub progress : Progress
-  pub lawful : Leads g beginning handled progress
+  pub lawful : Leads g start_progress handled progress
   pub commits : HasCommits g rows a progress.state
   pub clear : IsClearUnless g rows progress.state end
   pub cause : IsCause g rows bytes old new progress.state rest end

@@ -1,16 +1,16 @@
 -- The transactions that a session's state tells of, and their changes.
 --     Transaction, commits      each commit of the past, with the changes of its items that survived
---     committed      the changes of all commits, in commit order
+--     committed_changes      the changes of all commits, in commit order
 --     last_end      the position that they reach
---     begun, done      the changes so far of the transaction that was begun; all changes
+--     begun_changes, all_changes      the changes so far of the transaction that was begun; all changes
 use Rattle.std.specs.Prelude.{ℕ, List, [], ◌∷◌, ◌++◌, map, flat_map, Option, Some, None}
 use Rattle.std.specs.FinMap as finite
 use Rattle.model.specs.declared.change.Change.{Change}
-use Rattle.savepoint.specs.Survivors.{survivors, changes_of}
+use Rattle.model.specs.Survivors.{survivors, changes_of}
 use Rattle.session.specs.declared.phase.Phase.{Phase}
 use Rattle.session.specs.declared.phase.Phase.TheVariants.{Outside, Begun, Block}
 use Rattle.session.specs.Sized.{SizedItems, item_of}
-use Rattle.session.specs.State.{Open, Committed, State, Transactions}
+use Rattle.session.specs.State.{Open, Committed, State, OpenTransactions}
 use Rattle.leader.specs.declared.outcome.Entry.{Entry}
 
 -- a committed transaction
@@ -29,6 +29,7 @@ transaction_of e = record { xid = e.xid; changes = e.changes.items; commit = e.c
 abbrev pub surviving_changes : ℕ → SizedItems → List Change
 surviving_changes xid items = changes_of (survivors xid (map item_of items))
 
+-- a committed transaction, with the changes that survived its rollbacks
 abbrev pub transaction : Committed → Transaction
 transaction c = record { xid = c.xid; changes = surviving_changes c.xid c.items; commit = c.info.commit; end = c.info.end }
 
@@ -36,29 +37,32 @@ transaction c = record { xid = c.xid; changes = surviving_changes c.xid c.items;
 abbrev pub commits : State → List Transaction
 commits s = map transaction s.past
 
+-- the changes of these transactions, one after another
 abbrev pub changes_in : List Transaction → List Change
 changes_in transactions = flat_map (λ (t : Transaction). t.changes) transactions
 
 -- the changes of all commits so far, in commit order
-abbrev pub committed : State → List Change
-committed s = changes_in (commits s)
+abbrev pub committed_changes : State → List Change
+committed_changes s = changes_in (commits s)
 
+-- an open transaction's changes so far, without those rolled back; none if it isn't open
 abbrev pub open_changes : ℕ → Option Open → List Change
 open_changes xid None = []
 open_changes xid (Some o) = surviving_changes xid o.items
 
-abbrev pub begun_in : Phase → Transactions → List Change
-begun_in Outside transactions = []
-begun_in (Begun xid final) transactions = open_changes xid (finite.get transactions xid)
-begun_in (Block xid) transactions = []
+-- the changes so far of the transaction between Begin and Commit; none outside of one, or in a block
+abbrev pub begun_changes_in : Phase → OpenTransactions → List Change
+begun_changes_in Outside transactions = []
+begun_changes_in (Begun xid final) transactions = open_changes xid (finite.get transactions xid)
+begun_changes_in (Block xid) transactions = []
 
 -- the changes so far of the transaction between Begin and Commit, if there is one
-abbrev pub begun : State → List Change
-begun s = begun_in s.phase s.transactions
+abbrev pub begun_changes : State → List Change
+begun_changes s = begun_changes_in s.phase s.transactions
 
 -- what was done: the commits, and then the transaction that was begun
-abbrev pub done : State → List Change
-done s = committed s ++ begun s
+abbrev pub all_changes : State → List Change
+all_changes s = committed_changes s ++ begun_changes s
 
 -- the end of the last commit, or 0 before the first
 abbrev pub last_end : List Committed → ℕ

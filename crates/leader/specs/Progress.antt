@@ -15,6 +15,7 @@ pub record Update : Type 0 where
   pub written : ℕ
   pub applied : ℕ
 
+-- what the items so far have led to
 pub record Progress : Type 0 where
   pub state : State
   -- the greatest position of the log in the items so far
@@ -22,16 +23,18 @@ pub record Progress : Type 0 where
   -- the status updates so far
   pub updates : List Update
 
-abbrev pub beginning : Progress
-beginning = record { state = start; seen = 0; updates = [] }
+-- the progress before the first item
+abbrev pub start_progress : Progress
+start_progress = record { state = start; seen = 0; updates = [] }
 
+-- the status update at this state, where the log was seen up to this position
 abbrev pub update : State → ℕ → Update
 update s seen = record { written = max seen s.position; applied = s.position }
 
 -- an update, if one is due
-abbrev pub due : Bool → State → ℕ → List Update
-due true s seen = update s seen ∷ []
-due false s seen = []
+abbrev pub due_updates : Bool → State → ℕ → List Update
+due_updates true s seen = update s seen ∷ []
+due_updates false s seen = []
 
 -- there is a commit more
 abbrev pub commits_from : State → State → Bool
@@ -44,9 +47,9 @@ Handles g p (Wal first last payload) q =
     (m : Message)
     × Admits g p.state payload m q.state
     × (q.seen ≡ max (max p.seen first) last)
-    × (q.updates ≡ p.updates ++ due (commits_from p.state q.state) q.state q.seen)
+    × (q.updates ≡ p.updates ++ due_updates (commits_from p.state q.state) q.state q.seen)
 Handles g p (Keepalive last reply) q =
-    (q.state ≡ p.state) × (q.seen ≡ max p.seen last) × (q.updates ≡ p.updates ++ due reply q.state q.seen)
+    (q.state ≡ p.state) × (q.seen ≡ max p.seen last) × (q.updates ≡ p.updates ++ due_updates reply q.state q.seen)
 Handles g p Done q = q ≡ p
 
 -- The items, one after another, lead to this.

@@ -15,13 +15,13 @@ use Rattle.relcache.specs.declared.fault.RelFault.{RelFault}
 use Rattle.relcache.specs.declared.fault.RelFault.TheVariants as relations
 use Rattle.leader.specs.declared.end.End.{End}
 use Rattle.leader.specs.declared.end.End.TheVariants as ends
-use Rattle.leader.specs.Text.{escaped, value_text, lsn_text}
+use Rattle.leader.specs.Text.{escaped_text, value_text, lsn_text}
 
 -- ---- the tables
 
 -- a table's namespace and its own name
 abbrev pub name_text : Definition → List ℕ
-name_text d = escaped d.namespace ++ codes "." ++ escaped d.name
+name_text d = escaped_text d.namespace ++ codes "." ++ escaped_text d.name
 
 -- a row's values in the order of the columns, divided by `|`
 abbrev pub row_text : Row → List ℕ
@@ -42,6 +42,7 @@ tables_text definitions rows = flat_map (numbered_text rows) (enumerate_from 0 d
 
 -- ---- the end
 
+-- the name of a frame fault in the line of the end
 abbrev pub frame_fault_name : FrameFault → List ℕ
 frame_fault_name frames.UnknownFrame = codes "UnknownFrame"
 frame_fault_name frames.BadLength = codes "BadLength"
@@ -52,6 +53,7 @@ frame_fault_name frames.ServerError = codes "ServerError"
 frame_fault_name frames.Device = codes "Device"
 frame_fault_name frames.OutOfMemory = codes "OutOfMemory"
 
+-- the name of a message fault in the line of the end
 abbrev pub message_fault_name : MsgFault → List ℕ
 message_fault_name messages.UnknownTag = codes "UnknownTag"
 message_fault_name messages.Short = codes "Short"
@@ -64,6 +66,7 @@ message_fault_name messages.NegativeCount = codes "NegativeCount"
 message_fault_name messages.TwoPhase = codes "TwoPhase"
 message_fault_name messages.OutOfMemory = codes "OutOfMemory"
 
+-- the name of a session fault in the line of the end
 abbrev pub session_fault_name : SessionFault → List ℕ
 session_fault_name sessions.NotInTransaction = codes "NotInTransaction"
 session_fault_name sessions.NestedBegin = codes "NestedBegin"
@@ -76,6 +79,7 @@ session_fault_name sessions.CommitMismatch = codes "CommitMismatch"
 session_fault_name sessions.SpoolFull = codes "SpoolFull"
 session_fault_name sessions.TooManyOpen = codes "TooManyOpen"
 
+-- the name of a relation fault in the line of the end
 abbrev pub relation_fault_name : RelFault → List ℕ
 relation_fault_name relations.UnknownRelation = codes "UnknownRelation"
 relation_fault_name relations.TableMissing = codes "TableMissing"
@@ -91,6 +95,7 @@ abbrev pub known_name : Option Definition → List ℕ
 known_name None = codes ""
 known_name (Some d) = name_text d
 
+-- the name of the table with this number; nothing if the catalog has no such table
 abbrev pub table_name : List Definition → ℕ → List ℕ
 table_name definitions table = known_name (slice_get definitions table)
 
@@ -108,6 +113,7 @@ end_text definitions ends.OutOfMemory = codes "end 8 OutOfMemory"
 
 -- ---- the report
 
+-- the report of a run: each table with its rows, the line of the position, the line of the end
 abbrev pub report_text : List Definition → Rows → ℕ → End → List ℕ
 report_text definitions rows position end =
     tables_text definitions rows ++ codes "position " ++ lsn_text position ++ codes "\n" ++ end_text definitions end ++ codes "\n"

@@ -18,15 +18,15 @@ use Rattle.frames.specs.Device.{HasFailed}
 use Rattle.session.specs.declared.fault.Refused.{Refused}
 use Rattle.session.specs.declared.fault.Refused.TheVariants as refusals
 use Rattle.session.specs.State.{Setting, State}
-use Rattle.session.specs.Lawful.{Admits, IsRefusal}
+use Rattle.session.specs.Lawful.{Admits, Refuses}
 use Rattle.messages.specs.declared.message.Message.{Message}
 use Rattle.leader.specs.declared.end.End.{End}
 use Rattle.leader.specs.declared.end.End.TheVariants as ends
 use Rattle.leader.specs.declared.outcome.Outcome.{Outcome}
-use Rattle.leader.specs.Work.{IsClear, IsRefusedIn}
-use Rattle.leader.specs.Commits.{transaction_of, commits, committed, done, last_end}
+use Rattle.leader.specs.Work.{IsClear, ClashesIn}
+use Rattle.leader.specs.Commits.{transaction_of, commits, committed_changes, all_changes, last_end}
 use Rattle.leader.specs.Clock.{Ticks}
-use Rattle.leader.specs.Progress.{Progress, beginning, Leads, Update, status_bytes}
+use Rattle.leader.specs.Progress.{Progress, start_progress, Leads, Update, status_bytes}
 
 -- What the devices of a run tell: the bytes still to be read and those sent, the times given, how often each failed.
 pub record Devices : Type 0 where
@@ -36,10 +36,12 @@ pub record Devices : Type 0 where
   pub read_failures : ℕ
   pub write_failures : ℕ
 
+-- the devices that tell this: bytes unread and sent, times given, how often each failed
 abbrev pub devices : Option (List ℕ) → Option (List ℕ) → Option (List ℤ) → ℕ → ℕ → Devices
 devices unread sent times read_failures write_failures =
     record { unread = unread; sent = sent; times = times; read_failures = read_failures; write_failures = write_failures }
 
+-- the keys' columns of each table of the catalog
 abbrev pub schema_of : Setting → Schema
 schema_of g = map keys_of g.catalog
 
@@ -53,15 +55,15 @@ IsNext (Keepalive last reply ∷ items) P = ⊥
 IsNext (Done ∷ items) P = ⊥
 
 -- The session refuses the next payload so.
-abbrev pub IsTurnedAway : Setting → State → List CopyItem → Refused → Type 0
-IsTurnedAway g s rest refused = IsNext rest (λ payload. IsRefusal g s payload refused)
+abbrev pub RefusesNext : Setting → State → List CopyItem → Refused → Type 0
+RefusesNext g s rest refused = IsNext rest (λ payload. Refuses g s payload refused)
 
 -- A change clashes so, the first of all that do: the one that the last item brought into the transaction that was begun,
 -- or one of a streamed transaction that the next message commits.
-abbrev pub IsConflict : Setting → Rows → State → List CopyItem → Clash → Type 0
-IsConflict g rows s rest clash =
-    IsRefusedIn (schema_of g) rows (done s) clash
-    ⊎ IsNext rest (λ payload. (m : Message) × (t : State) × Admits g s payload m t × IsRefusedIn (schema_of g) rows (done t) clash)
+abbrev pub IsFirstClash : Setting → Rows → State → List CopyItem → Clash → Type 0
+IsFirstClash g rows s rest clash =
+    ClashesIn (schema_of g) rows (all_changes s) clash
+    ⊎ IsNext rest (λ payload. (m : Message) × (t : State) × Admits g s payload m t × ClashesIn (schema_of g) rows (all_changes t) clash)
 
 -- The input is over: all items were handled, no read failed, and this is the fault of an input that ends here, if there
 -- is one.
@@ -85,11 +87,11 @@ IsFrameCause bytes old new rest fault = IsOver bytes old new rest (Some fault)
 abbrev pub IsItemCause : Setting → Rows → State → List CopyItem → End → Type 0
 IsItemCause g rows s rest ends.Clean = ⊥
 IsItemCause g rows s rest (ends.Frame fault) = ⊥
-IsItemCause g rows s rest (ends.Msg fault) = IsTurnedAway g s rest (refusals.Msg fault)
-IsItemCause g rows s rest (ends.Session fault) = IsTurnedAway g s rest (refusals.Session fault)
-IsItemCause g rows s rest (ends.Rel fault) = IsTurnedAway g s rest (refusals.Rel fault)
-IsItemCause g rows s rest (ends.Unique table key) = IsConflict g rows s rest (clashes.Unique table key)
-IsItemCause g rows s rest (ends.NullKey table) = IsConflict g rows s rest (clashes.NullKey table)
+IsItemCause g rows s rest (ends.Msg fault) = RefusesNext g s rest (refusals.Msg fault)
+IsItemCause g rows s rest (ends.Session fault) = RefusesNext g s rest (refusals.Session fault)
+IsItemCause g rows s rest (ends.Rel fault) = RefusesNext g s rest (refusals.Rel fault)
+IsItemCause g rows s rest (ends.Unique table key) = IsFirstClash g rows s rest (clashes.Unique table key)
+IsItemCause g rows s rest (ends.NullKey table) = IsFirstClash g rows s rest (clashes.NullKey table)
 -- without threads no transaction holds what another needs
 IsItemCause g rows s rest (ends.HeldKey xid holder) = ⊥
 IsItemCause g rows s rest ends.OutOfMemory = Unit {0}
@@ -104,9 +106,9 @@ IsCause g rows bytes old new s rest end = IsItemCause g rows s rest end
 
 -- Whether no change clashed, where a run ends so: a conflict is the first, in the changes done or in those that come next.
 abbrev pub IsClearUnless : Setting → Rows → State → End → Type 0
-IsClearUnless g rows s (ends.Unique table key) = IsClear (schema_of g) rows (committed s)
-IsClearUnless g rows s (ends.NullKey table) = IsClear (schema_of g) rows (committed s)
-IsClearUnless g rows s end = IsClear (schema_of g) rows (done s)
+IsClearUnless g rows s (ends.Unique table key) = IsClear (schema_of g) rows (committed_changes s)
+IsClearUnless g rows s (ends.NullKey table) = IsClear (schema_of g) rows (committed_changes s)
+IsClearUnless g rows s end = IsClear (schema_of g) rows (all_changes s)
 
 -- All status updates but the last were sent, and this beginning of the last.
 pub record IsSentBut (old new : Option (List ℕ)) (updates : List Update) (times : List ℤ) (part : List ℕ) : Type 0 where
@@ -142,12 +144,12 @@ pub record IsRun (g : Setting) (rows : Rows) (old new : Devices) (o : Outcome) :
   pub rest : List CopyItem
   pub items : handled ++ rest ≡ copy_items bytes
   pub progress : Progress
-  pub lawful : Leads g beginning handled progress
+  pub lawful : Leads g start_progress handled progress
   pub clear : IsClearUnless g rows progress.state o.end
   pub cause : IsCause g rows bytes old new progress.state rest o.end
   pub journal : map transaction_of o.journal.items ≡ commits progress.state
   pub position : o.position ≡ last_end progress.state.past
-  pub tables : o.tables.rows ≡ serial (schema_of g) rows (committed progress.state)
+  pub tables : o.tables.rows ≡ serial (schema_of g) rows (committed_changes progress.state)
   pub schema : o.tables.schema ≡ schema_of g
   pub times : List ℤ
   pub told : Ticks old.times new.times times

@@ -9,14 +9,15 @@ abbrev pub escape : ℕ → List ℕ
 escape byte =
     if byte == 92 then codes "\\\\" else (if byte == 124 then codes "\\p" else (if byte == 10 then codes "\\n" else (if byte == 13 then codes "\\r" else byte ∷ [])))
 
-abbrev pub escaped : List ℕ → List ℕ
-escaped bytes = flat_map escape bytes
+-- a text with its escapes
+abbrev pub escaped_text : List ℕ → List ℕ
+escaped_text bytes = flat_map escape bytes
 
 -- `\N` for null, digits for an int, `t` or `f` for a bool, a text with its escapes
 abbrev pub value_text : Option Value → List ℕ
 value_text None = codes "\\N"
 value_text (Some (Int n)) = signed_decimal n
-value_text (Some (Text bytes)) = escaped bytes
+value_text (Some (Text bytes)) = escaped_text bytes
 value_text (Some (Truth true)) = codes "t"
 value_text (Some (Truth false)) = codes "f"
 

@@ -1,53 +1,54 @@
 -- The tables while the changes of one transaction are open in them.
---     Standing      the rows without the open work, and the changes that are open
---     Passes, IsClear      a change, or each of a list in turn, does not clash
---     ClashesFirst      the first of them that clashes, and why
+--     OpenWork      the rows without the open work, and the changes that are open
+--     HasNoClash, IsClear      a change, or each of a list in turn, does not clash
+--     ClashesIn      the first of them that clashes, and why
 use Rattle.std.specs.Prelude.{◌≡◌, ◌≢◌, List, [], ◌∷◌, ◌++◌, refl}
 use Rattle.std.specs.Coded.{Coded, code_by, coded×, coded_list, coded_ℕ}
 use Rattle.std.specs.FinMap.{code}
 use Rattle.rows.specs.KeptCode.{key_code, row_code}
 use Rattle.indexes.specs.Codes.{keys_code}
 use Rattle.model.specs.Rows.{Schema, Rows}
-use Rattle.model.specs.Effect.{Conflict, Clashes, NullKey, Unique, outcome, effect, serial}
+use Rattle.model.specs.Effect.{ClashCause, Clashes, NullKey, Unique, outcome, effect, serial}
 use Rattle.model.specs.contracts.change.Change as change_type
 use Rattle.model.specs.declared.change.Change.{Change}
 use Rattle.change.specs.declared.outcome.Clash.{Clash}
 use Rattle.change.specs.declared.outcome.Clash.TheVariants.{Unique as UniqueClash, NullKey as NullKeyClash, OutOfMemory}
 
 -- the keys' columns, the rows without the open work, and the changes that are open
-pub record Standing : Type 0 where
+pub record OpenWork : Type 0 where
   pub schema : Schema
   pub base : Rows
   pub changes : List Change
 
 -- the rows with the open work
-abbrev pub rows_now : Standing → Rows
+abbrev pub rows_now : OpenWork → Rows
 rows_now w = serial w.schema w.base w.changes
 
 -- the change does not clash
-abbrev pub Passes : Schema → Rows → Change → Type 0
-Passes schema rows c = (cause : Conflict) → outcome schema rows c ≢ Clashes cause
+abbrev pub HasNoClash : Schema → Rows → Change → Type 0
+HasNoClash schema rows c = (cause : ClashCause) → outcome schema rows c ≢ Clashes cause
 
 -- none of the changes clashes, each after those before it
 abbrev pub IsClear : Schema → Rows → List Change → Type 0
 IsClear schema rows [] = Unit {0}
-IsClear schema rows (c ∷ cs) = Passes schema rows c × IsClear schema (effect schema rows c) cs
+IsClear schema rows (c ∷ cs) = HasNoClash schema rows c × IsClear schema (effect schema rows c) cs
 
 -- the change clashes so; or memory was refused
-abbrev pub Refuses : Schema → Rows → Change → Clash → Type 0
-Refuses schema rows c (UniqueClash table key) = outcome schema rows c ≡ Clashes (Unique table key)
-Refuses schema rows c (NullKeyClash table) = outcome schema rows c ≡ Clashes (NullKey table)
-Refuses schema rows c OutOfMemory = Unit {0}
+abbrev pub ClashesAs : Schema → Rows → Change → Clash → Type 0
+ClashesAs schema rows c (UniqueClash table key) = outcome schema rows c ≡ Clashes (Unique table key)
+ClashesAs schema rows c (NullKeyClash table) = outcome schema rows c ≡ Clashes (NullKey table)
+ClashesAs schema rows c OutOfMemory = Unit {0}
 
 -- one of the changes is the first that clashes, and it clashes so; or memory was refused
-pub record IsRefusedIn (schema : Schema) (rows : Rows) (cs : List Change) (clash : Clash) : Type 0 where
+pub record ClashesIn (schema : Schema) (rows : Rows) (cs : List Change) (clash : Clash) : Type 0 where
   pub before : List Change
   pub change : Change
   pub after : List Change
   pub split : cs ≡ before ++ change ∷ after
   pub clear : IsClear schema rows before
-  pub refused : Refuses schema (serial schema rows before) change clash
+  pub refused : ClashesAs schema (serial schema rows before) change clash
 
-abbrev pub standing_code : Coded Standing
-standing_code =
+-- the code of open work as its callers see it, by which proofs tell two of them apart
+abbrev pub open_work_code : Coded OpenWork
+open_work_code =
     code_by (Schema × (Rows × List Change)) (coded× (coded_list keys_code) (coded× (code (coded× coded_ℕ key_code) row_code) (coded_list change_type.the_row.coded))) (λ s. (s.schema, (s.base, s.changes))) (λ p. record { schema = p.0; base = p.1.0; changes = p.1.1 }) (λ _. refl)

@@ -1,16 +1,16 @@
 -- What the fields of open work stand for.
 use Rattle.std.specs.Prelude.{◌≡◌, map}
-use Rattle.model.specs.Effect.{undone}
+use Rattle.model.specs.Effect.{all_back}
 use Rattle.change.specs.Inverse.{edits_of}
 use Rattle.undo.specs.Undo.{CanUndo}
 use Rattle.leader.specs.declared.work.Work.TheInside.{Inside}
-use Rattle.leader.specs.Work.{Standing, rows_now}
+use Rattle.leader.specs.Work.{OpenWork, rows_now}
 
 -- the rows without the open work are those that are left once all of it is undone
-abbrev pub standing_of : Inside → Standing
-standing_of w = record { schema = w.tables.schema; base = undone w.tables.rows (map edits_of w.undo.inverses); changes = w.changes.items }
+abbrev pub open_work_of : Inside → OpenWork
+open_work_of w = record { schema = w.tables.schema; base = all_back w.tables.rows (map edits_of w.undo.inverses); changes = w.changes.items }
 
 -- The tables have the changes in them, and all of them can be undone.
 pub record HasWork (w : Inside) : Type 0 where
-  pub done : w.tables.rows ≡ rows_now (standing_of w)
+  pub done : w.tables.rows ≡ rows_now (open_work_of w)
   pub undoable : CanUndo w.tables w.undo.inverses

@@ -4,7 +4,7 @@ ghost use Rattle.model.specs.Rows.{Rows, keys_of};
 ghost use Rattle.session.specs.State.{Setting};
 ghost use Rattle.leader.specs.Work.{rows_now};
 ghost use Rattle.leader.specs.Commits.{transaction_of};
-ghost use Rattle.leader.specs.Progress.{Progress, beginning};
+ghost use Rattle.leader.specs.Progress.{Progress, start_progress};
 
 use crate::end::End;
 use crate::outcome::{Entry, Outcome};
@@ -37,7 +37,7 @@ impl<'a> Applier<'a> {
     /// Before the first item: these tables, which are those of the catalog, and spools for so many bytes.
     pub fn new(alloc: Global, catalog: &'a Catalog, start: Tables, spool: u64) -> Applier<'a>
         requires { start.schema ≡ map keys_of catalog.now }
-        ensures { IsAt (record { workers = 0; spool = spool; catalog = catalog.now }) start.rows result beginning }
+        ensures { IsAt (record { workers = 0; spool = spool; catalog = catalog.now }) start.rows result start_progress }
     {
         Applier {
             alloc,

@@ -4,7 +4,7 @@ ghost use Rattle.model.specs.Rows.{Rows, keys_of};
 ghost use Rattle.frames.specs.declared.item.CopyItem.{CopyItem as Item};
 ghost use Rattle.frames.specs.Reads.{HasRead};
 ghost use Rattle.session.specs.State.{Setting};
-ghost use Rattle.leader.specs.Progress.{beginning};
+ghost use Rattle.leader.specs.Progress.{start_progress};
 ghost use Rattle.leader.specs.Applier.{IsUnderWay, IsAt, HasCome, Answers, HandlesKept, IsRunOver, end_of};
 ghost use Rattle.leader.specs.Run.{Devices, devices, IsRun};
 
@@ -79,7 +79,7 @@ fn read_all<R: Source, W: Sink, C: Clock>(
     applier: &mut Applier<'_>,
 ) -> Result<(), End>
     requires { IsUnderWay applier.old }
-    ensures { (g : Setting) (rows : Rows) → IsAt g rows applier.old beginning → IsRunOver g rows
+    ensures { (g : Setting) (rows : Rows) → IsAt g rows applier.old start_progress → IsRunOver g rows
         (devices (R.remaining reader.old) (W.contents writer.old) (C.told clock.old) (R.failures reader.old) (W.failures writer.old))
         (devices (R.remaining reader.new) (W.contents writer.new) (C.told clock.new) (R.failures reader.new) (W.failures writer.new))
         applier.new (end_of result) }

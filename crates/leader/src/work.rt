@@ -1,13 +1,12 @@
 // The tables while work is open in them.
 ghost use Rattle.std.specs.Prelude.{◌≡◌, ◌<◌, [], ◌∷◌, ◌++◌, OnOk, OnErr, IfErr, All, length, map};
-ghost use Rattle.model.specs.Effect.{effect, undone};
-ghost use Rattle.change.specs.Applied.{AreTables};
+ghost use Rattle.model.specs.Effect.{effect, all_back};
 ghost use Rattle.change.specs.Inverse.{edits_of};
 ghost use Rattle.undo.specs.Undo.{CanUndo};
-ghost use Rattle.savepoint.specs.Survivors.{changes_of};
-ghost use Rattle.session.specs.Named.{AreNamed};
-ghost use Rattle.session.specs.Stands.{IsOfTables};
-ghost use Rattle.leader.specs.Work.{Passes, IsClear, Refuses, IsRefusedIn, rows_now};
+ghost use Rattle.model.specs.Survivors.{changes_of};
+ghost use Rattle.model.specs.Named.{NamesTables};
+ghost use Rattle.session.specs.Answers.{IsOfTables};
+ghost use Rattle.leader.specs.Work.{HasNoClash, IsClear, ClashesAs, ClashesIn, rows_now};
 
 use change::{Applied, Clash, apply};
 use indexes::Tables;
@@ -29,15 +28,15 @@ pub struct Work {
 }
 
 impl Model for Work {
-    ghost use Rattle.leader.specs.Work.{Standing, standing_code};
+    ghost use Rattle.leader.specs.Work.{OpenWork, open_work_code};
 
-    ghost Value = { Standing };
+    ghost Value = { OpenWork };
 
-    ghost coded = { standing_code };
+    ghost coded = { open_work_code };
 
-    ghost use Rattle.leader.specs.WorkInside.{standing_of, HasWork};
+    ghost use Rattle.leader.specs.WorkInside.{open_work_of, HasWork};
 
-    ghost view = { standing_of };
+    ghost view = { open_work_of };
 
     ghost invariant = { HasWork };
 }
@@ -56,10 +55,10 @@ impl Work {
 
     /// Applies a change as open work. A refusal leaves all as it was.
     pub fn apply(&mut self, alloc: Global, change: Change) -> Result<(), Clash>
-        requires { AreNamed (length self.old.schema) change }
-        ensures passes { OnOk result (Passes self.old.schema (rows_now self.old) change) }
+        requires { NamesTables (length self.old.schema) change }
+        ensures passes { OnOk result (HasNoClash self.old.schema (rows_now self.old) change) }
         ensures ok { OnOk result (self.new ≡ record self.old { changes = self.old.changes ++ change ∷ [] }) }
-        ensures refused { IfErr result (Refuses self.old.schema (rows_now self.old) change) }
+        ensures refused { IfErr result (ClashesAs self.old.schema (rows_now self.old) change) }
         ensures err { OnErr result (self.new ≡ self.old) }
     {
         self.changes.reserve(1)?;
@@ -73,7 +72,7 @@ impl Work {
         requires { IsOfTables (length self.old.schema) item }
         ensures clear { OnOk result (IsClear self.old.schema (rows_now self.old) (changes_of (item ∷ []))) }
         ensures ok { OnOk result (self.new ≡ record self.old { changes = self.old.changes ++ changes_of (item ∷ []) }) }
-        ensures refused { IfErr result (IsRefusedIn self.old.schema (rows_now self.old) (changes_of (item ∷ []))) }
+        ensures refused { IfErr result (ClashesIn self.old.schema (rows_now self.old) (changes_of (item ∷ []))) }
         ensures err { OnErr result (self.new ≡ self.old) }
     {
         match item {
@@ -87,7 +86,7 @@ impl Work {
         requires { All (IsOfTables (length self.old.schema)) items.items }
         ensures clear { OnOk result (IsClear self.old.schema (rows_now self.old) (changes_of items.items)) }
         ensures ok { OnOk result (self.new ≡ record self.old { changes = self.old.changes ++ changes_of items.items }) }
-        ensures refused { IfErr result (IsRefusedIn self.old.schema (rows_now self.old) (changes_of items.items)) }
+        ensures refused { IfErr result (ClashesIn self.old.schema (rows_now self.old) (changes_of items.items)) }
         ensures base { self.new.base ≡ self.old.base }
         ensures schema { self.new.schema ≡ self.old.schema }
     {
@@ -129,13 +128,13 @@ fn apply_logged(
     undo: &mut UndoLog,
     change: &Change,
 ) -> Result<(), Clash>
-    requires tables { AreTables tables.old.schema change.now }
+    requires tables { NamesTables (length tables.old.schema) change.now }
     requires can_undo { CanUndo tables.old undo.old.inverses }
-    ensures passes { OnOk result (Passes tables.old.schema tables.old.rows change.now) }
+    ensures passes { OnOk result (HasNoClash tables.old.schema tables.old.rows change.now) }
     ensures ok { OnOk result (tables.new.rows ≡ effect tables.old.schema tables.old.rows change.now) }
-    ensures refused { IfErr result (Refuses tables.old.schema tables.old.rows change.now) }
+    ensures refused { IfErr result (ClashesAs tables.old.schema tables.old.rows change.now) }
     ensures err { OnErr result (tables.new.rows ≡ tables.old.rows) }
-    ensures base { undone tables.new.rows (map edits_of undo.new.inverses) ≡ undone tables.old.rows (map edits_of undo.old.inverses) }
+    ensures base { all_back tables.new.rows (map edits_of undo.new.inverses) ≡ all_back tables.old.rows (map edits_of undo.old.inverses) }
     ensures schema { tables.new.schema ≡ tables.old.schema }
     ensures can_undo { CanUndo tables.new undo.new.inverses }
 {

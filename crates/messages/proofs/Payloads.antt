@@ -5,7 +5,7 @@ use Rattle.messages.specs.declared.fault.MsgFault.{MsgFault}
 use Rattle.messages.specs.declared.fault.MsgFault.TheVariants.{UnknownTag, Short, Trailing, BadTupleKind, BadText, BinaryColumn, BadFlag, NegativeCount, TwoPhase, OutOfMemory}
 use Rattle.messages.specs.declared.message.Message.{Message}
 use Rattle.messages.specs.Format.{Format, Spells, Fails}
-use Rattle.messages.specs.Messages.{message, Spelled, Stands, HasXid}
+use Rattle.messages.specs.Messages.{message, Spelled, HasFault, HasXid}
 use Rattle.messages.specs.Reading.{Read, if_read, read, ended, read_all, IsFault, IsReading}
 use Rattle.messages.proofs.Fields.{IsBytes}
 use Rattle.messages.proofs.Xids.{spelled_has_xid}
@@ -43,8 +43,8 @@ spelled-read_all : (payload : List ℕ) (in_block : Bool) (m : Message) → Spel
 unfolding Spelled
 spelled-read_all payload in_block m s = rw (spells-read (message in_block) payload m [] s) refl
 
-read_all-stands : (payload : List ℕ) (in_block : Bool) (fault : MsgFault) → IsBytes payload → read_all (message in_block) payload ≡ Err fault → Stands payload in_block fault
-unfolding Stands
+read_all-stands : (payload : List ℕ) (in_block : Bool) (fault : MsgFault) → IsBytes payload → read_all (message in_block) payload ≡ Err fault → HasFault payload in_block fault
+unfolding HasFault
 read_all-stands payload in_block fault fits e =
     let p = message in_block in
     elim (if_read-err (read p payload) (λ x. ended x.0 x.1) fault e) [
@@ -52,8 +52,8 @@ read_all-stands payload in_block fault fits e =
       | inr r ↦ let more = ended-err r.0.0 r.0.1 fault r.2 in inr (r.0.0, r.0.1, (read-spells p payload r.0 fits r.1).spells, more.0, more.1)
     ]
 
-stands-read_all : (payload : List ℕ) (in_block : Bool) (fault : MsgFault) → IsBytes payload → Stands payload in_block fault → read_all (message in_block) payload ≡ Err fault
-unfolding Stands
+stands-read_all : (payload : List ℕ) (in_block : Bool) (fault : MsgFault) → IsBytes payload → HasFault payload in_block fault → read_all (message in_block) payload ≡ Err fault
+unfolding HasFault
 stands-read_all payload in_block fault fits stands =
     let p = message in_block in
     elim stands [
@@ -76,7 +76,7 @@ answer-xid payload in_block (Ok m) fits e = spelled_has_xid payload in_block m (
 answer-xid payload in_block (Err fault) fits e = tt
 
 pub answer-fault : (payload : List ℕ) (in_block : Bool) (r : Result Message MsgFault) → IsBytes payload → IsReading r (read_all (message in_block) payload)
-    → IfErr r (λ fault. (fault ≡ OutOfMemory) ⊎ Stands payload in_block fault)
+    → IfErr r (λ fault. (fault ≡ OutOfMemory) ⊎ HasFault payload in_block fault)
 answer-fault payload in_block (Ok m) fits e = tt
 answer-fault payload in_block (Err fault) fits e =
     elim (is_memory_or fault (read_all (message in_block) payload) e) [
@@ -101,7 +101,7 @@ pub answer-only : (payload : List ℕ) (in_block : Bool) (r : Result Message Msg
 answer-only payload in_block r m e s = or_memory r _ (Ok m) (spelled-read_all payload in_block m s) (answer-is r _ e)
 
 pub answer-refused : (payload : List ℕ) (in_block : Bool) (r : Result Message MsgFault) (fault : MsgFault) → IsBytes payload → IsReading r (read_all (message in_block) payload)
-    → Stands payload in_block fault → (r ≡ Err fault) ⊎ (r ≡ Err OutOfMemory)
+    → HasFault payload in_block fault → (r ≡ Err fault) ⊎ (r ≡ Err OutOfMemory)
 answer-refused payload in_block r fault fits e s = or_memory r _ (Err fault) (stands-read_all payload in_block fault fits s) (answer-is r _ e)
 
 -- ---- laws
@@ -115,7 +115,7 @@ begins_none payload more in_block m n s t =
     (same.1, same.0)
 
 -- where a message is spelled no fault stands
-pub spelled-or-stands : (payload : List ℕ) (in_block : Bool) (m : Message) (fault : MsgFault) → IsBytes payload → Spelled payload in_block m → Stands payload in_block fault → ⊥
+pub spelled-or-stands : (payload : List ℕ) (in_block : Bool) (m : Message) (fault : MsgFault) → IsBytes payload → Spelled payload in_block m → HasFault payload in_block fault → ⊥
 spelled-or-stands payload in_block m fault fits s t =
     let read_it = spelled-read_all payload in_block m s in
     let refused = stands-read_all payload in_block fault fits t in
@@ -128,5 +128,5 @@ one_message-law payload in_block m n s t = (Spells-one (message in_block) payloa
 same_fault : {A : Type 0} (r : Result A MsgFault) (f g : MsgFault) → r ≡ Err f → r ≡ Err g → f ≡ g
 same_fault r f g p q = cc
 
-pub one_fault-law : (payload : List ℕ) (in_block : Bool) (f g : MsgFault) → IsBytes payload → Stands payload in_block f → Stands payload in_block g → f ≡ g
+pub one_fault-law : (payload : List ℕ) (in_block : Bool) (f g : MsgFault) → IsBytes payload → HasFault payload in_block f → HasFault payload in_block g → f ≡ g
 one_fault-law payload in_block f g fits s t = same_fault (read_all (message in_block) payload) f g (stands-read_all payload in_block f fits s) (stands-read_all payload in_block g fits t)

@@ -12,16 +12,19 @@ pub data Size : Type 0 where
   four : Size
   eight : Size
 
+-- the width of a number of this size: 16, 32 or 64 bits
 abbrev pub width : Size → Width
 width two = w16
 width four = w32
 width eight = w64
 
+-- how many bytes a number of this size takes
 abbrev pub byte_count : Size → ℕ
 byte_count two = 2
 byte_count four = 4
 byte_count eight = 8
 
+-- a number of this size, without a sign, is below this
 abbrev pub limit : Size → ℕ
 limit two = 2 ^ 16
 limit four = 2 ^ 32
@@ -72,6 +75,7 @@ spelling String text = text ++ 0 ∷ []
 spelling (Text n) text = text
 spelling (Content n) bytes = bytes
 
+-- no byte of the text is zero
 abbrev pub HasNoZero : List ℕ → Type 0
 HasNoZero text = ¬ (Contains text 0)
 
@@ -95,9 +99,11 @@ pub record Begins (bytes : List ℕ) (f : Field) (value : Value f) (rest : List 
   pub fits : Fits f value
   pub parts : bytes ≡ spelling f value ++ rest
 
+-- the byte is zero
 abbrev pub is_zero : ℕ → Bool
 is_zero b = b == 0
 
+-- the fault of a byte by its table; Short if it has none, which a wrong byte never has
 abbrev pub fault_or_short : Option MsgFault → MsgFault
 fault_or_short None = Short
 fault_or_short (Some fault) = fault

@@ -9,10 +9,12 @@ pub data Format : Type 0 → Type 1 where
   one : (f : Field) → Format (Value f)
   followed_by : {A B : Type 0} → Format A → (A → Format B) → Format B
 
+-- a format, and what follows each of its values
 infixl 10 ◌>>=◌
 abbrev pub ◌>>=◌ : {A B : Type 0} → Format A → (A → Format B) → Format B
 p >>= next = followed_by p next
 
+-- the first format if the test holds, else the second
 abbrev pub choose : {A : Type 0} → Bool → Format A → Format A → Format A
 choose true p q = p
 choose false p q = q

@@ -11,9 +11,11 @@ use Rattle.messages.specs.declared.tag.Tag.TheVariants as tags
 use Rattle.messages.specs.Field.{Byte}
 use Rattle.messages.specs.Format.{Format, done, one, ◌>>=◌}
 
+-- the byte is one of these letters
 abbrev pub is_in : List ℕ → ℕ → Bool
 is_in letters b = list_any (λ c. c == b) letters
 
+-- no fault if the test holds, else this one
 abbrev pub none_or : Bool → MsgFault → Option MsgFault
 none_or true fault = None
 none_or false fault = Some fault
@@ -36,11 +38,13 @@ no_flags = one (Byte (one_of (0 ∷ []) BadFlag))
 abbrev pub options_of : ℕ → TruncateOptions
 options_of b = record { cascade = is_in (1 ∷ 3 ∷ []) b; restart_identity = is_in (2 ∷ 3 ∷ []) b }
 
+-- Truncate's option bits: one byte from 0 to 3
 unfoldable pub truncate_options : Format TruncateOptions
 truncate_options = do
   b ← one (Byte (one_of (0 ∷ 1 ∷ 2 ∷ 3 ∷ []) BadFlag))
   done (options_of b)
 
+-- the replica identity that a letter says: 'd', 'n', 'f', or else 'i'
 abbrev pub identity_of : ℕ → ReplicaIdentity
 identity_of b =
     if is_in (codes "d") b then identities.Default
@@ -48,6 +52,7 @@ identity_of b =
     else (if is_in (codes "f") b then identities.Full
     else identities.Index))
 
+-- the replica identity of a Relation: 'd', 'n', 'f' or 'i'
 unfoldable pub identity : Format ReplicaIdentity
 identity = do
   b ← one (Byte (one_of (codes "dnfi") BadFlag))
@@ -69,6 +74,7 @@ tag_table b =
     if is_in (codes "BCORYIUDTMSEcA") b then None
     else (if is_in (codes "bPKrp") b then Some TwoPhase else Some UnknownTag)
 
+-- the kind of message that a tag's letter says; Stream Abort if it says none of the others
 abbrev pub tag_of : ℕ → Tag
 tag_of b =
     if is_in (codes "B") b then tags.Begin
@@ -86,6 +92,7 @@ tag_of b =
     else (if is_in (codes "c") b then tags.StreamCommit
     else tags.StreamAbort))))))))))))
 
+-- a message's tag: the byte that says of which kind it is
 unfoldable pub tag : Format Tag
 tag = do
   b ← one (Byte tag_table)

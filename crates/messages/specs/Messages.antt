@@ -38,22 +38,26 @@ xid_in true = do
 
 -- ---- tuples
 
+-- a column's value as text: a length, and so many bytes of UTF-8
 unfoldable pub text : Format Column
 text = do
   length ← one (Count four)
   t ← one (Text length)
   done (columns.Text t)
 
+-- what follows a column's letter: nothing after 'n' and 'u', else a text
 abbrev pub column_of : ℕ → Format Column
 column_of b =
     choose (is_in (codes "n") b) (done columns.Null)
     (choose (is_in (codes "u") b) (done columns.Unchanged) text)
 
+-- a column of TupleData: 'n' (null), 'u' (an unchanged TOASTed value), or 't' and a text
 unfoldable pub column : Format Column
 column = do
   kind ← one (Byte column_table)
   column_of kind
 
+-- TupleData: a count of columns, and each of them
 unfoldable pub tuple : Format (List Column)
 tuple = do
   count ← one (Count two)
@@ -70,11 +74,13 @@ old_tuple_of b =
       row ← tuple
       done (olds.Full row))
 
+-- the old tuple of a Delete: 'K' or 'O', TupleData
 unfoldable pub old_tuple : Format OldTuple
 old_tuple = do
   kind ← one (Byte (one_of (codes "KO") BadTupleKind))
   old_tuple_of kind
 
+-- what follows the first tuple letter of an Update: nothing after 'N', else an old tuple and 'N'
 abbrev pub old_before_new : ℕ → Format (Option OldTuple)
 old_before_new b =
     choose (is_in (codes "N") b) (done None)
@@ -91,6 +97,7 @@ optional_old_tuple = do
 
 -- ---- messages, without their tag
 
+-- Begin: final LSN, commit time, xid
 unfoldable pub begin : Format Begin
 begin = do
   final_lsn ← one (Unsigned eight)
@@ -98,6 +105,7 @@ begin = do
   xid ← one (Unsigned four)
   done (record { final_lsn = final_lsn; commit_time = commit_time; xid = xid })
 
+-- Commit: flags, commit LSN, end LSN, commit time
 unfoldable pub commit : Format Commit
 commit = do
   flags ← no_flags
@@ -113,6 +121,7 @@ origin = do
   name ← one String
   done (record { lsn = lsn; name = name })
 
+-- a column of a Relation: flag of the key, name, type OID, type modifier
 unfoldable pub relation_column : Format RelationColumn
 relation_column = do
   is_key ← flag
@@ -121,11 +130,13 @@ relation_column = do
   type_modifier ← one (Signed four)
   done (record { is_key = is_key; name = name; type_oid = type_oid; type_modifier = type_modifier })
 
+-- the columns of a Relation: their count, and each of them
 unfoldable pub relation_columns : Format (List RelationColumn)
 relation_columns = do
   count ← one (Count two)
   times count relation_column
 
+-- Relation, behind the xid: OID, namespace, name, replica identity, columns
 unfoldable pub relation : Format Relation
 relation = do
   oid ← one (Unsigned four)
@@ -135,6 +146,7 @@ relation = do
   published ← relation_columns
   done (record { oid = oid; namespace = namespace; name = name; identity = replica_identity; columns = published })
 
+-- Type: xid in a block, OID, namespace, name
 unfoldable pub type_name : Bool → Format TypeName
 type_name in_block = do
   xid ← xid_in in_block
@@ -143,6 +155,7 @@ type_name in_block = do
   name ← one String
   done (record { xid = xid; oid = oid; namespace = namespace; name = name })
 
+-- Insert: xid in a block, OID, 'N', new tuple
 unfoldable pub insert : Bool → Format Insert
 insert in_block = do
   xid ← xid_in in_block
@@ -151,6 +164,7 @@ insert in_block = do
   new ← tuple
   done (record { xid = xid; oid = oid; new = new })
 
+-- Update: xid in a block, OID, the old tuple if one was sent, 'N', new tuple
 unfoldable pub update : Bool → Format Update
 update in_block = do
   xid ← xid_in in_block
@@ -159,6 +173,7 @@ update in_block = do
   new ← tuple
   done (record { xid = xid; oid = oid; old = old; new = new })
 
+-- Delete: xid in a block, OID, old tuple
 unfoldable pub delete : Bool → Format Delete
 delete in_block = do
   xid ← xid_in in_block
@@ -166,6 +181,7 @@ delete in_block = do
   old ← old_tuple
   done (record { xid = xid; oid = oid; old = old })
 
+-- Truncate: xid in a block, count of relations, option bits, their OIDs
 unfoldable pub truncate : Bool → Format Truncate
 truncate in_block = do
   xid ← xid_in in_block
@@ -174,11 +190,13 @@ truncate in_block = do
   relations ← times count (one (Unsigned four))
   done (record { xid = xid; options = options; relations = relations })
 
+-- the content of a Message: a length, and so many bytes
 unfoldable pub content : Format (List ℕ)
 content = do
   length ← one (Count four)
   one (Content length)
 
+-- Message: xid in a block, flag (transactional), LSN, prefix, content
 unfoldable pub logical_message : Bool → Format LogicalMessage
 logical_message in_block = do
   xid ← xid_in in_block
@@ -188,12 +206,14 @@ logical_message in_block = do
   written ← content
   done (record { xid = xid; transactional = transactional; lsn = lsn; prefix = prefix; content = written })
 
+-- Stream Start: xid, flag (first block)
 unfoldable pub stream_start : Format StreamStart
 stream_start = do
   xid ← one (Unsigned four)
   is_first ← flag
   done (record { xid = xid; is_first = is_first })
 
+-- Stream Commit: xid, flags, commit LSN, end LSN, commit time
 unfoldable pub stream_commit : Format StreamCommit
 stream_commit = do
   xid ← one (Unsigned four)
@@ -203,6 +223,7 @@ stream_commit = do
   commit_time ← one (Signed eight)
   done (record { xid = xid; commit_lsn = commit_lsn; end_lsn = end_lsn; commit_time = commit_time })
 
+-- Stream Abort: xid, xid of the subtransaction, LSN, abort time
 unfoldable pub stream_abort : Format StreamAbort
 stream_abort = do
   xid ← one (Unsigned four)
@@ -213,6 +234,7 @@ stream_abort = do
 
 -- ---- the table of tags
 
+-- the fields behind a tag, as the kind of message has them, in a block or outside of one
 abbrev pub body : Bool → Tag → Format Message
 body in_block tags.Begin = do
   m ← begin
@@ -256,6 +278,7 @@ body in_block tags.StreamAbort = do
   m ← stream_abort
   done (messages.StreamAbort m)
 
+-- a message: its tag and its fields, in a block of a streamed transaction or outside of one
 unfoldable pub message : Bool → Format Message
 message in_block = do
   t ← tag
@@ -269,8 +292,8 @@ Spelled payload in_block m = Spells (message in_block) payload m []
 
 -- A fault stands in the payload: the payload is the spelling of some first fields, followed by a rest that
 -- begins with no spelling of the next field, which names the fault; or by a rest after the last field.
-unfoldable pub Stands : List ℕ → Bool → MsgFault → Type 0
-Stands payload in_block fault =
+unfoldable pub HasFault : List ℕ → Bool → MsgFault → Type 0
+HasFault payload in_block fault =
     Fails (message in_block) payload fault
     ⊎ ((m : Message) × (rest : List ℕ) × Spells (message in_block) payload m rest × (rest ≢ []) × (fault ≡ Trailing))
 

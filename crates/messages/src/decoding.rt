@@ -4,7 +4,7 @@ ghost use Rattle.std.specs.Prelude.{◌≡◌, ◌<◌, ◌⊎◌, ℕ, length, 
 ghost use Rattle.messages.specs.Field.{four, Unsigned};
 ghost use Rattle.messages.specs.Format.{one, times};
 ghost use Rattle.messages.specs.Letters.{flag, no_flags, truncate_options, identity, new_tuple_follows, tag};
-ghost use Rattle.messages.specs.Messages.{xid_in, text, column, tuple, old_tuple, optional_old_tuple, begin, commit, origin, relation_column, relation_columns, relation, type_name, insert, update, delete, truncate, content, logical_message, stream_start, stream_commit, stream_abort, message, Spelled, Stands, HasXid};
+ghost use Rattle.messages.specs.Messages.{xid_in, text, column, tuple, old_tuple, optional_old_tuple, begin, commit, origin, relation_column, relation_columns, relation, type_name, insert, update, delete, truncate, content, logical_message, stream_start, stream_commit, stream_abort, message, Spelled, HasFault, HasXid};
 ghost use Rattle.messages.specs.Reading.{Gives, GivesBy, IsReading, read, read_all};
 ghost use Rattle.messages.specs.declared.fault.MsgFault.{MsgFault};
 ghost use Rattle.messages.specs.declared.fault.MsgFault.TheVariants.{OutOfMemory};
@@ -39,9 +39,9 @@ pub fn decode(alloc: Global, payload: &Bytes, in_block: bool) -> Result<Message,
     // What is spelled is answered, unless memory is refused.
     ensures only { (m : Message) → Spelled payload.now in_block m
         → (result ≡ Ok m) ⊎ (result ≡ Err OutOfMemory) }
-    ensures fault { IfErr result (λ fault. (fault ≡ OutOfMemory) ⊎ Stands payload.now in_block fault) }
+    ensures fault { IfErr result (λ fault. (fault ≡ OutOfMemory) ⊎ HasFault payload.now in_block fault) }
     // The fault that stands is answered, unless memory is refused.
-    ensures refused { (fault : MsgFault) → Stands payload.now in_block fault
+    ensures refused { (fault : MsgFault) → HasFault payload.now in_block fault
         → (result ≡ Err fault) ⊎ (result ≡ Err OutOfMemory) }
 {
     are_bytes(payload.as_slice());

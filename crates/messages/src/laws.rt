@@ -1,7 +1,7 @@
 //! Laws of the spellings, each the contract of a function that does nothing.
 
 ghost use Rattle.std.specs.Prelude.{◌≡◌, ◌<◌, ℕ, Bool, List, [], ◌++◌, slice_index};
-ghost use Rattle.messages.specs.Messages.{Spelled, Stands};
+ghost use Rattle.messages.specs.Messages.{Spelled, HasFault};
 ghost use Rattle.messages.specs.declared.fault.MsgFault.{MsgFault};
 ghost use Rattle.messages.specs.declared.message.Message.{Message};
 
@@ -26,9 +26,9 @@ pub fn one_spelling()
 /// One fault stands in a payload at most, and none where the payload spells a message.
 pub fn one_fault()
     ensures one { (payload : List ℕ) (in_block : Bool) (f g : MsgFault)
-        → ((i : ℕ) → slice_index payload i < 256) → Stands payload in_block f
-        → Stands payload in_block g → f ≡ g }
+        → ((i : ℕ) → slice_index payload i < 256) → HasFault payload in_block f
+        → HasFault payload in_block g → f ≡ g }
     ensures none { (payload : List ℕ) (in_block : Bool) (m : Message) (f : MsgFault)
         → ((i : ℕ) → slice_index payload i < 256) → Spelled payload in_block m
-        → ¬ (Stands payload in_block f) }
+        → ¬ (HasFault payload in_block f) }
 {}

@@ -14,6 +14,7 @@ table_of (Row table key) = table
 table_of (Uniq table number values) = table
 table_of (Whole table) = table
 
+-- the keys are equal
 abbrev pub same_key : Key → Key → Bool
 same_key = eq_by_cmp key_cmp
 

@@ -1,9 +1,9 @@
 -- The laws of edits, place by place.
 --     get_insert_same, ..      what stands at a place after an insert or a remove, where two places are the same and where they differ
---     get_overlay, get_stood      what stands at a place after edits, and what the edits had found there
+--     get_overlay, get_rows_under      what stands at a place after edits, and what the edits had found there
 --     restored      what stood, put back, gives the rows before the edits
---     overlay_none, overlay_inserted, ..      edits of one place or two, as inserts and removes
---     put_back_apart      edits that share no place may come in either order
+--     overlay_empty, overlay_one, ..      edits of one place or two, as inserts and removes
+--     overlay_apart      edits that share no place may come in either order
 use Rattle.std.specs.Prelude.{◌≡◌, Bool, true, false, cond, List, [], ◌∷◌, Option, Some, None, map, unwrap_or, refl, ◌⊎◌}
 use Rattle.std.proofs.Common.{sym, ◌∙◌, ap, inl, inr}
 use Rattle.std.specs.Ordering.{eq_by_cmp}
@@ -14,10 +14,11 @@ use Rattle.std.proofs.lemmas.Map.Views.{tells_apart}
 use Rattle.model.specs.declared.row.Row.{Row}
 use Rattle.model.specs.Rows.{Place, Rows, place_cmp, place_cmp_total}
 use Rattle.model.specs.Exact.{place_cmp_exact}
-use Rattle.model.specs.Effect.{Edits, put_at, put_all, overlay, stood, one_edit, back}
+use Rattle.model.specs.Effect.{Edits, put_at, put_all, overlay, rows_under, one_edit, back}
 
 -- ---- places that are the same, and places that differ
 
+-- the places are equal
 abbrev pub is_place : Place → Place → Bool
 is_place = eq_by_cmp place_cmp
 
@@ -91,17 +92,17 @@ was_first : (rows : Rows) (p q : Place) (edit : Option Row) (rest : Option (Opti
 was_first rows p q edit rest true e = ap (λ (at : Place). Some (get rows at)) (sym (place_is p q e))
 was_first rows p q edit rest false e = refl
 
-find_stood : (rows : Rows) (p : Place) (es : List (Place × Option Row))
+find_rows_under : (rows : Rows) (p : Place) (es : List (Place × Option Row))
     → find place_cmp p (map (λ (e : Place × Option Row). (e.0, get rows e.0)) es) ≡ was_at (find place_cmp p es) (get rows p)
-find_stood rows p [] = refl
-find_stood rows p (e ∷ es) =
-    ap (cond (is_place p e.0) (Some (get rows e.0))) (find_stood rows p es)
+find_rows_under rows p [] = refl
+find_rows_under rows p (e ∷ es) =
+    ap (cond (is_place p e.0) (Some (get rows e.0))) (find_rows_under rows p es)
     ∙ was_first rows p e.0 e.1 (find place_cmp p es) (is_place p e.0) refl
 
-pub get_stood : (rows : Rows) (edits : Edits) (p : Place) → get (stood rows edits) p ≡ was_at (get edits p) (get rows p)
-get_stood rows edits p =
+pub get_rows_under : (rows : Rows) (edits : Edits) (p : Place) → get (rows_under rows edits) p ≡ was_at (get edits p) (get rows p)
+get_rows_under rows edits p =
     get-from_entries place_cmp_total (map (λ (e : Place × Option Row). (e.0, get rows e.0)) (entries edits)) p
-    ∙ find_stood rows p (entries edits)
+    ∙ find_rows_under rows p (entries edits)
     ∙ ap (λ e. was_at e (get rows p)) (sym (get-entries edits p))
 
 -- ---- what stood, put back
@@ -110,10 +111,10 @@ put_and_taken_back : (edit : Option (Option Row)) (row : Option Row) → unwrap_
 put_and_taken_back None row = refl
 put_and_taken_back (Some edit) row = refl
 
-pub restored : (rows : Rows) (edits : Edits) → back (overlay rows edits) (stood rows edits) ≡ rows
+pub restored : (rows : Rows) (edits : Edits) → back (overlay rows edits) (rows_under rows edits) ≡ rows
 restored rows edits = same_rows _ _ (λ p.
-    get_overlay (overlay rows edits) (stood rows edits) p
-    ∙ ap (λ e. unwrap_or e (get (overlay rows edits) p)) (get_stood rows edits p)
+    get_overlay (overlay rows edits) (rows_under rows edits) p
+    ∙ ap (λ e. unwrap_or e (get (overlay rows edits) p)) (get_rows_under rows edits p)
     ∙ ap (unwrap_or (was_at (get edits p) (get rows p))) (get_overlay rows edits p)
     ∙ put_and_taken_back (get edits p) (get rows p))
 
@@ -170,22 +171,22 @@ overlay_two rows q later row new = overlay_more rows (one_edit q row) later new 
 pub same_edits : (edits others : Edits) → ((p : Place) → get edits p ≡ get others p) → edits ≡ others
 same_edits = same_map place_cmp_total place_cmp_exact
 
-pub stood_empty : (rows : Rows) → stood rows map_of.empty ≡ map_of.empty
-stood_empty rows = same_edits _ _ (λ p.
-    get_stood rows map_of.empty p ∙ ap (λ e. was_at e (get rows p)) (get-empty place_cmp p) ∙ sym (get-empty place_cmp p))
+pub rows_under_none : (rows : Rows) → rows_under rows map_of.empty ≡ map_of.empty
+rows_under_none rows = same_edits _ _ (λ p.
+    get_rows_under rows map_of.empty p ∙ ap (λ e. was_at e (get rows p)) (get-empty place_cmp p) ∙ sym (get-empty place_cmp p))
 
 -- with one more edit, also what stood at its place
-pub stood_more : (rows : Rows) (edits : Edits) (q : Place) (row : Option Row) → stood rows (insert edits q row) ≡ insert (stood rows edits) q (get rows q)
-stood_more rows edits q row = same_edits _ _ (λ p.
-    get_stood rows (insert edits q row) p
+pub rows_under_more : (rows : Rows) (edits : Edits) (q : Place) (row : Option Row) → rows_under rows (insert edits q row) ≡ insert (rows_under rows edits) q (get rows q)
+rows_under_more rows edits q row = same_edits _ _ (λ p.
+    get_rows_under rows (insert edits q row) p
     ∙ ap (λ e. was_at e (get rows p)) (get_edit edits q row p)
     ∙ sym (was_first rows p q row (get edits p) (is_place p q) refl)
-    ∙ ap (cond (is_place p q) (Some (get rows q))) (sym (get_stood rows edits p))
-    ∙ sym (get_edit (stood rows edits) q (get rows q) p))
+    ∙ ap (cond (is_place p q) (Some (get rows q))) (sym (get_rows_under rows edits p))
+    ∙ sym (get_edit (rows_under rows edits) q (get rows q) p))
 
-pub stood_one : (rows : Rows) (q : Place) (row : Option Row) → stood rows (one_edit q row) ≡ one_edit q (get rows q)
-stood_one rows q row = stood_more rows map_of.empty q row ∙ ap (λ edits. insert edits q (get rows q)) (stood_empty rows)
+pub rows_under_one : (rows : Rows) (q : Place) (row : Option Row) → rows_under rows (one_edit q row) ≡ one_edit q (get rows q)
+rows_under_one rows q row = rows_under_more rows map_of.empty q row ∙ ap (λ edits. insert edits q (get rows q)) (rows_under_none rows)
 
-pub stood_two : (rows : Rows) (q later : Place) (row new : Option Row)
-    → stood rows (insert (one_edit q row) later new) ≡ insert (one_edit q (get rows q)) later (get rows later)
-stood_two rows q later row new = stood_more rows (one_edit q row) later new ∙ ap (λ edits. insert edits later (get rows later)) (stood_one rows q row)
+pub rows_under_two : (rows : Rows) (q later : Place) (row new : Option Row)
+    → rows_under rows (insert (one_edit q row) later new) ≡ insert (one_edit q (get rows q)) later (get rows later)
+rows_under_two rows q later row new = rows_under_more rows (one_edit q row) later new ∙ ap (λ edits. insert edits later (get rows later)) (rows_under_one rows q row)

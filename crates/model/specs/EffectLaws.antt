@@ -1,9 +1,9 @@
 -- The laws of effects.
---     placed_null, placed_there, placed_taken, placed_free      what comes of a row that comes into its table
---     effect_placed, inverse_placed, ..      effects and inverses as inserts and removes
+--     row_outcome_null, row_outcome_there, row_outcome_taken, row_outcome_free      what comes of a row that comes into its table
+--     effect_skipped, effect_clashed, ..      what a change that does nothing leaves
 --     get_wiped, get_effect_wipe, ..      what stands at a place after a wipe, and what its inverse puts there
 --     effect_valid, serial_valid      changes keep rows valid
---     back_of_inverse, undone_serial      inverses put back restore the rows
+--     back_of_inverse, all_back_serial      inverses put back restore the rows
 use Rattle.std.specs.Prelude.{◌≡◌, ℕ, ◌==◌, Bool, true, false, cond, List, [], ◌∷◌, ◌++◌, Option, Some, None, if◌then◌else◌, map, filter, is_some, unwrap_or, refl}
 use Rattle.std.proofs.Common.{sym, ◌∙◌, ap, subst}
 use Rattle.std.specs.List.{list_any}
@@ -15,16 +15,16 @@ use Rattle.model.specs.declared.change.Change.{Change}
 use Rattle.model.specs.declared.change.Change.TheVariants.{Put, Set, Remove, Wipe}
 use Rattle.model.specs.declared.change.ColumnPatch.{ColumnPatch}
 use Rattle.model.specs.Rows.{Place, Rows, Schema, place_cmp, place_cmp_total, keys_at, key_of, IsValid}
-use Rattle.model.specs.Effect.{Edits, overlay, stood, one_edit, Outcome, Done, Skip, Clashes, Conflict, NullKey, Unique, first_taken, unless_taken, placed_at, placed, patched, replaced, removed, is_wiped, cleared, wiped, outcome, edits_of, effect, inverse, back, serial, inverses, undone}
-use Rattle.model.specs.EditLaws.{is_place, place_is, AreApart, get_overlay, get_stood, was_at, restored, overlay_apart, overlay_empty, overlay_more, overlay_one, stood_empty}
+use Rattle.model.specs.Effect.{Edits, overlay, rows_under, one_edit, Outcome, Done, Skip, Clashes, ClashCause, NullKey, Unique, first_taken, unless_taken, row_outcome_at, row_outcome, patch_row, set_outcome, remove_outcome, is_wiped, row_cleared, wipe_edits, outcome, edits_of, effect, inverse, back, serial, inverses, all_back}
+use Rattle.model.specs.EditLaws.{is_place, place_is, AreApart, get_overlay, get_rows_under, was_at, restored, overlay_apart, overlay_empty, overlay_more, overlay_one, rows_under_none}
 use Rattle.model.specs.ValidLaws.{valid_fewer, valid_remove, valid_insert}
 
 -- ---- a row that comes into its table
 
 module _ (schema : Schema) (rows : Rows) (edits : Edits) (table : ℕ) (row : Row) where
   -- a null in its primary key
-  pub placed_null : key_of schema table row ≡ None → placed schema rows edits table row ≡ Clashes (NullKey table)
-  placed_null null = ap (placed_at schema rows edits table row) null
+  pub row_outcome_null : key_of schema table row ≡ None → row_outcome schema rows edits table row ≡ Clashes (NullKey table)
+  row_outcome_null null = ap (row_outcome_at schema rows edits table row) null
 
   abbrev unless_there : Key → Option Row → Outcome
   unless_there key there =
@@ -33,23 +33,23 @@ module _ (schema : Schema) (rows : Rows) (edits : Edits) (table : ℕ) (row : Ro
       else unless_taken table (first_taken rows table row 1 (keys_at schema table).uniques) (insert edits (table, key) (Some row))
 
   -- a row stands at its key
-  pub placed_there : (key : Key) (other : Row) → key_of schema table row ≡ Some key → get rows (table, key) ≡ Some other
-      → placed schema rows edits table row ≡ Clashes (Unique table 0)
-  placed_there key other own there = ap (placed_at schema rows edits table row) own ∙ ap (unless_there key) there
+  pub row_outcome_there : (key : Key) (other : Row) → key_of schema table row ≡ Some key → get rows (table, key) ≡ Some other
+      → row_outcome schema rows edits table row ≡ Clashes (Unique table 0)
+  row_outcome_there key other own there = ap (row_outcome_at schema rows edits table row) own ∙ ap (unless_there key) there
 
   -- another row has its values in a unique key
-  pub placed_taken : (key : Key) (number : ℕ) → key_of schema table row ≡ Some key → get rows (table, key) ≡ None
+  pub row_outcome_taken : (key : Key) (number : ℕ) → key_of schema table row ≡ Some key → get rows (table, key) ≡ None
       → first_taken rows table row 1 (keys_at schema table).uniques ≡ Some number
-      → placed schema rows edits table row ≡ Clashes (Unique table number)
-  placed_taken key number own free is_taken =
-      ap (placed_at schema rows edits table row) own ∙ ap (unless_there key) free
+      → row_outcome schema rows edits table row ≡ Clashes (Unique table number)
+  row_outcome_taken key number own free is_taken =
+      ap (row_outcome_at schema rows edits table row) own ∙ ap (unless_there key) free
       ∙ ap (λ t. unless_taken table t (insert edits (table, key) (Some row))) is_taken
 
-  pub placed_free : (key : Key) → key_of schema table row ≡ Some key → get rows (table, key) ≡ None
+  pub row_outcome_free : (key : Key) → key_of schema table row ≡ Some key → get rows (table, key) ≡ None
       → first_taken rows table row 1 (keys_at schema table).uniques ≡ None
-      → placed schema rows edits table row ≡ Done (insert edits (table, key) (Some row))
-  placed_free key own free none =
-      ap (placed_at schema rows edits table row) own ∙ ap (unless_there key) free
+      → row_outcome schema rows edits table row ≡ Done (insert edits (table, key) (Some row))
+  row_outcome_free key own free none =
+      ap (row_outcome_at schema rows edits table row) own ∙ ap (unless_there key) free
       ∙ ap (λ t. unless_taken table t (insert edits (table, key) (Some row))) none
 
 -- ---- what is left by a change that does nothing
@@ -57,17 +57,17 @@ module _ (schema : Schema) (rows : Rows) (edits : Edits) (table : ℕ) (row : Ro
 pub effect_of : (schema : Schema) (rows : Rows) (c : Change) (o : Outcome) → outcome schema rows c ≡ o → effect schema rows c ≡ overlay rows (edits_of o)
 effect_of schema rows c o is = ap (λ o. overlay rows (edits_of o)) is
 
-pub inverse_of : (schema : Schema) (rows : Rows) (c : Change) (o : Outcome) → outcome schema rows c ≡ o → inverse schema rows c ≡ stood rows (edits_of o)
-inverse_of schema rows c o is = ap (λ o. stood rows (edits_of o)) is
+pub inverse_of : (schema : Schema) (rows : Rows) (c : Change) (o : Outcome) → outcome schema rows c ≡ o → inverse schema rows c ≡ rows_under rows (edits_of o)
+inverse_of schema rows c o is = ap (λ o. rows_under rows (edits_of o)) is
 
 pub effect_skipped : (schema : Schema) (rows : Rows) (c : Change) → outcome schema rows c ≡ Skip → effect schema rows c ≡ rows
 effect_skipped schema rows c is = effect_of schema rows c Skip is ∙ overlay_empty rows
 
-pub effect_clashed : (schema : Schema) (rows : Rows) (c : Change) (cause : Conflict) → outcome schema rows c ≡ Clashes cause → effect schema rows c ≡ rows
+pub effect_clashed : (schema : Schema) (rows : Rows) (c : Change) (cause : ClashCause) → outcome schema rows c ≡ Clashes cause → effect schema rows c ≡ rows
 effect_clashed schema rows c cause is = effect_of schema rows c (Clashes cause) is ∙ overlay_empty rows
 
 pub inverse_skipped : (schema : Schema) (rows : Rows) (c : Change) → outcome schema rows c ≡ Skip → inverse schema rows c ≡ map_of.empty
-inverse_skipped schema rows c is = inverse_of schema rows c Skip is ∙ stood_empty rows
+inverse_skipped schema rows c is = inverse_of schema rows c Skip is ∙ rows_under_none rows
 
 -- ---- a wipe
 
@@ -96,22 +96,22 @@ one_cleared p q row tables false true found rest is at found_is =
 one_cleared p q row tables false false found rest is at found_is = found_is
 
 cleared_step : (p : Place) (e : Place × Row) (es : List (Place × Row)) (b : Bool)
-    → find place_cmp p (map cleared (cond b (e ∷ es) es)) ≡ cond b (cond (is_place p e.0) (Some None) (find place_cmp p (map cleared es))) (find place_cmp p (map cleared es))
+    → find place_cmp p (map row_cleared (cond b (e ∷ es) es)) ≡ cond b (cond (is_place p e.0) (Some None) (find place_cmp p (map row_cleared es))) (find place_cmp p (map row_cleared es))
 cleared_step p e es true = refl
 cleared_step p e es false = refl
 
 find_cleared : (tables : List ℕ) (p : Place) (es : List (Place × Row))
-    → find place_cmp p (map cleared (filter (is_wiped tables) es)) ≡ cleared_row (is_named tables p.0) (find place_cmp p es)
+    → find place_cmp p (map row_cleared (filter (is_wiped tables) es)) ≡ cleared_row (is_named tables p.0) (find place_cmp p es)
 find_cleared tables p [] = refl
 find_cleared tables p (e ∷ es) =
     cleared_step p e (filter (is_wiped tables) es) (is_wiped tables e)
-    ∙ one_cleared p e.0 e.1 tables (is_wiped tables e) (is_place p e.0) (find place_cmp p (map cleared (filter (is_wiped tables) es))) (find place_cmp p es)
+    ∙ one_cleared p e.0 e.1 tables (is_wiped tables e) (is_place p e.0) (find place_cmp p (map row_cleared (filter (is_wiped tables) es))) (find place_cmp p es)
     refl refl (find_cleared tables p es)
 
 -- the edits of a wipe
-pub get_wiped : (rows : Rows) (tables : List ℕ) (p : Place) → get (wiped rows tables) p ≡ cleared_row (is_named tables p.0) (get rows p)
+pub get_wiped : (rows : Rows) (tables : List ℕ) (p : Place) → get (wipe_edits rows tables) p ≡ cleared_row (is_named tables p.0) (get rows p)
 get_wiped rows tables p =
-    get-from_entries place_cmp_total (map cleared (filter (is_wiped tables) (entries rows))) p
+    get-from_entries place_cmp_total (map row_cleared (filter (is_wiped tables) (entries rows))) p
     ∙ find_cleared tables p (entries rows)
     ∙ ap (cleared_row (is_named tables p.0)) (sym (get-entries rows p))
 
@@ -125,25 +125,25 @@ after_wipe false (Some row) = refl
 pub get_effect_wipe : (schema : Schema) (rows : Rows) (tables : List ℕ) (p : Place)
     → get (effect schema rows (Wipe tables)) p ≡ cond (is_named tables p.0) None (get rows p)
 get_effect_wipe schema rows tables p =
-    get_overlay rows (wiped rows tables) p
+    get_overlay rows (wipe_edits rows tables) p
     ∙ ap (λ e. unwrap_or e (get rows p)) (get_wiped rows tables p)
     ∙ after_wipe (is_named tables p.0) (get rows p)
 
 -- what is to be put back at a place after a wipe: the row, if one stood there
-abbrev pub standing_row : Bool → Option Row → Option (Option Row)
-standing_row named None = None
-standing_row named (Some row) = cond named (Some (Some row)) None
+abbrev pub row_before_wipe : Bool → Option Row → Option (Option Row)
+row_before_wipe named None = None
+row_before_wipe named (Some row) = cond named (Some (Some row)) None
 
-was_standing : (named : Bool) (row : Option Row) → was_at (cleared_row named row) row ≡ standing_row named row
+was_standing : (named : Bool) (row : Option Row) → was_at (cleared_row named row) row ≡ row_before_wipe named row
 was_standing true None = refl
 was_standing true (Some row) = refl
 was_standing false None = refl
 was_standing false (Some row) = refl
 
 pub get_inverse_wipe : (schema : Schema) (rows : Rows) (tables : List ℕ) (p : Place)
-    → get (inverse schema rows (Wipe tables)) p ≡ standing_row (is_named tables p.0) (get rows p)
+    → get (inverse schema rows (Wipe tables)) p ≡ row_before_wipe (is_named tables p.0) (get rows p)
 get_inverse_wipe schema rows tables p =
-    get_stood rows (wiped rows tables) p
+    get_rows_under rows (wipe_edits rows tables) p
     ∙ ap (λ e. was_at e (get rows p)) (get_wiped rows tables p)
     ∙ was_standing (is_named tables p.0) (get rows p)
 
@@ -162,7 +162,7 @@ valid_unless_taken schema rows between edits table key row valid valid_between l
 
 valid_placed_at : (schema : Schema) (rows between : Rows) (edits : Edits) (table : ℕ) (row : Row)
     → IsValid schema rows → IsValid schema between → overlay rows edits ≡ between
-    → (key : Option Key) → key_of schema table row ≡ key → IsValid schema (overlay rows (edits_of (placed_at schema between edits table row key)))
+    → (key : Option Key) → key_of schema table row ≡ key → IsValid schema (overlay rows (edits_of (row_outcome_at schema between edits table row key)))
 valid_placed_at schema rows between edits table row valid valid_between leaves None own = subst (IsValid schema) (sym (overlay_empty rows)) valid
 valid_placed_at schema rows between edits table row valid valid_between leaves (Some key) own =
     elim (contains_key between (table, key))
@@ -173,18 +173,18 @@ valid_placed_at schema rows between edits table row valid valid_between leaves (
     ]
 
 valid_placed : (schema : Schema) (rows between : Rows) (edits : Edits) (table : ℕ) (row : Row)
-    → IsValid schema rows → IsValid schema between → overlay rows edits ≡ between → IsValid schema (overlay rows (edits_of (placed schema between edits table row)))
+    → IsValid schema rows → IsValid schema between → overlay rows edits ≡ between → IsValid schema (overlay rows (edits_of (row_outcome schema between edits table row)))
 valid_placed schema rows between edits table row valid valid_between leaves =
     valid_placed_at schema rows between edits table row valid valid_between leaves (key_of schema table row) refl
 
 valid_replaced : (schema : Schema) (rows : Rows) (place : Place) (patch : List ColumnPatch) (old : Option Row)
-    → IsValid schema rows → IsValid schema (overlay rows (edits_of (replaced schema rows place patch old)))
+    → IsValid schema rows → IsValid schema (overlay rows (edits_of (set_outcome schema rows place patch old)))
 valid_replaced schema rows place patch None valid = subst (IsValid schema) (sym (overlay_empty rows)) valid
 valid_replaced schema rows place patch (Some old) valid =
-    valid_placed schema rows (remove rows place) (one_edit place None) place.0 (patched patch old) valid (valid_remove schema rows place valid) (overlay_one rows place None)
+    valid_placed schema rows (remove rows place) (one_edit place None) place.0 (patch_row patch old) valid (valid_remove schema rows place valid) (overlay_one rows place None)
 
 valid_removed : (schema : Schema) (rows : Rows) (place : Place) (old : Option Row)
-    → IsValid schema rows → IsValid schema (overlay rows (edits_of (removed place old)))
+    → IsValid schema rows → IsValid schema (overlay rows (edits_of (remove_outcome place old)))
 valid_removed schema rows place None valid = subst (IsValid schema) (sym (overlay_empty rows)) valid
 valid_removed schema rows place (Some old) valid = subst (IsValid schema) (sym (overlay_one rows place None)) (valid_remove schema rows place valid)
 
@@ -222,11 +222,11 @@ back_past schema rows c others apart =
     overlay_apart (effect schema rows c) others (inverse schema rows c) apart
     ∙ ap (λ (r : Rows). overlay r others) (back_of_inverse schema rows c)
 
-pub undone_append : (rows : Rows) (older newer : List Edits) → undone rows (older ++ newer) ≡ undone (undone rows newer) older
-undone_append rows [] newer = refl
-undone_append rows (inverse ∷ older) newer = ap (λ (r : Rows). back r inverse) (undone_append rows older newer)
+pub all_back_append : (rows : Rows) (older newer : List Edits) → all_back rows (older ++ newer) ≡ all_back (all_back rows newer) older
+all_back_append rows [] newer = refl
+all_back_append rows (inverse ∷ older) newer = ap (λ (r : Rows). back r inverse) (all_back_append rows older newer)
 
-pub undone_serial : (schema : Schema) (rows : Rows) (cs : List Change) → undone (serial schema rows cs) (inverses schema rows cs) ≡ rows
-undone_serial schema rows [] = refl
-undone_serial schema rows (c ∷ cs) =
-    ap (λ (r : Rows). back r (inverse schema rows c)) (undone_serial schema (effect schema rows c) cs) ∙ back_of_inverse schema rows c
+pub all_back_serial : (schema : Schema) (rows : Rows) (cs : List Change) → all_back (serial schema rows cs) (inverses schema rows cs) ≡ rows
+all_back_serial schema rows [] = refl
+all_back_serial schema rows (c ∷ cs) =
+    ap (λ (r : Rows). back r (inverse schema rows c)) (all_back_serial schema (effect schema rows c) cs) ∙ back_of_inverse schema rows c

@@ -7,6 +7,7 @@ use Rattle.std.specs.declared.cmp.Ordering.{Ordering}
 use Rattle.model.specs.declared.value.Value.{Value}
 use Rattle.model.specs.Value.{value_cmp, value_cmp_total}
 
+-- the order of keys: by their first values that differ; a key comes before the longer ones it begins
 abbrev pub key_cmp : List Value → List Value → Ordering
 key_cmp = slice_cmp value_cmp
 

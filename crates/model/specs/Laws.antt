@@ -8,7 +8,7 @@ use Rattle.model.specs.declared.change.Change.{Change}
 use Rattle.model.specs.Value.{value_cmp}
 use Rattle.model.specs.Key.{key_cmp}
 use Rattle.model.specs.Rows.{Place, place_cmp, Rows, Schema, IsValid}
-use Rattle.model.specs.Effect.{Edits, overlay, Skip, Clashes, Conflict, outcome, effect, inverse, back, serial, inverses, undone}
+use Rattle.model.specs.Effect.{Edits, overlay, Skip, Clashes, ClashCause, outcome, effect, inverse, back, serial, inverses, all_back}
 use Rattle.model.specs.EditLaws.{AreApart}
 
 -- a total order, whose Equal means equal
@@ -19,9 +19,11 @@ IsExactOrder {K} R = IsTotalOrder R × ((x y : K) → (R x y ≡ Equal) ↔ (x �
 abbrev pub ValuesAreOrdered : Type 0
 ValuesAreOrdered = IsExactOrder value_cmp
 
+-- the order of keys is total, and keys that tie are equal
 abbrev pub KeysAreOrdered : Type 0
 KeysAreOrdered = IsExactOrder key_cmp
 
+-- the order of places is total, and places that tie are equal
 abbrev pub PlacesAreOrdered : Type 0
 PlacesAreOrdered = IsExactOrder place_cmp
 
@@ -33,8 +35,9 @@ OverlayByPlace = (rows : Rows) (edits : Edits) (p : Place) → get (overlay rows
 abbrev pub SkipLeavesRows : Type 0
 SkipLeavesRows = (schema : Schema) (rows : Rows) (c : Change) → outcome schema rows c ≡ Skip → effect schema rows c ≡ rows
 
+-- a change that clashes leaves the rows
 abbrev pub ClashLeavesRows : Type 0
-ClashLeavesRows = (schema : Schema) (rows : Rows) (c : Change) (cause : Conflict) → outcome schema rows c ≡ Clashes cause → effect schema rows c ≡ rows
+ClashLeavesRows = (schema : Schema) (rows : Rows) (c : Change) (cause : ClashCause) → outcome schema rows c ≡ Clashes cause → effect schema rows c ≡ rows
 
 -- a change keeps valid rows valid
 abbrev pub EffectKeepsValid : Type 0
@@ -56,4 +59,4 @@ SerialAppends = (schema : Schema) (rows : Rows) (cs ds : List Change) → serial
 
 -- the inverses of changes, put back from the newest, restore the rows before them
 abbrev pub UndoneRestores : Type 0
-UndoneRestores = (schema : Schema) (rows : Rows) (cs : List Change) → undone (serial schema rows cs) (inverses schema rows cs) ≡ rows
+UndoneRestores = (schema : Schema) (rows : Rows) (cs : List Change) → all_back (serial schema rows cs) (inverses schema rows cs) ≡ rows

@@ -7,9 +7,12 @@ pub mod SortedEntries
 pub mod TableRows
 pub mod Exact
 pub mod Effect
+pub mod Named
 pub mod EditLaws
 pub mod TakenLaws
 pub mod ValidLaws
 pub mod EffectLaws
 pub mod Laws
 pub mod Cells
+pub mod Footprint
+pub mod Survivors

@@ -2,7 +2,7 @@
 --     Place      a table and a primary key.        Rows      what stands at each place
 --     TableKeys, Schema      the columns of a table's keys, and those of each table
 --     values_in, key_of      a row's values in some columns, none where one of them is null
---     taken      some row of the table has these values in these columns
+--     are_taken      some row of the table has these values in these columns
 --     IsValid      each row stands at its own key, and no two rows of a table agree in a unique key
 use Rattle.std.specs.Prelude.{◌≡◌, ℕ, ◌==◌, ◌&&◌, Bool, false, List, [], ◌∷◌, Option, Some, None, unwrap_or, slice_get}
 use Rattle.std.specs.List.{list_any}
@@ -28,6 +28,7 @@ place_cmp = then_cmp (on (λ (p : Place). p.0) nat_cmp) (on (λ (p : Place). p.1
 pub place_cmp_total : IsTotalOrder place_cmp
 place_cmp_total = then_total (on_total (λ (p : Place). p.0) nat_cmp_total) (on_total (λ (p : Place). p.1) key_cmp_total)
 
+-- all rows of all tables, by their places
 abbrev pub Rows : Type 0
 Rows = FinMap place_cmp Row
 
@@ -52,6 +53,7 @@ keys_at schema table = unwrap_or (slice_get schema table) (record { primary = []
 abbrev pub value_at : Row → ℕ → Option Value
 value_at row column = unwrap_or (slice_get row column) None
 
+-- the values with this one first; none if it or one of them is null
 abbrev pub with_first : Option Value → Option Key → Option Key
 with_first None rest = None
 with_first (Some v) None = None
@@ -66,13 +68,14 @@ values_in (column ∷ columns) row = with_first (value_at row column) (values_in
 abbrev pub key_of : Schema → ℕ → Row → Option Key
 key_of schema table row = values_in (keys_at schema table).primary row
 
+-- the values that were found are these; a null agrees with nothing
 abbrev pub is_key : Option Key → Key → Bool
 is_key None values = false
 is_key (Some found) values = eq_by_cmp key_cmp found values
 
 -- some row of the table has these values in these columns
-abbrev pub taken : Rows → ℕ → List ℕ → Key → Bool
-taken rows table columns values =
+abbrev pub are_taken : Rows → ℕ → List ℕ → Key → Bool
+are_taken rows table columns values =
     list_any (λ (e : Place × Row). (e.0.0 == table) && is_key (values_in columns e.1) values) (entries rows)
 
 -- Two rows of one table with the same values in a unique key are one row. A null agrees with nothing.
@@ -84,6 +87,7 @@ IsUnique schema rows =
     → values_in columns row ≡ Some values → values_in columns twin ≡ Some values
     → key ≡ other
 
+-- The rows are valid: each stands at its own key, and no two of a table agree in a unique key.
 pub record IsValid (schema : Schema) (rows : Rows) : Type 0 where
   pub own_key : (table : ℕ) (key : Key) (row : Row) → get rows (table, key) ≡ Some row → key_of schema table row ≡ Some key
   pub unique : IsUnique schema rows

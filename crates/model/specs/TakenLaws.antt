@@ -1,7 +1,7 @@
 -- Whether values are taken, said by the rows that stand at places.
 --     taken_by_row, row_of_taken      values are taken exactly where some row of the table has them
 --     not_taken_row      a row that has them can't stand where they are not taken
---     untaken_at, first_taken_none, ..      what the least unique key that clashes says of each of them
+--     first_taken_none, first_taken_free      what the least unique key that clashes says of each of them
 use Rattle.std.specs.Prelude.{◌≡◌, ℕ, suc, ◌==◌, Bool, true, false, cond, ◌&&◌, ◌||◌, List, [], ◌∷◌, Option, Some, None, if◌then◌else◌, refl, slice_get, T}
 use Rattle.std.proofs.Common.{zero, sym, ◌∙◌, ap, subst, true≢false, rules}
 use Rattle.std.specs.List.{list_any}
@@ -15,9 +15,9 @@ use Rattle.std.proofs.lemmas.Map.Views.{tells_apart}
 use Rattle.model.specs.declared.row.Row.{Row}
 use Rattle.model.specs.declared.key.Key.{Key}
 use Rattle.model.specs.Key.{key_cmp, key_cmp_total}
-use Rattle.model.specs.Rows.{Place, Rows, place_cmp, values_in, is_key, taken}
+use Rattle.model.specs.Rows.{Place, Rows, place_cmp, values_in, is_key, are_taken}
 use Rattle.model.specs.Exact.{key_cmp_exact}
-use Rattle.model.specs.Effect.{is_taken, first_taken}
+use Rattle.model.specs.Effect.{are_taken_unless_null, first_taken}
 use Rattle.model.specs.EditLaws.{is_place, same_place, place_is}
 
 -- ---- tests of an and
@@ -108,7 +108,7 @@ same_key = (eq_by_cmp_equiv key_cmp_total).refl
 
 -- the row at a place has these values, so they are taken
 pub taken_by_row : (rows : Rows) (table : ℕ) (columns : List ℕ) (values key : Key) (row : Row)
-    → get rows (table, key) ≡ Some row → values_in columns row ≡ Some values → taken rows table columns values ≡ true
+    → get rows (table, key) ≡ Some row → values_in columns row ≡ Some values → are_taken rows table columns values ≡ true
 taken_by_row rows table columns values key row at has =
     found_passes (λ (e : Place × Row). (e.0.0 == table) && is_key (values_in columns e.1) values) (table, key) row
     (both_true _ _ (same_number table) (ap (λ found. is_key found values) has ∙ same_key values))
@@ -121,7 +121,7 @@ pub record TakenBy (rows : Rows) (table : ℕ) (columns : List ℕ) (values : Ke
   pub at : get rows (table, key) ≡ Some row
   pub has : values_in columns row ≡ Some values
 
-pub row_of_taken : (rows : Rows) (table : ℕ) (columns : List ℕ) (values : Key) → taken rows table columns values ≡ true → TakenBy rows table columns values
+pub row_of_taken : (rows : Rows) (table : ℕ) (columns : List ℕ) (values : Key) → are_taken rows table columns values ≡ true → TakenBy rows table columns values
 row_of_taken rows table columns values is =
     let p = passes (λ (e : Place × Row). (e.0.0 == table) && is_key (values_in columns e.1) values) (entries rows) (entries_sorted rows) is in
     let table_is : p.0.0.0 ≡ table = number_is _ _ (first_true _ _ p.2) in
@@ -134,7 +134,7 @@ row_of_taken rows table columns values is =
 
 -- where the values are not taken, no row of the table has them
 pub not_taken_row : (rows : Rows) (table : ℕ) (columns : List ℕ) (values key : Key) (row : Row)
-    → taken rows table columns values ≡ false → get rows (table, key) ≡ Some row → ¬ (values_in columns row ≡ Some values)
+    → are_taken rows table columns values ≡ false → get rows (table, key) ≡ Some row → ¬ (values_in columns row ≡ Some values)
 not_taken_row rows table columns values key row free at has = true≢false (sym (taken_by_row rows table columns values key row at has) ∙ free)
 
 -- ---- the least unique key that clashes
@@ -149,17 +149,17 @@ no_rest false number rest e = e
 
 -- none clashes, so none of them is taken
 pub first_taken_none : (rows : Rows) (table : ℕ) (row : Row) (number : ℕ) (uniques : List (List ℕ)) → first_taken rows table row number uniques ≡ None
-    → (i : ℕ) (columns : List ℕ) → slice_get uniques i ≡ Some columns → is_taken rows table columns (values_in columns row) ≡ false
+    → (i : ℕ) (columns : List ℕ) → slice_get uniques i ≡ Some columns → are_taken_unless_null rows table columns (values_in columns row) ≡ false
 first_taken_none rows table row number [] none i columns at = cc
 first_taken_none rows table row number (first ∷ rest) none zero columns at =
     let same : first ≡ columns = cc in
-    subst (λ (c : List ℕ). is_taken rows table c (values_in c row) ≡ false) same (no_first _ _ _ none)
+    subst (λ (c : List ℕ). are_taken_unless_null rows table c (values_in c row) ≡ false) same (no_first _ _ _ none)
 first_taken_none rows table row number (first ∷ rest) none (suc i) columns at =
     first_taken_none rows table row (suc number) rest (no_rest _ _ _ none) i columns at
 
 -- none of them is taken, so none clashes
 pub first_taken_free : (rows : Rows) (table : ℕ) (row : Row) (number : ℕ) (uniques : List (List ℕ))
-    → ((i : ℕ) (columns : List ℕ) → slice_get uniques i ≡ Some columns → is_taken rows table columns (values_in columns row) ≡ false)
+    → ((i : ℕ) (columns : List ℕ) → slice_get uniques i ≡ Some columns → are_taken_unless_null rows table columns (values_in columns row) ≡ false)
     → first_taken rows table row number uniques ≡ None
 first_taken_free rows table row number [] free = refl
 first_taken_free rows table row number (first ∷ rest) free =

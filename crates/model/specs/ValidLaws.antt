@@ -8,8 +8,8 @@ use Rattle.std.specs.FinMap as map
 use Rattle.std.specs.FinMap.{get, insert, remove, get-empty}
 use Rattle.model.specs.declared.row.Row.{Row}
 use Rattle.model.specs.declared.key.Key.{Key}
-use Rattle.model.specs.Rows.{Place, Rows, Schema, place_cmp, keys_at, values_in, key_of, taken, IsUnique, IsValid}
-use Rattle.model.specs.Effect.{is_taken, first_taken}
+use Rattle.model.specs.Rows.{Place, Rows, Schema, place_cmp, keys_at, values_in, key_of, are_taken, IsUnique, IsValid}
+use Rattle.model.specs.Effect.{are_taken_unless_null, first_taken}
 use Rattle.model.specs.EditLaws.{is_place, place_cases, get_insert_same, get_insert_other, get_remove}
 use Rattle.std.proofs.lemmas.Bool.{cases_Bool}
 use Rattle.model.specs.TakenLaws.{not_taken_row, row_of_taken, first_taken_none, first_taken_free}
@@ -75,7 +75,7 @@ module _ (schema : Schema) (rows : Rows) (table : ℕ) (key : Key) (row : Row) (
       → get rows (table, k) ≡ Some twin → values_in columns row ≡ Some values → ¬ (values_in columns twin ≡ Some values)
   none_like_it i columns k twin values is_unique at has =
       not_taken_row rows table columns values k twin
-      (sym (ap (is_taken rows table columns) has) ∙ first_taken_none rows table row 1 (keys_at schema table).uniques free i columns is_unique)
+      (sym (ap (are_taken_unless_null rows table columns) has) ∙ first_taken_none rows table row 1 (keys_at schema table).uniques free i columns is_unique)
       at
 
   unique_insert : IsUnique schema more
@@ -122,7 +122,7 @@ module _ (schema : Schema) (rows : Rows) (table : ℕ) (key : Key) (row : Row) (
 
   -- at the row's own key no row stands without it, so a row with its values stands elsewhere, and there is none
   no_twin : get rows (table, key) ≡ None → (i : ℕ) (columns : List ℕ) (values : Key) → slice_get (keys_at schema table).uniques i ≡ Some columns
-      → values_in columns row ≡ Some values → ¬ (taken rows table columns values ≡ true)
+      → values_in columns row ≡ Some values → ¬ (are_taken rows table columns values ≡ true)
   no_twin free i columns values is_unique has is_taken =
       let twin = row_of_taken rows table columns values is_taken in
       elim (place_cases (table, twin.key) (table, key)) [
@@ -134,10 +134,10 @@ module _ (schema : Schema) (rows : Rows) (table : ℕ) (key : Key) (row : Row) (
       ]
 
   free_in_each : get rows (table, key) ≡ None → (i : ℕ) (columns : List ℕ) → slice_get (keys_at schema table).uniques i ≡ Some columns
-      → (values : Option Key) → values_in columns row ≡ values → is_taken rows table columns values ≡ false
+      → (values : Option Key) → values_in columns row ≡ values → are_taken_unless_null rows table columns values ≡ false
   free_in_each free i columns is_unique None has = refl
   free_in_each free i columns is_unique (Some values) has =
-      elim (cases_Bool (taken rows table columns values)) [
+      elim (cases_Bool (are_taken rows table columns values)) [
         | inl is ↦ absurd (no_twin free i columns values is_unique has is)
         | inr is ↦ is
       ]

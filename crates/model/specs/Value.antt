@@ -14,21 +14,25 @@ kind_of (Int n) = 0
 kind_of (Text t) = 1
 kind_of (Truth b) = 2
 
+-- an int's number; 0 for another value
 abbrev pub number_of : Value → ℤ
 number_of (Int n) = n
 number_of (Text t) = pos 0
 number_of (Truth b) = pos 0
 
+-- a text's bytes; none for another value
 abbrev pub text_of : Value → List ℕ
 text_of (Int n) = []
 text_of (Text t) = t
 text_of (Truth b) = []
 
+-- 1 for true; 0 for false and for another value
 abbrev pub truth_of : Value → ℕ
 truth_of (Int n) = 0
 truth_of (Text t) = 0
 truth_of (Truth b) = cond b 1 0
 
+-- the order of values: by kind, then by number, bytes or truth
 abbrev pub value_cmp : Value → Value → Ordering
 value_cmp = then_cmp (on kind_of nat_cmp) (then_cmp (on number_of int_cmp) (then_cmp (on text_of (slice_cmp nat_cmp)) (on truth_of nat_cmp)))
 

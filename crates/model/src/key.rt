@@ -1,7 +1,7 @@
 // The key of a row: its values in the columns of the primary key, or of a unique key.
 ghost use Rattle.std.specs.Prelude.{◌≡◌, [], ◌∷◌, IfOk};
 ghost use Rattle.model.specs.Key.{key_cmp};
-ghost use Rattle.model.specs.KeyCode.{listed};
+ghost use Rattle.model.specs.KeyCode.{values_lent};
 
 use crate::memory::OutOfMemory;
 use crate::value::Value;
@@ -84,7 +84,7 @@ impl Key {
 
     /// Its values, in the order of the key's columns.
     pub fn values(&self) -> KeyValues<'_>
-        ensures { listed result ≡ self.now }
+        ensures { values_lent result ≡ self.now }
     {
         match &self.values {
             Values::Int(number) => KeyValues::Int(*number),
@@ -105,7 +105,7 @@ impl<'a> KeyValues<'a> {
     /// The order of two lists of values: by the first that differ.
     #[inline(never)]
     pub fn compare(self, other: KeyValues<'_>) -> Ordering
-        ensures { result ≡ key_cmp (listed self.entry) (listed other.entry) }
+        ensures { result ≡ key_cmp (values_lent self.entry) (values_lent other.entry) }
     {
         match (self, other) {
             (KeyValues::Int(own), KeyValues::Int(others)) => own.cmp(&others),

@@ -3,8 +3,9 @@
 // The types that the definitions speak of, and the definitions over them.
 //
 // A subscriber keeps tables of rows, and a change alters them. This crate says what these are: a
-// value, a row, a key, the definition of a table, a change, a cell; and in `specs/` which rows a
-// change leaves, what it is refused for, and what takes it back. It has no input, no clock and no
+// value, a row, a key, the definition of a table, a change, a cell, an item of a transaction; and in
+// `specs/` which rows a change leaves, what it is refused for, what takes it back, and which items
+// of a transaction survive its rollbacks. It has no input, no clock and no
 // thread. Each layer above cites its words, so that "the tables" means the same in each of them:
 //
 //   specs/Value, Key     the order of values and of keys
@@ -12,6 +13,8 @@
 //   specs/Rows           all rows of all tables as one finite map; valid rows
 //   specs/Effect         what a change does, and what takes it back
 //   specs/Cells          cells, and those that a row fills
+//   specs/Footprint      the cells that a change looks up or alters
+//   specs/Survivors      the items of a transaction that survive its rollbacks
 //
 // The laws of these words are lemmas of `specs/` too, where the layers above can cite them:
 //
@@ -23,6 +26,7 @@
 //   specs/Laws           the main ones as statements, which `laws` promises
 pub mod cell;
 pub mod change;
+pub mod item;
 pub mod key;
 pub mod laws;
 pub mod memory;
@@ -32,6 +36,7 @@ pub mod value;
 
 pub use cell::Cell;
 pub use change::{Change, ColumnPatch, Patch, TableIds};
+pub use item::{CommitInfo, Item, Lsn, Xid};
 pub use key::{Key, KeyValues};
 pub use memory::OutOfMemory;
 pub use row::Row;

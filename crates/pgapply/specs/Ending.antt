@@ -14,6 +14,7 @@ use Rattle.pgapply.specs.declared.execute.Ended.{Ended}
 
 -- ---- what is said
 
+-- The command ended with this status, and this line for standard error.
 abbrev pub Says : Ended → ℕ → List ℕ → Type 0
 Says ended status line = (ended.status ≡ status) × (ended.line.now ≡ line)
 
@@ -29,6 +30,7 @@ end_status (ends.NullKey table) = 3
 end_status (ends.HeldKey xid holder) = 3
 end_status ends.OutOfMemory = 4
 
+-- the line where memory was refused
 abbrev pub memory_line : List ℕ
 memory_line = codes "pgapply: out of memory"
 
@@ -37,6 +39,7 @@ abbrev pub fault_status : CatalogFault → ℕ
 fault_status OutOfMemory = 4
 fault_status fault = 1
 
+-- the line of a catalog's fault
 abbrev pub fault_line : CatalogFault → List ℕ
 fault_line NotToml = codes "pgapply: catalog NotToml"
 fault_line UnknownField = codes "pgapply: catalog UnknownField"
@@ -50,6 +53,7 @@ fault_line OutOfMemory = memory_line
 
 -- ---- what the catalog's bytes are
 
+-- The bytes are a text that describes this catalog.
 abbrev pub IsCatalog : List ℕ → List Definition → Type 0
 IsCatalog bytes definitions = IsUtf8 bytes × (catalog_of bytes ≡ Ok definitions)
 
@@ -85,9 +89,11 @@ pub record HasNoMemory (old new : List ℕ) (ended : Ended) : Type 0 where
   pub said : Says ended 4 memory_line
   pub nothing : new ≡ old
 
+-- The report of an outcome was appended; or memory was refused, and nothing was.
 abbrev pub Tells : List Definition → Outcome → List ℕ → List ℕ → Ended → Type 0
 Tells definitions outcome old new ended = IsTold definitions outcome old new ended ⊎ HasNoMemory old new ended
 
+-- The catalog was refused, the stream was run and reported, or memory was refused.
 abbrev pub Executes : List ℕ → ℕ → Devices → List ℕ → List ℕ → Ended → Type 0
 Executes bytes spool given old new ended =
     IsRefused bytes old new ended ⊎ HasReported bytes spool given old new ended ⊎ HasNoMemory old new ended

@@ -6,6 +6,7 @@ use Rattle.model.specs.declared.key.Key.{Key}
 use Rattle.model.specs.declared.row.Row.{Row}
 use Rattle.model.specs.Key.{key_cmp}
 
+-- a store of rows as its callers see it: its rows, and the numbers of its slots, by primary key
 pub record Kept : Type 0 where
   pub rows : FinMap key_cmp Row
   pub slots : FinMap key_cmp ℕ

@@ -10,6 +10,7 @@ use Rattle.rows.specs.declared.ordered.OrderedRows.TheInside.{Inside}
 use Rattle.rows.specs.Kept.{Kept}
 use Rattle.rows.specs.Slots.{rows_in, numbers_in}
 
+-- a store as its callers see it, from its slots
 abbrev pub kept_in : Inside → Kept
 kept_in a = record { rows = rows_in a.slots.entries; slots = numbers_in a.slots.entries }
 

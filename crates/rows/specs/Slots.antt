@@ -14,10 +14,12 @@ use Rattle.rows.specs.declared.ordered.Slot.{Slot}
 abbrev pub found : List (Key × Slot) → Key → Option Slot
 found es key = lookup (is_at (key_cmp key)) es
 
+-- the row in a slot, if there is a slot and one is in it
 abbrev pub row_at : Option Slot → Option Row
 row_at None = None
 row_at (Some s) = s.row
 
+-- the number of a slot, if there is one
 abbrev pub number_at : Option Slot → Option ℕ
 number_at None = None
 number_at (Some s) = Some s.number
@@ -55,10 +57,12 @@ abbrev pub kept_if_filled : Slot → Option Row → Option Slot
 kept_if_filled s None = None
 kept_if_filled s (Some row) = Some s
 
+-- the slot, if there is one and a row is in it
 abbrev pub without_empty : Option Slot → Option Slot
 without_empty None = None
 without_empty (Some s) = kept_if_filled s s.row
 
+-- a slot's number, if no row is in it
 abbrev pub number_if_empty : ℕ → Option Row → Option ℕ
 number_if_empty number None = Some number
 number_if_empty number (Some row) = None

@@ -4,6 +4,7 @@ use Rattle.model.specs.declared.value.Value.TheVariants.{Int, Text, Bool}
 use Rattle.rows.specs.declared.view.ValueRef.{ValueRef}
 use Rattle.rows.specs.declared.view.ValueRef.TheVariants.{Int as IntRef, Text as TextRef, Bool as BoolRef}
 
+-- the value that is kept, as it is read
 abbrev pub read_value : ValueRef → Value
 read_value (IntRef n) = Int n
 read_value (TextRef t) = Text t.now

@@ -6,10 +6,10 @@ use Rattle.std.specs.Option.{option_map}
 use Rattle.std.proofs.lemmas.Bool.{cases_Bool, eq-eqb, eqb-true}
 use Rattle.std.proofs.lemmas.List.Sums.{take_while-cons}
 use Rattle.std.proofs.lemmas.Grind.{common_steps}
-use Rattle.savepoint.specs.declared.item.Item.{Item}
-use Rattle.savepoint.specs.declared.item.Item.TheVariants.{Change, Touch, BackTo, Last}
-use Rattle.savepoint.specs.Survivors.{is_of, before_savepoint}
-use Rattle.savepoint.specs.Savepoints.{mark_at, before_mark, noted, noted_by, marking, savepoints, before_first}
+use Rattle.model.specs.declared.item.Item.{Item}
+use Rattle.model.specs.declared.item.Item.TheVariants.{Change, Touch, BackTo, Last}
+use Rattle.model.specs.Survivors.{is_of, before_savepoint}
+use Rattle.savepoint.specs.Savepoints.{mark_at, before_mark, with_mark, with_mark_of, with_marks_of, savepoints, before_first}
 
 pub none_from : {A : Type 0} (o : Option A) → is_some o ≡ false → o ≡ None
 none_from None e = refl
@@ -66,51 +66,51 @@ before_mark-unmarked sub (m ∷ marks) e =
 -- ---- one more item
 
 -- noting a mark of the subtransaction itself
-pub mark_at-noted_same : {M : Type 0} (sub : ℕ) (mark : M) (marks : List (ℕ × M)) → is_some (mark_at sub marks) ≡ false → mark_at sub (noted sub mark marks) ≡ Some mark
+pub mark_at-noted_same : {M : Type 0} (sub : ℕ) (mark : M) (marks : List (ℕ × M)) → is_some (mark_at sub marks) ≡ false → mark_at sub (with_mark sub mark marks) ≡ Some mark
 mark_at-noted_same {M} sub mark marks e = rw e (mark_at-append_unmarked sub marks ((sub, mark) ∷ []) e ∙ rw (eq-eqb sub sub refl))
 
-pub before_mark-noted_same : {M : Type 0} (sub : ℕ) (mark : M) (marks : List (ℕ × M)) → is_some (mark_at sub marks) ≡ false → before_mark sub (noted sub mark marks) ≡ marks
+pub before_mark-noted_same : {M : Type 0} (sub : ℕ) (mark : M) (marks : List (ℕ × M)) → is_some (mark_at sub marks) ≡ false → before_mark sub (with_mark sub mark marks) ≡ marks
 before_mark-noted_same {M} sub mark marks e = rw e (before_mark-append_unmarked sub marks ((sub, mark) ∷ []) e ∙ rw (before_mark-named sub (sub, mark) [] (eq-eqb sub sub refl)) (append-nil marks))
 
 -- a mark that is there stays, whatever is noted
-pub mark_at-noted_marked : {M : Type 0} (sub named : ℕ) (mark : M) (marks : List (ℕ × M)) → is_some (mark_at sub marks) ≡ true → mark_at sub (noted named mark marks) ≡ mark_at sub marks
+pub mark_at-noted_marked : {M : Type 0} (sub named : ℕ) (mark : M) (marks : List (ℕ × M)) → is_some (mark_at sub marks) ≡ true → mark_at sub (with_mark named mark marks) ≡ mark_at sub marks
 mark_at-noted_marked sub named mark marks e =
     ⊎_elim (λ has. rw has) (λ none. rw none (mark_at-append_marked sub marks ((named, mark) ∷ []) e)) (cases_Bool (is_some (mark_at named marks)))
 
-pub before_mark-noted_marked : {M : Type 0} (sub named : ℕ) (mark : M) (marks : List (ℕ × M)) → is_some (mark_at sub marks) ≡ true → before_mark sub (noted named mark marks) ≡ before_mark sub marks
+pub before_mark-noted_marked : {M : Type 0} (sub named : ℕ) (mark : M) (marks : List (ℕ × M)) → is_some (mark_at sub marks) ≡ true → before_mark sub (with_mark named mark marks) ≡ before_mark sub marks
 before_mark-noted_marked sub named mark marks e =
     ⊎_elim (λ has. rw has) (λ none. rw none (before_mark-append_marked sub marks ((named, mark) ∷ []) e)) (cases_Bool (is_some (mark_at named marks)))
 
 -- a mark of another leaves it unmarked
-pub unmarked_noted_other : {M : Type 0} (sub named : ℕ) (mark : M) (marks : List (ℕ × M)) → (named == sub) ≡ false → is_some (mark_at sub marks) ≡ false → is_some (mark_at sub (noted named mark marks)) ≡ false
+pub unmarked_noted_other : {M : Type 0} (sub named : ℕ) (mark : M) (marks : List (ℕ × M)) → (named == sub) ≡ false → is_some (mark_at sub marks) ≡ false → is_some (mark_at sub (with_mark named mark marks)) ≡ false
 unmarked_noted_other {M} sub named mark marks other e =
     ⊎_elim (λ has. rw has e) (λ none. rw none (ap is_some (mark_at-append_unmarked sub marks ((named, mark) ∷ []) e) ∙ rw other)) (cases_Bool (is_some (mark_at named marks)))
 
-mark_at-noted_by_marked : {M : Type 0} (sub : ℕ) (i : Item) (mark : M) (marks : List (ℕ × M)) → is_some (mark_at sub marks) ≡ true → mark_at sub (noted_by i mark marks) ≡ mark_at sub marks
+mark_at-noted_by_marked : {M : Type 0} (sub : ℕ) (i : Item) (mark : M) (marks : List (ℕ × M)) → is_some (mark_at sub marks) ≡ true → mark_at sub (with_mark_of i mark marks) ≡ mark_at sub marks
 mark_at-noted_by_marked sub (Change named c) mark marks e = mark_at-noted_marked sub named mark marks e
 mark_at-noted_by_marked sub (Touch named) mark marks e = mark_at-noted_marked sub named mark marks e
 mark_at-noted_by_marked sub (BackTo named) mark marks e = refl
 mark_at-noted_by_marked sub Last mark marks e = refl
 
-before_mark-noted_by_marked : {M : Type 0} (sub : ℕ) (i : Item) (mark : M) (marks : List (ℕ × M)) → is_some (mark_at sub marks) ≡ true → before_mark sub (noted_by i mark marks) ≡ before_mark sub marks
+before_mark-noted_by_marked : {M : Type 0} (sub : ℕ) (i : Item) (mark : M) (marks : List (ℕ × M)) → is_some (mark_at sub marks) ≡ true → before_mark sub (with_mark_of i mark marks) ≡ before_mark sub marks
 before_mark-noted_by_marked sub (Change named c) mark marks e = before_mark-noted_marked sub named mark marks e
 before_mark-noted_by_marked sub (Touch named) mark marks e = before_mark-noted_marked sub named mark marks e
 before_mark-noted_by_marked sub (BackTo named) mark marks e = refl
 before_mark-noted_by_marked sub Last mark marks e = refl
 
-mark_at-noted_by_named : {M : Type 0} (sub : ℕ) (i : Item) (mark : M) (marks : List (ℕ × M)) → is_of sub i ≡ true → is_some (mark_at sub marks) ≡ false → mark_at sub (noted_by i mark marks) ≡ Some mark
+mark_at-noted_by_named : {M : Type 0} (sub : ℕ) (i : Item) (mark : M) (marks : List (ℕ × M)) → is_of sub i ≡ true → is_some (mark_at sub marks) ≡ false → mark_at sub (with_mark_of i mark marks) ≡ Some mark
 mark_at-noted_by_named sub (Change named c) mark marks named_by e = rw (eqb-true named sub named_by) (mark_at-noted_same sub mark marks e)
 mark_at-noted_by_named sub (Touch named) mark marks named_by e = rw (eqb-true named sub named_by) (mark_at-noted_same sub mark marks e)
 mark_at-noted_by_named sub (BackTo named) mark marks named_by e = cc
 mark_at-noted_by_named sub Last mark marks named_by e = cc
 
-before_mark-noted_by_named : {M : Type 0} (sub : ℕ) (i : Item) (mark : M) (marks : List (ℕ × M)) → is_of sub i ≡ true → is_some (mark_at sub marks) ≡ false → before_mark sub (noted_by i mark marks) ≡ marks
+before_mark-noted_by_named : {M : Type 0} (sub : ℕ) (i : Item) (mark : M) (marks : List (ℕ × M)) → is_of sub i ≡ true → is_some (mark_at sub marks) ≡ false → before_mark sub (with_mark_of i mark marks) ≡ marks
 before_mark-noted_by_named sub (Change named c) mark marks named_by e = rw (eqb-true named sub named_by) (before_mark-noted_same sub mark marks e)
 before_mark-noted_by_named sub (Touch named) mark marks named_by e = rw (eqb-true named sub named_by) (before_mark-noted_same sub mark marks e)
 before_mark-noted_by_named sub (BackTo named) mark marks named_by e = cc
 before_mark-noted_by_named sub Last mark marks named_by e = cc
 
-unmarked_noted_by_other : {M : Type 0} (sub : ℕ) (i : Item) (mark : M) (marks : List (ℕ × M)) → is_of sub i ≡ false → is_some (mark_at sub marks) ≡ false → is_some (mark_at sub (noted_by i mark marks)) ≡ false
+unmarked_noted_by_other : {M : Type 0} (sub : ℕ) (i : Item) (mark : M) (marks : List (ℕ × M)) → is_of sub i ≡ false → is_some (mark_at sub marks) ≡ false → is_some (mark_at sub (with_mark_of i mark marks)) ≡ false
 unmarked_noted_by_other sub (Change named c) mark marks other e = unmarked_noted_other sub named mark marks other e
 unmarked_noted_by_other sub (Touch named) mark marks other e = unmarked_noted_other sub named mark marks other e
 unmarked_noted_by_other sub (BackTo named) mark marks other e = e
@@ -128,49 +128,49 @@ before_first-named {M} sub i items e = take_while-cons (λ (j : Item × M). not 
 before_first-other : {M : Type 0} (sub : ℕ) (i : Item × M) (items : List (Item × M)) → is_of sub i.0 ≡ false → before_first sub (i ∷ items) ≡ i ∷ before_first sub items
 before_first-other {M} sub i items e = take_while-cons (λ (j : Item × M). not (is_of sub j.0)) i items ∙ rw e
 
-mark_at-marking_marked : {M : Type 0} (sub : ℕ) (marks : List (ℕ × M)) (items : List (Item × M)) → is_some (mark_at sub marks) ≡ true → mark_at sub (marking marks items) ≡ mark_at sub marks
+mark_at-marking_marked : {M : Type 0} (sub : ℕ) (marks : List (ℕ × M)) (items : List (Item × M)) → is_some (mark_at sub marks) ≡ true → mark_at sub (with_marks_of marks items) ≡ mark_at sub marks
 mark_at-marking_marked sub marks [] e = refl
 mark_at-marking_marked sub marks (i ∷ items) e =
     let same = mark_at-noted_by_marked sub i.0 i.1 marks e in
-    mark_at-marking_marked sub (noted_by i.0 i.1 marks) items (ap is_some same ∙ e) ∙ same
+    mark_at-marking_marked sub (with_mark_of i.0 i.1 marks) items (ap is_some same ∙ e) ∙ same
 
-before_mark-marking_marked : {M : Type 0} (sub : ℕ) (marks : List (ℕ × M)) (items : List (Item × M)) → is_some (mark_at sub marks) ≡ true → before_mark sub (marking marks items) ≡ before_mark sub marks
+before_mark-marking_marked : {M : Type 0} (sub : ℕ) (marks : List (ℕ × M)) (items : List (Item × M)) → is_some (mark_at sub marks) ≡ true → before_mark sub (with_marks_of marks items) ≡ before_mark sub marks
 before_mark-marking_marked sub marks [] e = refl
 before_mark-marking_marked sub marks (i ∷ items) e =
     let same = mark_at-noted_by_marked sub i.0 i.1 marks e in
-    before_mark-marking_marked sub (noted_by i.0 i.1 marks) items (ap is_some same ∙ e) ∙ before_mark-noted_by_marked sub i.0 i.1 marks e
+    before_mark-marking_marked sub (with_mark_of i.0 i.1 marks) items (ap is_some same ∙ e) ∙ before_mark-noted_by_marked sub i.0 i.1 marks e
 
-pub mark_at-marking : {M : Type 0} (sub : ℕ) (marks : List (ℕ × M)) (items : List (Item × M)) → is_some (mark_at sub marks) ≡ false → mark_at sub (marking marks items) ≡ first_mark sub items
-mark_at-marking sub marks [] e = none_from (mark_at sub marks) e
-mark_at-marking {M} sub marks (i ∷ items) e =
+pub mark_at-with_marks_of : {M : Type 0} (sub : ℕ) (marks : List (ℕ × M)) (items : List (Item × M)) → is_some (mark_at sub marks) ≡ false → mark_at sub (with_marks_of marks items) ≡ first_mark sub items
+mark_at-with_marks_of sub marks [] e = none_from (mark_at sub marks) e
+mark_at-with_marks_of {M} sub marks (i ∷ items) e =
     ⊎_elim
     (λ named.
     let here = mark_at-noted_by_named sub i.0 i.1 marks named e in
-    mark_at-marking_marked sub (noted_by i.0 i.1 marks) items (ap is_some here) ∙ here ∙ rw named)
+    mark_at-marking_marked sub (with_mark_of i.0 i.1 marks) items (ap is_some here) ∙ here ∙ rw named)
     (λ other.
-    mark_at-marking sub (noted_by i.0 i.1 marks) items (unmarked_noted_by_other sub i.0 i.1 marks other e) ∙ rw other)
+    mark_at-with_marks_of sub (with_mark_of i.0 i.1 marks) items (unmarked_noted_by_other sub i.0 i.1 marks other e) ∙ rw other)
     (cases_Bool (is_of sub i.0))
 
-pub before_mark-marking : {M : Type 0} (sub : ℕ) (marks : List (ℕ × M)) (items : List (Item × M)) → is_some (mark_at sub marks) ≡ false → before_mark sub (marking marks items) ≡ marking marks (before_first sub items)
-before_mark-marking sub marks [] e = before_mark-unmarked sub marks e
-before_mark-marking {M} sub marks (i ∷ items) e =
+pub before_mark-with_marks_of : {M : Type 0} (sub : ℕ) (marks : List (ℕ × M)) (items : List (Item × M)) → is_some (mark_at sub marks) ≡ false → before_mark sub (with_marks_of marks items) ≡ with_marks_of marks (before_first sub items)
+before_mark-with_marks_of sub marks [] e = before_mark-unmarked sub marks e
+before_mark-with_marks_of {M} sub marks (i ∷ items) e =
     ⊎_elim
     (λ named.
     let here = mark_at-noted_by_named sub i.0 i.1 marks named e in
-    before_mark-marking_marked sub (noted_by i.0 i.1 marks) items (ap is_some here) ∙ before_mark-noted_by_named sub i.0 i.1 marks named e ∙ sym (ap (marking marks) (before_first-named sub i items named)))
+    before_mark-marking_marked sub (with_mark_of i.0 i.1 marks) items (ap is_some here) ∙ before_mark-noted_by_named sub i.0 i.1 marks named e ∙ sym (ap (with_marks_of marks) (before_first-named sub i items named)))
     (λ other.
-    before_mark-marking sub (noted_by i.0 i.1 marks) items (unmarked_noted_by_other sub i.0 i.1 marks other e) ∙ sym (ap (marking marks) (before_first-other sub i items other)))
+    before_mark-with_marks_of sub (with_mark_of i.0 i.1 marks) items (unmarked_noted_by_other sub i.0 i.1 marks other e) ∙ sym (ap (with_marks_of marks) (before_first-other sub i items other)))
     (cases_Bool (is_of sub i.0))
 
 -- ---- the savepoints of items
 
 -- a subtransaction's mark is that of the first item that names it
 pub mark_at-savepoints : {M : Type 0} (sub : ℕ) (items : List (Item × M)) → mark_at sub (savepoints items) ≡ first_mark sub items
-mark_at-savepoints sub items = mark_at-marking sub [] items refl
+mark_at-savepoints sub items = mark_at-with_marks_of sub [] items refl
 
 -- the marks that a cut leaves are those of the items before the savepoint
 pub before_mark-savepoints : {M : Type 0} (sub : ℕ) (items : List (Item × M)) → before_mark sub (savepoints items) ≡ savepoints (before_first sub items)
-before_mark-savepoints sub items = before_mark-marking sub [] items refl
+before_mark-savepoints sub items = before_mark-with_marks_of sub [] items refl
 
 -- a cut leaves the items that stand before the savepoint
 pub before_first-before_savepoint : {M : Type 0} (sub : ℕ) (items : List (Item × M)) → map (λ i. i.0) (before_first sub items) ≡ before_savepoint sub (map (λ i. i.0) items)

@@ -10,7 +10,7 @@ use Rattle.std.specs.Option.{option_map}
 use Rattle.std.proofs.lemmas.List.{map-append, length-map}
 use Rattle.std.proofs.lemmas.Grind.{common_steps}
 use Rattle.std.proofs.Math.Seq.{take-length, take-append_seam}
-use Rattle.savepoint.specs.Savepoints.{mark_at, before_mark, subs_of, HasIndexes, noted}
+use Rattle.savepoint.specs.Savepoints.{mark_at, before_mark, subs_of, HasIndexes, with_mark}
 use Rattle.savepoint.proofs.Firsts.{IsFirst, IsUnmarked, mark_at-IsFirst, is_some-mark_at-IsFirst, mark_at-IsUnmarked, count_before-IsFirst, count_before-IsUnmarked}
 
 is_eq-nat_cmp_apart : (x y : ℕ) → (x ≡ y → ⊥) → is_eq (nat_cmp x y) ≡ false
@@ -63,11 +63,11 @@ is_some-mark_at {M} indexes marks sub h = by_index (get nat_cmp indexes sub) ref
     by_index None e = ap is_some e ∙ sym (ap is_some (mark_at-none indexes marks sub h e))
     by_index (Some index) e = ap is_some e ∙ sym (is_some-mark_at-IsFirst sub index marks (first_from_get indexes marks sub index h e))
 
-pub noted-marked : {M : Type 0} (sub : ℕ) (mark : M) (marks : List (ℕ × M)) → is_some (mark_at sub marks) ≡ true → noted sub mark marks ≡ marks
-noted-marked sub mark marks e = rw e
+pub with_mark-marked : {M : Type 0} (sub : ℕ) (mark : M) (marks : List (ℕ × M)) → is_some (mark_at sub marks) ≡ true → with_mark sub mark marks ≡ marks
+with_mark-marked sub mark marks e = rw e
 
-pub noted-unmarked : {M : Type 0} (sub : ℕ) (mark : M) (marks : List (ℕ × M)) → is_some (mark_at sub marks) ≡ false → noted sub mark marks ≡ marks ++ (sub, mark) ∷ []
-noted-unmarked sub mark marks e = rw e
+pub with_mark-unmarked : {M : Type 0} (sub : ℕ) (mark : M) (marks : List (ℕ × M)) → is_some (mark_at sub marks) ≡ false → with_mark sub mark marks ≡ marks ++ (sub, mark) ∷ []
+with_mark-unmarked sub mark marks e = rw e
 
 pub index_within : {M : Type 0} (indexes : BTreeMap ℕ ℕ) (marks : List (ℕ × M)) (sub index : ℕ) → HasIndexes indexes marks → get nat_cmp indexes sub ≡ Some index → index < length marks
 index_within {M} indexes marks sub index h e =

@@ -10,14 +10,14 @@ use Rattle.std.proofs.lemmas.List.Sums.{take_while-cons}
 use Rattle.std.proofs.lemmas.Grind.{common_steps}
 use Rattle.std.proofs.Math.Seq.{take-length}
 use Rattle.change.specs.declared.inverse.Inverse.{Inverse}
-use Rattle.savepoint.specs.declared.item.Item.{Item}
-use Rattle.savepoint.specs.declared.item.Item.TheVariants.{Change, Touch, BackTo, Last}
-use Rattle.savepoint.specs.declared.item.Mark.{Mark}
+use Rattle.model.specs.declared.item.Item.{Item}
+use Rattle.model.specs.declared.item.Item.TheVariants.{Change, Touch, BackTo, Last}
+use Rattle.savepoint.specs.declared.mark.Mark.{Mark}
 use Rattle.savepoint.specs.declared.record.CutPoint.{CutPoint}
-use Rattle.savepoint.specs.Survivors.{is_of, before_savepoint, after_item}
-use Rattle.savepoint.specs.Savepoints.{mark_at, before_mark, noted}
+use Rattle.model.specs.Survivors.{is_of, before_savepoint, after_item}
+use Rattle.savepoint.specs.Savepoints.{mark_at, before_mark, with_mark}
 use Rattle.savepoint.specs.declared.record.TxRecord.TheInside.{Inside}
-use Rattle.savepoint.specs.Record.{Record, noted_unless_top, IsNoted, AreNamed, AreAllNamed, after_mark, up_to_mark, inverses_since, inverses_before}
+use Rattle.savepoint.specs.Record.{Record, with_mark_unless_top, HasMark, OthersAreNamed, AllAreNamed, after_mark, up_to_mark, inverses_since, inverses_before}
 use Rattle.savepoint.specs.RecordInside.{IsMarked, marks_of, record_in}
 use Rattle.savepoint.proofs.Cutting.{none_from, before_mark-named, before_mark-other, mark_at-noted_same, mark_at-noted_marked, before_mark-noted_same, before_mark-noted_marked, before_mark-unmarked, unmarked_noted_other}
 use Rattle.savepoint.proofs.Indexed.{take-take}
@@ -192,7 +192,7 @@ any-last sub (j ∷ items) i here = ⊎_elim (λ named. rw named) (λ past. rw p
 -- ---- the savepoints of a record
 
 -- a mark among those with one noted is the noted one, or was there
-noted_or_old : {M : Type 0} (sub other : ℕ) (point p : M) (marks : List (ℕ × M)) → mark_at other (noted sub point marks) ≡ Some p
+noted_or_old : {M : Type 0} (sub other : ℕ) (point p : M) (marks : List (ℕ × M)) → mark_at other (with_mark sub point marks) ≡ Some p
     → ((sub ≡ other) × (is_some (mark_at sub marks) ≡ false) × (point ≡ p)) ⊎ (mark_at other marks ≡ Some p)
 noted_or_old sub other point p marks e =
     ⊎_elim
@@ -201,13 +201,13 @@ noted_or_old sub other point p marks e =
     ⊎_elim
     (λ (same : sub ≡ other).
     let free : is_some (mark_at sub marks) ≡ false = ap (λ s. is_some (mark_at s marks)) same ∙ none in
-    let now : mark_at other (noted sub point marks) ≡ Some point = subst (λ s. mark_at s (noted sub point marks) ≡ Some point) same (mark_at-noted_same sub point marks free) in
+    let now : mark_at other (with_mark sub point marks) ≡ Some point = subst (λ s. mark_at s (with_mark sub point marks) ≡ Some point) same (mark_at-noted_same sub point marks free) in
     inl (same, free, cc))
     (λ differs. absurd (let still = unmarked_noted_other other sub point marks (ne_eqb sub other differs) none in let gone = sym (ap is_some e) ∙ still in cc))
     (cases_eq sub other))
     (cases_Bool (is_some (mark_at other marks)))
 
-still_unmarked : {M : Type 0} (sub other : ℕ) (point : M) (marks : List (ℕ × M)) → mark_at other (noted sub point marks) ≡ None → mark_at other marks ≡ None
+still_unmarked : {M : Type 0} (sub other : ℕ) (point : M) (marks : List (ℕ × M)) → mark_at other (with_mark sub point marks) ≡ None → mark_at other marks ≡ None
 still_unmarked sub other point marks e =
     ⊎_elim
     (λ there. absurd (let gone = ap is_some (sym (mark_at-noted_marked other sub point marks there) ∙ e) in let both = sym there ∙ gone in cc))
@@ -216,7 +216,7 @@ still_unmarked sub other point marks e =
 
 module _ (top : ℕ) (survivors : List Item) (points : List (ℕ × CutPoint)) (inverses : List Inverse) (was : IsMarked top survivors points inverses) where
   -- a savepoint here, for a subtransaction that has none
-  pub marked_noted : (sub : ℕ) (point : CutPoint) → sub ≢ top → point.items ≡ length survivors → point.mark.undo ≡ length inverses → IsMarked top survivors (noted sub point points) inverses
+  pub marked_noted : (sub : ℕ) (point : CutPoint) → sub ≢ top → point.items ≡ length survivors → point.mark.undo ≡ length inverses → IsMarked top survivors (with_mark sub point points) inverses
   marked_noted sub point below here mark = record {
     top_unmarked = none_from _ (unmarked_noted_other top sub point points (ne_eqb sub top below) (ap is_some was.top_unmarked));
     marked = λ other p e. ⊎_elim
@@ -235,7 +235,7 @@ module _ (top : ℕ) (survivors : List Item) (points : List (ℕ × CutPoint)) (
         (noted_or_old sub other point p points e);
     rising = λ one other p q e f. ⊎_elim
         (λ (new : (sub ≡ one) × (is_some (mark_at sub points) ≡ false) × (point ≡ p)).
-        let before : before_mark one (noted sub point points) ≡ points = subst (λ s. before_mark s (noted sub point points) ≡ points) new.0 (before_mark-noted_same sub point points new.1) in
+        let before : before_mark one (with_mark sub point points) ≡ points = subst (λ s. before_mark s (with_mark sub point points) ≡ points) new.0 (before_mark-noted_same sub point points new.1) in
         let bounds = was.within other q (ap (mark_at other) (sym before) ∙ f) in
         let items = ap (λ (r : CutPoint). r.items) new.2 in
         let undo = ap (λ (r : CutPoint). r.mark.undo) new.2 in
@@ -245,7 +245,7 @@ module _ (top : ℕ) (survivors : List Item) (points : List (ℕ × CutPoint)) (
   }
 
   pub marked_after_note : (sub : ℕ) (point : CutPoint) → sub ≢ top → point.items ≡ length survivors → point.mark.undo ≡ length inverses
-      → (r : Result (Unit {0}) OutOfMemory) (left : List (ℕ × CutPoint)) → OnOk r (left ≡ noted sub point points) → OnErr r (left ≡ points) → IsMarked top survivors left inverses
+      → (r : Result (Unit {0}) OutOfMemory) (left : List (ℕ × CutPoint)) → OnOk r (left ≡ with_mark sub point points) → OnErr r (left ≡ points) → IsMarked top survivors left inverses
   marked_after_note sub point below here mark (Ok u) left ok err = subst (λ (ps : List (ℕ × CutPoint)). IsMarked top survivors ps inverses) (sym ok) (marked_noted sub point below here mark)
   marked_after_note sub point below here mark (Err e) left ok err = subst (λ (ps : List (ℕ × CutPoint)). IsMarked top survivors ps inverses) (sym err) was
 
@@ -253,7 +253,7 @@ module _ (top : ℕ) (survivors : List Item) (points : List (ℕ × CutPoint)) (
   pub marked_more : (sub : ℕ) (item : Item) (more : List Inverse) → ((other : ℕ) → is_of other item ≡ (sub == other)) → (sub ≢ top → IsSome (mark_at sub points))
       → ((other : ℕ) → other ≢ sub → IsSome (mark_at other points) → IsTrue (list_any (is_of other) survivors)) → length inverses ≤ length more
       → IsMarked top (survivors ++ item ∷ []) points more
-  marked_more sub item more of noted named longer = record {
+  marked_more sub item more of with_mark named longer = record {
     top_unmarked = was.top_unmarked;
     marked = λ other p e.
         let bounds = was.within other p e in
@@ -263,7 +263,7 @@ module _ (top : ℕ) (survivors : List Item) (points : List (ℕ × CutPoint)) (
         (cases_eq other sub)
         ∙ was.marked other p e ∙ sym (take-append-le p.items survivors (item ∷ []) bounds.0);
     unmarked = λ other ne e.
-        let differs : sub ≢ other = λ same. (let some = noted (λ is. ne (sym same ∙ is)) in let gone = ap (λ s. is_some (mark_at s points)) same ∙ ap is_some e in let both = sym some ∙ gone in cc) in
+        let differs : sub ≢ other = λ same. (let some = with_mark (λ is. ne (sym same ∙ is)) in let gone = ap (λ s. is_some (mark_at s points)) same ∙ ap is_some e in let both = sym some ∙ gone in cc) in
         before-more other survivors item (of other ∙ ne_eqb sub other differs) (was.unmarked other ne e);
     within = λ other p e.
         let bounds = was.within other p e in
@@ -376,8 +376,8 @@ is_some-map (Some p) = refl
 pub marked-marks_of : (sub : ℕ) (points : List (ℕ × CutPoint)) → is_some (mark_at sub (marks_of points)) ≡ is_some (mark_at sub points)
 marked-marks_of sub points = ap is_some (mark_at-marks_of sub points) ∙ is_some-map (mark_at sub points)
 
-pub noted-marks_of : (sub : ℕ) (point : CutPoint) (points : List (ℕ × CutPoint)) → marks_of (noted sub point points) ≡ noted sub point.mark (marks_of points)
-noted-marks_of sub point points =
+pub with_mark-marks_of : (sub : ℕ) (point : CutPoint) (points : List (ℕ × CutPoint)) → marks_of (with_mark sub point points) ≡ with_mark sub point.mark (marks_of points)
+with_mark-marks_of sub point points =
     let same = marked-marks_of sub points in
     ⊎_elim
     (λ there. ap (λ b. marks_of (if b then points else (points ++ (sub, point) ∷ []))) there ∙ sym (ap (λ b. if b then marks_of points else (marks_of points ++ (sub, point.mark) ∷ [])) (same ∙ there)))
@@ -390,37 +390,37 @@ pub all_named : (survivors : List Item) (points : List (ℕ × CutPoint)) → ((
     → (other : ℕ) → IsSome (mark_at other (marks_of points)) → IsTrue (list_any (is_of other) survivors)
 all_named survivors points named other some = named other (sym (marked-marks_of other points) ∙ some)
 
-is_some-noted : {M : Type 0} (sub : ℕ) (point : M) (marks : List (ℕ × M)) → is_some (mark_at sub (noted sub point marks)) ≡ true
-is_some-noted sub point marks =
+is_some-with_mark : {M : Type 0} (sub : ℕ) (point : M) (marks : List (ℕ × M)) → is_some (mark_at sub (with_mark sub point marks)) ≡ true
+is_some-with_mark sub point marks =
     ⊎_elim
     (λ there. ap is_some (mark_at-noted_marked sub sub point marks there) ∙ there)
     (λ none. ap is_some (mark_at-noted_same sub point marks none))
     (cases_Bool (is_some (mark_at sub marks)))
 
-pub noted_there : (sub : ℕ) (point : CutPoint) (points left : List (ℕ × CutPoint)) → left ≡ noted sub point points → IsSome (mark_at sub (marks_of left))
-noted_there sub point points left is = marked-marks_of sub left ∙ ap (λ (ps : List (ℕ × CutPoint)). is_some (mark_at sub ps)) is ∙ is_some-noted sub point points
+pub noted_there : (sub : ℕ) (point : CutPoint) (points left : List (ℕ × CutPoint)) → left ≡ with_mark sub point points → IsSome (mark_at sub (marks_of left))
+noted_there sub point points left is = marked-marks_of sub left ∙ ap (λ (ps : List (ℕ × CutPoint)). is_some (mark_at sub ps)) is ∙ is_some-with_mark sub point points
 
 -- ---- what its callers know
 
 abbrev with_note : ℕ → ℕ → Record → Record
-with_note sub held r = record r { marks = noted_unless_top r.top sub (record { undo = length r.log.inverses; held = held }) r.marks }
+with_note sub held r = record r { marks = with_mark_unless_top r.top sub (record { undo = length r.log.inverses; held = held }) r.marks }
 
 module _ (a : Inside) (r : Record) (v : record_in a ≡ r) (sub : ℕ) where
-  pub is_noted : IsNoted r sub → sub ≢ a.top → IsSome (mark_at sub a.savepoints)
-  is_noted noted differs = sym (marked-marks_of sub a.savepoints) ∙ subst (λ (q : Record). IsNoted q sub) (sym v) noted differs
+  pub is_noted : HasMark r sub → sub ≢ a.top → IsSome (mark_at sub a.savepoints)
+  is_noted with_mark differs = sym (marked-marks_of sub a.savepoints) ∙ subst (λ (q : Record). HasMark q sub) (sym v) with_mark differs
 
-  pub are_named : AreNamed r sub → (other : ℕ) → other ≢ sub → IsSome (mark_at other a.savepoints) → IsTrue (list_any (is_of other) a.survivors.items)
-  are_named named other differs some = subst (λ (q : Record). AreNamed q sub) (sym v) named other differs (marked-marks_of other a.savepoints ∙ some)
+  pub are_named : OthersAreNamed r sub → (other : ℕ) → other ≢ sub → IsSome (mark_at other a.savepoints) → IsTrue (list_any (is_of other) a.survivors.items)
+  are_named named other differs some = subst (λ (q : Record). OthersAreNamed q sub) (sym v) named other differs (marked-marks_of other a.savepoints ∙ some)
 
   -- after a note, whether it was refused or not
-  pub named_noted : AreAllNamed r → (point : CutPoint) (e : Result (Unit {0}) OutOfMemory) (left : List (ℕ × CutPoint)) → OnOk e (left ≡ noted sub point a.savepoints) → OnErr e (left ≡ a.savepoints)
+  pub named_noted : AllAreNamed r → (point : CutPoint) (e : Result (Unit {0}) OutOfMemory) (left : List (ℕ × CutPoint)) → OnOk e (left ≡ with_mark sub point a.savepoints) → OnErr e (left ≡ a.savepoints)
       → (other : ℕ) → other ≢ sub → IsSome (mark_at other (marks_of left)) → IsTrue (list_any (is_of other) a.survivors.items)
   named_noted named point e left ok err other differs some =
-      let all : AreAllNamed (record_in a) = subst AreAllNamed (sym v) named in
+      let all : AllAreNamed (record_in a) = subst AllAreNamed (sym v) named in
       let was : IsSome (mark_at other left) = sym (marked-marks_of other left) ∙ some in
       all other (marked-marks_of other a.savepoints ∙ before e ok err was)
     where
-      before : (e : Result (Unit {0}) OutOfMemory) → OnOk e (left ≡ noted sub point a.savepoints) → OnErr e (left ≡ a.savepoints) → IsSome (mark_at other left) → IsSome (mark_at other a.savepoints)
+      before : (e : Result (Unit {0}) OutOfMemory) → OnOk e (left ≡ with_mark sub point a.savepoints) → OnErr e (left ≡ a.savepoints) → IsSome (mark_at other left) → IsSome (mark_at other a.savepoints)
       before (Err x) ok err was = ap (λ (ps : List (ℕ × CutPoint)). is_some (mark_at other ps)) (sym err) ∙ was
       before (Ok x) ok err was =
           ⊎_elim
@@ -430,7 +430,7 @@ module _ (a : Inside) (r : Record) (v : record_in a ≡ r) (sub : ℕ) where
           let now = ap (λ (ps : List (ℕ × CutPoint)). is_some (mark_at other ps)) (sym ok) ∙ was in let both = sym now ∙ still in cc))
           (cases_Bool (is_some (mark_at other a.savepoints)))
 
-  pub named_uncut : mark_at sub a.savepoints ≡ None → AreNamed r sub → (left : List (ℕ × CutPoint)) → left ≡ before_mark sub a.savepoints
+  pub named_uncut : mark_at sub a.savepoints ≡ None → OthersAreNamed r sub → (left : List (ℕ × CutPoint)) → left ≡ before_mark sub a.savepoints
       → (other : ℕ) → IsSome (mark_at other (marks_of left)) → IsTrue (list_any (is_of other) a.survivors.items)
   named_uncut none named left is other some =
       let all : left ≡ a.savepoints = is ∙ before_mark-unmarked sub a.savepoints (ap is_some none) in
@@ -458,11 +458,11 @@ module _ (a : Inside) (r : Record) (v : record_in a ≡ r) (sub : ℕ) where
   pub top_seen : mark_at a.top a.savepoints ≡ None → mark_at r.top r.marks ≡ None
   top_seen none = ap (λ (q : Record). mark_at q.top q.marks) (sym v) ∙ mark_at-marks_of a.top a.savepoints ∙ ap (option_map (λ (p : CutPoint). p.mark)) none
 
-  pub note_seen : (point : CutPoint) (left : List (ℕ × CutPoint)) (held : ℕ) → sub ≢ a.top → point.mark ≡ record { undo = length a.undo.inverses; held = held } → left ≡ noted sub point a.savepoints
+  pub note_seen : (point : CutPoint) (left : List (ℕ × CutPoint)) (held : ℕ) → sub ≢ a.top → point.mark ≡ record { undo = length a.undo.inverses; held = held } → left ≡ with_mark sub point a.savepoints
       → record (record_in a) { marks = marks_of left } ≡ with_note sub held r
   note_seen point left held differs mark is =
-      let marks = ap marks_of is ∙ noted-marks_of sub point a.savepoints ∙ ap (λ (m : Mark). noted sub m (marks_of a.savepoints)) mark
-      ∙ sym (ap (λ b. if b then marks_of a.savepoints else noted sub (record { undo = length a.undo.inverses; held = held }) (marks_of a.savepoints)) (ne_eqb sub a.top differs)) in
+      let marks = ap marks_of is ∙ with_mark-marks_of sub point a.savepoints ∙ ap (λ (m : Mark). with_mark sub m (marks_of a.savepoints)) mark
+      ∙ sym (ap (λ b. if b then marks_of a.savepoints else with_mark sub (record { undo = length a.undo.inverses; held = held }) (marks_of a.savepoints)) (ne_eqb sub a.top differs)) in
       ap (λ (ms : List (ℕ × Mark)). let q : Record = record (record_in a) { marks = ms } in q) marks ∙ ap (with_note sub held) v
 
   pub cut_seen : after_item a.top a.survivors.items (BackTo sub) ≡ after_item r.top r.survivors (BackTo sub)

@@ -1,11 +1,11 @@
 -- What the record of an open transaction keeps.
 use Rattle.std.specs.Prelude.{◌≡◌, ◌≢◌, ℕ, ◌-◌, ◌≤◌, List, length, take, map, Some, None, vec_len, vec_capacity}
 use Rattle.change.specs.declared.inverse.Inverse.{Inverse}
-use Rattle.savepoint.specs.declared.item.Item.{Item}
-use Rattle.savepoint.specs.declared.item.Mark.{Mark}
+use Rattle.model.specs.declared.item.Item.{Item}
+use Rattle.savepoint.specs.declared.mark.Mark.{Mark}
 use Rattle.savepoint.specs.declared.record.CutPoint.{CutPoint}
 use Rattle.savepoint.specs.declared.record.TxRecord.TheInside.{Inside}
-use Rattle.savepoint.specs.Survivors.{before_savepoint}
+use Rattle.model.specs.Survivors.{before_savepoint}
 use Rattle.savepoint.specs.Savepoints.{mark_at, before_mark}
 use Rattle.savepoint.specs.Record.{Record}
 
@@ -13,6 +13,7 @@ use Rattle.savepoint.specs.Record.{Record}
 abbrev pub marks_of : List (ℕ × CutPoint) → List (ℕ × Mark)
 marks_of points = map (λ (p : ℕ × CutPoint). (p.0, p.1.mark)) points
 
+-- a record as its callers see it, from what it keeps
 abbrev pub record_in : Inside → Record
 record_in r = record {
   top = r.top;

@@ -6,8 +6,8 @@
 // subtransaction, and rollbacks of subtransactions. The first item that names a subtransaction sets
 // its savepoint, and the rollback of a subtransaction drops its items and all later ones, so the
 // items that survive are a cut of the list (PostgreSQL manual: Logical Replication Message Formats,
-// Stream Abort; SAVEPOINT, ROLLBACK TO SAVEPOINT). `specs/Survivors` says which they are, by the
-// list alone.
+// Stream Abort; SAVEPOINT, ROLLBACK TO SAVEPOINT). `model`'s `specs/Survivors` says which they are, by
+// the list alone.
 //
 // The code keeps a mark at each savepoint and cuts back to it. `Savepoints` is that list of marks,
 // for any kind of mark: to find one costs a look-up, and a cut the marks that it drops, so neither
@@ -21,16 +21,17 @@
 // undoes the changes that it drops as well. Room for an item and its inverse is made before the
 // change is tried, and for a mark when it is set, so a rollback takes no memory.
 //
-//   item         `Item`, `Mark`, and what a commit says
+//   mark         `Mark`: what stood before a savepoint
 //   savepoints   `Savepoints`: marks in the order in which they were set, found by subtransaction
 //   record       `TxRecord`
 //
-// It stands on `undo` for the log, and on `model` for the changes.
-mod item;
+// It stands on `undo` for the log, and on `model` for the items and which of them survive.
+mod mark;
 mod record;
 mod savepoints;
 
-pub use item::{CommitInfo, Item, Lsn, Mark, Xid};
+pub use mark::Mark;
+pub use model::{CommitInfo, Item, Lsn, Xid};
 pub use record::TxRecord;
 pub use savepoints::Savepoints;
 

@@ -1,20 +1,20 @@
 // What an open transaction has done and can take back.
 ghost use Rattle.std.specs.Prelude.{◌≡◌, ℕ, [], ◌∷◌, ◌++◌, ◌<◌, ◌≤◌, length, map, None, IfSome, OnOk, OnErr, Contains, option_to_list};
 ghost use Rattle.model.specs.declared.cell.Cell.{Cell};
-ghost use Rattle.model.specs.Effect.{undone};
+ghost use Rattle.model.specs.Effect.{all_back};
 ghost use Rattle.indexes.specs.Content.{Keeps};
 ghost use Rattle.change.specs.Inverse.{edits_of};
 ghost use Rattle.undo.specs.Undo.{content_undone, CanUndo, AreKnownAll, all_settled, AreSettled};
-ghost use Rattle.savepoint.specs.declared.item.Item.TheVariants.{Change as ChangeItem, Touch, BackTo};
-ghost use Rattle.savepoint.specs.Survivors.{after_item};
+ghost use Rattle.model.specs.declared.item.Item.TheVariants.{Change as ChangeItem, Touch, BackTo};
+ghost use Rattle.model.specs.Survivors.{after_item};
 ghost use Rattle.savepoint.specs.Savepoints.{mark_at, before_mark};
-ghost use Rattle.savepoint.specs.Record.{noted_unless_top, IsNoted, AreNamed, AreAllNamed, inverses_since, inverses_before};
+ghost use Rattle.savepoint.specs.Record.{with_mark_unless_top, HasMark, OthersAreNamed, AllAreNamed, inverses_since, inverses_before};
 
-use crate::item::{Item, Mark, Xid};
+use crate::mark::Mark;
 use crate::savepoints::Savepoints;
 use change::Inverse;
 use indexes::Tables;
-use model::{Change, OutOfMemory};
+use model::{Change, Item, OutOfMemory, Xid};
 use std::alloc::Global;
 use std::marker::Model;
 use undo::UndoLog;
@@ -56,7 +56,7 @@ impl TxRecord {
     /// Nothing done yet. It takes no memory.
     pub fn new(alloc: Global, top: Xid) -> TxRecord
         ensures empty { result ≡ record { top = top; survivors = []; marks = []; log = record { inverses = []; room = 0 }; room = 0 } }
-        ensures named { AreAllNamed result }
+        ensures named { AllAreNamed result }
     {
         TxRecord {
             top,
@@ -69,9 +69,9 @@ impl TxRecord {
     /// Sets a savepoint here for a subtransaction that has none, with how much is held. The top
     /// transaction needs none. A refusal changes nothing.
     pub fn note(&mut self, sub: Xid, held: usize) -> Result<(), OutOfMemory>
-        ensures noted { OnOk result (IsNoted self.new sub) }
-        ensures named { AreAllNamed self.old → AreNamed self.new sub }
-        ensures ok { OnOk result (self.new ≡ record self.old { marks = noted_unless_top self.old.top sub (record { undo = length self.old.log.inverses; held = held }) self.old.marks }) }
+        ensures noted { OnOk result (HasMark self.new sub) }
+        ensures named { AllAreNamed self.old → OthersAreNamed self.new sub }
+        ensures ok { OnOk result (self.new ≡ record self.old { marks = with_mark_unless_top self.old.top sub (record { undo = length self.old.log.inverses; held = held }) self.old.marks }) }
         ensures err { OnErr result (self.new ≡ self.old) }
     {
         if sub == self.top {
@@ -103,7 +103,7 @@ impl TxRecord {
     pub fn cut(&mut self, sub: Xid)
         ensures survivors { self.new.survivors ≡ after_item self.old.top self.old.survivors (BackTo sub) }
         ensures marks { self.new.marks ≡ before_mark sub self.old.marks }
-        ensures named { AreNamed self.old sub → AreAllNamed self.new }
+        ensures named { OthersAreNamed self.old sub → AllAreNamed self.new }
         ensures log { self.new.log ≡ self.old.log }
         ensures top { self.new.top ≡ self.old.top }
         ensures room { self.old.room ≤ self.new.room }
@@ -123,10 +123,10 @@ impl TxRecord {
         ensures mark { result ≡ mark_at sub self.old.marks }
         ensures survivors { self.new.survivors ≡ after_item self.old.top self.old.survivors (BackTo sub) }
         ensures marks { self.new.marks ≡ before_mark sub self.old.marks }
-        ensures named { AreNamed self.old sub → AreAllNamed self.new }
+        ensures named { OthersAreNamed self.old sub → AllAreNamed self.new }
         ensures inverses { self.new.log.inverses ≡ inverses_before sub self.old }
         ensures top { self.new.top ≡ self.old.top }
-        ensures rows { t.new.rows ≡ undone t.old.rows (map edits_of (inverses_since sub self.old)) }
+        ensures rows { t.new.rows ≡ all_back t.old.rows (map edits_of (inverses_since sub self.old)) }
         ensures schema { t.new.schema ≡ t.old.schema }
         ensures room { Keeps (content_undone t.old (inverses_since sub self.old)).room t.new.room }
     {
@@ -151,12 +151,12 @@ impl TxRecord {
     /// Its subtransaction has a savepoint, and each other that has one was named by an item since.
     pub fn keep_change(&mut self, sub: Xid, change: Change, inverse: Option<Inverse>)
         requires room { (0 < self.old.room) × (0 < self.old.log.room) }
-        requires noted { IsNoted self.old sub }
-        requires named { AreNamed self.old sub }
+        requires noted { HasMark self.old sub }
+        requires named { OthersAreNamed self.old sub }
         ensures survivors { self.new.survivors ≡ self.old.survivors ++ ChangeItem sub change ∷ [] }
         ensures inverses { self.new.log.inverses ≡ self.old.log.inverses ++ option_to_list inverse }
         ensures marks { self.new.marks ≡ self.old.marks }
-        ensures named { AreAllNamed self.new }
+        ensures named { AllAreNamed self.new }
         ensures top { self.new.top ≡ self.old.top }
     {
         self.survivors.push_reserved(Item::Change { sub, change });
@@ -170,11 +170,11 @@ impl TxRecord {
     /// Its subtransaction has a savepoint, and each other that has one was named by an item since.
     pub fn keep_touch(&mut self, sub: Xid)
         requires room { 0 < self.old.room }
-        requires noted { IsNoted self.old sub }
-        requires named { AreNamed self.old sub }
+        requires noted { HasMark self.old sub }
+        requires named { OthersAreNamed self.old sub }
         ensures survivors { self.new.survivors ≡ self.old.survivors ++ Touch sub ∷ [] }
         ensures marks { self.new.marks ≡ self.old.marks }
-        ensures named { AreAllNamed self.new }
+        ensures named { AllAreNamed self.new }
         ensures log { self.new.log ≡ self.old.log }
         ensures top { self.new.top ≡ self.old.top }
     {
@@ -193,7 +193,7 @@ impl TxRecord {
     /// What the caller owes is that each inverse can be put back once those after it are.
     pub fn undo_all(self, t: &mut Tables)
         requires { CanUndo t.old self.log.inverses }
-        ensures rows { t.new.rows ≡ undone t.old.rows (map edits_of self.log.inverses) }
+        ensures rows { t.new.rows ≡ all_back t.old.rows (map edits_of self.log.inverses) }
         ensures schema { t.new.schema ≡ t.old.schema }
         ensures room { Keeps (content_undone t.old self.log.inverses).room t.new.room }
     {

@@ -1,9 +1,8 @@
 // The savepoints of one transaction.
 ghost use Rattle.std.specs.Prelude.{◌≡◌, [], OnOk, OnErr};
-ghost use Rattle.savepoint.specs.Savepoints.{mark_at, noted, before_mark};
+ghost use Rattle.savepoint.specs.Savepoints.{mark_at, with_mark, before_mark};
 
-use crate::item::Xid;
-use model::OutOfMemory;
+use model::{OutOfMemory, Xid};
 use std::alloc::Global;
 use std::collections::BTreeMap;
 use std::marker::Model;
@@ -44,7 +43,7 @@ impl<M: Copy> Savepoints<M> {
     /// Sets a savepoint for a subtransaction that has none, behind all others. Refused for memory,
     /// it changes nothing.
     pub fn note(&mut self, sub: Xid, mark: M) -> Result<(), OutOfMemory>
-        ensures ok { OnOk result (self.new ≡ noted sub mark self.old) }
+        ensures ok { OnOk result (self.new ≡ with_mark sub mark self.old) }
         ensures err { OnErr result (self.new ≡ self.old) }
     {
         if self.indexes.contains_key(&sub) {

@@ -1,6 +1,6 @@
 // That the calls succeed with ample memory, and what they then answer.
 ghost use Rattle.std.specs.Prelude.{OnOk};
-ghost use Rattle.savepoint.specs.Record.{AreAllNamed};
+ghost use Rattle.savepoint.specs.Record.{AllAreNamed};
 
 use crate::{Mark, Savepoints, TxRecord, Xid};
 use model::OutOfMemory;
@@ -28,8 +28,8 @@ fn a_cut_drops_the_later_savepoints(rt: HostRuntime) -> Result<(), Fail> {
 
 // An item of a subtransaction, with its savepoint if it is the first.
 fn touch(transaction: &mut TxRecord, sub: Xid, held: usize) -> Result<(), OutOfMemory>
-    requires { AreAllNamed transaction.old }
-    ensures { OnOk result (AreAllNamed transaction.new) }
+    requires { AllAreNamed transaction.old }
+    ensures { OnOk result (AllAreNamed transaction.new) }
 {
     transaction.reserve()?;
     transaction.note(sub, held)?;

@@ -1,4 +1,4 @@
--- What the session stands for after the messages inside of transactions: items, relations, rollbacks.
+-- What the session represents after the messages inside of transactions: items, relations, rollbacks.
 use Rattle.std.proofs.Common.{◌≡◌, ◌≢◌, ℕ, Bool, true, false, length, Option, Some, None, if◌then◌else◌, refl, sym, ap, subst, ◌∙◌, ◌⊎◌, ⊎_elim}
 use Rattle.std.specs.Prelude.{Result, Ok, Err, IsSomeAnd, IsErrAnd}
 use Rattle.std.specs.Ordering.{nat_cmp, eq_by_cmp}
@@ -7,13 +7,13 @@ use Rattle.std.specs.FinMap as map
 use Rattle.std.proofs.lemmas.Bool.{cases_Bool, ne_eqb, eq-eqb}
 use Rattle.messages.specs.declared.message.StreamAbort.{StreamAbort}
 use Rattle.messages.specs.declared.relation.Relation.{Relation}
-use Rattle.model.specs.declared.change.Change.{Change as Alteration}
+use Rattle.model.specs.declared.change.Change as change_type
 use Rattle.relcache.specs.declared.fault.RelFault.{RelFault}
 use Rattle.relcache.specs.declared.fault.RelFault.TheVariants as faults
 use Rattle.relcache.specs.Answer.{IsFaultOf}
 use Rattle.relcache.specs.Published.{learnt}
-use Rattle.savepoint.specs.declared.item.Item.{Item}
-use Rattle.savepoint.specs.declared.item.Item.TheVariants.{Change, Touch, BackTo}
+use Rattle.model.specs.declared.item.Item.{Item}
+use Rattle.model.specs.declared.item.Item.TheVariants.{Change, Touch, BackTo}
 use Rattle.session.specs.declared.phase.Phase.{Phase}
 use Rattle.session.specs.declared.phase.Phase.TheVariants.{Outside, Begun, Block}
 use Rattle.session.specs.declared.fault.SessionFault.{SessionFault}
@@ -21,15 +21,18 @@ use Rattle.session.specs.declared.fault.SessionFault.TheVariants.{NotInTransacti
 use Rattle.session.specs.declared.fault.Refused.{Refused}
 use Rattle.session.specs.declared.fault.Refused.TheVariants.{Session, Rel, OutOfMemory}
 use Rattle.session.specs.declared.fault.Refused.TheVariants as refused
-use Rattle.session.specs.declared.session.Session.{Session as Holder}
+use Rattle.session.specs.declared.session.Session as session_type
 use Rattle.session.specs.declared.step.Step.{Step}
 use Rattle.session.specs.declared.step.Step.TheVariants as steps
 use Rattle.session.specs.Refusals.{of_relation}
-use Rattle.session.specs.State.{Way, Direct, Worker, Spooled, Open, Transactions, State, Setting, IsHere, GoesAlone, begun_at}
+use Rattle.session.specs.State.{Way, Direct, Worker, Spooled, Open, OpenTransactions, State, Setting, IsHere, GoesAlone, begun_at}
 use Rattle.session.specs.Kept.{is_spooled}
-use Rattle.session.specs.Table.{Next, refuse, at, of_open, gives, has_room, touches, plans, changes, change_line, named, learns, goes_on, aborts, aborts_open}
+use Rattle.session.specs.Table.{Next, refuse, at, of_open, gives, has_room, touches, plans, changes, change_line, subtransaction_named, learns, goes_on, aborts, aborts_open}
 use Rattle.session.specs.Told.{Told, Nothing, Opens, Gives, Commits, Aborts, Tells, IsChange}
-use Rattle.session.specs.Stands.{StandsFor, Keeps, Knows, Says, IsCause, IsOfTables, IsWithin, Follows, IsAdmitted, IsRefusedAs, IsChangeOf, spool_fault, with_item, given_back, Survives}
+use Rattle.session.specs.KeptTransactions.{Keeps, spool_fault, with_item, item_back, Survives}
+use Rattle.session.specs.KnownRelations.{Knows}
+use Rattle.session.specs.Represents.{Represents}
+use Rattle.session.specs.Answers.{Says, NextRefuses, IsOfTables, IsWithin, AnswersMessage, AdmitsMessage, RefusesMessage, IsChangeOf}
 use Rattle.session.proofs.Totals.{same_key}
 use Rattle.session.proofs.Steps.{alone_insert, alone_remove, alone_at, none_begun, nothing_begun, stays}
 use Rattle.session.proofs.Kept.{present}
@@ -49,7 +52,7 @@ pub begun_open : (h : State) (xid final : ℕ) → h.phase ≡ Begun xid final �
 begun_open h xid final e here = let P : Phase → Type 0 = λ p. IsHere p h.transactions in some_and (λ o. o.way ≡ Direct) (map.get h.transactions xid) (subst P e here)
 
 -- an open transaction that keeps its way
-goes_still : (Q : Way → Type 0) (m : Transactions) (xid x : ℕ) (o p : Open) → map.get m xid ≡ Some o → p.way ≡ o.way → IsSomeAnd (map.get m x) (λ q. Q q.way) → IsSomeAnd (map.get (map.insert m xid p) x) (λ q. Q q.way)
+goes_still : (Q : Way → Type 0) (m : OpenTransactions) (xid x : ℕ) (o p : Open) → map.get m xid ≡ Some o → p.way ≡ o.way → IsSomeAnd (map.get m x) (λ q. Q q.way) → IsSomeAnd (map.get (map.insert m xid p) x) (λ q. Q q.way)
 goes_still Q m xid x o p some way is =
     ⊎_elim
     (λ (tie : eq_by_cmp nat_cmp x xid ≡ true).
@@ -66,7 +69,7 @@ goes_still Q m xid x o p some way is =
     subst P (sym new) is)
     (cases_Bool (eq_by_cmp nat_cmp x xid))
 
-here_still : (phase : Phase) (m : Transactions) (xid : ℕ) (o p : Open) → map.get m xid ≡ Some o → p.way ≡ o.way → IsHere phase m → IsHere phase (map.insert m xid p)
+here_still : (phase : Phase) (m : OpenTransactions) (xid : ℕ) (o p : Open) → map.get m xid ≡ Some o → p.way ≡ o.way → IsHere phase m → IsHere phase (map.insert m xid p)
 here_still Outside m xid o p some way here = tt
 here_still (Begun x final) m xid o p some way here = goes_still (λ w. w ≡ Direct) m xid x o p some way here
 here_still (Block x) m xid o p some way here = goes_still (λ w. w ≢ Direct) m xid x o p some way here
@@ -78,7 +81,7 @@ abbrev pub step_given : ℕ → Option Item → Step
 step_given xid None = steps.Nothing
 step_given xid (Some item) = steps.Item xid item
 
-says_given : (xid : ℕ) (way : Way) (item : Item) (size : ℕ) (back : Option Item) → back ≡ given_back way item → Says (Gives xid way item size) (step_given xid back)
+says_given : (xid : ℕ) (way : Way) (item : Item) (size : ℕ) (back : Option Item) → back ≡ item_back way item → Says (Gives xid way item size) (step_given xid back)
 says_given xid Direct item size back is = ap (step_given xid) is
 says_given xid Worker item size back is = ap (step_given xid) is
 says_given xid Spooled item size back is = ap (step_given xid) is
@@ -94,24 +97,24 @@ within_dropped g xid Worker streamed = tt
 within_dropped g xid Spooled streamed = tt
 
 -- where no transaction is begun, none goes directly
-pub none_direct : (phase : Phase) (m : Transactions) (xid : ℕ) (o : Open) → begun_at phase ≡ None → GoesAlone phase m → map.get m xid ≡ Some o → o.way ≢ Direct
+pub none_direct : (phase : Phase) (m : OpenTransactions) (xid : ℕ) (o : Open) → begun_at phase ≡ None → GoesAlone phase m → map.get m xid ≡ Some o → o.way ≢ Direct
 none_direct phase m xid o none alone some direct = let no : None ≡ Some xid = sym none ∙ alone xid o some direct in cc
 
-pub gives-admitted : (g : Setting) (v w : Holder) (h : State) (xid : ℕ) (o : Open) (item : Item) (size : ℕ) (back : Option Item) (next : Next) (step : Step) → StandsFor g v h → map.get h.transactions xid ≡ Some o → next ≡ Ok (gives h xid item size o)
-    → back ≡ given_back o.way item → Keeps g w.transactions (map.insert h.transactions xid (with_item o item size)) → IsOfTables (length g.catalog) item → (o.way ≡ Direct → IsChange item)
+pub gives-admitted : (g : Setting) (v w : session_type.Session) (h : State) (xid : ℕ) (o : Open) (item : Item) (size : ℕ) (back : Option Item) (next : Next) (step : Step) → Represents g v h → map.get h.transactions xid ≡ Some o → next ≡ Ok (gives h xid item size o)
+    → back ≡ item_back o.way item → Keeps g w.transactions (map.insert h.transactions xid (with_item o item size)) → IsOfTables (length g.catalog) item → (o.way ≡ Direct → IsChange item)
     → w.phase ≡ v.phase → w.relations ≡ v.relations → w.position ≡ v.position → step ≡ step_given xid back
-    → IsAdmitted g w h next step
-gives-admitted g v w h xid o item size back next step stands some e given kept of_tables directly phase relations position is = record {
+    → AdmitsMessage g w h next step
+gives-admitted g v w h xid o item size back next step represents some e given kept of_tables directly phase relations position is = record {
   state = gives h xid item size o;
   told = Gives xid o.way item size;
   stepped = e;
-  stands = record {
-    phase = phase ∙ stands.phase;
-    here = here_still h.phase h.transactions xid o (with_item o item size) some refl stands.here;
-    alone = alone_insert h.phase h.phase h.transactions xid (with_item o item size) stands.alone (λ x begun. begun) (λ direct. stands.alone xid o some direct);
+  represents = record {
+    phase = phase ∙ represents.phase;
+    here = here_still h.phase h.transactions xid o (with_item o item size) some refl represents.here;
+    alone = alone_insert h.phase h.phase h.transactions xid (with_item o item size) represents.alone (λ x begun. begun) (λ direct. represents.alone xid o some direct);
     transactions = kept;
-    relations = rw relations stands.relations;
-    position = position ∙ stands.position;
+    relations = rw relations represents.relations;
+    position = position ∙ represents.position;
   };
   tells = (o, refl, record { present = some; transactions = refl; position = refl; past = refl });
   says = rw is (says_given xid o.way item size back given);
@@ -120,14 +123,14 @@ gives-admitted g v w h xid o item size back next step stands some e given kept o
 
 -- ---- room
 
-pub has_room-none : (g : Setting) (m : Transactions) (size : ℕ) (found : Option Open) (o : Open) → found ≡ Some o → spool_fault g m size found ≡ None → has_room g m size o.way ≡ true
+pub has_room-none : (g : Setting) (m : OpenTransactions) (size : ℕ) (found : Option Open) (o : Open) → found ≡ Some o → spool_fault g m size found ≡ None → has_room g m size o.way ≡ true
 has_room-none g m size found o some none = by_test (has_room g m size o.way) (sym (ap (spool_fault g m size) some) ∙ none)
   where
     by_test : (b : Bool) → (if b then None else Some SpoolFull) ≡ None → b ≡ true
     by_test true e = refl
     by_test false e = cc
 
-pub has_room-full : (g : Setting) (m : Transactions) (size : ℕ) (found : Option Open) (o : Open) (why : SessionFault) → found ≡ Some o → spool_fault g m size found ≡ Some why → (has_room g m size o.way ≡ false) × (why ≡ SpoolFull)
+pub has_room-full : (g : Setting) (m : OpenTransactions) (size : ℕ) (found : Option Open) (o : Open) (why : SessionFault) → found ≡ Some o → spool_fault g m size found ≡ Some why → (has_room g m size o.way ≡ false) × (why ≡ SpoolFull)
 has_room-full g m size found o why some full = by_test (has_room g m size o.way) (sym (ap (spool_fault g m size) some) ∙ full)
   where
     by_test : (b : Bool) → (if b then None else Some SpoolFull) ≡ Some why → (b ≡ false) × (why ≡ SpoolFull)
@@ -148,45 +151,45 @@ touches-full g h xid sub size o why some full =
 
 -- ---- changes
 
-changes-room : (g : Setting) (h : State) (xid sub size : ℕ) (o : Open) (planned : Result Alteration RelFault) → map.get h.transactions xid ≡ Some o → has_room g h.transactions size o.way ≡ true → changes g h xid sub size planned ≡ plans planned (λ c. gives h xid (Change sub c) size o)
+changes-room : (g : Setting) (h : State) (xid sub size : ℕ) (o : Open) (planned : Result change_type.Change RelFault) → map.get h.transactions xid ≡ Some o → has_room g h.transactions size o.way ≡ true → changes g h xid sub size planned ≡ plans planned (λ c. gives h xid (Change sub c) size o)
 changes-room g h xid sub size o planned some room = ap (λ f. of_open f (λ p. if has_room g h.transactions size p.way then plans planned (λ c. gives h xid (Change sub c) size p) else refuse SpoolFull)) some ∙ rw room
 
-changes-full : (g : Setting) (h : State) (xid sub size : ℕ) (o : Open) (why : SessionFault) (planned : Result Alteration RelFault) → map.get h.transactions xid ≡ Some o → spool_fault g h.transactions size (map.get h.transactions xid) ≡ Some why → changes g h xid sub size planned ≡ refuse why
+changes-full : (g : Setting) (h : State) (xid sub size : ℕ) (o : Open) (why : SessionFault) (planned : Result change_type.Change RelFault) → map.get h.transactions xid ≡ Some o → spool_fault g h.transactions size (map.get h.transactions xid) ≡ Some why → changes g h xid sub size planned ≡ refuse why
 changes-full g h xid sub size o why planned some full =
     let fault = has_room-full g h.transactions size (map.get h.transactions xid) o why some full in
     ap (λ f. of_open f (λ p. if has_room g h.transactions size p.way then plans planned (λ c. gives h xid (Change sub c) size p) else refuse SpoolFull)) some ∙ rw (fault.0, fault.1)
 
-line_at : (g : Setting) (h : State) (size : ℕ) (sub : Option ℕ) (planned : Result Alteration RelFault) (phase : Phase) → h.phase ≡ phase
-    → change_line g h size sub planned ≡ at phase (refuse NotInTransaction) (λ xid final. changes g h xid xid size planned) (λ xid. changes g h xid (named sub xid) size planned)
-line_at g h size sub planned phase e = ap (λ p. at p (refuse NotInTransaction) (λ xid final. changes g h xid xid size planned) (λ xid. changes g h xid (named sub xid) size planned)) e
+line_at : (g : Setting) (h : State) (size : ℕ) (sub : Option ℕ) (planned : Result change_type.Change RelFault) (phase : Phase) → h.phase ≡ phase
+    → change_line g h size sub planned ≡ at phase (refuse NotInTransaction) (λ xid final. changes g h xid xid size planned) (λ xid. changes g h xid (subtransaction_named sub xid) size planned)
+line_at g h size sub planned phase e = ap (λ p. at p (refuse NotInTransaction) (λ xid final. changes g h xid xid size planned) (λ xid. changes g h xid (subtransaction_named sub xid) size planned)) e
 
-pub line_outside : (g : Setting) (h : State) (size : ℕ) (sub : Option ℕ) (planned : Result Alteration RelFault) → h.phase ≡ Outside → change_line g h size sub planned ≡ refuse NotInTransaction
+pub line_outside : (g : Setting) (h : State) (size : ℕ) (sub : Option ℕ) (planned : Result change_type.Change RelFault) → h.phase ≡ Outside → change_line g h size sub planned ≡ refuse NotInTransaction
 line_outside g h size sub planned e = line_at g h size sub planned Outside e
 
-pub line_begun : (g : Setting) (h : State) (size : ℕ) (sub : Option ℕ) (xid final : ℕ) (o : Open) (planned : Result Alteration RelFault) → h.phase ≡ Begun xid final → map.get h.transactions xid ≡ Some o → has_room g h.transactions size o.way ≡ true
+pub line_begun : (g : Setting) (h : State) (size : ℕ) (sub : Option ℕ) (xid final : ℕ) (o : Open) (planned : Result change_type.Change RelFault) → h.phase ≡ Begun xid final → map.get h.transactions xid ≡ Some o → has_room g h.transactions size o.way ≡ true
     → change_line g h size sub planned ≡ plans planned (λ c. gives h xid (Change xid c) size o)
 line_begun g h size sub xid final o planned e some room = line_at g h size sub planned (Begun xid final) e ∙ changes-room g h xid xid size o planned some room
 
-pub line_block : (g : Setting) (h : State) (size : ℕ) (sub : Option ℕ) (xid : ℕ) (o : Open) (planned : Result Alteration RelFault) → h.phase ≡ Block xid → map.get h.transactions xid ≡ Some o → has_room g h.transactions size o.way ≡ true
-    → change_line g h size sub planned ≡ plans planned (λ c. gives h xid (Change (named sub xid) c) size o)
-line_block g h size sub xid o planned e some room = line_at g h size sub planned (Block xid) e ∙ changes-room g h xid (named sub xid) size o planned some room
+pub line_block : (g : Setting) (h : State) (size : ℕ) (sub : Option ℕ) (xid : ℕ) (o : Open) (planned : Result change_type.Change RelFault) → h.phase ≡ Block xid → map.get h.transactions xid ≡ Some o → has_room g h.transactions size o.way ≡ true
+    → change_line g h size sub planned ≡ plans planned (λ c. gives h xid (Change (subtransaction_named sub xid) c) size o)
+line_block g h size sub xid o planned e some room = line_at g h size sub planned (Block xid) e ∙ changes-room g h xid (subtransaction_named sub xid) size o planned some room
 
-pub line_full : (g : Setting) (h : State) (size : ℕ) (sub : Option ℕ) (xid : ℕ) (o : Open) (why : SessionFault) (planned : Result Alteration RelFault) → h.phase ≡ Block xid → map.get h.transactions xid ≡ Some o → spool_fault g h.transactions size (map.get h.transactions xid) ≡ Some why
+pub line_full : (g : Setting) (h : State) (size : ℕ) (sub : Option ℕ) (xid : ℕ) (o : Open) (why : SessionFault) (planned : Result change_type.Change RelFault) → h.phase ≡ Block xid → map.get h.transactions xid ≡ Some o → spool_fault g h.transactions size (map.get h.transactions xid) ≡ Some why
     → change_line g h size sub planned ≡ refuse why
-line_full g h size sub xid o why planned e some full = line_at g h size sub planned (Block xid) e ∙ changes-full g h xid (named sub xid) size o why planned some full
+line_full g h size sub xid o why planned e some full = line_at g h size sub planned (Block xid) e ∙ changes-full g h xid (subtransaction_named sub xid) size o why planned some full
 
-pub room_direct : (g : Setting) (m : Transactions) (size : ℕ) (way : Way) → way ≡ Direct → has_room g m size way ≡ true
+pub room_direct : (g : Setting) (m : OpenTransactions) (size : ℕ) (way : Way) → way ≡ Direct → has_room g m size way ≡ true
 room_direct g m size Direct e = refl
 room_direct g m size Worker e = cc
 room_direct g m size Spooled e = cc
 
 pub IsChangeOf-refused : (g : Setting) (h : State) (size : ℕ) (sub : Option ℕ) (result : Result (ℕ × ℕ) SessionFault) (why : SessionFault) → IsErrAnd result (λ e. e ≡ why)
-    → ((planned : Result Alteration RelFault) → change_line g h size sub planned ≡ refuse why) → IsChangeOf g h size sub result
+    → ((planned : Result change_type.Change RelFault) → change_line g h size sub planned ≡ refuse why) → IsChangeOf g h size sub result
 IsChangeOf-refused g h size sub (Ok of) why is line = absurd is
 IsChangeOf-refused g h size sub (Err e) why is line = λ planned. rw is (line planned)
 
 -- a fault of planning is the table's, unless memory was refused
-pub fault_of_relation : (fault : RelFault) (planned : Result Alteration RelFault) (next : Next) → IsFaultOf planned fault → (planned ≡ Err fault → next ≡ Err (Rel fault)) → IsCause next (of_relation fault)
+pub fault_of_relation : (fault : RelFault) (planned : Result change_type.Change RelFault) (next : Next) → IsFaultOf planned fault → (planned ≡ Err fault → next ≡ Err (Rel fault)) → NextRefuses next (of_relation fault)
 fault_of_relation faults.UnknownRelation planned next is e = e (is (λ no. cc))
 fault_of_relation faults.TableMissing planned next is e = e (is (λ no. cc))
 fault_of_relation faults.ColumnMissing planned next is e = e (is (λ no. cc))
@@ -197,31 +200,31 @@ fault_of_relation faults.NullKey planned next is e = e (is (λ no. cc))
 fault_of_relation faults.OutOfMemory planned next is e = tt
 
 -- a refusal after which the relations are known as before
-pub relation_refused : (g : Setting) (v w : Holder) (h : State) (next : Next) (result : Result Step Refused) (fault : RelFault) → StandsFor g v h → Knows g w.relations h.relations
-    → w.phase ≡ v.phase → w.transactions ≡ v.transactions → w.position ≡ v.position → IsErrAnd result (λ r. r ≡ of_relation fault) → IsCause next (of_relation fault)
-    → Follows g w h next result
-relation_refused g v w h next (Ok s) fault stands known phase transactions position is cause = absurd is
-relation_refused g v w h next (Err r) fault stands known phase transactions position is cause = record {
-  stands = record {
-    phase = phase ∙ stands.phase;
-    here = stands.here;
-    alone = stands.alone;
-    transactions = rw transactions stands.transactions;
+pub relation_refused : (g : Setting) (v w : session_type.Session) (h : State) (next : Next) (result : Result Step Refused) (fault : RelFault) → Represents g v h → Knows g w.relations h.relations
+    → w.phase ≡ v.phase → w.transactions ≡ v.transactions → w.position ≡ v.position → IsErrAnd result (λ r. r ≡ of_relation fault) → NextRefuses next (of_relation fault)
+    → AnswersMessage g w h next result
+relation_refused g v w h next (Ok s) fault represents known phase transactions position is cause = absurd is
+relation_refused g v w h next (Err r) fault represents known phase transactions position is cause = record {
+  represents = record {
+    phase = phase ∙ represents.phase;
+    here = represents.here;
+    alone = represents.alone;
+    transactions = rw transactions represents.transactions;
     relations = known;
-    position = position ∙ stands.position;
+    position = position ∙ represents.position;
   };
   cause = rw is cause;
 }
 
 -- the session once the relations are known anew
-pub stands_known : (g : Setting) (v w : Holder) (h : State) → StandsFor g v h → Knows g w.relations h.relations → w.phase ≡ v.phase → w.transactions ≡ v.transactions → w.position ≡ v.position → StandsFor g w h
-stands_known g v w h stands known phase transactions position = record {
-  phase = phase ∙ stands.phase;
-  here = stands.here;
-  alone = stands.alone;
-  transactions = rw transactions stands.transactions;
+pub stands_known : (g : Setting) (v w : session_type.Session) (h : State) → Represents g v h → Knows g w.relations h.relations → w.phase ≡ v.phase → w.transactions ≡ v.transactions → w.position ≡ v.position → Represents g w h
+stands_known g v w h represents known phase transactions position = record {
+  phase = phase ∙ represents.phase;
+  here = represents.here;
+  alone = represents.alone;
+  transactions = rw transactions represents.transactions;
   relations = known;
-  position = position ∙ stands.position;
+  position = position ∙ represents.position;
 }
 
 -- ---- relations
@@ -245,19 +248,19 @@ at_rest phase next block is =
     (λ (begun : (xid : ℕ) × (final : ℕ) × (phase ≡ Begun xid final)). ap (λ p. at p next (λ _ _. next) block) begun.2)
     is
 
-pub learns-admitted : (g : Setting) (v w : Holder) (h : State) (r : Relation) (next : Next) → StandsFor g v h → next ≡ Ok (learns h r) → Knows g w.relations (learnt h.relations r)
-    → w.phase ≡ v.phase → w.transactions ≡ v.transactions → w.position ≡ v.position → IsAdmitted g w h next steps.Nothing
-learns-admitted g v w h r next stands e known phase transactions position = record {
+pub learns-admitted : (g : Setting) (v w : session_type.Session) (h : State) (r : Relation) (next : Next) → Represents g v h → next ≡ Ok (learns h r) → Knows g w.relations (learnt h.relations r)
+    → w.phase ≡ v.phase → w.transactions ≡ v.transactions → w.position ≡ v.position → AdmitsMessage g w h next steps.Nothing
+learns-admitted g v w h r next represents e known phase transactions position = record {
   state = learns h r;
   told = Nothing;
   stepped = e;
-  stands = record {
-    phase = phase ∙ stands.phase;
-    here = stands.here;
-    alone = stands.alone;
-    transactions = rw transactions stands.transactions;
+  represents = record {
+    phase = phase ∙ represents.phase;
+    here = represents.here;
+    alone = represents.alone;
+    transactions = rw transactions represents.transactions;
     relations = known;
-    position = position ∙ stands.position;
+    position = position ∙ represents.position;
   };
   tells = record { transactions = refl; position = refl; past = refl };
   says = refl;
@@ -298,26 +301,26 @@ touches-learns_refused g h r xid sub size why e = from (map.get h.transactions x
     from None none = ap (touches_by g (learns h r) xid sub size) none ∙ sym (ap (touches_by g h xid sub size) none) ∙ e
     from (Some o) some = ap (touches_by g (learns h r) xid sub size) some ∙ room_of o (has_room g h.transactions size o.way) (sym (ap (touches_by g h xid sub size) some) ∙ e)
 
-cause-learns : (g : Setting) (h : State) (r : Relation) (xid sub size : ℕ) (why : Refused) → IsCause (touches g h xid sub size) why → IsCause (touches g (learns h r) xid sub size) why
+cause-learns : (g : Setting) (h : State) (r : Relation) (xid sub size : ℕ) (why : Refused) → NextRefuses (touches g h xid sub size) why → NextRefuses (touches g (learns h r) xid sub size) why
 cause-learns g h r xid sub size (refused.Msg f) is = is
 cause-learns g h r xid sub size (Session f) is = touches-learns_refused g h r xid sub size (Session f) is
 cause-learns g h r xid sub size (Rel f) is = touches-learns_refused g h r xid sub size (Rel f) is
 cause-learns g h r xid sub size OutOfMemory is = tt
 
 -- a relation message in a block that has no room
-pub relation_full : (g : Setting) (v : Holder) (h : State) (r : Relation) (xid sub size : ℕ) (a : Next) (b : ℕ → ℕ → Next) (next : ℕ → Next) (result : Result Step Refused) (why : Refused) → h.phase ≡ Block xid
-    → next xid ≡ touches g (learns h r) xid sub size → IsRefusedAs g v h (touches g h xid sub size) why → result ≡ Err why → Follows g v h (at h.phase a b next) result
+pub relation_full : (g : Setting) (v : session_type.Session) (h : State) (r : Relation) (xid sub size : ℕ) (a : Next) (b : ℕ → ℕ → Next) (next : ℕ → Next) (result : Result Step Refused) (why : Refused) → h.phase ≡ Block xid
+    → next xid ≡ touches g (learns h r) xid sub size → RefusesMessage g v h (touches g h xid sub size) why → result ≡ Err why → AnswersMessage g v h (at h.phase a b next) result
 relation_full g v h r xid sub size a b next (Ok s) why block line refused is = cc
 relation_full g v h r xid sub size a b next (Err e) why block line refused is =
     let same : e ≡ why = cc in
-    let P : Next → Type 0 = λ n. IsCause n why in
+    let P : Next → Type 0 = λ n. NextRefuses n why in
     let whole : at h.phase a b next ≡ touches g (learns h r) xid sub size = ap (λ p. at p a b next) block ∙ line in
-    record { stands = refused.stands; cause = rw same (subst P (sym whole) (cause-learns g h r xid sub size why refused.cause)) }
+    record { represents = refused.represents; cause = rw same (subst P (sym whole) (cause-learns g h r xid sub size why refused.cause)) }
 
 -- a relation message in a block: the item is taken, and then the relation is learnt
-pub relation_taken : (g : Setting) (v w : Holder) (h : State) (r : Relation) (xid sub size : ℕ) (next : Next) (step : Step) → next ≡ touches g (learns h r) xid sub size → (taken : IsAdmitted g v h (touches g h xid sub size) step)
+pub relation_taken : (g : Setting) (v w : session_type.Session) (h : State) (r : Relation) (xid sub size : ℕ) (next : Next) (step : Step) → next ≡ touches g (learns h r) xid sub size → (taken : AdmitsMessage g v h (touches g h xid sub size) step)
     → Knows g w.relations (learnt h.relations r) → w.phase ≡ v.phase → w.transactions ≡ v.transactions → w.position ≡ v.position
-    → IsAdmitted g w h next step
+    → AdmitsMessage g w h next step
 relation_taken g v w h r xid sub size next step line taken known phase transactions position =
     let touched = is_touched g h xid sub size taken.state taken.stepped in
     record {
@@ -327,13 +330,13 @@ relation_taken g v w h r xid sub size next step line taken known phase transacti
           line
           ∙ touches-taken g (learns h r) xid sub size touched.o touched.present touched.room
           ∙ sym (ap (λ s. Ok (learns s r)) touched.is);
-      stands = record {
-        phase = phase ∙ taken.stands.phase;
-        here = taken.stands.here;
-        alone = taken.stands.alone;
-        transactions = rw transactions taken.stands.transactions;
+      represents = record {
+        phase = phase ∙ taken.represents.phase;
+        here = taken.represents.here;
+        alone = taken.represents.alone;
+        transactions = rw transactions taken.represents.transactions;
         relations = rw touched.is known;
-        position = position ∙ taken.stands.position;
+        position = position ∙ taken.represents.position;
       };
       tells = tells_learnt h taken.state r taken.told taken.tells;
       says = taken.says;
@@ -341,20 +344,20 @@ relation_taken g v w h r xid sub size next step line taken known phase transacti
     }
 
 -- the session once the item is dropped again, since the relation was not learnt
-pub relation_undone : (g : Setting) (u v w : Holder) (h : State) (xid sub size : ℕ) (step : Step) → StandsFor g u h → (taken : IsAdmitted g v h (touches g h xid sub size) step)
-    → ((m : Transactions) (o : Open) (item : Item) (bytes : ℕ) → map.get m xid ≡ Some o → Survives item → Keeps g v.transactions (map.insert m xid (with_item o item bytes)) → Keeps g w.transactions m)
-    → Knows g w.relations taken.state.relations → w.phase ≡ v.phase → w.position ≡ v.position → StandsFor g w h
+pub relation_undone : (g : Setting) (u v w : session_type.Session) (h : State) (xid sub size : ℕ) (step : Step) → Represents g u h → (taken : AdmitsMessage g v h (touches g h xid sub size) step)
+    → ((m : OpenTransactions) (o : Open) (item : Item) (bytes : ℕ) → map.get m xid ≡ Some o → Survives item → Keeps g v.transactions (map.insert m xid (with_item o item bytes)) → Keeps g w.transactions m)
+    → Knows g w.relations taken.state.relations → w.phase ≡ v.phase → w.position ≡ v.position → Represents g w h
 relation_undone g u v w h xid sub size step was taken undoes known phase position =
     let touched = is_touched g h xid sub size taken.state taken.stepped in
     let P : State → Type 0 = λ t. Keeps g v.transactions t.transactions in
     let Q : State → Type 0 = λ t. Knows g w.relations t.relations in
     record {
-      phase = phase ∙ taken.stands.phase ∙ ap (λ t. t.phase) touched.is;
+      phase = phase ∙ taken.represents.phase ∙ ap (λ t. t.phase) touched.is;
       here = was.here;
       alone = was.alone;
-      transactions = undoes h.transactions touched.o (Touch sub) size touched.present tt (subst P touched.is taken.stands.transactions);
+      transactions = undoes h.transactions touched.o (Touch sub) size touched.present tt (subst P touched.is taken.represents.transactions);
       relations = subst Q touched.is known;
-      position = position ∙ taken.stands.position ∙ ap (λ t. t.position) touched.is;
+      position = position ∙ taken.represents.position ∙ ap (λ t. t.position) touched.is;
     }
 
 -- ---- rollbacks
@@ -364,8 +367,8 @@ aborts_found : (h : State) (m : StreamAbort) (found : Option Open) → map.get h
 aborts_found h m found e = ap (aborts_open h m) e
 
 -- the abort of an unknown transaction
-pub aborts-unknown : (g : Setting) (v : Holder) (h : State) (m : StreamAbort) → StandsFor g v h → map.get h.transactions m.xid ≡ None → IsAdmitted g v h (Ok (aborts h m)) steps.Nothing
-aborts-unknown g v h m stands none = stays g v h (Ok (aborts h m)) stands (ap Ok (aborts_found h m None none))
+pub aborts-unknown : (g : Setting) (v : session_type.Session) (h : State) (m : StreamAbort) → Represents g v h → map.get h.transactions m.xid ≡ None → AdmitsMessage g v h (Ok (aborts h m)) steps.Nothing
+aborts-unknown g v h m represents none = stays g v h (Ok (aborts h m)) represents (ap Ok (aborts_found h m None none))
 
 -- what is answered to the abort of a whole transaction
 abbrev pub step_dropped : ℕ → Bool → Step
@@ -377,59 +380,59 @@ says_dropped xid Direct = refl
 says_dropped xid Worker = refl
 says_dropped xid Spooled = refl
 
-pub drops-admitted : (g : Setting) (v w : Holder) (h : State) (m : StreamAbort) (o : Open) (step : Step) → StandsFor g v h → h.phase ≡ Outside → map.get h.transactions m.xid ≡ Some o → m.subtransaction ≡ m.xid
+pub drops-admitted : (g : Setting) (v w : session_type.Session) (h : State) (m : StreamAbort) (o : Open) (step : Step) → Represents g v h → h.phase ≡ Outside → map.get h.transactions m.xid ≡ Some o → m.subtransaction ≡ m.xid
     → Keeps g w.transactions (map.remove h.transactions m.xid) → w.phase ≡ v.phase → w.relations ≡ v.relations → w.position ≡ v.position → step ≡ step_dropped m.xid (is_spooled o.way)
-    → IsAdmitted g w h (Ok (aborts h m)) step
-drops-admitted g v w h m o step stands outside some whole kept phase relations position is = record {
+    → AdmitsMessage g w h (Ok (aborts h m)) step
+drops-admitted g v w h m o step represents outside some whole kept phase relations position is = record {
   state = record h { transactions = map.remove h.transactions m.xid };
   told = Aborts m.xid o.way;
   stepped = ap Ok (aborts_found h m (Some o) some ∙ rw (eq-eqb m.subtransaction m.xid whole));
-  stands = record {
-    phase = phase ∙ stands.phase;
+  represents = record {
+    phase = phase ∙ represents.phase;
     here = let P : Phase → Type 0 = λ p. IsHere p (map.remove h.transactions m.xid) in subst P (sym outside) tt;
-    alone = alone_at Outside h.phase (map.remove h.transactions m.xid) (alone_remove h.phase h.transactions m.xid stands.alone (nothing_begun h.phase m.xid outside)) (sym (none_begun h.phase outside));
+    alone = alone_at Outside h.phase (map.remove h.transactions m.xid) (alone_remove h.phase h.transactions m.xid represents.alone (nothing_begun h.phase m.xid outside)) (sym (none_begun h.phase outside));
     transactions = kept;
-    relations = rw relations stands.relations;
-    position = position ∙ stands.position;
+    relations = rw relations represents.relations;
+    position = position ∙ represents.position;
   };
   tells = (o, refl, record { present = some; transactions = refl; position = refl; past = refl });
   says = rw is (says_dropped m.xid o.way);
-  within = within_dropped g m.xid o.way (none_direct h.phase h.transactions m.xid o (none_begun h.phase outside) stands.alone some);
+  within = within_dropped g m.xid o.way (none_direct h.phase h.transactions m.xid o (none_begun h.phase outside) represents.alone some);
 }
 
 -- the rollback of a subtransaction is an item
 pub aborts-back : (h : State) (m : StreamAbort) (o : Open) → map.get h.transactions m.xid ≡ Some o → m.subtransaction ≢ m.xid → aborts h m ≡ gives h m.xid (BackTo m.subtransaction) 0 o
 aborts-back h m o some part = aborts_found h m (Some o) some ∙ rw (ne_eqb m.subtransaction m.xid part)
 
-pub given_back-kept : (way : Way) (item : Item) → is_spooled way ≡ true → None ≡ given_back way item
-given_back-kept Direct item e = cc
-given_back-kept Worker item e = cc
-given_back-kept Spooled item e = refl
+pub item_back-kept : (way : Way) (item : Item) → is_spooled way ≡ true → None ≡ item_back way item
+item_back-kept Direct item e = cc
+item_back-kept Worker item e = cc
+item_back-kept Spooled item e = refl
 
-pub given_back-free : (way : Way) (item : Item) → is_spooled way ≡ false → Some item ≡ given_back way item
-given_back-free Direct item e = refl
-given_back-free Worker item e = refl
-given_back-free Spooled item e = cc
+pub item_back-free : (way : Way) (item : Item) → is_spooled way ≡ false → Some item ≡ item_back way item
+item_back-free Direct item e = refl
+item_back-free Worker item e = refl
+item_back-free Spooled item e = cc
 
 -- ---- further blocks
 
-pub goes_on-admitted : (g : Setting) (v w : Holder) (h : State) (xid : ℕ) → StandsFor g v h → h.phase ≡ Outside → map.contains_key h.transactions xid ≡ true
-    → w.phase ≡ Block xid → w.transactions ≡ v.transactions → w.relations ≡ v.relations → w.position ≡ v.position → IsAdmitted g w h (goes_on h xid) steps.Nothing
-goes_on-admitted g v w h xid stands outside is_open phase transactions relations position =
+pub goes_on-admitted : (g : Setting) (v w : session_type.Session) (h : State) (xid : ℕ) → Represents g v h → h.phase ≡ Outside → map.contains_key h.transactions xid ≡ true
+    → w.phase ≡ Block xid → w.transactions ≡ v.transactions → w.relations ≡ v.relations → w.position ≡ v.position → AdmitsMessage g w h (goes_on h xid) steps.Nothing
+goes_on-admitted g v w h xid represents outside is_open phase transactions relations position =
     let o = present h.transactions xid is_open in
-    let streamed : o.0.way ≢ Direct = λ direct. let no : None ≡ Some xid = sym (none_begun h.phase outside) ∙ stands.alone xid o.0 o.1 direct in cc in
+    let streamed : o.0.way ≢ Direct = λ direct. let no : None ≡ Some xid = sym (none_begun h.phase outside) ∙ represents.alone xid o.0 o.1 direct in cc in
     let P : Option Open → Type 0 = λ f. IsSomeAnd f (λ p. p.way ≢ Direct) in
     record {
       state = record h { phase = Block xid };
       told = Nothing;
       stepped = rw is_open;
-      stands = record {
+      represents = record {
         phase = phase;
         here = subst P (sym o.1) streamed;
-        alone = alone_at h.phase (Block xid) h.transactions stands.alone (none_begun h.phase outside);
-        transactions = rw transactions stands.transactions;
-        relations = rw relations stands.relations;
-        position = position ∙ stands.position;
+        alone = alone_at h.phase (Block xid) h.transactions represents.alone (none_begun h.phase outside);
+        transactions = rw transactions represents.transactions;
+        relations = rw relations represents.relations;
+        position = position ∙ represents.position;
       };
       tells = record { transactions = refl; position = refl; past = refl };
       says = refl;

@@ -14,12 +14,12 @@ use Rattle.relcache.specs.Mapping.{Mapped, resolved, map_relation}
 use Rattle.relcache.specs.Published.{Published, Relations, learnt, relation_of}
 use Rattle.relcache.specs.Steps.{◌>>=◌}
 use Rattle.relcache.specs.declared.fault.RelFault.TheVariants.{UnknownRelation}
-use Rattle.session.specs.declared.relations.Relations.{Relations as Learnt}
+use Rattle.session.specs.declared.relations.KnownRelations.{KnownRelations}
 use Rattle.session.specs.State.{Setting, State}
 use Rattle.session.specs.Table.{tables_of, truncate_change}
-use Rattle.session.specs.Stands.{IsMappingOf, Knows, IsPlanned}
+use Rattle.session.specs.KnownRelations.{IsMappingOf, Knows, IsPlanned}
 use Rattle.relcache.specs.Answer.{IsFaultOf}
-use Rattle.model.specs.declared.change.Change.{Change as Alteration}
+use Rattle.model.specs.declared.change.Change as change_type
 use Rattle.session.proofs.Kept.{apart_at}
 
 -- ---- a relation more
@@ -48,7 +48,7 @@ on_some P Q None step is = is
 on_some P Q (Some x) step is = step x is
 
 -- what is known once a relation is learnt, and its OID's mapping is dropped
-pub Knows-learnt : (g : Setting) (v w : Learnt) (relations : Relations) (r : Relation) → Knows g v relations → w.learnt ≡ learnt v.learnt r → Updates nat_cmp v.mappings w.mappings r.oid None → Knows g w (learnt relations r)
+pub Knows-learnt : (g : Setting) (v w : KnownRelations) (relations : Relations) (r : Relation) → Knows g v relations → w.learnt ≡ learnt v.learnt r → Updates nat_cmp v.mappings w.mappings r.oid None → Knows g w (learnt relations r)
 Knows-learnt g v w relations r known is step = record {
   learnt = is ∙ ap (λ rs. learnt rs r) known.learnt;
   mappings = λ oid.
@@ -65,7 +65,7 @@ Knows-learnt g v w relations r known is step = record {
 -- ---- refusals
 
 -- a fault of planning, through `?`
-pub IsPlanned-refused : (g : Setting) (v : Learnt) (relations : Relations) (planned : Result Alteration RelFault) (result : Result Alteration RelFault) (fault : RelFault) → IsFaultOf planned fault → Knows g v relations
+pub IsPlanned-refused : (g : Setting) (v : KnownRelations) (relations : Relations) (planned : Result change_type.Change RelFault) (result : Result change_type.Change RelFault) (fault : RelFault) → IsFaultOf planned fault → Knows g v relations
     → IsErrAnd result (λ e. e ≡ fault) → IsPlanned g v relations planned result
 IsPlanned-refused g v relations planned (Ok c) fault of known is = absurd is
 IsPlanned-refused g v relations planned (Err e) fault of known is = (rw is of, known)
@@ -77,20 +77,20 @@ abbrev pub tables_from : List ℕ → Result (List ℕ) RelFault → Result (Lis
 tables_from before rest = rest >>= (λ tables. Ok (before ++ tables))
 
 -- The tables of the first i relations, where all of them have one; the relations stay.
-pub record HasTables (g : Setting) (h : State) (v : Learnt) (oids : List ℕ) (i : ℕ) (tables : List ℕ) : Type 0 where
+pub record HasTables (g : Setting) (h : State) (v : KnownRelations) (oids : List ℕ) (i : ℕ) (tables : List ℕ) : Type 0 where
   pub known : Knows g v h.relations
   pub so_far : tables_of g.catalog h.relations oids ≡ tables_from tables (tables_of g.catalog h.relations (drop i oids))
   pub named : All (λ table. table < length g.catalog) tables
 
 -- the same, whatever the state
-abbrev pub TablesSoFar : List Definition → Learnt → Learnt → List ℕ → ℕ → List ℕ → Type 0
+abbrev pub TablesSoFar : List Definition → KnownRelations → KnownRelations → List ℕ → ℕ → List ℕ → Type 0
 TablesSoFar definitions old new oids i tables = (g : Setting) (h : State) → g.catalog ≡ definitions → Knows g old h.relations → HasTables g h new oids i tables
 
 from_none : (rest : Result (List ℕ) RelFault) → rest ≡ tables_from [] rest
 from_none (Ok tables) = refl
 from_none (Err fault) = refl
 
-pub HasTables-start : (g : Setting) (h : State) (v : Learnt) (oids : List ℕ) → Knows g v h.relations → HasTables g h v oids 0 []
+pub HasTables-start : (g : Setting) (h : State) (v : KnownRelations) (oids : List ℕ) → Knows g v h.relations → HasTables g h v oids 0 []
 HasTables-start g h v oids known = record { known = known; so_far = from_none (tables_of g.catalog h.relations oids); named = search rules }
 
 from_next : (before : List ℕ) (table : ℕ) (rest : Result (List ℕ) RelFault) → tables_from before (rest >>= (λ tables. Ok (table ∷ tables))) ≡ tables_from (before ++ table ∷ []) rest
@@ -100,7 +100,7 @@ from_next before table (Err fault) = refl
 abbrev tables_after : Result Mapped RelFault → Result (List ℕ) RelFault → Result (List ℕ) RelFault
 tables_after first rest = first >>= (λ m. rest >>= (λ tables. Ok (m.table ∷ tables)))
 
-pub HasTables-next : (g : Setting) (h : State) (v w : Learnt) (oids : List ℕ) (i : ℕ) (tables : List ℕ) (m : Mapped) → HasTables g h v oids i tables → i < length oids
+pub HasTables-next : (g : Setting) (h : State) (v w : KnownRelations) (oids : List ℕ) (i : ℕ) (tables : List ℕ) (m : Mapped) → HasTables g h v oids i tables → i < length oids
     → IsMappingOf g h.relations (get_or oids i 0) m → Knows g w h.relations → HasTables g h w oids (i + 1) (tables ++ m.table ∷ [])
 HasTables-next g h v w oids i tables m has within is known = record {
   known = known;
@@ -113,7 +113,7 @@ HasTables-next g h v w oids i tables m has within is known = record {
 }
 
 -- a relation that has no table
-pub no_table : (g : Setting) (h : State) (v : Learnt) (oids : List ℕ) (i : ℕ) (tables : List ℕ) (fault : RelFault) → HasTables g h v oids i tables → i < length oids
+pub no_table : (g : Setting) (h : State) (v : KnownRelations) (oids : List ℕ) (i : ℕ) (tables : List ℕ) (fault : RelFault) → HasTables g h v oids i tables → i < length oids
     → resolved g.catalog h.relations (get_or oids i 0) ≡ Err fault → truncate_change g h oids ≡ Err fault
 no_table g h v oids i tables fault has within refused =
     let all : tables_of g.catalog h.relations oids ≡ Err fault =
@@ -123,6 +123,6 @@ no_table g h v oids i tables fault has within refused =
     rw all
 
 -- all of them have one
-pub all_tables : (g : Setting) (h : State) (v : Learnt) (oids : List ℕ) (i : ℕ) (tables : List ℕ) → HasTables g h v oids i tables → length oids ≤ i → tables_of g.catalog h.relations oids ≡ Ok tables
+pub all_tables : (g : Setting) (h : State) (v : KnownRelations) (oids : List ℕ) (i : ℕ) (tables : List ℕ) → HasTables g h v oids i tables → length oids ≤ i → tables_of g.catalog h.relations oids ≡ Ok tables
 all_tables g h v oids i tables has over =
     has.so_far ∙ ap (tables_from tables) (at_drop_all (tables_of g.catalog h.relations) oids i over) ∙ ap Ok (append-nil tables)

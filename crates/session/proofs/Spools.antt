@@ -6,10 +6,10 @@ use Rattle.std.proofs.Math.Seq.{take-append_seam}
 use Rattle.std.specs.Prelude.{map, is_some, is_ok, sum, Result, Ok, ◌-◌}
 use Rattle.std.specs.List.{zip}
 use Rattle.std.proofs.lemmas.Bool.{cases_Bool, eq-eqb, ne_eqb}
-use Rattle.savepoint.specs.declared.item.Item.{Item}
-use Rattle.savepoint.specs.declared.item.Item.TheVariants.{Change, Touch, BackTo, Last}
-use Rattle.savepoint.specs.Survivors.{is_of}
-use Rattle.savepoint.specs.Savepoints.{mark_at, before_mark, noted, noted_by, marking, savepoints, before_first}
+use Rattle.model.specs.declared.item.Item.{Item}
+use Rattle.model.specs.declared.item.Item.TheVariants.{Change, Touch, BackTo, Last}
+use Rattle.model.specs.Survivors.{is_of}
+use Rattle.savepoint.specs.Savepoints.{mark_at, before_mark, with_mark, with_mark_of, with_marks_of, savepoints, before_first}
 use Rattle.savepoint.proofs.Cutting.{IsNumbered, count_before_first, first_mark, first_mark-index, mark_at-savepoints, before_mark-savepoints, before_first-unmarked, mark_at-noted_same, before_mark-noted_same}
 use Rattle.session.specs.Sized.{bytes_of, item_of, size_of, numbered, is_at_index, without_mark, unnoted_by, IsSpool}
 
@@ -57,9 +57,9 @@ IsNumbered-numbered : (n : ℕ) (items : List Item) → IsNumbered (λ k. k) n (
 IsNumbered-numbered n [] = tt
 IsNumbered-numbered n (i ∷ items) = (refl, IsNumbered-numbered (suc n) items)
 
-marking-push : (marks : List (ℕ × ℕ)) (items : List (Item × ℕ)) (i : Item × ℕ) → marking marks (items ++ i ∷ []) ≡ noted_by i.0 i.1 (marking marks items)
-marking-push marks [] i = refl
-marking-push marks (j ∷ items) i = marking-push (noted_by j.0 j.1 marks) items i
+with_marks_of-push : (marks : List (ℕ × ℕ)) (items : List (Item × ℕ)) (i : Item × ℕ) → with_marks_of marks (items ++ i ∷ []) ≡ with_mark_of i.0 i.1 (with_marks_of marks items)
+with_marks_of-push marks [] i = refl
+with_marks_of-push marks (j ∷ items) i = with_marks_of-push (with_mark_of j.0 j.1 marks) items i
 
 -- the items alone say where a savepoint stands
 count-same : (sub : ℕ) (xs ys : List (Item × ℕ)) → map item_of xs ≡ map item_of ys → count_before_first sub xs ≡ count_before_first sub ys
@@ -148,10 +148,10 @@ zip-uncut items sizes marks sub h e =
 
 -- ---- one item more
 
-pub IsSpool-push : (items : List Item) (sizes : List ℕ) (marks : List (ℕ × ℕ)) (item : Item) (size : ℕ) → IsSpool items sizes marks → IsSpool (items ++ item ∷ []) (sizes ++ size ∷ []) (noted_by item (length items) marks)
+pub IsSpool-push : (items : List Item) (sizes : List ℕ) (marks : List (ℕ × ℕ)) (item : Item) (size : ℕ) → IsSpool items sizes marks → IsSpool (items ++ item ∷ []) (sizes ++ size ∷ []) (with_mark_of item (length items) marks)
 IsSpool-push items sizes marks item size h = record {
   paired = omega (arith, length-append sizes (size ∷ []), length-append items (item ∷ []), h.paired);
-  marked = ap (noted_by item (length items)) h.marked ∙ sym (marking-push [] (numbered 0 items) (item, length items)) ∙ sym (ap savepoints (numbered-push 0 items item ∙ ap (λ n. numbered 0 items ++ (item, n) ∷ []) (let e : 0 + length items ≡ length items = omega arith in e)));
+  marked = ap (with_mark_of item (length items)) h.marked ∙ sym (with_marks_of-push [] (numbered 0 items) (item, length items)) ∙ sym (ap savepoints (numbered-push 0 items item ∙ ap (λ n. numbered 0 items ++ (item, n) ∷ []) (let e : 0 + length items ≡ length items = omega arith in e)));
 }
 
 -- ---- the last item dropped again
@@ -160,8 +160,8 @@ some_or_none : {A : Type 0} (o : Option A) → is_some o ≡ true → (x : A) ×
 some_or_none None e = cc
 some_or_none (Some x) e = (x, refl)
 
-without_mark-noted : (items : List Item) (sub : ℕ) → without_mark sub (length items) (noted sub (length items) (savepoints (numbered 0 items))) ≡ savepoints (numbered 0 items)
-without_mark-noted items sub = ⊎_elim
+without_mark-with_mark : (items : List Item) (sub : ℕ) → without_mark sub (length items) (with_mark sub (length items) (savepoints (numbered 0 items))) ≡ savepoints (numbered 0 items)
+without_mark-with_mark items sub = ⊎_elim
     (λ marked.
     let mark = some_or_none _ marked in
     let at = index_is items sub mark.0 mark.1 in
@@ -172,21 +172,21 @@ without_mark-noted items sub = ⊎_elim
     (λ unmarked.
     let here = mark_at-noted_same sub (length items) (savepoints (numbered 0 items)) unmarked in
     let cut = before_mark-noted_same sub (length items) (savepoints (numbered 0 items)) unmarked in
-    ap (λ o. if is_at_index (length items) o then before_mark sub (noted sub (length items) (savepoints (numbered 0 items))) else noted sub (length items) (savepoints (numbered 0 items))) here ∙ rw (eq-eqb (length items) (length items) refl) cut)
+    ap (λ o. if is_at_index (length items) o then before_mark sub (with_mark sub (length items) (savepoints (numbered 0 items))) else with_mark sub (length items) (savepoints (numbered 0 items))) here ∙ rw (eq-eqb (length items) (length items) refl) cut)
     (cases_Bool (is_some (mark_at sub (savepoints (numbered 0 items)))))
 
-unnoted-noted : (items : List Item) (item : Item) → unnoted_by item (length items) (noted_by item (length items) (savepoints (numbered 0 items))) ≡ savepoints (numbered 0 items)
-unnoted-noted items (Change sub c) = without_mark-noted items sub
-unnoted-noted items (Touch sub) = without_mark-noted items sub
-unnoted-noted items (BackTo sub) = refl
-unnoted-noted items Last = refl
+unnoted-with_mark : (items : List Item) (item : Item) → unnoted_by item (length items) (with_mark_of item (length items) (savepoints (numbered 0 items))) ≡ savepoints (numbered 0 items)
+unnoted-with_mark items (Change sub c) = without_mark-with_mark items sub
+unnoted-with_mark items (Touch sub) = without_mark-with_mark items sub
+unnoted-with_mark items (BackTo sub) = refl
+unnoted-with_mark items Last = refl
 
 pub IsSpool-pop : (items : List Item) (sizes : List ℕ) (marks : List (ℕ × ℕ)) (item : Item) (size : ℕ) → IsSpool (items ++ item ∷ []) (sizes ++ size ∷ []) marks → IsSpool items sizes (unnoted_by item (length items) marks)
 IsSpool-pop items sizes marks item size h = record {
   paired = omega (arith, length-append sizes (size ∷ []), length-append items (item ∷ []), h.paired);
   marked =
       let last : 0 + length items ≡ length items = omega arith in
-      ap (unnoted_by item (length items)) (h.marked ∙ ap savepoints (numbered-push 0 items item ∙ ap (λ n. numbered 0 items ++ (item, n) ∷ []) last) ∙ marking-push [] (numbered 0 items) (item, length items)) ∙ unnoted-noted items item;
+      ap (unnoted_by item (length items)) (h.marked ∙ ap savepoints (numbered-push 0 items item ∙ ap (λ n. numbered 0 items ++ (item, n) ∷ []) last) ∙ with_marks_of-push [] (numbered 0 items) (item, length items)) ∙ unnoted-with_mark items item;
 }
 
 -- ---- sizes

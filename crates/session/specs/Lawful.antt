@@ -1,7 +1,7 @@
 -- Lawful streams: each payload is a message that the session table admits, given those before it.
 use Rattle.std.specs.Prelude.{◌≡◌, ℕ, List, [], ◌∷◌, length, Ok, Err}
 use Rattle.messages.specs.declared.message.Message.{Message}
-use Rattle.messages.specs.Messages.{Spelled, Stands}
+use Rattle.messages.specs.Messages.{Spelled, HasFault}
 use Rattle.session.specs.declared.fault.Refused.{Refused}
 use Rattle.session.specs.declared.fault.Refused.TheVariants.{Msg, Session, Rel, OutOfMemory}
 use Rattle.session.specs.State.{State, Setting, start, in_block}
@@ -22,13 +22,13 @@ abbrev pub IsLawful : Setting → List (List ℕ) → State → Type 0
 IsLawful g payloads t = Leads g start payloads t
 
 -- The payload spells a message that the table refuses.
-abbrev pub IsRefusedBy : Setting → State → List ℕ → Refused → Type 0
-IsRefusedBy g s payload refused = (m : Message) × Spelled payload (in_block s.phase) m × (step g s (length payload) m ≡ Err refused)
+abbrev pub TableRefuses : Setting → State → List ℕ → Refused → Type 0
+TableRefuses g s payload refused = (m : Message) × Spelled payload (in_block s.phase) m × (step g s (length payload) m ≡ Err refused)
 
 -- Why the payload is refused in this state: a fault stands in it, or it spells a message that may not come
 -- here, or that does not fit its relation. Memory may be refused at any time.
-abbrev pub IsRefusal : Setting → State → List ℕ → Refused → Type 0
-IsRefusal g s payload (Msg fault) = Stands payload (in_block s.phase) fault
-IsRefusal g s payload (Session fault) = IsRefusedBy g s payload (Session fault)
-IsRefusal g s payload (Rel fault) = IsRefusedBy g s payload (Rel fault)
-IsRefusal g s payload OutOfMemory = Unit {0}
+abbrev pub Refuses : Setting → State → List ℕ → Refused → Type 0
+Refuses g s payload (Msg fault) = HasFault payload (in_block s.phase) fault
+Refuses g s payload (Session fault) = TableRefuses g s payload (Session fault)
+Refuses g s payload (Rel fault) = TableRefuses g s payload (Rel fault)
+Refuses g s payload OutOfMemory = Unit {0}

@@ -3,9 +3,11 @@ pub mod State
 pub mod Table
 pub mod Lawful
 pub mod Told
-pub mod Named
 pub mod Refusals
-pub mod Stands
+pub mod KeptTransactions
+pub mod KnownRelations
+pub mod Represents
+pub mod Answers
 pub mod Kept
 pub use Rattle.messages.specs.Messages
 pub use Rattle.relcache.specs.Mapping
@@ -13,4 +15,4 @@ pub use Rattle.relcache.specs.Planning
 pub use Rattle.relcache.specs.Fits
 pub use Rattle.relcache.specs.Published
 pub use Rattle.savepoint.specs.Savepoints
-pub use Rattle.savepoint.specs.Survivors
+pub use Rattle.model.specs.Survivors

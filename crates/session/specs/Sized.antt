@@ -1,16 +1,18 @@
 -- Items with the lengths of their payloads, as a spool keeps them.
 use Rattle.std.specs.Prelude.{◌≡◌, ℕ, suc, List, [], ◌∷◌, length, map, sum, ◌==◌, Bool, false, Option, Some, None, if◌then◌else◌}
-use Rattle.savepoint.specs.declared.item.Item.{Item}
-use Rattle.savepoint.specs.declared.item.Item.TheVariants.{Change, Touch, BackTo, Last}
+use Rattle.model.specs.declared.item.Item.{Item}
+use Rattle.model.specs.declared.item.Item.TheVariants.{Change, Touch, BackTo, Last}
 use Rattle.savepoint.specs.Savepoints.{savepoints, mark_at, before_mark}
 
 -- items, each with the length of its payload in bytes
 abbrev pub SizedItems : Type 0
 SizedItems = List (Item × ℕ)
 
+-- the item, without the length of its payload
 abbrev pub item_of : Item × ℕ → Item
 item_of i = i.0
 
+-- the length of the item's payload in bytes
 abbrev pub size_of : Item × ℕ → ℕ
 size_of i = i.1
 
@@ -18,6 +20,7 @@ size_of i = i.1
 abbrev pub bytes_of : SizedItems → ℕ
 bytes_of items = sum (map size_of items)
 
+-- there is a mark, and it stands at this index among the items
 abbrev pub is_at_index : ℕ → Option ℕ → Bool
 is_at_index index None = false
 is_at_index index (Some at) = at == index

@@ -8,9 +8,9 @@ use Rattle.std.specs.Ordering.{nat_cmp}
 use Rattle.std.specs.FinMap as map
 use Rattle.std.specs.FinMap.{FinMap}
 use Rattle.model.specs.Definition.{Definition}
-use Rattle.savepoint.specs.declared.item.Item.{Item}
-use Rattle.savepoint.specs.declared.item.Item.TheVariants.{Change, Touch, BackTo, Last}
-use Rattle.savepoint.specs.declared.item.CommitInfo.{CommitInfo}
+use Rattle.model.specs.declared.item.Item.{Item}
+use Rattle.model.specs.declared.item.Item.TheVariants.{Change, Touch, BackTo, Last}
+use Rattle.model.specs.declared.item.CommitInfo.{CommitInfo}
 use Rattle.savepoint.specs.Savepoints.{before_first}
 use Rattle.relcache.specs.Published.{Relations}
 use Rattle.session.specs.declared.phase.Phase.{Phase}
@@ -36,12 +36,13 @@ pub record Committed : Type 0 where
   pub info : CommitInfo
 
 -- the open transactions, by their xid
-abbrev pub Transactions : Type 0
-Transactions = FinMap nat_cmp Open
+abbrev pub OpenTransactions : Type 0
+OpenTransactions = FinMap nat_cmp Open
 
+-- what all messages so far have left
 pub record State : Type 0 where
   pub phase : Phase
-  pub transactions : Transactions
+  pub transactions : OpenTransactions
   -- as last learnt
   pub relations : Relations
   -- the end of the last commit
@@ -68,50 +69,53 @@ in_block (Block xid) = true
 -- ---- what survives
 
 -- what is left of items once this one has come; a rollback to the top transaction cuts nothing
-abbrev pub kept_with : ℕ → SizedItems → Item → ℕ → SizedItems
-kept_with top kept (Change sub c) size = kept ++ (Change sub c, size) ∷ []
-kept_with top kept (Touch sub) size = kept ++ (Touch sub, size) ∷ []
-kept_with top kept (BackTo sub) size = if sub == top then kept else before_first sub kept
-kept_with top kept Last size = kept
+abbrev pub sized_after_item : ℕ → SizedItems → Item → ℕ → SizedItems
+sized_after_item top sized_survivors (Change sub c) size = sized_survivors ++ (Change sub c, size) ∷ []
+sized_after_item top sized_survivors (Touch sub) size = sized_survivors ++ (Touch sub, size) ∷ []
+sized_after_item top sized_survivors (BackTo sub) size = if sub == top then sized_survivors else before_first sub sized_survivors
+sized_after_item top sized_survivors Last size = sized_survivors
 
-abbrev pub keeping : ℕ → SizedItems → SizedItems → SizedItems
-keeping top kept [] = kept
-keeping top kept (i ∷ items) = keeping top (kept_with top kept i.0 i.1) items
+-- what is left of kept items once these have come after them, each still with its length
+abbrev pub sized_surviving : ℕ → SizedItems → SizedItems → SizedItems
+sized_surviving top sized_survivors [] = sized_survivors
+sized_surviving top sized_survivors (i ∷ items) = sized_surviving top (sized_after_item top sized_survivors i.0 i.1) items
 
 -- the items of a transaction that survive its rollbacks, each still with its length
-abbrev pub kept : ℕ → SizedItems → SizedItems
-kept top items = keeping top [] items
+abbrev pub sized_survivors : ℕ → SizedItems → SizedItems
+sized_survivors top items = sized_surviving top [] items
 
 -- ---- what the limits count
 
+-- the way is with a worker
 abbrev pub has_worker : Way → Bool
 has_worker Direct = false
 has_worker Worker = true
 has_worker Spooled = false
 
 -- how many transactions have a worker
-abbrev pub working : Transactions → ℕ
-working transactions = count_by (λ (t : ℕ × Open). has_worker t.1.way) (map.entries transactions)
+abbrev pub worker_count : OpenTransactions → ℕ
+worker_count transactions = count_by (λ (t : ℕ × Open). has_worker t.1.way) (map.entries transactions)
 
 -- the bytes of payloads that a transaction has in its spool
-abbrev pub spooled_by : ℕ → SizedItems → Way → ℕ
-spooled_by xid items Direct = 0
-spooled_by xid items Worker = 0
-spooled_by xid items Spooled = bytes_of (kept xid items)
+abbrev pub spool_bytes_of : ℕ → SizedItems → Way → ℕ
+spool_bytes_of xid items Direct = 0
+spool_bytes_of xid items Worker = 0
+spool_bytes_of xid items Spooled = bytes_of (sized_survivors xid items)
 
 -- those of all spools
-abbrev pub spooled : Transactions → ℕ
-spooled transactions = sum_by (λ (t : ℕ × Open). spooled_by t.0 t.1.items t.1.way) (map.entries transactions)
+abbrev pub spool_bytes : OpenTransactions → ℕ
+spool_bytes transactions = sum_by (λ (t : ℕ × Open). spool_bytes_of t.0 t.1.items t.1.way) (map.entries transactions)
 
 -- ---- what each state is
 
+-- the way is direct
 abbrev pub is_direct : Way → Bool
 is_direct Direct = true
 is_direct Worker = false
 is_direct Spooled = false
 
 -- The transaction that was begun is open and goes directly; that of a block is open and streamed.
-abbrev pub IsHere : Phase → Transactions → Type 0
+abbrev pub IsHere : Phase → OpenTransactions → Type 0
 IsHere Outside transactions = Unit {0}
 IsHere (Begun xid final) transactions = IsSomeAnd (map.get transactions xid) (λ o. o.way ≡ Direct)
 IsHere (Block xid) transactions = IsSomeAnd (map.get transactions xid) (λ o. o.way ≢ Direct)
@@ -123,5 +127,5 @@ begun_at (Begun xid final) = Some xid
 begun_at (Block xid) = None
 
 -- No open transaction but the one that was begun goes directly.
-abbrev pub GoesAlone : Phase → Transactions → Type 0
+abbrev pub GoesAlone : Phase → OpenTransactions → Type 0
 GoesAlone phase transactions = (xid : ℕ) (o : Open) → map.get transactions xid ≡ Some o → o.way ≡ Direct → begun_at phase ≡ Some xid

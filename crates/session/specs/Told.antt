@@ -1,13 +1,14 @@
 -- What an admitted message tells: five cases, whatever the message.
 use Rattle.std.specs.Prelude.{◌≡◌, ℕ, ◌<◌, List, [], ◌∷◌, ◌++◌, map, Some, None}
 use Rattle.std.specs.FinMap as map
-use Rattle.savepoint.specs.declared.item.Item.{Item}
-use Rattle.savepoint.specs.declared.item.Item.TheVariants.{Change, Touch, BackTo, Last}
+use Rattle.model.specs.declared.item.Item.{Item}
+use Rattle.model.specs.declared.item.Item.TheVariants.{Change, Touch, BackTo, Last}
 use Rattle.session.specs.declared.phase.Phase.TheVariants.{Outside}
 use Rattle.session.specs.Sized.{item_of}
-use Rattle.session.specs.State.{Way, Direct, Worker, Spooled, Open, Committed, State, kept}
-use Rattle.session.specs.Table.{opened}
+use Rattle.session.specs.State.{Way, Direct, Worker, Spooled, Open, Committed, State, sized_survivors}
+use Rattle.session.specs.Table.{new_open}
 
+-- What an admitted message tells: nothing, a transaction opens, gets an item, commits, or is dropped.
 pub data Told : Type 0 where
   Nothing : Told
   Opens : (xid : ℕ) (way : Way) → Told
@@ -24,7 +25,7 @@ pub record Same (s t : State) : Type 0 where
 -- The transaction opens.
 pub record IsOpening (s t : State) (xid : ℕ) (way : Way) : Type 0 where
   pub absent : map.get s.transactions xid ≡ None
-  pub transactions : t.transactions ≡ map.insert s.transactions xid (opened way)
+  pub transactions : t.transactions ≡ map.insert s.transactions xid (new_open way)
   pub position : t.position ≡ s.position
   pub past : t.past ≡ s.past
 
@@ -67,7 +68,7 @@ Tells s t (Commits c) = IsCommitting s t c
 Tells s t (Aborts xid way) = (o : Open) × (o.way ≡ way) × IsAborting s t xid o
 
 -- what a commit hands out: of a spooled transaction the items that survive
-abbrev pub handed_out : ℕ → Way → List (Item × ℕ) → List Item
-handed_out xid Direct items = []
-handed_out xid Worker items = []
-handed_out xid Spooled items = map item_of (kept xid items)
+abbrev pub items_handed_out : ℕ → Way → List (Item × ℕ) → List Item
+items_handed_out xid Direct items = []
+items_handed_out xid Worker items = []
+items_handed_out xid Spooled items = map item_of (sized_survivors xid items)

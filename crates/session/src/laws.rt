@@ -4,7 +4,7 @@ ghost use Rattle.messages.specs.declared.message.Message.{Message};
 ghost use Rattle.session.specs.declared.fault.Refused.{Refused as Refusal};
 ghost use Rattle.session.specs.declared.fault.Refused.TheVariants.{OutOfMemory};
 ghost use Rattle.session.specs.State.{Setting, State};
-ghost use Rattle.session.specs.Lawful.{Admits, IsRefusal, Leads};
+ghost use Rattle.session.specs.Lawful.{Admits, Refuses, Leads};
 
 use messages::{one_fault, one_message};
 
@@ -18,7 +18,7 @@ pub fn one_state()
 /// What is admitted is not refused, but for memory.
 pub fn refused_or_admitted()
     ensures { (g : Setting) (s : State) (payload : List ℕ) (m : Message) (t : State) (refused : Refusal) → ((i : ℕ) → slice_index payload i < 256)
-        → Admits g s payload m t → IsRefusal g s payload refused → refused ≢ OutOfMemory → ⊥ }
+        → Admits g s payload m t → Refuses g s payload refused → refused ≢ OutOfMemory → ⊥ }
 {
     one_message();
     one_fault();

@@ -15,11 +15,11 @@
 // commit. To find a transaction takes a look-up among the open ones, to keep an item the work of
 // one, and a cut the work of the items that it drops.
 //
-// `specs/Stands` says when what is kept stands for a state of the table. By its contract `admit` takes
+// `specs/Represents` says when what is kept represents a state of the table. By its contract `admit` takes
 // the session from one state of the table to the next: an answer tells exactly what the message that
 // the payload spells does there, and a change that it gives names tables of the catalog alone. A
 // refusal is the fault that stands in the payload, or the table's own, or says that memory was refused,
-// and the session then stands for what it stood for before. An item that the spools have no room for is
+// and the session then represents what it did before. An item that the spools have no room for is
 // refused, and the commit of a spooled transaction hands out the items that survive its rollbacks.
 // `laws` has what follows of whole streams: payloads lead to one state at most, and what is admitted is
 // not refused, but for memory.

@@ -11,24 +11,24 @@ use std::sync::Arc;
 ///
 /// A relation is mapped once, at its first use, so that a row takes no look-up by name.
 #[derive(Drop)]
-pub struct Relations {
+pub struct KnownRelations {
     alloc: Global,
     learnt: RelCache,
     mappings: BTreeMap<Oid, Arc<Mapping>>,
 }
 
-impl Relations {
+impl KnownRelations {
     ghost use Rattle.std.specs.Prelude.{◌≡◌, []};
-    ghost use Rattle.relcache.specs.Published.{Relations as Learnings, learnt as with_learnt};
+    ghost use Rattle.relcache.specs.Published.{Relations, learnt as with_learnt};
     ghost use Rattle.session.specs.State.{Setting, State};
     ghost use Rattle.session.specs.Table.{row_change, truncate_change};
-    ghost use Rattle.session.specs.Stands.{Knows, IsLearnt, IsTableFound, IsPlanned};
+    ghost use Rattle.session.specs.KnownRelations.{Knows, IsLearnt, IsTableFound, IsPlanned};
 
     /// None yet. It takes no memory.
-    pub(crate) fn new(alloc: Global) -> Relations
+    pub(crate) fn new(alloc: Global) -> KnownRelations
         ensures { (g : Setting) → Knows g result [] }
     {
-        Relations {
+        KnownRelations {
             alloc,
             learnt: RelCache::new(alloc),
             mappings: BTreeMap::new(alloc),
@@ -38,7 +38,7 @@ impl Relations {
     /// Learns a relation, in the place of the one that its OID named before. Refused for memory, it
     /// changes nothing.
     pub(crate) fn learn(&mut self, relation: &Relation) -> Result<(), RelFault>
-        ensures { (g : Setting) (relations : Learnings) → Knows g self.old relations
+        ensures { (g : Setting) (relations : Relations) → Knows g self.old relations
             → IsLearnt g self.new relations (with_learnt relations relation.now) result }
     {
         self.learnt.learn(relation)?;
@@ -81,7 +81,7 @@ impl Relations {
 
     /// The table of a relation.
     fn table(&mut self, catalog: &Catalog, oid: Oid) -> Result<TableId, RelFault>
-        ensures { (g : Setting) (relations : Learnings) → g.catalog ≡ catalog.now → Knows g self.old relations
+        ensures { (g : Setting) (relations : Relations) → g.catalog ≡ catalog.now → Knows g self.old relations
             → IsTableFound g self.new relations oid result }
     {
         if let Some(mapping) = self.mappings.get(&oid) {

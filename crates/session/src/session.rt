@@ -4,9 +4,9 @@ ghost use Rattle.session.specs.Kept.{items_kept};
 
 use crate::fault::{Refused, SessionFault};
 use crate::phase::Phase;
-use crate::relations::Relations;
+use crate::relations::KnownRelations;
 use crate::step::Step;
-use crate::transactions::{Transactions, Way};
+use crate::transactions::{Transactions, OpenTransaction};
 use bytes::Bytes;
 use catalog::Catalog;
 use messages::{
@@ -22,7 +22,7 @@ pub struct Session {
     alloc: Global,
     phase: Phase,
     transactions: Transactions,
-    relations: Relations,
+    relations: KnownRelations,
     /// The end of the last commit; 0 before the first.
     position: Lsn,
 }
@@ -33,7 +33,9 @@ impl Session {
     ghost use Rattle.session.specs.State.{Direct};
     ghost use Rattle.session.specs.Told.{IsChange};
     ghost use Rattle.session.specs.Table as table;
-    ghost use Rattle.session.specs.Stands.{StandsFor, Follows, IsAdmitted, IsChangeOf, IsOfTables, Survives, Takes};
+    ghost use Rattle.session.specs.KeptTransactions.{Survives};
+    ghost use Rattle.session.specs.Represents.{Represents};
+    ghost use Rattle.session.specs.Answers.{AnswersMessage, AdmitsMessage, IsChangeOf, IsOfTables, AnswersPayload};
     ghost use Rattle.session.specs.declared.fault.SessionFault.TheVariants as faults;
     ghost use Rattle.session.specs.declared.phase.Phase.TheVariants as phases;
     ghost use Rattle.messages.specs.declared.message.Message.TheVariants as messages;
@@ -41,13 +43,13 @@ impl Session {
     /// The session at the start of a stream, with so many workers, whose spools may keep so many
     /// bytes of payloads. It takes no memory.
     pub fn new(alloc: Global, workers: usize, spool: u64) -> Session
-        ensures { (g : Setting) → g.workers ≡ workers → g.spool ≡ spool → StandsFor g result start }
+        ensures { (g : Setting) → g.workers ≡ workers → g.spool ≡ spool → Represents g result start }
     {
         Session {
             alloc,
             phase: Phase::Outside,
             transactions: Transactions::new(alloc, workers, spool),
-            relations: Relations::new(alloc),
+            relations: KnownRelations::new(alloc),
             position: 0,
         }
     }
@@ -64,8 +66,8 @@ impl Session {
         catalog: &Catalog,
         payload: &Bytes,
     ) -> Result<Step, Refused>
-        ensures { (g : Setting) (h : State) → g.catalog ≡ catalog.now → StandsFor g self.old h
-            → Takes g self.new h payload.now result }
+        ensures { (g : Setting) (h : State) → g.catalog ≡ catalog.now → Represents g self.old h
+            → AnswersPayload g self.new h payload.now result }
     {
         let in_block = matches!(self.phase, Phase::Block(_));
         let message = decode(alloc, payload, in_block)?;
@@ -74,8 +76,8 @@ impl Session {
 
     /// Takes a message whose payload has so many bytes.
     fn message(&mut self, catalog: &Catalog, message: Message, size: u64) -> Result<Step, Refused>
-        ensures { (g : Setting) (h : State) → g.catalog ≡ catalog.now → StandsFor g self.old h
-            → Follows g self.new h (table.step g h size message) result }
+        ensures { (g : Setting) (h : State) → g.catalog ≡ catalog.now → Represents g self.old h
+            → AnswersMessage g self.new h (table.step g h size message) result }
     {
         match message {
             Message::Begin(m) => self.begin(&m),
@@ -107,8 +109,8 @@ impl Session {
     // ---- transactions between Begin and Commit
 
     fn begin(&mut self, m: &Begin) -> Result<Step, Refused>
-        ensures { (g : Setting) (h : State) → StandsFor g self.old h
-            → Follows g self.new h (table.at h.phase (table.begins h m.now) (λ _ _. table.refuse faults.NestedBegin) (λ _. table.refuse faults.BlockOpen)) result }
+        ensures { (g : Setting) (h : State) → Represents g self.old h
+            → AnswersMessage g self.new h (table.at h.phase (table.begins h m.now) (λ _ _. table.refuse faults.NestedBegin) (λ _. table.refuse faults.BlockOpen)) result }
     {
         match self.phase {
             Phase::Outside => {
@@ -125,8 +127,8 @@ impl Session {
     }
 
     fn commit(&mut self, m: &Commit) -> Result<Step, Refused>
-        ensures { (g : Setting) (h : State) → StandsFor g self.old h
-            → Follows g self.new h (table.at h.phase (table.refuse faults.NotInTransaction) (λ xid final. table.commits_begun h xid final m.now) (λ _. table.refuse faults.BlockOpen)) result }
+        ensures { (g : Setting) (h : State) → Represents g self.old h
+            → AnswersMessage g self.new h (table.at h.phase (table.refuse faults.NotInTransaction) (λ xid final. table.commits_begun h xid final m.now) (λ _. table.refuse faults.BlockOpen)) result }
     {
         match self.phase {
             Phase::Outside => Err(SessionFault::NotInTransaction.into()),
@@ -143,8 +145,8 @@ impl Session {
     // ---- streamed transactions
 
     fn stream_start(&mut self, m: &StreamStart) -> Result<Step, Refused>
-        ensures { (g : Setting) (h : State) → StandsFor g self.old h
-            → Follows g self.new h (table.at h.phase (table.streams g h m.now) (λ _ _. table.refuse faults.NestedBegin) (λ _. table.refuse faults.BlockOpen)) result }
+        ensures { (g : Setting) (h : State) → Represents g self.old h
+            → AnswersMessage g self.new h (table.at h.phase (table.streams g h m.now) (λ _ _. table.refuse faults.NestedBegin) (λ _. table.refuse faults.BlockOpen)) result }
     {
         match self.phase {
             Phase::Outside => {
@@ -160,8 +162,8 @@ impl Session {
     }
 
     fn stream_stop(&mut self) -> Result<Step, Refused>
-        ensures { (g : Setting) (h : State) → StandsFor g self.old h
-            → Follows g self.new h (table.at h.phase (table.refuse faults.NoBlock) (λ _ _. table.refuse faults.NoBlock) (λ _. Ok (table.leaves_block h))) result }
+        ensures { (g : Setting) (h : State) → Represents g self.old h
+            → AnswersMessage g self.new h (table.at h.phase (table.refuse faults.NoBlock) (λ _ _. table.refuse faults.NoBlock) (λ _. Ok (table.leaves_block h))) result }
     {
         match self.phase {
             Phase::Outside | Phase::Begun { .. } => Err(SessionFault::NoBlock.into()),
@@ -173,8 +175,8 @@ impl Session {
     }
 
     fn stream_commit(&mut self, m: &StreamCommit) -> Result<Step, Refused>
-        ensures { (g : Setting) (h : State) → StandsFor g self.old h
-            → Follows g self.new h (table.at h.phase (table.commits h m.now.xid m.now.commit_lsn m.now.end_lsn) (λ _ _. table.refuse faults.NestedBegin) (λ _. table.refuse faults.BlockOpen)) result }
+        ensures { (g : Setting) (h : State) → Represents g self.old h
+            → AnswersMessage g self.new h (table.at h.phase (table.commits h m.now.xid m.now.commit_lsn m.now.end_lsn) (λ _ _. table.refuse faults.NestedBegin) (λ _. table.refuse faults.BlockOpen)) result }
     {
         match self.phase {
             Phase::Outside => self.close(m.xid, m.commit_lsn, m.end_lsn),
@@ -184,8 +186,8 @@ impl Session {
     }
 
     fn stream_abort(&mut self, m: &StreamAbort) -> Result<Step, Refused>
-        ensures { (g : Setting) (h : State) → StandsFor g self.old h
-            → Follows g self.new h (table.at h.phase (Ok (table.aborts h m.now)) (λ _ _. table.refuse faults.NestedBegin) (λ _. table.refuse faults.BlockOpen)) result }
+        ensures { (g : Setting) (h : State) → Represents g self.old h
+            → AnswersMessage g self.new h (table.at h.phase (Ok (table.aborts h m.now)) (λ _ _. table.refuse faults.NestedBegin) (λ _. table.refuse faults.BlockOpen)) result }
     {
         match self.phase {
             Phase::Outside => Ok(self.abort(m)),
@@ -197,8 +199,8 @@ impl Session {
     // ---- messages inside of transactions
 
     fn origin(&self) -> Result<Step, Refused>
-        ensures { (g : Setting) (h : State) → StandsFor g self.now h
-            → Follows g self.now h (table.at h.phase (table.refuse faults.NotInTransaction) (λ _ _. Ok h) (λ _. Ok h)) result }
+        ensures { (g : Setting) (h : State) → Represents g self.now h
+            → AnswersMessage g self.now h (table.at h.phase (table.refuse faults.NotInTransaction) (λ _ _. Ok h) (λ _. Ok h)) result }
     {
         match self.phase {
             Phase::Outside => Err(SessionFault::NotInTransaction.into()),
@@ -213,8 +215,8 @@ impl Session {
         relation: &Relation,
         size: u64,
     ) -> Result<Step, Refused>
-        ensures { (g : Setting) (h : State) → StandsFor g self.old h
-            → Follows g self.new h (table.step g h size (messages.Relation sub relation.now)) result }
+        ensures { (g : Setting) (h : State) → Represents g self.old h
+            → AnswersMessage g self.new h (table.step g h size (messages.Relation sub relation.now)) result }
     {
         match self.phase {
             Phase::Outside | Phase::Begun { .. } => {
@@ -233,8 +235,8 @@ impl Session {
     }
 
     fn type_name(&mut self, sub: Option<Xid>, size: u64) -> Result<Step, Refused>
-        ensures { (g : Setting) (h : State) → StandsFor g self.old h
-            → Follows g self.new h (table.at h.phase (Ok h) (λ _ _. Ok h) (λ xid. table.touches g h xid (table.named sub xid) size)) result }
+        ensures { (g : Setting) (h : State) → Represents g self.old h
+            → AnswersMessage g self.new h (table.at h.phase (Ok h) (λ _ _. Ok h) (λ xid. table.touches g h xid (table.subtransaction_named sub xid) size)) result }
     {
         match self.phase {
             Phase::Outside | Phase::Begun { .. } => Ok(Step::Nothing),
@@ -244,11 +246,11 @@ impl Session {
 
     /// Takes an item that changes no row, in a block of its transaction.
     fn touch(&mut self, xid: Xid, sub: Xid, size: u64) -> Result<Step, Refused>
-        ensures { (g : Setting) (h : State) → StandsFor g self.old h → h.phase ≡ phases.Block xid
-            → Follows g self.new h (table.touches g h xid sub size) result }
+        ensures { (g : Setting) (h : State) → Represents g self.old h → h.phase ≡ phases.Block xid
+            → AnswersMessage g self.new h (table.touches g h xid sub size) result }
     {
         self.transactions.check_spool(xid, size)?;
-        self.take(xid, Item::Touch(sub), size)
+        self.add_item(xid, Item::Touch(sub), size)
     }
 
     fn row(
@@ -259,27 +261,27 @@ impl Session {
         row: &RowMessage,
         size: u64,
     ) -> Result<Step, Refused>
-        ensures { (g : Setting) (h : State) → g.catalog ≡ catalog.now → StandsFor g self.old h
-            → Follows g self.new h (table.change_line g h size sub (table.row_change g h oid row.now)) result }
+        ensures { (g : Setting) (h : State) → g.catalog ≡ catalog.now → Represents g self.old h
+            → AnswersMessage g self.new h (table.change_line g h size sub (table.row_change g h oid row.now)) result }
     {
         let (xid, sub) = self.change_of(sub, size)?;
         let change = self.relations.plan(catalog, oid, row)?;
-        self.take(xid, Item::Change { sub, change }, size)
+        self.add_item(xid, Item::Change { sub, change }, size)
     }
 
     fn truncate(&mut self, catalog: &Catalog, m: &Truncate, size: u64) -> Result<Step, Refused>
-        ensures { (g : Setting) (h : State) → g.catalog ≡ catalog.now → StandsFor g self.old h
-            → Follows g self.new h (table.change_line g h size m.now.xid (table.truncate_change g h m.now.relations)) result }
+        ensures { (g : Setting) (h : State) → g.catalog ≡ catalog.now → Represents g self.old h
+            → AnswersMessage g self.new h (table.change_line g h size m.now.xid (table.truncate_change g h m.now.relations)) result }
     {
         let (xid, sub) = self.change_of(m.xid, size)?;
         let change = self.relations.wipe(catalog, m.relations.as_slice())?;
-        self.take(xid, Item::Change { sub, change }, size)
+        self.add_item(xid, Item::Change { sub, change }, size)
     }
 
     /// The transaction that a change belongs to and the subtransaction that it names, if it may be
     /// taken. Between Begin and Commit it names the transaction.
     fn change_of(&self, sub: Option<Xid>, size: u64) -> Result<(Xid, Xid), SessionFault>
-        ensures { (g : Setting) (h : State) → StandsFor g self.now h → IsChangeOf g h size sub result }
+        ensures { (g : Setting) (h : State) → Represents g self.now h → IsChangeOf g h size sub result }
     {
         match self.phase {
             Phase::Outside => Err(SessionFault::NotInTransaction),
@@ -292,12 +294,12 @@ impl Session {
     }
 
     /// Takes an item of an open transaction.
-    fn take(&mut self, xid: Xid, item: Item, size: u64) -> Result<Step, Refused>
-        ensures { (g : Setting) (h : State) (o : Open) → StandsFor g self.old h → map.get h.transactions xid ≡ Some o
+    fn add_item(&mut self, xid: Xid, item: Item, size: u64) -> Result<Step, Refused>
+        ensures { (g : Setting) (h : State) (o : Open) → Represents g self.old h → map.get h.transactions xid ≡ Some o
             → table.has_room g h.transactions size o.way ≡ true → Survives item → IsOfTables (length g.catalog) item → (o.way ≡ Direct → IsChange item)
-            → Follows g self.new h (Ok (table.gives h xid item size o)) result }
+            → AnswersMessage g self.new h (Ok (table.gives h xid item size o)) result }
     {
-        match self.transactions.take(xid, item, size)? {
+        match self.transactions.add_item(xid, item, size)? {
             Some(item) => Ok(Step::Item(xid, item)),
             None => Ok(Step::Nothing),
         }
@@ -307,8 +309,8 @@ impl Session {
 
     /// Opens a streamed transaction and its first block.
     fn open(&mut self, xid: Xid) -> Result<Step, Refused>
-        ensures { (g : Setting) (h : State) → StandsFor g self.old h → h.phase ≡ phases.Outside
-            → Follows g self.new h (table.opens h xid (table.next_way g h) (phases.Block xid)) result }
+        ensures { (g : Setting) (h : State) → Represents g self.old h → h.phase ≡ phases.Outside
+            → AnswersMessage g self.new h (table.opens h xid (table.next_way g h) (phases.Block xid)) result }
     {
         let has_worker = self.transactions.stream(xid)?;
         self.phase = Phase::Block(xid);
@@ -321,8 +323,8 @@ impl Session {
 
     /// Opens a further block of a streamed transaction.
     fn go_on(&mut self, xid: Xid) -> Result<Step, Refused>
-        ensures { (g : Setting) (h : State) → StandsFor g self.old h → h.phase ≡ phases.Outside
-            → Follows g self.new h (table.goes_on h xid) result }
+        ensures { (g : Setting) (h : State) → Represents g self.old h → h.phase ≡ phases.Outside
+            → AnswersMessage g self.new h (table.goes_on h xid) result }
     {
         if !self.transactions.contains(xid) {
             return Err(SessionFault::UnknownTransaction.into());
@@ -333,9 +335,9 @@ impl Session {
 
     /// Commits a transaction. Nothing is begun afterwards.
     fn close(&mut self, xid: Xid, commit: Lsn, end: Lsn) -> Result<Step, Refused>
-        ensures { (g : Setting) (h : State) → StandsFor g self.old h
+        ensures { (g : Setting) (h : State) → Represents g self.old h
             → ((begun : ℕ) → begun_at h.phase ≡ Some begun → begun ≡ xid)
-            → Follows g self.new h (table.commits h xid commit end) result }
+            → AnswersMessage g self.new h (table.commits h xid commit end) result }
     {
         if self.transactions.contains(xid) && end <= self.position {
             return Err(SessionFault::OldCommit.into());
@@ -353,8 +355,8 @@ impl Session {
 
     /// Rolls back a subtransaction, or the whole transaction if that is the one named.
     fn abort(&mut self, m: &StreamAbort) -> Step
-        ensures { (g : Setting) (h : State) → StandsFor g self.old h → h.phase ≡ phases.Outside
-            → IsAdmitted g self.new h (Ok (table.aborts h m.now)) result }
+        ensures { (g : Setting) (h : State) → Represents g self.old h → h.phase ≡ phases.Outside
+            → AdmitsMessage g self.new h (Ok (table.aborts h m.now)) result }
     {
         if m.subtransaction == m.xid {
             let Some(way) = self.transactions.close(m.xid) else {
@@ -376,11 +378,11 @@ impl Session {
 }
 
 /// The items that a commit hands out: those of a spooled transaction that survived.
-fn handed_out(alloc: Global, way: Way) -> Vec<Item>
+fn handed_out(alloc: Global, way: OpenTransaction) -> Vec<Item>
     ensures { result.items ≡ items_kept way }
 {
     match way {
-        Way::Direct | Way::Worker => Vec::new(alloc),
-        Way::Spooled(spool) => spool.into_items(),
+        OpenTransaction::Direct | OpenTransaction::Worker => Vec::new(alloc),
+        OpenTransaction::Spooled(spool) => spool.into_items(),
     }
 }

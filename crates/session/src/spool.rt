@@ -1,6 +1,6 @@
 // The kept items of a spooled transaction.
 ghost use Rattle.std.specs.Prelude.{◌≡◌, [], ◌∷◌, ◌++◌, ◌+◌, ◌-◌, ◌^◌, ◌<◌, ◌≤◌, length, drop, take, map, sum, OnOk, OnErr};
-ghost use Rattle.savepoint.specs.Savepoints.{before_first, noted_by};
+ghost use Rattle.savepoint.specs.Savepoints.{before_first, with_mark_of};
 ghost use Rattle.session.specs.Sized.{item_of, bytes_of, unnoted_by};
 
 use model::OutOfMemory;
@@ -104,7 +104,7 @@ impl Spool {
 
 /// Sets the savepoint of the subtransaction that an item names, if it is the first to name it.
 fn note(savepoints: &mut Savepoints<usize>, item: &Item, index: usize) -> Result<(), OutOfMemory>
-    ensures ok { OnOk result (savepoints.new ≡ noted_by item.now index savepoints.old) }
+    ensures ok { OnOk result (savepoints.new ≡ with_mark_of item.now index savepoints.old) }
     ensures err { OnErr result (savepoints.new ≡ savepoints.old) }
 {
     match item {

@@ -11,7 +11,7 @@ pub const MOST_OPEN: usize = 4096;
 
 /// Where the items of an open transaction go.
 #[derive(Drop)]
-pub enum Way {
+pub enum OpenTransaction {
     /// It is between Begin and Commit, and its items are applied as they come.
     Direct,
     /// It is streamed, and has a worker.
@@ -20,7 +20,7 @@ pub enum Way {
     Spooled(Spool),
 }
 
-impl Way {
+impl OpenTransaction {
     ghost use Rattle.std.specs.Prelude.{◌≡◌, ◌+◌, ◌<◌, ◌^◌, true, false, IfOk, OnErr, MatchOption};
     ghost use Rattle.session.specs.Kept.{kept_more, back_of, without_last, cut_back, bytes_kept, is_spool};
 
@@ -28,7 +28,7 @@ impl Way {
     pub(crate) fn is_spooled(&self) -> bool
         ensures { result ≡ is_spool self.now }
     {
-        matches!(self, Way::Spooled(_))
+        matches!(self, OpenTransaction::Spooled(_))
     }
 
     /// Keeps an item of a spooled transaction, and gives any other back. Refused for memory, it
@@ -38,8 +38,8 @@ impl Way {
         ensures err { OnErr result (self.new ≡ self.old) }
     {
         match self {
-            Way::Direct | Way::Worker => Ok(Some(item)),
-            Way::Spooled(spool) => {
+            OpenTransaction::Direct | OpenTransaction::Worker => Ok(Some(item)),
+            OpenTransaction::Spooled(spool) => {
                 spool.push(item, size)?;
                 Ok(None)
             }
@@ -52,8 +52,8 @@ impl Way {
         ensures freed { result + bytes_kept self.new ≡ bytes_kept self.old }
     {
         match self {
-            Way::Direct | Way::Worker => 0,
-            Way::Spooled(spool) => spool.pop(),
+            OpenTransaction::Direct | OpenTransaction::Worker => 0,
+            OpenTransaction::Spooled(spool) => spool.pop(),
         }
     }
 
@@ -65,8 +65,8 @@ impl Way {
             (λ freed. (is_spool self.old ≡ true) × (freed + bytes_kept self.new ≡ bytes_kept self.old)) }
     {
         match self {
-            Way::Direct | Way::Worker => None,
-            Way::Spooled(spool) => Some(spool.cut(sub)),
+            OpenTransaction::Direct | OpenTransaction::Worker => None,
+            OpenTransaction::Spooled(spool) => Some(spool.cut(sub)),
         }
     }
 }
@@ -75,7 +75,7 @@ impl Way {
 #[derive(Drop)]
 pub struct Transactions {
     alloc: Global,
-    ways: BTreeMap<Xid, Way>,
+    ways: BTreeMap<Xid, OpenTransaction>,
     /// How many workers there are, and how many of the transactions have one.
     workers: usize,
     working: usize,
@@ -88,10 +88,10 @@ impl Transactions {
     ghost use Rattle.std.specs.Prelude.{◌≡◌};
     ghost use Rattle.std.specs.FinMap as map;
     ghost use Rattle.std.specs.Prelude.{ℕ, ◌+◌, ◌≢◌, true, nat_le};
-    ghost use Rattle.savepoint.specs.declared.item.Item.{Item as AnyItem};
-    ghost use Rattle.savepoint.specs.declared.item.Item.TheVariants as items;
-    ghost use Rattle.session.specs.State.{Setting, Transactions as OpenMap, Open, spooled};
-    ghost use Rattle.session.specs.Stands.{Keeps, RoomIs, IsOpened, IsStreamed, IsClosed, IsItemTaken, Survives, spool_fault, with_item};
+    ghost use Rattle.model.specs.declared.item.Item.{Item as AnyItem};
+    ghost use Rattle.model.specs.declared.item.Item.TheVariants as items;
+    ghost use Rattle.session.specs.State.{Setting, OpenTransactions, Open, spool_bytes};
+    ghost use Rattle.session.specs.KeptTransactions.{Keeps, RoomIs, IsOpened, IsStreamed, IsClosed, IsItemTaken, Survives, spool_fault, with_item};
     ghost use Rattle.session.specs.Kept.{is_spooled, is_spooled_open};
     ghost use Rattle.session.specs.Table.{room_fault, has_room};
 
@@ -111,45 +111,45 @@ impl Transactions {
 
     /// Whether the transaction is open.
     pub(crate) fn contains(&self, xid: Xid) -> bool
-        ensures { (g : Setting) (m : OpenMap) → Keeps g self.now m → result ≡ map.contains_key m xid }
+        ensures { (g : Setting) (m : OpenTransactions) → Keeps g self.now m → result ≡ map.contains_key m xid }
     {
         self.ways.contains_key(&xid)
     }
 
     /// Whether the transaction is open and spooled.
     fn is_spooled(&self, xid: Xid) -> bool
-        ensures { (g : Setting) (m : OpenMap) → Keeps g self.now m → result ≡ is_spooled_open (map.get m xid) }
+        ensures { (g : Setting) (m : OpenTransactions) → Keeps g self.now m → result ≡ is_spooled_open (map.get m xid) }
     {
-        matches!(self.ways.get(&xid), Some(Way::Spooled(_)))
+        matches!(self.ways.get(&xid), Some(OpenTransaction::Spooled(_)))
     }
 
     /// Opens a transaction whose items are applied as they come.
     pub(crate) fn begin(&mut self, xid: Xid) -> Result<(), Refused>
-        ensures { (g : Setting) (m : OpenMap) → Keeps g self.old m → IsOpened g self.new m xid result }
+        ensures { (g : Setting) (m : OpenTransactions) → Keeps g self.old m → IsOpened g self.new m xid result }
     {
         self.check_room(xid)?;
-        self.ways.insert(xid, Way::Direct)?;
+        self.ways.insert(xid, OpenTransaction::Direct)?;
         Ok(())
     }
 
     /// Opens a streamed transaction. It answers whether the transaction gets a worker.
     pub(crate) fn stream(&mut self, xid: Xid) -> Result<bool, Refused>
-        ensures { (g : Setting) (m : OpenMap) → Keeps g self.old m → IsStreamed g self.new m xid result }
+        ensures { (g : Setting) (m : OpenTransactions) → Keeps g self.old m → IsStreamed g self.new m xid result }
     {
         self.check_room(xid)?;
         if self.working < self.workers {
-            self.ways.insert(xid, Way::Worker)?;
+            self.ways.insert(xid, OpenTransaction::Worker)?;
             self.working += 1;
             Ok(true)
         } else {
-            self.ways.insert(xid, Way::Spooled(Spool::new(self.alloc)))?;
+            self.ways.insert(xid, OpenTransaction::Spooled(Spool::new(self.alloc)))?;
             Ok(false)
         }
     }
 
     /// That a transaction of this number may be opened.
     fn check_room(&self, xid: Xid) -> Result<(), SessionFault>
-        ensures { (g : Setting) (m : OpenMap) → Keeps g self.now m → RoomIs (room_fault m xid) result }
+        ensures { (g : Setting) (m : OpenTransactions) → Keeps g self.now m → RoomIs (room_fault m xid) result }
     {
         if self.contains(xid) {
             Err(SessionFault::AlreadyOpen)
@@ -162,7 +162,7 @@ impl Transactions {
 
     /// That an item of an open transaction, with a payload of so many bytes, may be taken.
     pub(crate) fn check_spool(&self, xid: Xid, size: u64) -> Result<(), SessionFault>
-        ensures { (g : Setting) (m : OpenMap) → Keeps g self.now m → RoomIs (spool_fault g m size (map.get m xid)) result }
+        ensures { (g : Setting) (m : OpenTransactions) → Keeps g self.now m → RoomIs (spool_fault g m size (map.get m xid)) result }
     {
         if self.is_spooled(xid) && !self.has_spool(size) {
             Err(SessionFault::SpoolFull)
@@ -173,7 +173,7 @@ impl Transactions {
 
     /// Whether the spools may keep so many bytes more.
     fn has_spool(&self, size: u64) -> bool
-        ensures { (g : Setting) (m : OpenMap) → Keeps g self.now m → result ≡ nat_le (spooled m + size) g.spool }
+        ensures { (g : Setting) (m : OpenTransactions) → Keeps g self.now m → result ≡ nat_le (spool_bytes m + size) g.spool }
     {
         match self.spooled.checked_add(size) {
             Some(spooled) => spooled <= self.spool,
@@ -183,13 +183,13 @@ impl Transactions {
 
     /// Takes an item. That of a spooled transaction is kept, and any other is given back. Refused for
     /// memory, it changes nothing.
-    pub(crate) fn take(
+    pub(crate) fn add_item(
         &mut self,
         xid: Xid,
         item: Item,
         size: u64,
     ) -> Result<Option<Item>, OutOfMemory>
-        ensures { (g : Setting) (m : OpenMap) (o : Open) → Keeps g self.old m → map.get m xid ≡ Some o
+        ensures { (g : Setting) (m : OpenTransactions) (o : Open) → Keeps g self.old m → map.get m xid ≡ Some o
             → has_room g m size o.way ≡ true → Survives item → IsItemTaken g self.new m xid o item size result }
     {
         let Some(way) = self.ways.get_mut(&xid) else {
@@ -204,7 +204,7 @@ impl Transactions {
 
     /// Undoes that a transaction took its last item: a spooled one drops it.
     pub(crate) fn drop_last(&mut self, xid: Xid)
-        ensures { (g : Setting) (m : OpenMap) (o : Open) (item : AnyItem) (size : ℕ) → map.get m xid ≡ Some o → Survives item
+        ensures { (g : Setting) (m : OpenTransactions) (o : Open) (item : AnyItem) (size : ℕ) → map.get m xid ≡ Some o → Survives item
             → Keeps g self.old (map.insert m xid (with_item o item size)) → Keeps g self.new m }
     {
         if let Some(way) = self.ways.get_mut(&xid) {
@@ -215,7 +215,7 @@ impl Transactions {
 
     /// Rolls a subtransaction back. It answers whether the transaction is spooled.
     pub(crate) fn roll_back(&mut self, xid: Xid, sub: Xid) -> bool
-        ensures { (g : Setting) (m : OpenMap) (o : Open) → Keeps g self.old m → map.get m xid ≡ Some o → sub ≢ xid
+        ensures { (g : Setting) (m : OpenTransactions) (o : Open) → Keeps g self.old m → map.get m xid ≡ Some o → sub ≢ xid
             → (result ≡ is_spooled o.way) × Keeps g self.new (map.insert m xid (with_item o (items.BackTo sub) 0)) }
     {
         let Some(way) = self.ways.get_mut(&xid) else {
@@ -231,14 +231,14 @@ impl Transactions {
     }
 
     /// Closes a transaction. It answers what it was, if it was open.
-    pub(crate) fn close(&mut self, xid: Xid) -> Option<Way>
-        ensures { (g : Setting) (m : OpenMap) → Keeps g self.old m → IsClosed g self.new m xid result }
+    pub(crate) fn close(&mut self, xid: Xid) -> Option<OpenTransaction>
+        ensures { (g : Setting) (m : OpenTransactions) → Keeps g self.old m → IsClosed g self.new m xid result }
     {
         let way = self.ways.remove(&xid)?;
         match &way {
-            Way::Direct => {}
-            Way::Worker => self.working = self.working.saturating_sub(1),
-            Way::Spooled(spool) => self.spooled = self.spooled.saturating_sub(spool.bytes()),
+            OpenTransaction::Direct => {}
+            OpenTransaction::Worker => self.working = self.working.saturating_sub(1),
+            OpenTransaction::Spooled(spool) => self.spooled = self.spooled.saturating_sub(spool.bytes()),
         }
         Some(way)
     }

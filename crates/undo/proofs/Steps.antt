@@ -6,8 +6,8 @@ use Rattle.model.specs.declared.key.Key.{Key}
 use Rattle.model.specs.declared.row.Row.{Row}
 use Rattle.model.specs.declared.cell.Cell.{Cell}
 use Rattle.model.specs.Rows.{Rows, Schema}
-use Rattle.model.specs.Effect.{Edits, back, undone}
-use Rattle.model.specs.EffectLaws.{undone_append}
+use Rattle.model.specs.Effect.{Edits, back, all_back}
+use Rattle.model.specs.EffectLaws.{all_back_append}
 use Rattle.indexes.specs.Content.{Content, Keeps}
 use Rattle.change.specs.declared.inverse.Inverse.{Inverse}
 use Rattle.change.specs.declared.inverse.Inverse.TheVariants.{Take, Put, Replace, Unwipe}
@@ -43,12 +43,12 @@ module _ (t new : Content) (all rest : List Inverse) (i : Inverse) (mark : ℕ) 
     pub left_can : CanUndo new (drop mark rest)
     left_can = CanUndo_keeps (content_back t i) new (sym schema) (sym rows) room (drop mark rest) parted.1
 
-    pub left_rows : undone new.rows (map edits_of (drop mark rest)) ≡ undone t.rows (map edits_of (drop mark all))
+    pub left_rows : all_back new.rows (map edits_of (drop mark rest)) ≡ all_back t.rows (map edits_of (drop mark all))
     left_rows =
-        ap (λ (r : Rows). undone r (map edits_of (drop mark rest))) rows
-        ∙ sym (undone_append t.rows (map edits_of (drop mark rest)) (edits_of i ∷ []))
-        ∙ ap (undone t.rows) (sym (edits_last (drop mark rest) i))
-        ∙ ap (λ (is : List Inverse). undone t.rows (map edits_of is)) (sym since)
+        ap (λ (r : Rows). all_back r (map edits_of (drop mark rest))) rows
+        ∙ sym (all_back_append t.rows (map edits_of (drop mark rest)) (edits_of i ∷ []))
+        ∙ ap (all_back t.rows) (sym (edits_last (drop mark rest) i))
+        ∙ ap (λ (is : List Inverse). all_back t.rows (map edits_of is)) (sym since)
 
     pub left_room : Keeps (content_undone t (drop mark all)).room (content_undone new (drop mark rest)).room
     left_room =

@@ -13,6 +13,7 @@ AppliedCanBeUndone =
     → back new.rows (edits_of inverse) ≡ old.rows → Keeps old.room (room_back new.room inverse) → CanPutBack new inverse
     → CanUndo old inverses → CanUndo new (inverses ++ inverse ∷ [])
 
+-- what can be undone can be undone with more room too
 abbrev pub MoreRoomCanBeUndone : Type 0
 MoreRoomCanBeUndone =
     (t more : Content) → t.schema ≡ more.schema → t.rows ≡ more.rows → Keeps t.room more.room

@@ -10,18 +10,20 @@ use Rattle.model.specs.declared.key.Key.{Key}
 use Rattle.model.specs.declared.row.Row.{Row as Record}
 use Rattle.model.specs.declared.cell.Cell.{Cell}
 use Rattle.model.specs.declared.cell.Cell.TheVariants.{Row, Uniq}
-use Rattle.model.specs.Rows.{Rows, Schema, keys_at, values_in, taken}
+use Rattle.model.specs.Rows.{Rows, Schema, keys_at, values_in, are_taken}
 use Rattle.model.specs.Cells.{cells_of}
 use Rattle.model.specs.Effect.{back}
 use Rattle.indexes.specs.Content.{Content}
 use Rattle.change.specs.declared.inverse.Inverse.{Inverse}
 use Rattle.change.specs.declared.inverse.Inverse.TheVariants.{Take, Put, Replace, Unwipe}
-use Rattle.change.specs.Inverse.{edits_of, room_back, IsFree, IsKnown, CanPutBack}
+use Rattle.change.specs.Inverse.{edits_of, room_back, HasNoRow, IsKnown, CanPutBack}
 
+-- a log as its callers see it
 pub record Log : Type 0 where
   pub inverses : List Inverse  -- oldest first
   pub room : ℕ  -- how many more can be added without memory
 
+-- the tables with an inverse put back
 abbrev pub content_back : Content → Inverse → Content
 content_back t inverse = record { schema = t.schema; rows = back t.rows (edits_of inverse); room = room_back t.room inverse }
 
@@ -47,15 +49,16 @@ cells_settled schema (Put table key row) = Row table key ∷ cells_of schema tab
 cells_settled schema (Replace table new_key key row) = Row table key ∷ cells_of schema table row
 cells_settled schema (Unwipe wiped) = []
 
+-- the cells that settling a list of inverses may give up
 abbrev pub all_settled : Schema → List Inverse → List Cell
 all_settled schema [] = []
 all_settled schema (inverse ∷ inverses) = cells_settled schema inverse ++ all_settled schema inverses
 
 -- the key's cell is out of the room where no row stands, and a cell of the row's unique values where no row has them
 pub record IsGivenUp (schema : Schema) (rows : Rows) (room : List Cell) (table : ℕ) (key : Key) (row : Record) : Type 0 where
-  pub slot : IsFree rows table key → ¬ Contains room (Row table key)
+  pub slot : HasNoRow rows table key → ¬ Contains room (Row table key)
   pub values : (i : ℕ) (columns : List ℕ) (values : Key) → slice_get (keys_at schema table).uniques i ≡ Some columns
-      → values_in columns row ≡ Some values → taken rows table columns values ≡ false → ¬ Contains room (Uniq table (i + 1) values)
+      → values_in columns row ≡ Some values → are_taken rows table columns values ≡ false → ¬ Contains room (Uniq table (i + 1) values)
 
 -- of an inverse that puts a row back: that row's
 abbrev pub IsSettled : Schema → Rows → List Cell → Inverse → Type 0
@@ -64,6 +67,7 @@ IsSettled schema rows room (Put table key row) = IsGivenUp schema rows room tabl
 IsSettled schema rows room (Replace table new_key key row) = IsGivenUp schema rows room table key row
 IsSettled schema rows room (Unwipe wiped) = Unit {0}
 
+-- each row that one of the inverses puts back has its cells given up, where no row fills them
 abbrev pub AreSettled : Schema → Rows → List Cell → List Inverse → Type 0
 AreSettled schema rows room [] = Unit {0}
 AreSettled schema rows room (inverse ∷ inverses) = IsSettled schema rows room inverse × AreSettled schema rows room inverses

@@ -6,14 +6,14 @@
 use Rattle.std.specs.Prelude.{◌≡◌, List, [], ◌∷◌, ◌++◌, map, refl}
 use Rattle.std.proofs.Common.{sym, ◌∙◌, ap, subst}
 use Rattle.model.specs.Rows.{Rows}
-use Rattle.model.specs.Effect.{back, undone}
+use Rattle.model.specs.Effect.{back, all_back}
 use Rattle.indexes.specs.Content.{Content, Keeps}
 use Rattle.change.specs.declared.inverse.Inverse.{Inverse}
 use Rattle.change.specs.Inverse.{edits_of, room_back, CanPutBack}
 use Rattle.change.specs.InverseLaws.{room_back_keeps, CanPutBack_keeps}
 use Rattle.undo.specs.Undo.{content_back, content_undone, CanUndo}
 
-pub rows_undone : (t : Content) (is : List Inverse) → (content_undone t is).rows ≡ undone t.rows (map edits_of is)
+pub rows_undone : (t : Content) (is : List Inverse) → (content_undone t is).rows ≡ all_back t.rows (map edits_of is)
 rows_undone t [] = refl
 rows_undone t (i ∷ is) = ap (λ (r : Rows). back r (edits_of i)) (rows_undone t is)
 

@@ -1,7 +1,7 @@
 // The log of a transaction's inverses.
 ghost use Rattle.std.specs.Prelude.{◌≡◌, ◌+◌, ◌-◌, ◌<◌, ◌≤◌, [], ◌∷◌, ◌++◌, length, take, drop, map, OnOk, vec_len, vec_capacity, Contains};
 ghost use Rattle.model.specs.declared.cell.Cell.{Cell};
-ghost use Rattle.model.specs.Effect.{undone};
+ghost use Rattle.model.specs.Effect.{all_back};
 ghost use Rattle.indexes.specs.Content.{Keeps};
 ghost use Rattle.change.specs.Inverse.{edits_of, IsKnown};
 ghost use Rattle.undo.specs.Undo.{content_undone, CanUndo, AreKnownAll, cells_settled, all_settled, IsSettled, AreSettled};
@@ -76,7 +76,7 @@ impl UndoLog {
     pub fn undo_to(&mut self, t: &mut Tables, mark: usize)
         requires mark { mark ≤ length self.old.inverses }
         requires can { CanUndo t.old (drop mark self.old.inverses) }
-        ensures rows { t.new.rows ≡ undone t.old.rows (map edits_of (drop mark self.old.inverses)) }
+        ensures rows { t.new.rows ≡ all_back t.old.rows (map edits_of (drop mark self.old.inverses)) }
         ensures left { self.new.inverses ≡ take mark self.old.inverses }
         ensures room { Keeps (content_undone t.old (drop mark self.old.inverses)).room t.new.room }
         ensures schema { t.new.schema ≡ t.old.schema }
@@ -103,7 +103,7 @@ impl UndoLog {
 fn undo_last(inverses: &mut Vec<Inverse>, t: &mut Tables, mark: usize)
     requires mark { mark ≤ vec_len inverses.old }
     requires can { CanUndo t.old (drop mark inverses.old.items) }
-    ensures rows { t.new.rows ≡ undone t.old.rows (map edits_of (drop mark inverses.old.items)) }
+    ensures rows { t.new.rows ≡ all_back t.old.rows (map edits_of (drop mark inverses.old.items)) }
     ensures left { inverses.new.items ≡ take mark inverses.old.items }
     ensures room { Keeps (content_undone t.old (drop mark inverses.old.items)).room t.new.room }
     ensures schema { t.new.schema ≡ t.old.schema }

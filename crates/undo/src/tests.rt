@@ -1,6 +1,6 @@
 // That an undo gives the rows and look-ups at its mark, wherever memory is refused before it.
 ghost use Rattle.std.specs.Prelude.{IsTrue, length, ◌≤◌};
-ghost use Rattle.change.specs.Applied.{AreTables};
+ghost use Rattle.model.specs.Named.{NamesTables};
 ghost use Rattle.undo.specs.Undo.{CanUndo};
 
 use crate::UndoLog;
@@ -84,7 +84,7 @@ fn change(alloc: Global, call: &Call) -> Result<Change, OutOfMemory> {
 
 /// Whether the tables of a change are there.
 fn are_there(t: &Tables, c: &Change) -> bool
-    ensures { IsTrue result → AreTables t.now.schema c.now }
+    ensures { IsTrue result → NamesTables (length t.now.schema) c.now }
 {
     match c {
         Change::Put { table, .. } | Change::Set { table, .. } | Change::Remove { table, .. } => {
@@ -101,7 +101,7 @@ fn apply_logged(
     t: &mut Tables,
     change: &Change,
 ) -> Result<(), Clash>
-    requires tables { AreTables t.old.schema change.now }
+    requires tables { NamesTables (length t.old.schema) change.now }
     requires can { CanUndo t.old log.old.inverses }
     ensures { CanUndo t.new log.new.inverses }
 {

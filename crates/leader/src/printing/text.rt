@@ -2,7 +2,7 @@
 ghost use Rattle.std.specs.Prelude.{◌≡◌, ◌++◌, OnOk, decimal};
 ghost use Rattle.std.specs.Option.{option_map};
 ghost use Rattle.rows.specs.View.{read_value};
-ghost use Rattle.leader.specs.Text.{escape, escaped, value_text, lsn_text};
+ghost use Rattle.leader.specs.Text.{escape, escaped_text, value_text, lsn_text};
 
 use itoa::Buffer;
 use rows::ValueRef;
@@ -22,7 +22,7 @@ fn push_escaped_byte(out: &mut Vec<u8>, byte: u8) -> Result<(), AllocError>
 
 /// Appends a text with its escapes.
 pub fn push_escaped(out: &mut Vec<u8>, bytes: &[u8]) -> Result<(), AllocError>
-    ensures { OnOk result (out.new.items ≡ out.old.items ++ escaped bytes.now) }
+    ensures { OnOk result (out.new.items ≡ out.old.items ++ escaped_text bytes.now) }
 {
     for byte in bytes {
         push_escaped_byte(out, *byte)?;

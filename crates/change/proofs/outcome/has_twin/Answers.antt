@@ -2,7 +2,7 @@ use Rattle.std.proofs.Common.{Some, sym, ◌∙◌, ap}
 use Rattle.indexes.specs.Content.{unique_columns}
 use Rattle.change.specs.Applied.{without}
 use Rattle.model.specs.Rows.{values_in}
-use Rattle.model.specs.Effect.{is_taken}
+use Rattle.model.specs.Effect.{are_taken_unless_null}
 use Rattle.change.proofs.Clashes.{taken_in_rest, free_without, not_found}
 use Rattle.change.proofs.outcome.has_twin.Goals as goal
 
@@ -17,5 +17,5 @@ returns-in-Some-except c =
     let columns = unique_columns c.args.t.now.schema c.args.table c.args.number in
     let twin = c.in-Some.ensures.key in
     c.ne.ensures ∙ sym (taken_in_rest c.args.t.now.schema c.args.t.now.rows c.requires.sound.valid c.args.table c.args.number twin.0 c.in-Some.holder.now c.in-Some-except.key.now twin.2 c.requires.number twin.3 twin.4)
-    ∙ ap (is_taken (without c.args.t.now.rows c.args.table (Some c.in-Some-except.key)) c.args.table columns) (sym twin.1)
-    ∙ ap (λ e. is_taken (without c.args.t.now.rows c.args.table e) c.args.table columns (values_in columns c.args.row.now)) (sym c.in-Some-except.is)
+    ∙ ap (are_taken_unless_null (without c.args.t.now.rows c.args.table (Some c.in-Some-except.key)) c.args.table columns) (sym twin.1)
+    ∙ ap (λ e. are_taken_unless_null (without c.args.t.now.rows c.args.table e) c.args.table columns (values_in columns c.args.row.now)) (sym c.in-Some-except.is)

@@ -1,6 +1,6 @@
 use Rattle.std.proofs.Common.{sym}
 use Rattle.model.specs.declared.change.Change.TheVariants.{Remove}
-use Rattle.model.specs.Effect.{removed}
+use Rattle.model.specs.Effect.{remove_outcome}
 use Rattle.model.specs.EffectLaws.{effect_skipped}
 use Rattle.std.proofs.Common.{ap}
 use Rattle.change.proofs.Outcomes.{nothing_there, remove_ok, remove_inverse, remove_can}
@@ -9,7 +9,7 @@ use Rattle.change.proofs.outcome.remove.Goals as goal
 pub returns-then-is_none-clause-ok : goal.returns-then-is_none-clause-ok
 returns-then-is_none-clause-ok c =
     let none = nothing_there _ _ _ c.get.ensures c.is_none.ensures c.if-is_none.true in
-    sym (effect_skipped c.args.t.now.schema c.args.t.now.rows (Remove c.args.table c.args.key.now) (ap (removed (c.args.table, c.args.key.now)) none))
+    sym (effect_skipped c.args.t.now.schema c.args.t.now.rows (Remove c.args.table c.args.key.now) (ap (remove_outcome (c.args.table, c.args.key.now)) none))
 
 pub returns-clause-ok : goal.returns-clause-ok
 returns-clause-ok c =

@@ -2,8 +2,8 @@ use Rattle.std.proofs.Common.{◌≡◌, None, Some, sym, ◌∙◌, ap, subst}
 use Rattle.std.proofs.lemmas.Result.{err_from_is_err_and}
 use Rattle.std.specs.FinMap.{insert, remove}
 use Rattle.model.specs.declared.change.Change.TheVariants.{Set}
-use Rattle.model.specs.Effect.{one_edit, replaced}
-use Rattle.model.specs.EffectLaws.{effect_skipped, placed_taken}
+use Rattle.model.specs.Effect.{one_edit, set_outcome}
+use Rattle.model.specs.EffectLaws.{effect_skipped, row_outcome_taken}
 use Rattle.model.specs.declared.row.Row.{Row as Record}
 use Rattle.change.specs.declared.inverse.Inverse.TheVariants.{Replace}
 use Rattle.change.specs.Inverse.{CanPutBack}
@@ -14,7 +14,7 @@ use Rattle.change.proofs.outcome.set.Goals as goal
 pub returns-in-None-clause-ok : goal.returns-in-None-clause-ok
 returns-in-None-clause-ok c =
     sym (effect_skipped c.args.t.now.schema c.args.t.now.rows (Set c.args.table c.args.key.now c.args.patch.now)
-    (ap (replaced c.args.t.now.schema c.args.t.now.rows (c.args.table, c.args.key.now) c.args.patch.now) (sym c.get.ensures ∙ c.in-None.is)))
+    (ap (set_outcome c.args.t.now.schema c.args.t.now.rows (c.args.table, c.args.key.now) c.args.patch.now) (sym c.get.ensures ∙ c.in-None.is)))
 
 pub returns-then-is_key_held-clause-answer : goal.returns-then-is_key_held-clause-answer
 returns-then-is_key_held-clause-answer c =
@@ -27,7 +27,7 @@ pub returns-in-Some-first_clash-clause-answer : goal.returns-in-Some-first_clash
 returns-in-Some-first_clash-clause-answer c =
     set_as_placed c.args.t.now.schema c.args.t.now.rows c.args.table c.args.key.now c.args.patch.now c.in-Some.old c.in_ok-row-in-Some.row
     (sym c.get.ensures ∙ c.in-Some.is) c.in_ok-row-in-Some.ensures
-    ∙ placed_taken c.args.t.now.schema (remove c.args.t.now.rows (c.args.table, c.args.key.now)) (one_edit (c.args.table, c.args.key.now) None) c.args.table c.in_ok-row-in-Some.row c.in-Some-2.new_key c.in-Some-first_clash.number
+    ∙ row_outcome_taken c.args.t.now.schema (remove c.args.t.now.rows (c.args.table, c.args.key.now)) (one_edit (c.args.table, c.args.key.now) None) c.args.table c.in_ok-row-in-Some.row c.in-Some-2.new_key c.in-Some-first_clash.number
     (sym c.in_ok-new_key.ensures ∙ c.in-Some-2.is) (none_of _ (sym c.is_key_held.ensures ∙ c.if-is_key_held.false)) (sym c.first_clash.ensures ∙ c.in-Some-first_clash.is)
 
 pub replace-requires-clause-free : goal.replace-requires-clause-free

@@ -4,7 +4,7 @@ use Rattle.model.specs.Rows.{Rows}
 use Rattle.frames.specs.declared.item.CopyItem.{CopyItem}
 use Rattle.frames.specs.Reads.{HasRead, fault_of}
 use Rattle.session.specs.State.{Setting}
-use Rattle.leader.specs.Progress.{beginning}
+use Rattle.leader.specs.Progress.{start_progress}
 use Rattle.leader.specs.Run.{devices}
 use Rattle.leader.specs.Applier.{IsUnderWay, IsAt, HasCome}
 use Rattle.leader.proofs.run.read_all.Given as goal
@@ -15,7 +15,7 @@ invariant-pulls g l = record {
   under_way : IsUnderWay l.applier;
   unbroken : fault_of l.frames.ending ≡ None;
   reads : g.R.Source.failures l.reader ≡ g.R.Source.failures l.fn.reader;
-  come : (h : Setting) (rows : Rows) → IsAt h rows l.fn.applier beginning
+  come : (h : Setting) (rows : Rows) → IsAt h rows l.fn.applier start_progress
       → (bytes : List ℕ) × (handled : List CopyItem) × Consumes (g.R.Source.remaining l.fn.reader) (g.R.Source.remaining l.reader) bytes
       × HasCome h rows
       (devices (g.R.Source.remaining l.fn.reader) (g.W.Sink.contents l.fn.writer) (g.C.Clock.told l.fn.clock) (g.R.Source.failures l.fn.reader) (g.W.Sink.failures l.fn.writer))

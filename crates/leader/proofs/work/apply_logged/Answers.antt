@@ -1,6 +1,6 @@
 use Rattle.std.proofs.Common.{◌≡◌, List, ◌++◌, [], ◌∷◌, map, Result, Ok, sym, ◌∙◌, ap, subst}
 use Rattle.model.specs.Rows.{Rows}
-use Rattle.model.specs.Effect.{inverse, outcome, undone, back}
+use Rattle.model.specs.Effect.{inverse, outcome, all_back, back}
 use Rattle.model.specs.EffectLaws.{effect_skipped}
 use Rattle.indexes.specs.Content.{Keeps}
 use Rattle.change.specs.declared.inverse.Inverse.{Inverse}
@@ -36,7 +36,7 @@ returns-in-Ok-Done-clause-can_undo c =
 
 pub returns-in-Ok-Done-clause-base : goal.returns-in-Ok-Done-clause-base
 returns-in-Ok-Done-clause-base c =
-    ap (λ (is : List Inverse). undone c.apply.new.t.rows (map edits_of is)) (log_is c)
+    ap (λ (is : List Inverse). all_back c.apply.new.t.rows (map edits_of is)) (log_is c)
     ∙ base_back c.args.tables.now c.apply.new.t c.args.undo.now.inverses c.in-Ok-Done.inverse (is_back c)
 
 is_skipped : (c : In-Ok-Skipped) → c.apply.result ≡ Ok Skipped
@@ -57,8 +57,8 @@ returns-in-Ok-Skipped-clause-can_undo c =
 
 pub returns-in-Ok-Skipped-clause-base : goal.returns-in-Ok-Skipped-clause-base
 returns-in-Ok-Skipped-clause-base c =
-    ap (λ (is : List Inverse). undone c.apply.new.t.rows (map edits_of is)) c.in_ok-reserve.ensures.inverses
-    ∙ ap (λ (r : Rows). undone r (map edits_of c.args.undo.now.inverses)) (same_rows c)
+    ap (λ (is : List Inverse). all_back c.apply.new.t.rows (map edits_of is)) c.in_ok-reserve.ensures.inverses
+    ∙ ap (λ (r : Rows). all_back r (map edits_of c.args.undo.now.inverses)) (same_rows c)
 
 pub returns-in-Err-clause-can_undo : goal.returns-in-Err-clause-can_undo
 returns-in-Err-clause-can_undo c =

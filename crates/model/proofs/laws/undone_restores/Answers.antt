@@ -1,5 +1,5 @@
-use Rattle.model.specs.EffectLaws.{undone_serial}
+use Rattle.model.specs.EffectLaws.{all_back_serial}
 use Rattle.model.proofs.laws.undone_restores.Goals as goal
 
 pub returns : goal.returns
-returns c = undone_serial
+returns c = all_back_serial

@@ -1,5 +1,5 @@
 use Rattle.std.proofs.Common.{◌≡◌, ◌≤◌, take, drop, map, vec_len, vec_capacity}
-use Rattle.model.specs.Effect.{undone}
+use Rattle.model.specs.Effect.{all_back}
 use Rattle.indexes.specs.Content.{Keeps}
 use Rattle.change.specs.Inverse.{edits_of}
 use Rattle.undo.specs.Undo.{content_undone, CanUndo}
@@ -10,7 +10,7 @@ abbrev pub invariant-loop-inverses : goal.invariant-loop-inverses
 invariant-loop-inverses l = record {
   above : l.mark ≤ vec_len l.inverses;
   left : take l.mark l.inverses.items ≡ take l.mark l.fn.inverses.items;
-  rows : undone l.t.rows (map edits_of (drop l.mark l.inverses.items)) ≡ undone l.fn.t.rows (map edits_of (drop l.mark l.fn.inverses.items));
+  rows : all_back l.t.rows (map edits_of (drop l.mark l.inverses.items)) ≡ all_back l.fn.t.rows (map edits_of (drop l.mark l.fn.inverses.items));
   can : CanUndo l.t (drop l.mark l.inverses.items);
   room : Keeps (content_undone l.fn.t (drop l.mark l.fn.inverses.items)).room (content_undone l.t (drop l.mark l.inverses.items)).room;
   schema : l.t.schema ≡ l.fn.t.schema;

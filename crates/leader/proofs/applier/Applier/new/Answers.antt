@@ -3,7 +3,7 @@ use Rattle.std.specs.Prelude.{map}
 use Rattle.std.specs.Ordering.{nat_cmp}
 use Rattle.std.specs.FinMap as finite
 use Rattle.leader.specs.Commits.{transaction_of}
-use Rattle.leader.specs.Work.{Standing}
+use Rattle.leader.specs.Work.{OpenWork}
 use Rattle.leader.proofs.applier.Applier.new.Goals as goal
 
 pub returns : goal.returns
@@ -13,13 +13,13 @@ returns c = record {
   session = c.new.ensures (record { workers = 0; spool = c.args.spool; catalog = c.args.catalog.now }) refl refl;
   served = λ xid o there. let none : None ≡ Some o = sym (finite.get-empty nat_cmp xid) ∙ there in absurd cc;
   commits = record {
-    schema = ap (λ (w : Standing). w.schema) c.new-2.ensures ∙ c.requires;
-    base = ap (λ (w : Standing). w.base) c.new-2.ensures;
+    schema = ap (λ (w : OpenWork). w.schema) c.new-2.ensures ∙ c.requires;
+    base = ap (λ (w : OpenWork). w.base) c.new-2.ensures;
     journal = ap (map transaction_of) c.new-3.ensures.items;
     position = refl;
   };
   reached = refl;
-  begun = ap (λ (w : Standing). w.changes) c.new-2.ensures;
+  begun = ap (λ (w : OpenWork). w.changes) c.new-2.ensures;
   clear = tt;
   seen = refl;
 }

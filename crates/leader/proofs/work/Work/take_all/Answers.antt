@@ -1,7 +1,7 @@
 use Rattle.std.proofs.Common.{◌≡◌, ◌++◌, ◌∷◌, sym, ◌∙◌, ap, subst}
 use Rattle.std.specs.Vec.Iter.{into_iter_items}
-use Rattle.savepoint.specs.Survivors.{changes_of}
-use Rattle.leader.specs.Work.{IsRefusedIn, rows_now}
+use Rattle.model.specs.Survivors.{changes_of}
+use Rattle.leader.specs.Work.{ClashesIn, rows_now}
 use Rattle.leader.proofs.Working.{item_applied, item_clear, item_refused, if_err, taken_front}
 use Rattle.leader.proofs.work.Work.take_all.Goals as goal
 
@@ -18,5 +18,5 @@ returns-in_err-take-clause-refused c =
     let whole = sym c.into_iter-item-iterator.ensures.into_iter_gives.0 ∙ taken_front c.into_iter-item-iterator.result c.loop-item.yielded c.loop-item.item-iterator c.loop-item.yielded_by in
     let split : c.args.items.items ≡ c.loop-item.yielded ++ c.in-Some.item ∷ into_iter_items c.next.new.self = whole ∙ ap (λ xs. c.loop-item.yielded ++ xs) c.in-Some.ensures.steps.0 in
     if_err c.from_residual.result c.in_err-take.field-0.0 _ c.from_residual.ensures.1
-    (subst (λ items. IsRefusedIn c.args.self.now.schema (rows_now c.args.self.now) (changes_of items) c.in_err-take.field-0.0) (sym split)
+    (subst (λ items. ClashesIn c.args.self.now.schema (rows_now c.args.self.now) (changes_of items) c.in_err-take.field-0.0) (sym split)
     (item_refused c.args.self.now c.loop-item.self c.loop-item.yielded (into_iter_items c.next.new.self) c.in-Some.item c.in_err-take.field-0.0 c.loop-item.invariant.done c.loop-item.invariant.clear c.in_err-take.ensures.refused))

@@ -1,5 +1,5 @@
 use Rattle.std.proofs.Common.{◌≡◌, ◌++◌}
-use Rattle.savepoint.specs.Survivors.{changes_of}
+use Rattle.model.specs.Survivors.{changes_of}
 use Rattle.leader.specs.Work.{IsClear, rows_now}
 use Rattle.leader.proofs.work.Work.take_all.Given as goal
 

@@ -1,6 +1,6 @@
 use Rattle.std.proofs.Common.{◌++◌, ◌∷◌, [], refl, arith, length-append}
 use Rattle.std.proofs.lemmas.Bool.{eq-eqb}
-use Rattle.savepoint.specs.declared.item.Item.TheVariants.{Change}
+use Rattle.model.specs.declared.item.Item.TheVariants.{Change}
 use Rattle.savepoint.proofs.Marked.{marked_more, named_more, all_named, is_noted, are_named}
 use Rattle.savepoint.proofs.record.TxRecord.keep_change.Goals as goal
 

@@ -1,6 +1,6 @@
 use Rattle.std.proofs.Common.{ap, ◌∙◌}
 use Rattle.std.proofs.lemmas.Result.{on_ok_weaker}
-use Rattle.savepoint.specs.declared.item.Mark.{Mark}
+use Rattle.savepoint.specs.declared.mark.Mark.{Mark}
 use Rattle.savepoint.proofs.Marked.{marked_after_note, note_seen, noted_there, named_noted}
 use Rattle.savepoint.proofs.record.TxRecord.note.Goals as goal
 

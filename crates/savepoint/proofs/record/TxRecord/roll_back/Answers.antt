@@ -1,6 +1,6 @@
 use Rattle.std.proofs.Common.{◌≡◌, take, Some, sym, ap, subst, ◌∙◌, arith, map, length-take-le}
 use Rattle.std.specs.Option.{option_map}
-use Rattle.model.specs.Effect.{undone}
+use Rattle.model.specs.Effect.{all_back}
 use Rattle.indexes.specs.Content.{Keeps}
 use Rattle.change.specs.Inverse.{edits_of}
 use Rattle.undo.specs.Undo.{CanUndo, content_undone}
@@ -70,7 +70,7 @@ returns-clause-inverses c =
 
 pub returns-clause-rows : goal.returns-clause-rows
 returns-clause-rows c =
-    c.undo_to.ensures.rows ∙ ap (λ is. undone c.args.t.now.rows (map edits_of is)) (sym (since_mark c.self.inside c.args.self.now c.self.view_is c.args.sub c.in_ok-point.point (sym c.in_ok-point.ensures.mark)))
+    c.undo_to.ensures.rows ∙ ap (λ is. all_back c.args.t.now.rows (map edits_of is)) (sym (since_mark c.self.inside c.args.self.now c.self.view_is c.args.sub c.in_ok-point.point (sym c.in_ok-point.ensures.mark)))
 
 pub returns-clause-room : goal.returns-clause-room
 returns-clause-room c =

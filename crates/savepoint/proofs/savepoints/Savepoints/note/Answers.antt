@@ -1,12 +1,12 @@
 use Rattle.std.proofs.Common.{◌≡◌, sym, ◌∙◌, Option, Some, None, refl, Result, Ok, Err, false}
 use Rattle.std.specs.Prelude.{OnOk, is_err, is_some}
-use Rattle.savepoint.proofs.Indexed.{is_some-mark_at, HasIndexes-push, noted-marked, noted-unmarked}
+use Rattle.savepoint.proofs.Indexed.{is_some-mark_at, HasIndexes-push, with_mark-marked, with_mark-unmarked}
 use Rattle.savepoint.proofs.savepoints.Savepoints.note.Goals as goal
 
 pub returns-then-contains_key-clause-ok : goal.returns-then-contains_key-clause-ok
 returns-then-contains_key-clause-ok g c =
     let marked = sym (is_some-mark_at c.self.inside.indexes c.self.inside.marks.items c.args.sub c.self.invariant) ∙ sym c.contains_key.ensures ∙ c.if-contains_key.true in
-    let e = noted-marked c.args.sub c.args.mark c.self.inside.marks.items marked in
+    let e = with_mark-marked c.args.sub c.args.mark c.self.inside.marks.items marked in
     rw (← c.self.view_is) (sym e)
 
 -- a clause on `Ok`, where the call was no error
@@ -29,5 +29,5 @@ invariant_of-self-else-is_err g c =
 pub returns-clause-ok : goal.returns-clause-ok
 returns-clause-ok g c =
     let unmarked = sym (is_some-mark_at c.self.inside.indexes c.self.inside.marks.items c.args.sub c.self.invariant) ∙ sym c.contains_key.ensures ∙ c.if-contains_key.false in
-    let e = noted-unmarked c.args.sub c.args.mark c.self.inside.marks.items unmarked in
+    let e = with_mark-unmarked c.args.sub c.args.mark c.self.inside.marks.items unmarked in
     rw (← c.self.view_is) (c.in_ok-push.ensures.items ∙ sym e)

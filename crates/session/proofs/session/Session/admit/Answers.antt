@@ -12,10 +12,10 @@ inside c = elim c.match-matches.branch [
 ]
 
 pub returns-in_err-message : goal.returns-in_err-message
-returns-in_err-message c = λ g h same stands.
-    takes_fault g _ h c.args.payload.now c.match-matches.matches c.in_err-message.field-0.0 c.from_residual.result (record { phase = stands.phase; here = stands.here; alone = stands.alone; transactions = stands.transactions; relations = stands.relations; position = stands.position })
-    c.in_err-message.ensures.fault (inside (goal.at.returns-in_err-message c).Joined-matches ∙ ap in_block stands.phase) c.from_residual.ensures.1
+returns-in_err-message c = λ g h same represents.
+    takes_fault g _ h c.args.payload.now c.match-matches.matches c.in_err-message.field-0.0 c.from_residual.result (record { phase = represents.phase; here = represents.here; alone = represents.alone; transactions = represents.transactions; relations = represents.relations; position = represents.position })
+    c.in_err-message.ensures.fault (inside (goal.at.returns-in_err-message c).Joined-matches ∙ ap in_block represents.phase) c.from_residual.ensures.1
 
 pub returns : goal.returns
-returns c = λ g h same stands.
-    takes_spelled g c.message.new.self h c.args.payload.now c.match-matches.matches c.len.result c.in_ok-message.message c.message.result c.in_ok-message.ensures.spelled (inside (goal.at.returns c).Joined-matches ∙ ap in_block stands.phase) c.len.ensures.value (c.message.ensures g h same stands)
+returns c = λ g h same represents.
+    takes_spelled g c.message.new.self h c.args.payload.now c.match-matches.matches c.len.result c.in_ok-message.message c.message.result c.in_ok-message.ensures.spelled (inside (goal.at.returns c).Joined-matches ∙ ap in_block represents.phase) c.len.ensures.value (c.message.ensures g h same represents)

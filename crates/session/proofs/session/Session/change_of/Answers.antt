@@ -4,22 +4,22 @@ use Rattle.session.proofs.Items.{block_open, begun_open, room_direct, line_begun
 use Rattle.session.proofs.session.Session.change_of.Goals as goal
 
 pub returns-in-Begun : goal.returns-in-Begun
-returns-in-Begun c = λ g h stands.
-    let begun : h.phase ≡ Begun c.in-Begun.xid c.in-Begun.final_lsn = sym stands.phase ∙ c.in-Begun.is in
-    let o = begun_open h c.in-Begun.xid c.in-Begun.final_lsn begun stands.here in
+returns-in-Begun c = λ g h represents.
+    let begun : h.phase ≡ Begun c.in-Begun.xid c.in-Begun.final_lsn = sym represents.phase ∙ c.in-Begun.is in
+    let o = begun_open h c.in-Begun.xid c.in-Begun.final_lsn begun represents.here in
     let room = room_direct g h.transactions c.args.size o.0.way o.2 in
     (o.0, o.1, room, λ planned. line_begun g h c.args.size c.args.sub c.in-Begun.xid c.in-Begun.final_lsn o.0 planned begun o.1 room)
 
 pub returns-in_err-check_spool-in-Block : goal.returns-in_err-check_spool-in-Block
-returns-in_err-check_spool-in-Block c = λ g h stands.
-    let block : h.phase ≡ Block c.in-Block.xid = sym stands.phase ∙ c.in-Block.is in
-    let o = block_open h c.in-Block.xid block stands.here in
+returns-in_err-check_spool-in-Block c = λ g h represents.
+    let block : h.phase ≡ Block c.in-Block.xid = sym represents.phase ∙ c.in-Block.is in
+    let o = block_open h c.in-Block.xid block represents.here in
     IsChangeOf-refused g h c.args.size c.args.sub c.from_residual.result c.in_err-check_spool-in-Block.field-0.0 c.from_residual.ensures.1
-    (λ planned. line_full g h c.args.size c.args.sub c.in-Block.xid o.0 c.in_err-check_spool-in-Block.field-0.0 planned block o.1 (c.in_err-check_spool-in-Block.ensures g h.transactions stands.transactions))
+    (λ planned. line_full g h c.args.size c.args.sub c.in-Block.xid o.0 c.in_err-check_spool-in-Block.field-0.0 planned block o.1 (c.in_err-check_spool-in-Block.ensures g h.transactions represents.transactions))
 
 pub returns-in_ok-check_spool-in-Block : goal.returns-in_ok-check_spool-in-Block
-returns-in_ok-check_spool-in-Block c = λ g h stands.
-    let block : h.phase ≡ Block c.in-Block.xid = sym stands.phase ∙ c.in-Block.is in
-    let o = block_open h c.in-Block.xid block stands.here in
-    let room = has_room-none g h.transactions c.args.size _ o.0 o.1 (c.in_ok-check_spool-in-Block.ensures g h.transactions stands.transactions) in
+returns-in_ok-check_spool-in-Block c = λ g h represents.
+    let block : h.phase ≡ Block c.in-Block.xid = sym represents.phase ∙ c.in-Block.is in
+    let o = block_open h c.in-Block.xid block represents.here in
+    let room = has_room-none g h.transactions c.args.size _ o.0 o.1 (c.in_ok-check_spool-in-Block.ensures g h.transactions represents.transactions) in
     (o.0, o.1, room, λ planned. rw c.unwrap_or.ensures (line_block g h c.args.size c.args.sub c.in-Block.xid o.0 planned block o.1 room))

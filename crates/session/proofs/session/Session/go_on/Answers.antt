@@ -4,13 +4,13 @@ use Rattle.session.proofs.Items.{goes_on-admitted}
 use Rattle.session.proofs.session.Session.go_on.Goals as goal
 
 pub returns-then-not-contains : goal.returns-then-not-contains
-returns-then-not-contains c = λ g h stands outside.
-    let closed : map.contains_key h.transactions c.args.xid ≡ false = sym (c.contains.ensures g h.transactions stands.transactions) ∙ c.if-not-contains.true in
+returns-then-not-contains c = λ g h represents outside.
+    let closed : map.contains_key h.transactions c.args.xid ≡ false = sym (c.contains.ensures g h.transactions represents.transactions) ∙ c.if-not-contains.true in
     record {
-      stands = record { phase = stands.phase; here = stands.here; alone = stands.alone; transactions = stands.transactions; relations = stands.relations; position = stands.position };
+      represents = record { phase = represents.phase; here = represents.here; alone = represents.alone; transactions = represents.transactions; relations = represents.relations; position = represents.position };
       cause = rw c.into.ensures (rw closed refl);
     }
 
 pub returns : goal.returns
-returns c = λ g h stands outside.
-    goes_on-admitted g c.args.self.now _ h c.args.xid stands outside (sym (c.contains.ensures g h.transactions stands.transactions) ∙ c.if-not-contains.false) refl refl refl refl
+returns c = λ g h represents outside.
+    goes_on-admitted g c.args.self.now _ h c.args.xid represents outside (sym (c.contains.ensures g h.transactions represents.transactions) ∙ c.if-not-contains.false) refl refl refl refl

@@ -6,7 +6,7 @@ use Rattle.session.proofs.Steps.{stays}
 use Rattle.session.proofs.session.Session.origin.Goals as goal
 
 pub returns-in-Begun : goal.returns-in-Begun
-returns-in-Begun c = λ g h stands. stays g _ h _ stands (ap (λ p. at p (refuse NotInTransaction) (λ _ _. Ok h) (λ _. Ok h)) (sym stands.phase ∙ c.in-Begun.is))
+returns-in-Begun c = λ g h represents. stays g _ h _ represents (ap (λ p. at p (refuse NotInTransaction) (λ _ _. Ok h) (λ _. Ok h)) (sym represents.phase ∙ c.in-Begun.is))
 
 pub returns-in-Block : goal.returns-in-Block
-returns-in-Block c = λ g h stands. stays g _ h _ stands (ap (λ p. at p (refuse NotInTransaction) (λ _ _. Ok h) (λ _. Ok h)) (sym stands.phase ∙ c.in-Block.is))
+returns-in-Block c = λ g h represents. stays g _ h _ represents (ap (λ p. at p (refuse NotInTransaction) (λ _ _. Ok h) (λ _. Ok h)) (sym represents.phase ∙ c.in-Block.is))

@@ -1,20 +1,20 @@
 use Rattle.std.proofs.Common.{ap, ◌∙◌, refl}
 use Rattle.session.specs.Table.{truncate_change, plans, gives}
-use Rattle.savepoint.specs.declared.item.Item.TheVariants.{Change}
+use Rattle.model.specs.declared.item.Item.TheVariants.{Change}
 use Rattle.session.proofs.Steps.{follows_same}
 use Rattle.session.proofs.Items.{relation_refused, fault_of_relation, stands_known}
 use Rattle.session.proofs.session.Session.truncate.Goals as goal
 
 pub returns-in_err-change : goal.returns-in_err-change
-returns-in_err-change c = λ g h same stands.
-    let of = c.in_ok-xid.ensures g h stands in
-    let planned = rw c.as_slice.ensures.value at (c.in_err-change.ensures g h same stands.relations) in
-    relation_refused g c.args.self.now _ h _ c.from_residual-in_err-change.result c.in_err-change.field-0.0 stands planned.1 refl refl refl c.from_residual-in_err-change.ensures.1
+returns-in_err-change c = λ g h same represents.
+    let of = c.in_ok-xid.ensures g h represents in
+    let planned = rw c.as_slice.ensures.value at (c.in_err-change.ensures g h same represents.relations) in
+    relation_refused g c.args.self.now _ h _ c.from_residual-in_err-change.result c.in_err-change.field-0.0 represents planned.1 refl refl refl c.from_residual-in_err-change.ensures.1
     (fault_of_relation c.in_err-change.field-0.0 (truncate_change g h c.args.m.now.relations) _ planned.0 (λ fault. of.3 (truncate_change g h c.args.m.now.relations) ∙ ap (λ p. plans p (λ d. gives h c.in_ok-xid.xid (Change c.in_ok-xid.sub d) c.args.size of.0)) fault))
 
 pub returns : goal.returns
-returns c = λ g h same stands.
-    let of = c.in_ok-xid.ensures g h stands in
-    let planned = rw c.as_slice.ensures.value at (c.in_ok-change.ensures g h same stands.relations) in
-    follows_same g _ h _ _ c.take.result (of.3 (truncate_change g h c.args.m.now.relations) ∙ ap (λ p. plans p (λ d. gives h c.in_ok-xid.xid (Change c.in_ok-xid.sub d) c.args.size of.0)) planned.0)
-    (c.take.ensures g h of.0 (stands_known g c.args.self.now _ h stands planned.2 refl refl refl) of.1 of.2 tt planned.1 (λ direct. tt))
+returns c = λ g h same represents.
+    let of = c.in_ok-xid.ensures g h represents in
+    let planned = rw c.as_slice.ensures.value at (c.in_ok-change.ensures g h same represents.relations) in
+    follows_same g _ h _ _ c.add_item.result (of.3 (truncate_change g h c.args.m.now.relations) ∙ ap (λ p. plans p (λ d. gives h c.in_ok-xid.xid (Change c.in_ok-xid.sub d) c.args.size of.0)) planned.0)
+    (c.add_item.ensures g h of.0 (stands_known g c.args.self.now _ h represents planned.2 refl refl refl) of.1 of.2 tt planned.1 (λ direct. tt))

@@ -1,6 +1,6 @@
 use Rattle.std.proofs.Common.{◌≡◌, length, ◌++◌, ◌∷◌, [], ap, ◌∙◌, arith}
 use Rattle.std.specs.List.{zip}
-use Rattle.savepoint.specs.Savepoints.{noted_by}
+use Rattle.savepoint.specs.Savepoints.{with_mark_of}
 use Rattle.session.proofs.Spools.{zip-push, IsSpool-push, pushed}
 use Rattle.session.proofs.spool.Spool.push.Goals as goal
 
@@ -16,7 +16,7 @@ index_is c = omega (arith, c.len.ensures, c.reserve.ensures.len, c.self.inside.i
 
 pub invariant_of-self-2 : goal.invariant_of-self-2
 invariant_of-self-2 c =
-    let marks = c.in_ok-note.ensures.ok ∙ ap (λ n. noted_by c.args.item n c.self.inside.savepoints) (index_is c) in
+    let marks = c.in_ok-note.ensures.ok ∙ ap (λ n. with_mark_of c.args.item n c.self.inside.savepoints) (index_is c) in
     rw (items_are c, sizes_are c, marks) (IsSpool-push c.self.inside.items.items c.self.inside.sizes.items c.self.inside.savepoints c.args.item c.args.size c.self.invariant)
 
 pub returns-clause-ok : goal.returns-clause-ok

@@ -2,7 +2,7 @@ use Rattle.std.proofs.Common.{◌+◌, ap, ◌∙◌, arith, refl, Option, cond}
 use Rattle.std.specs.Prelude.{is_some}
 use Rattle.std.specs.BTreeMap.{btree_map_len}
 use Rattle.session.specs.State.{Direct}
-use Rattle.session.specs.declared.transactions.Way.{Way as Keeping}
+use Rattle.session.specs.declared.transactions.OpenTransaction.{OpenTransaction}
 use Rattle.session.proofs.Kept.{absent_from_room, kept_absent, Keeps-insert, IsOpened-refused}
 use Rattle.session.proofs.transactions.Transactions.begin.Goals as goal
 
@@ -14,5 +14,5 @@ returns c = λ g m kept.
     let room = c.in_ok-check_room.ensures g m kept in
     let none = absent_from_room m c.args.xid room in
     let fresh = c.in_ok-insert.ensures.old ∙ kept_absent c.args.self.now.ways m c.args.xid kept.ways none in
-    let more = c.in_ok-insert.ensures.len ∙ ap (λ (o : Option Keeping). btree_map_len c.args.self.now.ways + cond (is_some o) 0 1) fresh in
+    let more = c.in_ok-insert.ensures.len ∙ ap (λ (o : Option OpenTransaction). btree_map_len c.args.self.now.ways + cond (is_some o) 0 1) fresh in
     (room, Keeps-insert g c.args.self.now _ m c.args.xid Direct kept none c.in_ok-insert.ensures.updates more refl (omega arith) refl refl refl)

@@ -2,8 +2,8 @@ use Rattle.std.proofs.Common.{◌≡◌, ◌+◌, sym, ap, ◌∙◌, arith, ref
 use Rattle.std.specs.Prelude.{is_some, nat_lt}
 use Rattle.std.specs.BTreeMap.{btree_map_len}
 use Rattle.std.proofs.lemmas.Bool.{lt-ltb, le-ltb}
-use Rattle.session.specs.State.{Worker, Spooled, working}
-use Rattle.session.specs.declared.transactions.Way.{Way as Keeping}
+use Rattle.session.specs.State.{Worker, Spooled, worker_count}
+use Rattle.session.specs.declared.transactions.OpenTransaction.{OpenTransaction}
 use Rattle.session.proofs.Kept.{absent_from_room, kept_absent, Keeps-insert, IsStreamed-refused}
 use Rattle.session.proofs.transactions.Transactions.stream.Goals as goal
 
@@ -15,8 +15,8 @@ returns-in_ok-insert c = λ g m kept.
     let room = c.in_ok-check_room.ensures g m kept in
     let none = absent_from_room m c.args.xid room in
     let fresh = c.in_ok-insert.ensures.old ∙ kept_absent c.args.self.now.ways m c.args.xid kept.ways none in
-    let more = c.in_ok-insert.ensures.len ∙ ap (λ (o : Option Keeping). btree_map_len c.args.self.now.ways + cond (is_some o) 0 1) fresh in
-    let free : nat_lt (working m) g.workers ≡ true = lt-ltb (working m) g.workers (omega (arith, c.if-self.true, kept.working, kept.workers)) in
+    let more = c.in_ok-insert.ensures.len ∙ ap (λ (o : Option OpenTransaction). btree_map_len c.args.self.now.ways + cond (is_some o) 0 1) fresh in
+    let free : nat_lt (worker_count m) g.workers ≡ true = lt-ltb (worker_count m) g.workers (omega (arith, c.if-self.true, kept.working, kept.workers)) in
     (room, sym free, Keeps-insert g c.args.self.now _ m c.args.xid Worker kept none c.in_ok-insert.ensures.updates more refl (omega arith) refl refl refl)
 
 pub returns-in_ok-insert-2 : goal.returns-in_ok-insert-2
@@ -24,7 +24,7 @@ returns-in_ok-insert-2 c = λ g m kept.
     let room = c.in_ok-check_room.ensures g m kept in
     let none = absent_from_room m c.args.xid room in
     let fresh = c.in_ok-insert-2.ensures.old ∙ kept_absent c.args.self.now.ways m c.args.xid kept.ways none in
-    let more = c.in_ok-insert-2.ensures.len ∙ ap (λ (o : Option Keeping). btree_map_len c.args.self.now.ways + cond (is_some o) 0 1) fresh in
-    let full : nat_lt (working m) g.workers ≡ false = le-ltb (working m) g.workers (omega (arith, c.if-self.false, kept.working, kept.workers)) in
+    let more = c.in_ok-insert-2.ensures.len ∙ ap (λ (o : Option OpenTransaction). btree_map_len c.args.self.now.ways + cond (is_some o) 0 1) fresh in
+    let full : nat_lt (worker_count m) g.workers ≡ false = le-ltb (worker_count m) g.workers (omega (arith, c.if-self.false, kept.working, kept.workers)) in
     let step = rw c.new.ensures at c.in_ok-insert-2.ensures.updates in
     (room, sym full, Keeps-insert g c.args.self.now _ m c.args.xid Spooled kept none step more refl (omega arith) refl refl refl)

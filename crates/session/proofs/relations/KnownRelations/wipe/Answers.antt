@@ -2,7 +2,7 @@ use Rattle.std.proofs.Common.{◌≡◌, ◌<◌, arith, length, refl}
 use Rattle.std.specs.Prelude.{Ok}
 use Rattle.session.specs.Table.{tables_of}
 use Rattle.session.proofs.Mappings.{HasTables-start, HasTables-next, IsPlanned-refused, no_table, all_tables}
-use Rattle.session.proofs.relations.Relations.wipe.Goals as goal
+use Rattle.session.proofs.relations.KnownRelations.wipe.Goals as goal
 
 pub loop-oid-init : goal.loop-oid-init
 loop-oid-init c = λ g h same known. rw c.new-tables.ensures.items (HasTables-start g h c.args.self.now c.args.oids.now known)

@@ -1,5 +1,5 @@
 // The items of a transaction, and what its commit says.
-use model::Change;
+use crate::change::Change;
 
 /// A transaction's or subtransaction's number at the publisher.
 pub type Xid = u32;
@@ -25,11 +25,4 @@ pub enum Item {
 pub struct CommitInfo {
     pub commit: Lsn,
     pub end: Lsn,
-}
-
-/// How much of a transaction stood before a savepoint: the inverses in its undo log, and its holds.
-#[derive(Clone, Copy, Debug, PartialEq, Eq)]
-pub struct Mark {
-    pub undo: usize,
-    pub held: usize,
 }

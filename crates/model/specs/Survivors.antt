@@ -1,8 +1,8 @@
 -- Which items of a transaction survive its rollbacks.
 use Rattle.std.specs.Prelude.{ℕ, ◌==◌, Bool, false, List, [], ◌∷◌, ◌++◌, not, take_while, if◌then◌else◌}
 use Rattle.model.specs.declared.change.Change.{Change as Alteration}
-use Rattle.savepoint.specs.declared.item.Item.{Item}
-use Rattle.savepoint.specs.declared.item.Item.TheVariants.{Change, Touch, BackTo, Last}
+use Rattle.model.specs.declared.item.Item.{Item}
+use Rattle.model.specs.declared.item.Item.TheVariants.{Change, Touch, BackTo, Last}
 
 -- the item names this subtransaction
 abbrev pub is_of : ℕ → Item → Bool
@@ -22,6 +22,7 @@ after_item top kept (Touch sub) = kept ++ Touch sub ∷ []
 after_item top kept (BackTo sub) = if sub == top then kept else before_savepoint sub kept
 after_item top kept Last = kept
 
+-- what is left of kept items once these have come after them
 abbrev pub surviving : ℕ → List Item → List Item → List Item
 surviving top kept [] = kept
 surviving top kept (item ∷ items) = surviving top (after_item top kept item) items

@@ -1,0 +1,13 @@
+pub mod World
+pub mod Settled
+pub mod Live
+pub mod Steps
+pub mod Contents
+pub mod SharingLaws
+pub mod Laws
+pub mod TakenBesideLaws
+pub mod ShapeLaws
+pub mod FrameLaws
+pub mod AlikeLaws
+pub mod SerialLaws
+pub mod LiveLaws

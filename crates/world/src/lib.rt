@@ -1,0 +1,4 @@
+#![tactic(auto)]
+
+// Several open transactions over one committed state: what each call of the engine does to it.
+pub mod laws;
