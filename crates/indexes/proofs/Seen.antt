@@ -19,7 +19,7 @@ use Rattle.indexes.specs.Table.{Spot, TableContent, spots_of, KeepsSpots, NoClas
 use Rattle.indexes.specs.Content.{Content, Keeps, HasRoom, unique_columns, IsTable, SameElsewhere, SameRoomElsewhere}
 use Rattle.indexes.specs.Gathered.{placed, rows_of, cells_from, schema_of, gathered, AllSound, IsNew}
 use Rattle.indexes.proofs.Elements.{contains_elem, elem_contains, elem_map, elem_of_map}
-use Rattle.indexes.proofs.Gather.{get_is, keys_is, get_without, set_there, rows_inserted, rows_removed, rows_replaced, rows_same, get_there, get_elsewhere, no_clash, schema_after, table_at, valid, TableAt}
+use Rattle.indexes.proofs.Gather.{sound_after, get_is, keys_is, get_without, set_there, rows_inserted, rows_removed, rows_replaced, rows_same, get_there, get_elsewhere, no_clash, schema_after, table_at, valid, TableAt}
 use Rattle.indexes.proofs.Walking.{rows_of_table-gathered}
 use Rattle.indexes.proofs.Cells.{cells_are, has_room, room_has, room_after, room_fewer, room_elsewhere, room_of_table, room_of_new}
 
@@ -32,10 +32,10 @@ within_tables ts seen v i l =
     let e : length seen.schema ≡ length ts = ap (λ (s : Content). length s.schema) (sym v) ∙ schema_length ts in
     omega arith
 
-pub table_there : (ts : List TableContent) (seen : Content) → gathered ts ≡ seen → (i : ℕ) → i < length seen.schema → (t : TableContent) → t ≡ slice_index_or ts i t → slice_get ts i ≡ Some t
-table_there ts seen v i l t is = slice_get-get_or ts i t (within_tables ts seen v i l) ∙ ap Some (sym is)
+module _ (ts : List TableContent) (seen : Content) (v : gathered ts ≡ seen) (i : ℕ) (known : i < length seen.schema) (t : TableContent) (is : t ≡ slice_index_or ts i t) where
+  pub at : slice_get ts i ≡ Some t
+  at = slice_get-get_or ts i t (within_tables ts seen v i known) ∙ ap Some (sym is)
 
-module _ (ts : List TableContent) (seen : Content) (v : gathered ts ≡ seen) (i : ℕ) (t : TableContent) (at : slice_get ts i ≡ Some t) where
   pub seen_keys : keys_at seen.schema i ≡ t.keys
   seen_keys = ap (λ (s : Content). keys_at s.schema i) (sym v) ∙ keys_is ts i t at
 
@@ -118,6 +118,9 @@ module _ (ts : List TableContent) (seen : Content) (v : gathered ts ≡ seen) (i
   out_room c e h = room_of_table ts i t at c e (subst (λ (s : Content). Contains s.room c) (sym v) h)
 
   module _ (new : TableContent) where
+    pub sound_with : AllSound ts → IsSound new → AllSound (slice_set ts i new)
+    sound_with all sound = sound_after ts i t new at all sound
+
     pub schema_stays : new.keys ≡ t.keys → schema_of (slice_set ts i new) ≡ seen.schema
     schema_stays e = schema_after ts i t new at e ∙ ap (λ (s : Content). s.schema) v
 

@@ -3,18 +3,8 @@ use Rattle.indexes.proofs.tables.Tables.find_unique.Goals as goal
 
 pub returns-clause-taken : goal.returns-clause-taken
 returns-clause-taken c =
-    let ts = c.self.inside.tables.items in
-    let v = c.self.view_is in
-    let i = c.args.table in
-    let t = c.index.result.now in
-    let at = seen.table_there ts c.args.self.now v i c.requires.known t c.index.ensures in
-    seen.taken_found ts c.args.self.now v i t at c.args.number c.args.values.now c.find_unique.result c.find_unique.ensures.found c.find_unique.ensures.missed
+    seen.taken_found c.self.inside.tables.items _ c.self.view_is _ c.requires.known _ c.index.ensures c.args.number c.args.values.now c.find_unique.result c.find_unique.ensures.found c.find_unique.ensures.missed
 
 pub returns-clause-key : goal.returns-clause-key
 returns-clause-key c =
-    let ts = c.self.inside.tables.items in
-    let v = c.self.view_is in
-    let i = c.args.table in
-    let t = c.index.result.now in
-    let at = seen.table_there ts c.args.self.now v i c.requires.known t c.index.ensures in
-    seen.key_found ts c.args.self.now v i t at c.args.number c.args.values.now c.find_unique.result c.find_unique.ensures.found
+    seen.key_found c.self.inside.tables.items _ c.self.view_is _ c.requires.known _ c.index.ensures c.args.number c.args.values.now c.find_unique.result c.find_unique.ensures.found

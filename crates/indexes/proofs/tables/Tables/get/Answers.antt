@@ -4,9 +4,4 @@ use Rattle.indexes.proofs.tables.Tables.get.Goals as goal
 
 pub returns : goal.returns
 returns c =
-    let ts = c.self.inside.tables.items in
-    let v = c.self.view_is in
-    let i = c.args.table in
-    let t = c.index.result.now in
-    let at = seen.table_there ts c.args.self.now v i c.requires t c.index.ensures in
-    c.get.ensures ∙ sym (seen.seen_get ts c.args.self.now v i t at c.args.key.now)
+    c.get.ensures ∙ sym (seen.seen_get c.self.inside.tables.items _ c.self.view_is _ c.requires _ c.index.ensures c.args.key.now)

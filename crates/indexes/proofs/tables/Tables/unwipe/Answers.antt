@@ -5,77 +5,36 @@ use Rattle.indexes.specs.Table.{TableContent, cells_in}
 use Rattle.indexes.specs.Content.{Keeps}
 use Rattle.indexes.specs.Gathered.{cells_from}
 use Rattle.indexes.proofs.Seen as seen
-use Rattle.indexes.proofs.Gather.{sound_after}
 use Rattle.indexes.proofs.tables.Tables.unwipe.Goals as goal
 
 pub unwipe-requires-clause-keys : goal.unwipe-requires-clause-keys
 unwipe-requires-clause-keys c =
-    let ts = c.self.inside.tables.items in
-    let v = c.self.view_is in
-    let i = c.args.table in
-    let t = c.index_mut-table.result.now in
-    let at = seen.table_there ts c.args.self.now v i c.requires.known t c.index_mut-table.ensures.value in
-    c.requires.keys ∙ seen.seen_keys ts c.args.self.now v i t at
+    c.requires.keys ∙ seen.seen_keys c.self.inside.tables.items _ c.self.view_is _ c.requires.known _ c.index_mut-table.ensures.value
 
 pub unwipe-requires-clause-empty : goal.unwipe-requires-clause-empty
 unwipe-requires-clause-empty c =
-    let ts = c.self.inside.tables.items in
-    let v = c.self.view_is in
-    let i = c.args.table in
-    let t = c.index_mut-table.result.now in
-    let at = seen.table_there ts c.args.self.now v i c.requires.known t c.index_mut-table.ensures.value in
-    λ key. sym (seen.seen_get ts c.args.self.now v i t at key) ∙ c.requires.empty key
+    λ key. sym (seen.seen_get c.self.inside.tables.items _ c.self.view_is _ c.requires.known _ c.index_mut-table.ensures.value key) ∙ c.requires.empty key
 
 pub invariant_of-self : goal.invariant_of-self
 invariant_of-self c =
-    let ts = c.self.inside.tables.items in
-    let v = c.self.view_is in
-    let i = c.args.table in
-    let t = c.index_mut-table.result.now in
-    let at = seen.table_there ts c.args.self.now v i c.requires.known t c.index_mut-table.ensures.value in
-    sound_after ts i t c.unwipe.new.self at c.self.invariant c.unwipe.ensures.sound
+    seen.sound_with c.self.inside.tables.items _ c.self.view_is _ c.requires.known _ c.index_mut-table.ensures.value c.unwipe.new.self c.self.invariant c.unwipe.ensures.sound
 
 pub returns-clause-schema : goal.returns-clause-schema
 returns-clause-schema c =
-    let ts = c.self.inside.tables.items in
-    let v = c.self.view_is in
-    let i = c.args.table in
-    let t = c.index_mut-table.result.now in
-    let at = seen.table_there ts c.args.self.now v i c.requires.known t c.index_mut-table.ensures.value in
-    seen.schema_stays ts c.args.self.now v i t at c.unwipe.new.self (ap (λ (s : TableContent). s.keys) c.unwipe.ensures.back ∙ c.requires.keys ∙ seen.seen_keys ts c.args.self.now v i t at)
+    seen.schema_stays c.self.inside.tables.items _ c.self.view_is _ c.requires.known _ c.index_mut-table.ensures.value c.unwipe.new.self (ap (λ (s : TableContent). s.keys) c.unwipe.ensures.back ∙ c.requires.keys ∙ seen.seen_keys c.self.inside.tables.items _ c.self.view_is _ c.requires.known _ c.index_mut-table.ensures.value)
 
 pub returns-clause-rows : goal.returns-clause-rows
 returns-clause-rows c =
-    let ts = c.self.inside.tables.items in
-    let v = c.self.view_is in
-    let i = c.args.table in
-    let t = c.index_mut-table.result.now in
-    let at = seen.table_there ts c.args.self.now v i c.requires.known t c.index_mut-table.ensures.value in
-    λ key. seen.new_get ts c.args.self.now v i t at c.unwipe.new.self key ∙ ap (λ (s : TableContent). get s.rows key) c.unwipe.ensures.back
+    λ key. seen.new_get c.self.inside.tables.items _ c.self.view_is _ c.requires.known _ c.index_mut-table.ensures.value c.unwipe.new.self key ∙ ap (λ (s : TableContent). get s.rows key) c.unwipe.ensures.back
 
 pub returns-clause-elsewhere : goal.returns-clause-elsewhere
 returns-clause-elsewhere c =
-    let ts = c.self.inside.tables.items in
-    let v = c.self.view_is in
-    let i = c.args.table in
-    let t = c.index_mut-table.result.now in
-    let at = seen.table_there ts c.args.self.now v i c.requires.known t c.index_mut-table.ensures.value in
-    seen.elsewhere ts c.args.self.now v i t at c.unwipe.new.self
+    seen.elsewhere c.self.inside.tables.items _ c.self.view_is _ c.requires.known _ c.index_mut-table.ensures.value c.unwipe.new.self
 
 pub returns-clause-room : goal.returns-clause-room
 returns-clause-room c =
-    let ts = c.self.inside.tables.items in
-    let v = c.self.view_is in
-    let i = c.args.table in
-    let t = c.index_mut-table.result.now in
-    let at = seen.table_there ts c.args.self.now v i c.requires.known t c.index_mut-table.ensures.value in
-    subst (λ (s : TableContent). Keeps (cells_in i s) (cells_from 0 (slice_set ts i c.unwipe.new.self))) c.unwipe.ensures.back (seen.new_room ts c.args.self.now v i t at c.unwipe.new.self)
+    subst (λ (s : TableContent). Keeps (cells_in c.args.table s) (cells_from 0 (slice_set c.self.inside.tables.items c.args.table c.unwipe.new.self))) c.unwipe.ensures.back (seen.new_room c.self.inside.tables.items _ c.self.view_is _ c.requires.known _ c.index_mut-table.ensures.value c.unwipe.new.self)
 
 pub returns-clause-room_elsewhere : goal.returns-clause-room_elsewhere
 returns-clause-room_elsewhere c =
-    let ts = c.self.inside.tables.items in
-    let v = c.self.view_is in
-    let i = c.args.table in
-    let t = c.index_mut-table.result.now in
-    let at = seen.table_there ts c.args.self.now v i c.requires.known t c.index_mut-table.ensures.value in
-    seen.same_room_elsewhere ts c.args.self.now v i t at c.unwipe.new.self
+    seen.same_room_elsewhere c.self.inside.tables.items _ c.self.view_is _ c.requires.known _ c.index_mut-table.ensures.value c.unwipe.new.self

@@ -6,77 +6,36 @@ use Rattle.model.specs.declared.row.Row.{Row}
 use Rattle.model.specs.Key.{key_cmp}
 use Rattle.indexes.specs.Table.{TableContent, cells_in}
 use Rattle.indexes.proofs.Seen as seen
-use Rattle.indexes.proofs.Gather.{sound_after}
 use Rattle.indexes.proofs.tables.Tables.wipe.Goals as goal
 
 pub invariant_of-self : goal.invariant_of-self
 invariant_of-self c =
-    let ts = c.self.inside.tables.items in
-    let v = c.self.view_is in
-    let i = c.args.table in
-    let t = c.index_mut-table.result.now in
-    let at = seen.table_there ts c.args.self.now v i c.requires t c.index_mut-table.ensures.value in
-    sound_after ts i t c.wipe.new.self at c.self.invariant c.wipe.ensures.sound
+    seen.sound_with c.self.inside.tables.items _ c.self.view_is _ c.requires _ c.index_mut-table.ensures.value c.wipe.new.self c.self.invariant c.wipe.ensures.sound
 
 pub returns-clause-schema : goal.returns-clause-schema
 returns-clause-schema c =
-    let ts = c.self.inside.tables.items in
-    let v = c.self.view_is in
-    let i = c.args.table in
-    let t = c.index_mut-table.result.now in
-    let at = seen.table_there ts c.args.self.now v i c.requires t c.index_mut-table.ensures.value in
-    seen.schema_stays ts c.args.self.now v i t at c.wipe.new.self c.wipe.ensures.keys
+    seen.schema_stays c.self.inside.tables.items _ c.self.view_is _ c.requires _ c.index_mut-table.ensures.value c.wipe.new.self c.wipe.ensures.keys
 
 pub returns-clause-empty : goal.returns-clause-empty
 returns-clause-empty c =
-    let ts = c.self.inside.tables.items in
-    let v = c.self.view_is in
-    let i = c.args.table in
-    let t = c.index_mut-table.result.now in
-    let at = seen.table_there ts c.args.self.now v i c.requires t c.index_mut-table.ensures.value in
-    on_ok_weaker c.wipe.result (λ e key. seen.new_get ts c.args.self.now v i t at c.wipe.new.self key ∙ ap (λ m. get m key) e ∙ get-empty {X = Row} key_cmp key) c.wipe.ensures.empty
+    on_ok_weaker c.wipe.result (λ e key. seen.new_get c.self.inside.tables.items _ c.self.view_is _ c.requires _ c.index_mut-table.ensures.value c.wipe.new.self key ∙ ap (λ m. get m key) e ∙ get-empty {X = Row} key_cmp key) c.wipe.ensures.empty
 
 pub returns-clause-elsewhere : goal.returns-clause-elsewhere
 returns-clause-elsewhere c =
-    let ts = c.self.inside.tables.items in
-    let v = c.self.view_is in
-    let i = c.args.table in
-    let t = c.index_mut-table.result.now in
-    let at = seen.table_there ts c.args.self.now v i c.requires t c.index_mut-table.ensures.value in
-    seen.elsewhere ts c.args.self.now v i t at c.wipe.new.self
+    seen.elsewhere c.self.inside.tables.items _ c.self.view_is _ c.requires _ c.index_mut-table.ensures.value c.wipe.new.self
 
 pub returns-clause-room_elsewhere : goal.returns-clause-room_elsewhere
 returns-clause-room_elsewhere c =
-    let ts = c.self.inside.tables.items in
-    let v = c.self.view_is in
-    let i = c.args.table in
-    let t = c.index_mut-table.result.now in
-    let at = seen.table_there ts c.args.self.now v i c.requires t c.index_mut-table.ensures.value in
-    seen.same_room_elsewhere ts c.args.self.now v i t at c.wipe.new.self
+    seen.same_room_elsewhere c.self.inside.tables.items _ c.self.view_is _ c.requires _ c.index_mut-table.ensures.value c.wipe.new.self
 
 pub returns-clause-keys : goal.returns-clause-keys
 returns-clause-keys c =
-    let ts = c.self.inside.tables.items in
-    let v = c.self.view_is in
-    let i = c.args.table in
-    let t = c.index_mut-table.result.now in
-    let at = seen.table_there ts c.args.self.now v i c.requires t c.index_mut-table.ensures.value in
-    IfOk-weaker c.wipe.result _ _ (λ contents e. ap (λ (s : TableContent). s.keys) e ∙ sym (seen.seen_keys ts c.args.self.now v i t at)) c.wipe.ensures.out
+    IfOk-weaker c.wipe.result _ _ (λ contents e. ap (λ (s : TableContent). s.keys) e ∙ sym (seen.seen_keys c.self.inside.tables.items _ c.self.view_is _ c.requires _ c.index_mut-table.ensures.value)) c.wipe.ensures.out
 
 pub returns-clause-out : goal.returns-clause-out
 returns-clause-out c =
-    let ts = c.self.inside.tables.items in
-    let v = c.self.view_is in
-    let i = c.args.table in
-    let t = c.index_mut-table.result.now in
-    let at = seen.table_there ts c.args.self.now v i c.requires t c.index_mut-table.ensures.value in
-    IfOk-weaker c.wipe.result _ _ (λ contents e key. seen.seen_get ts c.args.self.now v i t at key ∙ ap (λ (s : TableContent). get s.rows key) (sym e)) c.wipe.ensures.out
+    IfOk-weaker c.wipe.result _ _ (λ contents e key. seen.seen_get c.self.inside.tables.items _ c.self.view_is _ c.requires _ c.index_mut-table.ensures.value key ∙ ap (λ (s : TableContent). get s.rows key) (sym e)) c.wipe.ensures.out
 
 pub returns-clause-room_out : goal.returns-clause-room_out
 returns-clause-room_out c =
-    let ts = c.self.inside.tables.items in
-    let v = c.self.view_is in
-    let i = c.args.table in
-    let t = c.index_mut-table.result.now in
-    let at = seen.table_there ts c.args.self.now v i c.requires t c.index_mut-table.ensures.value in
-    IfOk-weaker c.wipe.result _ _ (λ contents e cell is has. subst (λ (s : TableContent). Contains (cells_in i s) cell) (sym e) (seen.out_room ts c.args.self.now v i t at cell is has)) c.wipe.ensures.out
+    IfOk-weaker c.wipe.result _ _ (λ contents e cell is has. subst (λ (s : TableContent). Contains (cells_in c.args.table s) cell) (sym e) (seen.out_room c.self.inside.tables.items _ c.self.view_is _ c.requires _ c.index_mut-table.ensures.value cell is has)) c.wipe.ensures.out
