@@ -1,5 +1,5 @@
 -- `each` by a loop: what it gives of the elements so far, before what it gives of the rest.
-use Rattle.std.proofs.Common.{◌≡◌, ℕ, suc, List, [], ◌∷◌, ◌++◌, length, drop, Option, Some, None, option_map, ap, ◌∙◌}
+use Rattle.std.proofs.Common.{◌≡◌, ℕ, suc, List, [], ◌∷◌, ◌++◌, length, drop, Option, Some, None, option_map, ap}
 use Rattle.std.specs.Option.{option_and_then}
 use Rattle.relcache.specs.Steps.{each}
 

@@ -31,6 +31,7 @@
 // changes, and `indexmap` for the cache.
 mod cache;
 mod fault;
+pub mod laws;
 mod mapping;
 mod planning;
 mod published;
