@@ -15,6 +15,7 @@ use Rattle.model.specs.declared.change.Change.{Change}
 use Rattle.model.specs.declared.change.Change.TheVariants.{Put, Set, Remove}
 use Rattle.model.specs.declared.change.ColumnPatch.{ColumnPatch}
 use Rattle.model.specs.declared.change.ColumnPatch.TheVariants.{Keep, Null as BecomesNull, Value as Becomes}
+use Rattle.catalog.specs.First.{IsFirst, IsRefusedFirst}
 use Rattle.relcache.specs.declared.fault.RelFault.{RelFault}
 use Rattle.relcache.specs.declared.fault.RelFault.TheVariants.{UnknownRelation, TableMissing, ColumnMissing, KeyNotSent, ColumnCount, BadValue, NullKey, OutOfMemory}
 use Rattle.relcache.specs.declared.mapping.Field.{Field}
@@ -24,10 +25,9 @@ use Rattle.relcache.specs.Steps.{◌>>=◌, require, each}
 use Rattle.relcache.specs.Mapping.{Mapped}
 use Rattle.relcache.specs.Values.{value_of}
 use Rattle.relcache.specs.Planning.{sent_value, sent_patch, field_value, field_patch, column_value, column_patch, row_of, patch_of, lookup_key, old_columns, lookup_tuple, planned}
-use Rattle.relcache.specs.Laws.{order, IsFirst, IsRefusedFirst, Tells, Patches, IsRowOf, IsPatchOf, IsKeyOf, LooksUp, IsBadRow, AtKey, IsRowFault, Asks}
-use Rattle.relcache.proofs.Each.{length-each}
-use Rattle.relcache.proofs.Firsts.{refused_first}
-use Rattle.relcache.proofs.Places.{each_gives, each_fails}
+use Rattle.relcache.specs.Laws.{order, Tells, Patches, IsRowOf, IsPatchOf, IsKeyOf, LooksUp, IsBadRow, AtKey, IsRowFault, Asks}
+use Rattle.relcache.proofs.Each.{length-each, each_gives, each_fails}
+use Rattle.relcache.proofs.Ordered.{first_refused}
 use Rattle.relcache.proofs.Spelled.{mapped, value_spelled, value_read}
 
 -- ---- what a column of a tuple tells
@@ -147,7 +147,7 @@ module _ (m : Mapped) (row : RowMessage) where
   -- a mapping's change, or its fault, tells
   abbrev pub Comes : Result Change RelFault → Type 0
   Comes (Ok change) = Asks m row change × ((fault : RelFault) → ¬ (IsRowFault m row fault))
-  Comes (Err fault) = IsFirst (IsRowFault m row) fault
+  Comes (Err fault) = IsFirst order (IsRowFault m row) fault
 
   -- where those below a limit are ruled out, none below it applies
   none_below : (limit : ℕ) → (4 < limit → ¬ (IsRowFault m row KeyNotSent)) → (5 < limit → ¬ (IsRowFault m row ColumnCount)) → (6 < limit → ¬ (IsRowFault m row BadValue)) → (7 < limit → ¬ (IsRowFault m row NullKey))
@@ -367,9 +367,9 @@ comes m (Insert new) = insert_comes m new _ refl _ refl
 comes m (Update old new) = update_comes m old new m.key refl _ _ refl refl _ refl
 comes m (Delete old) = delete_comes m old m.key refl _ refl
 
-pub planned_first : (m : Mapped) (row : RowMessage) → IsRefusedFirst (planned m row) (IsRowFault m row)
+pub planned_first : (m : Mapped) (row : RowMessage) → IsRefusedFirst order (planned m row) (IsRowFault m row)
 planned_first m row =
-    refused_first (planned m row) (IsRowFault m row)
+    first_refused (planned m row) (IsRowFault m row)
     (λ fault e. let come : Comes m row (Err fault) = subst (Comes m row) e (comes m row) in come)
     (λ change e. let come : Comes m row (Ok change) = subst (Comes m row) e (comes m row) in come.1)
 

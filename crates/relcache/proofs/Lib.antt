@@ -1,12 +1,11 @@
 pub mod Asked
 pub mod Each
-pub mod Firsts
 pub mod Fitting
 pub mod Learnt
 pub mod Lookup
 pub mod Naming
 pub mod Numbers
-pub mod Places
+pub mod Ordered
 pub mod Planned
 pub mod Resolving
 pub mod Sources

@@ -15,9 +15,9 @@ use Rattle.relcache.specs.declared.mapping.ColumnSource.TheVariants.{Sent, Defau
 use Rattle.relcache.specs.Published.{Published}
 use Rattle.relcache.specs.Mapping.{namespace_of, is_table_of, table_of, is_named, has_column, has_twice, field_at, sent_or, source_of, sources_of, is_key_named, key_field_of, key_field_at, key_of, mapped}
 use Rattle.relcache.specs.Laws.{IsNamedBy, HasNoTable, IsTableOf, Publishes, Flags, PublishesOther, PublishesTwice, IsKeyColumn, IsKeyUnsent, Maps}
-use Rattle.relcache.proofs.Each.{length-each}
+use Rattle.relcache.proofs.Each.{length-each, each_gives, each_fails}
 use Rattle.relcache.proofs.Fitting.{length-sources_of, found_at}
-use Rattle.relcache.proofs.Places.{position_passes, position_first, position_none, position_is, position_is_none, list_any_finds, list_any_lacks, list_all_passes, list_all_fails, each_gives, each_fails}
+use Rattle.catalog.proofs.Places.{position_passes, position_first, position_none, position_is, position_is_none, list_any_finds, list_any_lacks, list_all_passes, list_all_fails}
 
 same_bytes : (a b : List ℕ) → bytes_eq a b ≡ true → a ≡ b
 same_bytes a b = (bytes_eq-Decides a b).0

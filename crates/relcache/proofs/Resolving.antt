@@ -4,13 +4,14 @@ use Rattle.std.specs.List.{list_all}
 use Rattle.std.specs.Option.{ok_or}
 use Rattle.std.proofs.lemmas.Option.{same_Some}
 use Rattle.model.specs.Definition.{Definition}
+use Rattle.catalog.specs.First.{IsFirst, IsRefusedFirst}
 use Rattle.relcache.specs.declared.fault.RelFault.{RelFault}
 use Rattle.relcache.specs.declared.fault.RelFault.TheVariants.{UnknownRelation, TableMissing, ColumnMissing, KeyNotSent, ColumnCount}
 use Rattle.relcache.specs.Published.{Published, Relations, relation_of}
 use Rattle.relcache.specs.Steps.{◌>>=◌, require}
 use Rattle.relcache.specs.Mapping.{Mapped, table_of, has_column, has_twice, mapped, map_relation, resolved}
-use Rattle.relcache.specs.Laws.{order, IsFirst, IsRefusedFirst, HasNoTable, IsTableOf, PublishesOther, PublishesTwice, IsRelationFault, IsUseFault, Maps}
-use Rattle.relcache.proofs.Firsts.{refused_first}
+use Rattle.relcache.specs.Laws.{order, HasNoTable, IsTableOf, PublishesOther, PublishesTwice, IsRelationFault, IsUseFault, Maps}
+use Rattle.relcache.proofs.Ordered.{first_refused}
 use Rattle.relcache.proofs.Naming.{table_found, table_missing, one_table, columns_had, column_lacks, twice, once, maps}
 
 -- ---- a relation that was learnt
@@ -25,7 +26,7 @@ module _ (tables : List Definition) (r : Published) where
   -- what a mapping, or a fault, tells
   abbrev pub Comes : Result Mapped RelFault → Type 0
   Comes (Ok m) = (t : Definition) × IsUsable m.table t × Maps r.columns t m
-  Comes (Err fault) = IsFirst (IsRelationFault tables r) fault
+  Comes (Err fault) = IsFirst order (IsRelationFault tables r) fault
 
   before_missing : (other : RelFault) → order other < 2 → ¬ (IsRelationFault tables r other)
   before_missing UnknownRelation below applies = applies
@@ -96,10 +97,10 @@ module _ (tables : List Definition) (relations : Relations) (oid : ℕ) where
         cc
     lowered fault (s, is, applies) = subst (λ (u : Published). IsRelationFault tables u fault) (same_Some s r (sym is ∙ learnt)) applies
 
-  refusals : (o : Option Published) → relation_of relations oid ≡ o → (fault : RelFault) → (ok_or o UnknownRelation >>= map_relation tables) ≡ Err fault → IsFirst (IsUseFault tables relations oid) fault
+  refusals : (o : Option Published) → relation_of relations oid ≡ o → (fault : RelFault) → (ok_or o UnknownRelation >>= map_relation tables) ≡ Err fault → IsFirst order (IsUseFault tables relations oid) fault
   refusals None is fault e =
       let same : UnknownRelation ≡ fault = cc in
-      subst (IsFirst (IsUseFault tables relations oid)) same (record { applies = is; before = λ other below _. absurd (omega (arith, below, order_positive other)) })
+      subst (IsFirst order (IsUseFault tables relations oid)) same (record { applies = is; before = λ other below _. absurd (omega (arith, below, order_positive other)) })
   refusals (Some r) is fault e =
       let first : Comes tables r (Err fault) = subst (Comes tables r) e (comes tables r) in
       record {
@@ -114,9 +115,9 @@ module _ (tables : List Definition) (relations : Relations) (oid : ℕ) where
       let come : Comes tables r (Ok m) = subst (Comes tables r) e (comes tables r) in
       (r, come.0, is, come.1, come.2)
 
-  pub resolved_first : IsRefusedFirst (resolved tables relations oid) (IsUseFault tables relations oid)
+  pub resolved_first : IsRefusedFirst order (resolved tables relations oid) (IsUseFault tables relations oid)
   resolved_first =
-      refused_first (resolved tables relations oid) (IsUseFault tables relations oid)
+      first_refused (resolved tables relations oid) (IsUseFault tables relations oid)
       (λ fault e. refusals (relation_of relations oid) refl fault e)
       (λ m e fault applies.
       let given = answered (relation_of relations oid) refl m e in

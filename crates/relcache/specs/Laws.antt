@@ -1,6 +1,6 @@
 -- The rules of relations, rows and values as sentences: what stands in which place of a list, and which names are
 -- the same. `src/laws.rt` says that the definitions keep them.
-use Rattle.std.specs.Prelude.{◌≡◌, ◌≢◌, ◌↔◌, ◌⊎◌, ◌<◌, ◌≤◌, ◌^◌, ℕ, codes, true, false, List, [], ◌∷◌, length, Option, Some, None, Result, Ok, Err, slice_get, pos, neg_ℤ}
+use Rattle.std.specs.Prelude.{◌≡◌, ◌≢◌, ◌↔◌, ◌⊎◌, ◌<◌, ◌≤◌, ◌^◌, ℕ, codes, true, false, List, [], ◌∷◌, length, Option, Some, None, slice_get, pos, neg_ℤ}
 use Rattle.std.specs.Str.Parse.{IsNumeral, digits_value}
 use Rattle.messages.specs.declared.relation.Relation.{Relation}
 use Rattle.messages.specs.declared.relation.RelationColumn.{RelationColumn}
@@ -40,16 +40,6 @@ order ColumnCount = 5
 order BadValue = 6
 order NullKey = 7
 order OutOfMemory = 8
-
--- the fault applies, and none before it does
-pub record IsFirst (Applies : RelFault → Type 0) (fault : RelFault) : Type 0 where
-  pub applies : Applies fault
-  pub before : (other : RelFault) → order other < order fault → ¬ (Applies other)
-
--- refused exactly for the first fault that applies, and answered exactly where none does
-pub record IsRefusedFirst {A : Type 0} (answer : Result A RelFault) (Applies : RelFault → Type 0) : Type 0 where
-  pub refused : (fault : RelFault) → (answer ≡ Err fault) ↔ IsFirst Applies fault
-  pub answered : ((x : A) × (answer ≡ Ok x)) ↔ ((fault : RelFault) → ¬ (Applies fault))
 
 -- ---- what is learnt
 

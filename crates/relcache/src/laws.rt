@@ -9,12 +9,13 @@ ghost use Rattle.model.specs.declared.table_def.ColumnType.{ColumnType};
 ghost use Rattle.model.specs.declared.value.Value.{Value};
 ghost use Rattle.model.specs.declared.change.Change.{Change};
 ghost use Rattle.model.specs.Definition.{Definition};
+ghost use Rattle.catalog.specs.First.{IsRefusedFirst};
 ghost use Rattle.catalog.specs.Valid.{IsValid};
 ghost use Rattle.relcache.specs.Published.{Published, Relations, published, learnt, relation_of};
 ghost use Rattle.relcache.specs.Mapping.{Mapped, resolved};
 ghost use Rattle.relcache.specs.Planning.{planned};
 ghost use Rattle.relcache.specs.Values.{value_of};
-ghost use Rattle.relcache.specs.Laws.{IsRefusedFirst, Says, IsNamedBy, IsTableOf, IsUseFault, Maps, Spells, IsRowFault, Asks};
+ghost use Rattle.relcache.specs.Laws.{order, Says, IsNamedBy, IsTableOf, IsUseFault, Maps, Spells, IsRowFault, Asks};
 
 /// What is known of an OID is what the relation said that was last learnt for it: its names, and the name and the flag
 /// of each column, in their order.
@@ -43,7 +44,7 @@ pub fn relations_name_one_table()
 /// A relation that can't be used is refused for the first fault that applies, and no other is refused.
 pub fn relations_are_refused_first()
     ensures { (tables : List Definition) (relations : Relations) (oid : ℕ) →
-        IsRefusedFirst (resolved tables relations oid) (IsUseFault tables relations oid) }
+        IsRefusedFirst order (resolved tables relations oid) (IsUseFault tables relations oid) }
 {}
 
 /// A row message asks for just this change.
@@ -54,7 +55,7 @@ pub fn row_messages_ask()
 /// A row message that does not fit is refused for the first fault that applies, over the whole message, and no other
 /// is refused.
 pub fn row_messages_are_refused_first()
-    ensures { (m : Mapped) (row : RowMessage) → IsRefusedFirst (planned m row) (IsRowFault m row) }
+    ensures { (m : Mapped) (row : RowMessage) → IsRefusedFirst order (planned m row) (IsRowFault m row) }
 {}
 
 /// A text is read as the value of the type that it spells, and as none if it spells none.
