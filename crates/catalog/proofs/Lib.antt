@@ -3,3 +3,10 @@ pub mod Each
 pub mod Distinct
 pub mod Named
 pub mod Validity
+pub mod Places
+pub mod Firsts
+pub mod Fields
+pub mod Described
+pub mod Wrong
+pub mod Defined
+pub mod Texts

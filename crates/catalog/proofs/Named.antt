@@ -22,7 +22,7 @@ each_keeps {A} f P keeps (item d ds) xs h =
 array_keeps : {A : Type 0} (f : Data → Option A) (P : A → Type 0) → ((d : Data) (x : A) → f d ≡ Some x → P x) → (d : Data) (xs : List A) → array_of f d ≡ Some xs → All P xs
 array_keeps f P keeps d xs h = option_and_then_some (each f) (as_array d) xs h (λ ds _ is. each_keeps f P keeps ds xs is)
 
-provided_some : {A : Type 0} (b : Bool) (o : Option A) (x : A) → provided b o ≡ Some x → (b ≡ true) × (o ≡ Some x)
+pub provided_some : {A : Type 0} (b : Bool) (o : Option A) (x : A) → provided b o ≡ Some x → (b ≡ true) × (o ≡ Some x)
 provided_some true o x h = (refl, h)
 provided_some false o x h = cc
 

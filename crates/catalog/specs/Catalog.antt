@@ -15,6 +15,7 @@ abbrev pub catalog_from : List Draft → Option CatalogFault → Result (List De
 catalog_from ts (Some fault) = Err fault
 catalog_from ts None = Ok (map definition_from ts)
 
+-- the same of the tables that were read, if they could be
 abbrev pub catalog_of_tables : Option (List Draft) → Result (List Definition) CatalogFault
 catalog_of_tables None = Err UnknownField
 catalog_of_tables (Some ts) = catalog_from ts (first_fault ts)

@@ -10,6 +10,7 @@ use Rattle.catalog.specs.declared.draft.DefaultDraft.TheVariants.{Missing, Given
 use Rattle.catalog.specs.declared.draft.ColumnDraft.{ColumnDraft}
 use Rattle.catalog.specs.Draft.{Draft}
 
+-- a column, with the name and the type that are described
 abbrev pub column_from : ColumnDraft → Column
 column_from c = record { name = c.name; kind = c.kind }
 
@@ -19,6 +20,7 @@ value_given Missing = None
 value_given (Given value) = Some value
 value_given OtherKind = None
 
+-- a column's default
 abbrev pub default_from : ColumnDraft → Option Value
 default_from c = value_given c.default
 
@@ -26,9 +28,11 @@ default_from c = value_given c.default
 abbrev pub column_number : List ColumnDraft → List ℕ → ℕ
 column_number columns name = position_or_len (λ c. bytes_eq name c.name) columns
 
+-- a key: the number of the column of each of its names
 abbrev pub key_from : List ColumnDraft → List (List ℕ) → List ℕ
 key_from columns names = map (column_number columns) names
 
+-- the definition of the table that is described
 abbrev pub definition_from : Draft → Definition
 definition_from t = record {
   namespace = t.namespace;

@@ -11,6 +11,7 @@ use Rattle.catalog.specs.declared.draft.DefaultDraft.TheVariants.{Missing, Given
 use Rattle.catalog.specs.declared.draft.ColumnDraft.{ColumnDraft}
 use Rattle.catalog.specs.Draft.{Draft}
 
+-- the next step with what the first gives, if it gives something
 infixl 10 ◌>>=◌
 abbrev pub ◌>>=◌ : {A B : Type 0} → Option A → (A → Option B) → Option B
 o >>= f = option_and_then f o
@@ -54,9 +55,11 @@ fields_of keys d = as_table d >>= (λ ms. provided (has_only keys ms) (Some ms))
 abbrev pub is_name : List ℕ → Bool
 is_name text = not (length text == 0) && not (list_any (λ byte. byte == 0) text)
 
+-- a string that is a name
 abbrev pub name_of : Data → Option (List ℕ)
 name_of d = as_str d >>= (λ text. provided (is_name text) (Some text))
 
+-- the type that a word stands for
 abbrev pub type_named : List ℕ → Option ColumnType
 type_named text =
     if bytes_eq text (codes "int") then Some Int
@@ -64,6 +67,7 @@ type_named text =
     else (if bytes_eq text (codes "bool") then Some Truth
     else None))
 
+-- a column's type: a string that stands for one
 abbrev pub type_of : Data → Option ColumnType
 type_of d = as_str d >>= type_named
 
@@ -74,6 +78,7 @@ given (string text) = Given (TextValue text)
 given (boolean b) = Given (TruthValue b)
 given _ = OtherKind
 
+-- a default, which may be missing
 abbrev pub default_of : Option Data → DefaultDraft
 default_of None = Missing
 default_of (Some d) = given d
@@ -85,9 +90,11 @@ column_in ms = do
   kind ← required type_of (get_member (codes "type") ms)
   Some (record { name = name; kind = kind; default = default_of (get_member (codes "default") ms) })
 
+-- the fields that a column may have
 abbrev pub column_keys : List (List ℕ)
 column_keys = codes "name" ∷ codes "type" ∷ codes "default" ∷ []
 
+-- a column, which has no other fields
 unfoldable pub column_of : Data → Option ColumnDraft
 column_of d = fields_of column_keys d >>= column_in
 
@@ -111,9 +118,11 @@ table_in ms = do
     uniques = uniques;
   })
 
+-- the fields that a table may have
 abbrev pub table_keys : List (List ℕ)
 table_keys = codes "namespace" ∷ codes "name" ∷ codes "primary" ∷ codes "unique" ∷ codes "column" ∷ []
 
+-- a table, which has no other fields
 unfoldable pub table_of : Data → Option Draft
 table_of d = fields_of table_keys d >>= table_in
 

@@ -18,18 +18,23 @@ abbrev pub repeats : {A : Type 0} → (A → A → Bool) → List A → Bool
 repeats same [] = false
 repeats same (x ∷ xs) = list_any (same x) xs || repeats same xs
 
+-- the list has no element
 abbrev pub is_empty : {A : Type 0} → List A → Bool
 is_empty xs = length xs == 0
 
+-- the tables have one namespace and one name
 abbrev pub same_table : Draft → Draft → Bool
 same_table t u = bytes_eq t.namespace u.namespace && bytes_eq t.name u.name
 
+-- the columns have one name
 abbrev pub same_column : ColumnDraft → ColumnDraft → Bool
 same_column c d = bytes_eq c.name d.name
 
+-- two columns of the table have one name
 abbrev pub repeats_column : Draft → Bool
 repeats_column t = repeats same_column t.columns
 
+-- the table has no primary key, or an empty one
 abbrev pub lacks_primary : Draft → Bool
 lacks_primary t = is_empty t.primary
 
@@ -41,9 +46,11 @@ has_column columns name = list_any (λ c. bytes_eq name c.name) columns
 abbrev pub names_columns : List ColumnDraft → List (List ℕ) → Bool
 names_columns columns names = list_all (has_column columns) names && not (repeats bytes_eq names)
 
+-- a unique key is empty, or not one of columns of the table, each once
 abbrev pub is_unknown_unique : List ColumnDraft → List (List ℕ) → Bool
 is_unknown_unique columns names = is_empty names || not (names_columns columns names)
 
+-- a key of the table is not one of its columns, each once, or a unique key is empty
 abbrev pub has_unknown_key : Draft → Bool
 has_unknown_key t = not (names_columns t.columns t.primary) || list_any (is_unknown_unique t.columns) t.uniques
 
@@ -63,12 +70,15 @@ is_bad_default c = is_bad c.kind c.default
     is_bad kind (Given value) = not (is_of_type kind value)
     is_bad kind OtherKind = true
 
+-- a default of the table is not of its column's type
 abbrev pub has_bad_default : Draft → Bool
 has_bad_default t = list_any is_bad_default t.columns
 
+-- the table has more than 1600 columns or 16 unique keys
 abbrev pub is_over_limit : Draft → Bool
 is_over_limit t = nat_lt 1600 (length t.columns) || nat_lt 16 (length t.uniques)
 
+-- there are more than 1024 tables, or one is over a limit
 abbrev pub are_over_limit : List Draft → Bool
 are_over_limit ts = nat_lt 1024 (length ts) || list_any is_over_limit ts
 

@@ -4,6 +4,8 @@ pub mod Draft
 pub mod Faults
 pub mod Definitions
 pub mod Valid
+pub mod First
+pub mod Laws
 pub use Rattle.toml.specs.Data
 pub use Rattle.toml.specs.Parse
 pub use Rattle.model.specs.Definition

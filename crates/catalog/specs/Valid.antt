@@ -18,6 +18,7 @@ abbrev pub IsDefaultOf : ColumnType → Option Value → Type 0
 IsDefaultOf kind None = Unit {0}
 IsDefaultOf kind (Some value) = IsTrue (is_of_type kind value)
 
+-- a table of a valid catalog
 pub record IsValidTable (t : Definition) : Type 0 where
   pub namespace_named : IsTrue (is_name t.namespace)
   pub named : IsTrue (is_name t.name)
@@ -29,6 +30,7 @@ pub record IsValidTable (t : Definition) : Type 0 where
   pub uniques_limit : length t.uniques ≤ 16
   pub defaults_fit : AllZip (λ c default. IsDefaultOf c.kind default) t.columns t.defaults
 
+-- a valid catalog
 pub record IsValid (ts : List Definition) : Type 0 where
   pub tables_valid : All IsValidTable ts
   pub tables_distinct : AllPairs (λ t u. t.namespace ≡ u.namespace → t.name ≢ u.name) ts

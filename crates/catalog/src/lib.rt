@@ -16,6 +16,10 @@
 // - `checks` looks for what is wrong with the drafts: each fault over all tables, before the next.
 // - `definitions` makes the definitions of tables from drafts that no fault applies to.
 //
+// The definitions of these steps are tests and recursions, as the code is. `laws` says the rules apart
+// from them, by which field is there and what stands in which place of an array: which tables a
+// document describes, what is wrong with a text for each fault, and what its catalog then has.
+//
 // The types of the tables are those of `model`, and stand here for the layers above: `TableDef` with
 // its parts, and `Value`, `Row` and `Key`, with the one order of values and of keys.
 mod catalog;
@@ -24,6 +28,7 @@ mod definitions;
 mod document;
 mod draft;
 mod fault;
+pub mod laws;
 #[cfg(test)]
 mod tests;
 

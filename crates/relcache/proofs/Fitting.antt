@@ -1,5 +1,5 @@
 -- What is resolved fits the catalog, and what is planned fits its mapping.
-use Rattle.std.proofs.Common.{◌≡◌, ℕ, suc, Bool, true, false, not, List, [], ◌∷◌, length, Option, Some, None, option_map, Result, Ok, Err, refl, sym, ap, ◌∙◌, subst}
+use Rattle.std.proofs.Common.{◌≡◌, ℕ, suc, not, List, [], ◌∷◌, length, Option, Some, None, option_map, Result, Ok, Err, refl, sym, ap, ◌∙◌, subst}
 use Rattle.std.specs.List.{slice_get, position, list_all}
 use Rattle.std.specs.Option.{option_and_then, ok_or}
 use Rattle.messages.specs.declared.tuple.Column.{Column}
@@ -16,7 +16,7 @@ use Rattle.relcache.specs.declared.fault.RelFault.TheVariants.{UnknownRelation, 
 use Rattle.relcache.specs.declared.mapping.Field.{Field}
 use Rattle.relcache.specs.declared.published.PublishedColumn.{PublishedColumn}
 use Rattle.relcache.specs.Published.{Published, Relations, relation_of}
-use Rattle.relcache.specs.Steps.{◌>>=◌, require, each}
+use Rattle.relcache.specs.Steps.{◌>>=◌, require}
 use Rattle.relcache.specs.Mapping.{Mapped, mapped, sources_of, map_relation, resolved, table_of, is_table_of, has_column, has_twice}
 use Rattle.relcache.specs.Planning.{planned, counted, row_of, patch_of, lookup_key, planned_insert, planned_update, planned_delete, lookup_tuple, old_columns, column_value, column_patch}
 use Rattle.relcache.specs.Fits.{FitsCatalog, FitsMapping}
@@ -25,12 +25,12 @@ use Rattle.relcache.proofs.Each.{length-each}
 
 -- ---- resolved
 
-length-sources_of : (sent : List PublishedColumn) (columns : List TableColumn) (defaults : List (Option Value)) → length (sources_of sent columns defaults) ≡ length columns
+pub length-sources_of : (sent : List PublishedColumn) (columns : List TableColumn) (defaults : List (Option Value)) → length (sources_of sent columns defaults) ≡ length columns
 length-sources_of sent [] defaults = refl
 length-sources_of sent (c ∷ cs) [] = ap suc (length-sources_of sent cs [])
 length-sources_of sent (c ∷ cs) (d ∷ ds) = ap suc (length-sources_of sent cs ds)
 
-found_at : (place : ℕ) (found : Option Definition) (t : ℕ × Definition) → option_map (λ table. (place, table)) found ≡ Some t → (place ≡ t.0) × (found ≡ Some t.1)
+pub found_at : (place : ℕ) (found : Option Definition) (t : ℕ × Definition) → option_map (λ table. (place, table)) found ≡ Some t → (place ≡ t.0) × (found ≡ Some t.1)
 found_at place None t e = cc
 found_at place (Some table) t e = (cc, cc)
 

@@ -1,6 +1,12 @@
+pub mod Asked
 pub mod Each
 pub mod Fitting
+pub mod Learnt
 pub mod Lookup
+pub mod Naming
 pub mod Numbers
+pub mod Ordered
 pub mod Planned
+pub mod Resolving
 pub mod Sources
+pub mod Spelled

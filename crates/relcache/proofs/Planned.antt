@@ -1,9 +1,8 @@
 -- A planned change, or its fault, from the steps that it goes by.
-use Rattle.std.proofs.Common.{◌≡◌, List, Option, Result, Ok, Err, refl, ap, ◌∙◌}
+use Rattle.std.proofs.Common.{◌≡◌, List, Option, Result, Ok, Err, ap, ◌∙◌}
 use Rattle.std.specs.Option.{ok_or}
 use Rattle.messages.specs.declared.tuple.Column.{Column}
 use Rattle.model.specs.declared.value.Value.{Value}
-use Rattle.model.specs.declared.change.Change.{Change}
 use Rattle.model.specs.declared.change.Change.TheVariants.{Put, Set}
 use Rattle.model.specs.declared.change.ColumnPatch.{ColumnPatch}
 use Rattle.relcache.specs.declared.fault.RelFault.{RelFault}

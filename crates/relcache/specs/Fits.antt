@@ -1,5 +1,5 @@
 -- A mapping fits the catalog that it was resolved in, and a planned change fits its mapping.
-use Rattle.std.specs.Prelude.{◌≡◌, ◌<◌, ℕ, List, length, Some, slice_get}
+use Rattle.std.specs.Prelude.{◌≡◌, ◌<◌, List, length, Some, slice_get}
 use Rattle.model.specs.Definition.{Definition}
 use Rattle.model.specs.declared.change.Change.{Change}
 use Rattle.model.specs.declared.change.Change.TheVariants.{Put, Set, Remove, Wipe}

@@ -5,3 +5,4 @@ pub mod Values
 pub mod Planning
 pub mod Fits
 pub mod Answer
+pub mod Laws

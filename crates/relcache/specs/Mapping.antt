@@ -1,6 +1,6 @@
 -- The mapping of a relation: where the value of each column of the subscriber's table comes from
 -- (PostgreSQL manual: Logical Replication, Subscription: tables and columns are matched by name).
-use Rattle.std.specs.Prelude.{ℕ, codes, Bool, true, false, not, ◌&&◌, ◌||◌, List, [], ◌∷◌, length, map, Option, Some, None, option_and_then, option_map, Result, Ok, Err, ok_or, slice_get, position, if◌then◌else◌}
+use Rattle.std.specs.Prelude.{ℕ, codes, Bool, false, not, ◌&&◌, ◌||◌, List, [], ◌∷◌, length, Option, Some, None, option_and_then, option_map, Result, Ok, ok_or, slice_get, position}
 use Rattle.std.specs.List.{list_any, list_all}
 use Rattle.std.specs.Str.{bytes_eq}
 use Rattle.model.specs.declared.table_def.Column.{Column}
@@ -27,13 +27,13 @@ pub record Mapped : Type 0 where
 -- ---- the table
 
 -- an empty namespace means pg_catalog
-abbrev pub schema_of : List ℕ → List ℕ
-schema_of [] = codes "pg_catalog"
-schema_of (c ∷ cs) = c ∷ cs
+abbrev pub namespace_of : List ℕ → List ℕ
+namespace_of [] = codes "pg_catalog"
+namespace_of (c ∷ cs) = c ∷ cs
 
 -- the table has the relation's namespace and name
 abbrev pub is_table_of : Published → Definition → Bool
-is_table_of r table = bytes_eq table.namespace (schema_of r.namespace) && bytes_eq table.name r.name
+is_table_of r table = bytes_eq table.namespace (namespace_of r.namespace) && bytes_eq table.name r.name
 
 -- the relation's table, after its place, if there is one
 abbrev pub table_of : Published → List Definition → Option (ℕ × Definition)
@@ -42,6 +42,7 @@ table_of r tables =
 
 -- ---- the columns
 
+-- the published column has this name
 abbrev pub is_named : List ℕ → PublishedColumn → Bool
 is_named name column = bytes_eq column.name name
 
@@ -62,6 +63,7 @@ field_at column place = record { place = place; kind = column.kind }
 abbrev pub field_of : List PublishedColumn → Column → Option Field
 field_of sent column = option_map (field_at column) (position (is_named column.name) sent)
 
+-- the field, if there is one, or else the default
 abbrev pub sent_or : Option Value → Option Field → ColumnSource
 sent_or default None = Default default
 sent_or default (Some field) = Sent field
@@ -78,6 +80,7 @@ sources_of sent (column ∷ columns) (default ∷ defaults) = source_of sent col
 
 -- ---- the primary key
 
+-- it has this name, and is flagged as key
 abbrev pub is_key_named : List ℕ → PublishedColumn → Bool
 is_key_named name column = is_named name column && column.is_key
 
@@ -95,6 +98,7 @@ key_of sent table = each (key_field_at sent table.columns) table.primary
 
 -- ---- the mapping
 
+-- the mapping of a relation to this table, in this place of the catalog
 abbrev pub mapped : Published → ℕ × Definition → Mapped
 mapped r t = record {
   table = t.0;

@@ -1,5 +1,5 @@
 -- The change that a row message asks for, by the mapping of its relation.
-use Rattle.std.specs.Prelude.{ℕ, Bool, not, ◌==◌, List, length, Option, Some, None, option_and_then, option_map, Result, Ok, Err, ok_or, slice_get}
+use Rattle.std.specs.Prelude.{◌==◌, List, length, Option, Some, None, option_and_then, option_map, Result, Ok, ok_or, slice_get}
 use Rattle.messages.specs.declared.tuple.Column.{Column}
 use Rattle.messages.specs.declared.tuple.Column.TheVariants.{Null, Unchanged, Text}
 use Rattle.messages.specs.declared.tuple.OldTuple.{OldTuple}
@@ -35,9 +35,11 @@ sent_patch kind Null = Some BecomesNull
 sent_patch kind Unchanged = Some Keep
 sent_patch kind (Text text) = option_map Becomes (value_of kind text)
 
+-- what the field's column of the tuple says
 abbrev pub field_value : List Column → Field → Option (Option Value)
 field_value tuple field = option_and_then (sent_value field.kind) (slice_get tuple field.place)
 
+-- what the field's column of the tuple asks of an update
 abbrev pub field_patch : List Column → Field → Option ColumnPatch
 field_patch tuple field = option_and_then (sent_patch field.kind) (slice_get tuple field.place)
 
@@ -70,6 +72,7 @@ lookup_key fields tuple = do
 
 -- ---- the change
 
+-- the columns of an old tuple, be it a key or a whole row
 abbrev pub old_columns : OldTuple → List Column
 old_columns (OldKey tuple) = tuple
 old_columns (OldRow tuple) = tuple
@@ -83,12 +86,14 @@ lookup_tuple (Some old) new = old_columns old
 abbrev pub counted : Mapped → List Column → Result (Unit {0}) RelFault
 counted m tuple = require (length tuple == m.published) ColumnCount
 
+-- the change of an insert, which puts the row
 abbrev pub planned_insert : Mapped → List Column → Result Change RelFault
 planned_insert m new = do
   count ← counted m new
   row ← ok_or (row_of m new) BadValue
   Ok (Put m.table row)
 
+-- the change of an update, which sets the row that is looked up
 abbrev pub planned_update : Mapped → List Column → List Column → Result Change RelFault
 planned_update m lookup new = do
   fields ← ok_or m.key KeyNotSent
@@ -98,6 +103,7 @@ planned_update m lookup new = do
   key ← lookup_key fields lookup
   Ok (Set m.table key patch)
 
+-- the change of a delete, which removes the row that is looked up
 abbrev pub planned_delete : Mapped → List Column → Result Change RelFault
 planned_delete m old = do
   fields ← ok_or m.key KeyNotSent

@@ -13,9 +13,11 @@ pub record Published : Type 0 where
   pub name : List ℕ
   pub columns : List PublishedColumn
 
+-- what counts of a column: its name, and whether it is flagged as key
 abbrev pub published_column : RelationColumn → PublishedColumn
 published_column c = record { name = c.name; is_key = c.is_key }
 
+-- what counts of a relation
 abbrev pub published : Relation → Published
 published r = record { namespace = r.namespace; name = r.name; columns = map published_column r.columns }
 

@@ -1,5 +1,5 @@
 -- Steps that may be refused, one after another.
-use Rattle.std.specs.Prelude.{Bool, true, false, List, [], ◌∷◌, Option, Some, None, option_and_then, option_map, Result, Ok, Err}
+use Rattle.std.specs.Prelude.{Bool, true, false, List, [], ◌∷◌, Option, Some, option_and_then, option_map, Result, Ok, Err}
 use Rattle.relcache.specs.declared.fault.RelFault.{RelFault}
 
 -- the next step with what the first gives, or the first's fault

@@ -24,6 +24,7 @@ int_of (c ∷ text) =
     then option_map (λ n. neg_ℤ (pos n)) (number_below (2 ^ 63 + 1) text)
     else option_map pos (number_below (2 ^ 63) (if c == 43 then text else c ∷ text))
 
+-- true for `t`, false for `f`
 abbrev pub bool_of : List ℕ → Option Bool
 bool_of text = if bytes_eq text (codes "t") then Some true else (if bytes_eq text (codes "f") then Some false else None)
 

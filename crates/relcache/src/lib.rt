@@ -21,6 +21,7 @@
 //   specs/Values      values in their text form
 //   specs/Planning    rows, patches and keys from tuples, the change of a row message, and the faults
 //   specs/Fits        a mapping fits its catalog, a change its mapping
+//   specs/Laws        the rules as sentences, by names and places, which `laws` proves of the others
 //
 // Names are looked up once for a relation: a `Mapping` has, for each column of the table, the place
 // of its value in the tuple and its type, or its default. So planning a row looks up no name, makes
@@ -31,6 +32,7 @@
 // changes, and `indexmap` for the cache.
 mod cache;
 mod fault;
+pub mod laws;
 mod mapping;
 mod planning;
 mod published;

@@ -13,12 +13,12 @@ use bytes::ByteStr;
 use model::{Column, TableDef, TableId, Value};
 use std::alloc::{AllocError, Global};
 
-/// The schema that an empty namespace of a relation stands for.
+/// The namespace that an empty one of a relation stands for.
 const SYSTEM_CATALOG: &str = "pg_catalog";
 
-/// The schema that a relation names.
-fn schema_of(r: &Published) -> &str
-    ensures { result.now ≡ spec.schema_of r.now.namespace }
+/// The namespace that a relation names.
+fn namespace_of(r: &Published) -> &str
+    ensures { result.now ≡ spec.namespace_of r.now.namespace }
 {
     if r.namespace().is_empty() {
         SYSTEM_CATALOG
@@ -31,7 +31,7 @@ fn schema_of(r: &Published) -> &str
 fn is_table_of(r: &Published, table: &TableDef) -> bool
     ensures { result ≡ spec.is_table_of r.now table.now }
 {
-    table.namespace().as_str() == schema_of(r) && table.name() == r.name()
+    table.namespace().as_str() == namespace_of(r) && table.name() == r.name()
 }
 
 /// The place of the relation's table in the catalog.

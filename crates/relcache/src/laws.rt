@@ -1,0 +1,73 @@
+// The rules of relations, rows and values, each the contract of a function that does nothing: the definitions of
+// `specs` keep them.
+ghost use Rattle.std.specs.Prelude.{◌≡◌, ◌≢◌, ◌↔◌, ℕ, List, [], Option, Some, None, Ok, codes, true, false, ℤ, FitsSigned, slice_get};
+ghost use Rattle.std.specs.Fmt.{signed_decimal};
+ghost use Rattle.std.specs.Int.{w64};
+ghost use Rattle.messages.specs.declared.relation.Relation.{Relation};
+ghost use Rattle.messages.specs.declared.row.RowMessage.{RowMessage};
+ghost use Rattle.model.specs.declared.table_def.ColumnType.{ColumnType};
+ghost use Rattle.model.specs.declared.value.Value.{Value};
+ghost use Rattle.model.specs.declared.change.Change.{Change};
+ghost use Rattle.model.specs.Definition.{Definition};
+ghost use Rattle.catalog.specs.First.{IsRefusedFirst};
+ghost use Rattle.catalog.specs.Valid.{IsValid};
+ghost use Rattle.relcache.specs.Published.{Published, Relations, published, learnt, relation_of};
+ghost use Rattle.relcache.specs.Mapping.{Mapped, resolved};
+ghost use Rattle.relcache.specs.Planning.{planned};
+ghost use Rattle.relcache.specs.Values.{value_of};
+ghost use Rattle.relcache.specs.Laws.{order, Says, IsNamedBy, IsTableOf, IsUseFault, Maps, Spells, IsRowFault, Asks};
+
+/// What is known of an OID is what the relation said that was last learnt for it: its names, and the name and the flag
+/// of each column, in their order.
+pub fn the_last_relation_counts()
+    ensures none { (oid : ℕ) → relation_of [] oid ≡ None }
+    ensures own { (relations : Relations) (r : Relation) →
+        relation_of (learnt relations r) r.oid ≡ Some (published r) }
+    ensures others { (relations : Relations) (r : Relation) (oid : ℕ) → oid ≢ r.oid →
+        relation_of (learnt relations r) oid ≡ relation_of relations oid }
+    ensures says { (r : Relation) → Says r (published r) }
+{}
+
+/// A relation is mapped to the table that it names, column by column of the same name.
+pub fn relations_map_by_name()
+    ensures { (tables : List Definition) (relations : Relations) (oid : ℕ) (m : Mapped) →
+        resolved tables relations oid ≡ Ok m → (r : Published) × (t : Definition)
+        × (relation_of relations oid ≡ Some r) × IsTableOf tables r m.table t × Maps r.columns t m }
+{}
+
+/// A valid catalog has one table at most that a relation names.
+pub fn relations_name_one_table()
+    ensures { (tables : List Definition) (r : Published) (i j : ℕ) (t u : Definition) → IsValid tables
+        → slice_get tables i ≡ Some t → slice_get tables j ≡ Some u → IsNamedBy t r → IsNamedBy u r → i ≡ j }
+{}
+
+/// A relation that can't be used is refused for the first fault that applies, and no other is refused.
+pub fn relations_are_refused_first()
+    ensures { (tables : List Definition) (relations : Relations) (oid : ℕ) →
+        IsRefusedFirst order (resolved tables relations oid) (IsUseFault tables relations oid) }
+{}
+
+/// A row message asks for just this change.
+pub fn row_messages_ask()
+    ensures { (m : Mapped) (row : RowMessage) (change : Change) → planned m row ≡ Ok change → Asks m row change }
+{}
+
+/// A row message that does not fit is refused for the first fault that applies, over the whole message, and no other
+/// is refused.
+pub fn row_messages_are_refused_first()
+    ensures { (m : Mapped) (row : RowMessage) → IsRefusedFirst order (planned m row) (IsRowFault m row) }
+{}
+
+/// A text is read as the value of the type that it spells, and as none if it spells none.
+pub fn texts_are_read_as_spelled()
+    ensures { (kind : ColumnType) (text : List ℕ) (value : Value) →
+        (value_of kind text ≡ Some value) ↔ Spells kind text value }
+{}
+
+/// What is written of an int or a bool is read back.
+pub fn what_is_written_is_read()
+    ensures int { (n : ℤ) → FitsSigned w64 n →
+        value_of ColumnType.Int (signed_decimal n) ≡ Some (Value.Int n) }
+    ensures bool_true { value_of ColumnType.Bool (codes "t") ≡ Some (Value.Bool true) }
+    ensures bool_false { value_of ColumnType.Bool (codes "f") ≡ Some (Value.Bool false) }
+{}
