@@ -1,0 +1,3 @@
+pub mod Half
+pub mod OneList
+pub use Rattle.atomic_table.specs.Seated

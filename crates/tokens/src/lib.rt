@@ -1,0 +1,8 @@
+#![tactic(auto)]
+
+// Tokens: what two hands know of one list that neither of them stores.
+mod halves;
+mod items;
+
+pub use halves::{Kept, Seen, Token, grow, grow_by, look, meet, pair, watch};
+pub use items::Items;
