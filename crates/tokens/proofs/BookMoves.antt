@@ -37,7 +37,7 @@ module _ {X : Type 0} where
       → (n : ℕ) (l : List X) → ◌≡◌ {A = Option (ℕ × List X)} (Some (number, list)) (Some (n, l)) → (by ≡ seat_of n) × (map.get lists n ≡ Some l)
   slip_holds lists seat_of by number list is is_open n l e =
       subst (λ (p : ℕ × List X). (by ≡ seat_of p.0) × (map.get lists p.0 ≡ Some p.1))
-          (λ i. (ap number_in e i, ap list_in e i)) (is, is_open)
+      (λ i. (ap number_in e i, ap list_in e i)) (is, is_open)
 
   -- the table at the start
   pub starts : AtEach (FitsIn {X = X} map.empty 0 (λ _. 0)) (book_row map.empty ∷ [])
@@ -62,14 +62,14 @@ module _ {X : Type 0} where
         moved,
         each_end (FitsIn all keeper moved) views (slip_row number list)
             (each_set (FitsIn all keeper moved) s.views id (book_row lists)
-                (λ j u apart e. record {
-                  kept = (each j u e).kept;
-                  held = λ n l is.
-                      let theirs = (each j u e).held n l is in
-                      let other : n ≢ number = λ same. apart (theirs.0 ∙ ap seat_of same ∙ sym holds_mine.0) in
-                      (theirs.0 ∙ moved_other number new seat_of n other, theirs.1);
-                })
-                (record { kept = λ m e. mine.kept m e; held = λ n l e. none_is_some (n, l) e }))
+            (λ j u apart e. record {
+              kept = (each j u e).kept;
+              held = λ n l is.
+                  let theirs = (each j u e).held n l is in
+                  let other : n ≢ number = λ same. apart (theirs.0 ∙ ap seat_of same ∙ sym holds_mine.0) in
+                  (theirs.0 ∙ moved_other number new seat_of n other, theirs.1);
+            })
+            (record { kept = λ m e. mine.kept m e; held = λ n l e. none_is_some (n, l) e }))
             (record {
               kept = λ m e. none_is_some m e;
               held = slip_holds all moved new number list (moved_same number new seat_of number refl) holds_mine.1;
@@ -95,18 +95,18 @@ module _ {X : Type 0} where
         moved,
         each_set (FitsIn all keeper moved) (set s.views id both) other blank_row
             (λ j u far e. each_set (λ k v. k ≢ other → FitsIn all keeper moved k v) s.views id both
-                (λ k v elsewhere f not_other. record {
-                  kept = (each k v f).kept;
-                  held = λ n l is.
-                      let its = (each k v f).held n l is in
-                      let apart_from : n ≢ number = λ same. not_other (its.0 ∙ ap seat_of same ∙ sym holds_theirs.0) in
-                      (its.0 ∙ moved_other number id seat_of n apart_from, its.1);
-                })
-                (λ _. record {
-                  kept = λ m is. mine.kept m is;
-                  held = slip_holds all moved id number list (moved_same number id seat_of number refl) holds_theirs.1;
-                })
-                j u e far)
+            (λ k v elsewhere f not_other. record {
+              kept = (each k v f).kept;
+              held = λ n l is.
+                  let its = (each k v f).held n l is in
+                  let apart_from : n ≢ number = λ same. not_other (its.0 ∙ ap seat_of same ∙ sym holds_theirs.0) in
+                  (its.0 ∙ moved_other number id seat_of n apart_from, its.1);
+            })
+            (λ _. record {
+              kept = λ m is. mine.kept m is;
+              held = slip_holds all moved id number list (moved_same number id seat_of number refl) holds_theirs.1;
+            })
+            j u e far)
             (blank_fits all keeper moved other),
       )
 
@@ -247,44 +247,37 @@ module _ {X : Type 0} where
       → w ≡ slip_row number list → Joins IsManyLists id v other w (joint_row v w) blank_row
   joins_as id v lists other w number list is theirs =
       subst (λ (u : Row X × Row X). Joins IsManyLists id u.0 other u.1 (joint_row u.0 u.1) blank_row)
-          (λ i. (sym is i, sym theirs i)) (joins id lists other number list)
+      (λ i. (sym is i, sym theirs i)) (joins id lists other number list)
 
   pub opens_as :
       (slots id : ℕ) (me : Me (Unit {0}) (Row X)) (lists : ListMap X) (number : ℕ) → me ≡ (book_row lists, []) → map.get lists number ≡ None
       → Allows IsManyLists slots id me 0 (λ _. number) (λ _ next. Opens number me next)
   opens_as slots id me lists number is absent =
       subst (λ (m : Me (Unit {0}) (Row X)). Allows IsManyLists slots id m 0 (λ _. number) (λ _ next. Opens number m next)) (sym is)
-          (opens slots id lists number absent)
+      (opens slots id lists number absent)
 
   pub appends_as :
       (slots id : ℕ) (me : Me (Unit {0}) (Row X)) (lists : ListMap X) (number : ℕ) (list items : List X)
       → me ≡ (both_row lists number list, []) → Allows IsManyLists slots id me 0 (λ n. n) (λ _ next. Appends items me next)
   appends_as slots id me lists number list items is =
       subst (λ (m : Me (Unit {0}) (Row X)). Allows IsManyLists slots id m 0 (λ n. n) (λ _ next. Appends items m next)) (sym is)
-          (appends slots id lists number list items)
+      (appends slots id lists number list items)
 
   pub meets_as :
       (slots id : ℕ) (me : Me (Unit {0}) (Row X)) (lists : ListMap X) (number : ℕ) (list : List X)
       → me ≡ (both_row lists number list, []) → Allows IsManyLists slots id me 0 (λ n. n) (λ _ next. Meets me next)
   meets_as slots id me lists number list is =
       subst (λ (m : Me (Unit {0}) (Row X)). Allows IsManyLists slots id m 0 (λ n. n) (λ _ next. Meets m next)) (sym is)
-          (meets slots id lists number list)
+      (meets slots id lists number list)
 
   pub closes_as :
       (slots id : ℕ) (me : Me (Unit {0}) (Row X)) (lists : ListMap X) (number : ℕ) (list : List X)
       → me ≡ (both_row lists number list, []) → Allows IsManyLists slots id me 0 (λ n. n) (λ _ next. Closes me next)
   closes_as slots id me lists number list is =
       subst (λ (m : Me (Unit {0}) (Row X)). Allows IsManyLists slots id m 0 (λ n. n) (λ _ next. Closes m next)) (sym is)
-          (closes slots id lists number list)
+      (closes slots id lists number list)
 
   -- what the seats know after each step
-  pub same_row : (rows : List (Row X)) (v w : Row X) → rows ≡ v ∷ [] → rows ≡ w ∷ [] → w ≡ v
-  same_row rows v w is made = let e : w ∷ [] ≡ v ∷ [] = sym made ∙ is in ap (λ xs. head_or v xs) e
-    where
-      head_or : Row X → List (Row X) → Row X
-      head_or u [] = u
-      head_or u (x ∷ xs) = x
-
   pub joined_me :
       (me next : Me (Unit {0}) (Row X)) (lists : ListMap X) (w : Row X) (number : ℕ) (list : List X) → me ≡ (book_row lists, [])
       → w ≡ slip_row number list → next ≡ (joint_row me.0 w, me.1) → next ≡ (both_row lists number list, [])

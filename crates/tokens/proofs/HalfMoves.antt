@@ -3,7 +3,7 @@ use Rattle.std.proofs.Common.{◌≡◌, ◌≢◌, ℕ, List, [], ◌∷◌, �
 use Rattle.atomic_table.specs.Table.{Me, keeps, Allows, Splits, Joins}
 use Rattle.tokens.specs.declared.halves.View.{View}
 use Rattle.tokens.specs.Half.{Begins}
-use Rattle.tokens.specs.OneList.{keeper_view, holder_view, first_view, seen_view, blank_view, joint_view, keeper_part, holder_part, seen_part, longer, Fits, IsOneList, AppendsBoth, Compares}
+use Rattle.tokens.specs.OneList.{keeper_view, holder_view, first_view, seen_view, blank_view, joint_view, keeper_part, holder_part, seen_part, longer_list, Fits, IsOneList, AppendsBoth, Compares}
 use Rattle.std.proofs.lemmas.List.{append-nil}
 use Rattle.tokens.proofs.Places.{AtEach, each_set, each_one, each_end, each_other}
 
@@ -251,19 +251,7 @@ module _ {X : Type 0} where
       subst (λ (m : Me (Unit {0}) (View X)). Allows IsOneList slots id m 0 (λ n. n) (λ n next. Compares m next)) (sym is)
       (compares slots id kept seen)
 
-  -- a badge's view, in the seat that it was made
-  pub same_view : (views : List (View X)) (v w : View X) → views ≡ v ∷ [] → views ≡ w ∷ [] → w ≡ v
-  same_view views v w is made = let e : w ∷ [] ≡ v ∷ [] = sym made ∙ is in ap (λ xs. head_or v xs) e
-    where
-      head_or : View X → List (View X) → View X
-      head_or u [] = u
-      head_or u (x ∷ xs) = x
-
   -- what the seats know after each step
-  pub theirs_is :
-      (views found : List (View X)) (v w : View X) → views ≡ v ∷ [] → found ≡ views → found ≡ w ∷ [] → w ≡ v
-  theirs_is views found v w is same made = same_view views v w is (sym same ∙ made)
-
   pub joined_me :
       (me next : Me (Unit {0}) (View X)) (list : List X) (u w : View X) → me ≡ (keeper_view list, []) → w ≡ u
       → next ≡ (joint_view me.0 w, me.1) → next ≡ (joint_view (keeper_view list) u, [])
@@ -272,4 +260,4 @@ module _ {X : Type 0} where
   pub grown_me : (items : List X) (me next : Me (Unit {0}) (View X)) (kept held : List X) → me ≡ (both_view kept held, [])
       → AppendsBoth items me next → next ≡ (both_view (kept ++ items) (held ++ items), [])
   grown_me items me next kept held is told =
-      told.1 ∙ ap (λ (m : Me (Unit {0}) (View X)). (record { kept = longer items m.0.kept; held = longer items m.0.held; seen = m.0.seen }, [])) is
+      told.1 ∙ ap (λ (m : Me (Unit {0}) (View X)). (record { kept = longer_list items m.0.kept; held = longer_list items m.0.held; seen = m.0.seen }, [])) is

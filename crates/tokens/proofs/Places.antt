@@ -1,5 +1,5 @@
 -- A view at a place of a list that was set or that got one more.
-use Rattle.std.proofs.Common.{◌≡◌, ◌≢◌, ◌⊎◌, ℕ, zero, suc, List, [], ◌∷◌, ◌++◌, length, set, sym, refl, ap, inl, inr, subst, ⊎_elim}
+use Rattle.std.proofs.Common.{◌≡◌, ◌≢◌, ◌⊎◌, ℕ, zero, suc, List, [], ◌∷◌, ◌++◌, length, set, sym, refl, ap, ◌∙◌, inl, inr, subst, ⊎_elim}
 use mathlib.Core.Option.{some, some-ne-none, some-injective}
 use lib.ListN.{get_elem?}
 use Rattle.atomic_table.proofs.Lists.{at_set}
@@ -46,3 +46,13 @@ module _ {A : Type 0} (Fits : ℕ → A → Type 0) where
   each_other views by w other v apart e =
       ⊎_elim (λ (x : (other ≡ by) × (w ≡ v)). absurd (apart x.0))
       (λ (x : (other ≢ by) × (get_elem? views other ≡ some v)). x.1) (at_set views by other w v e)
+
+module _ {A : Type 0} where
+  head_or : A → List A → A
+  head_or u [] = u
+  head_or u (x ∷ xs) = x
+
+  -- a badge's one view, in the seat that was made of it
+  pub same_view : (views : List A) (v w : A) → views ≡ v ∷ [] → views ≡ w ∷ [] → w ≡ v
+  unfolding head_or
+  same_view views v w is made = let e : w ∷ [] ≡ v ∷ [] = sym made ∙ is in ap (head_or v) e

@@ -53,9 +53,9 @@ module _ {X : Type 0} where
   abbrev pub seen_part : View X → View X
   seen_part v = seen_view (unwrap_or v.kept [])
 
-  abbrev pub longer : List X → Option (List X) → Option (List X)
-  longer items None = None
-  longer items (Some list) = Some (list ++ items)
+  abbrev pub longer_list : List X → Option (List X) → Option (List X)
+  longer_list items None = None
+  longer_list items (Some list) = Some (list ++ items)
 
   -- what the rule says of the seat `by` and its view
   pub record Fits (list : List X) (keeper holder by : ℕ) (v : View X) : Type 0 where
@@ -73,7 +73,7 @@ module _ {X : Type 0} where
   abbrev pub AppendsBoth : List X → Me (Unit {0}) (View X) → Me (Unit {0}) (View X) → Type 0
   AppendsBoth items me next =
       (me.0.held ≡ me.0.kept)
-      × (next ≡ (record { kept = longer items me.0.kept; held = longer items me.0.held; seen = me.0.seen }, []))
+      × (next ≡ (record { kept = longer_list items me.0.kept; held = longer_list items me.0.held; seen = me.0.seen }, []))
 
   -- what the seat has seen is a beginning of what it keeps
   abbrev pub Compares : Me (Unit {0}) (View X) → Me (Unit {0}) (View X) → Type 0

@@ -102,9 +102,9 @@ impl<X> Drop for Seen<X> {
 }
 
 // The keeper's seat takes in the view of another.
-struct Joined;
+struct Joining;
 
-impl<X> Join<View<X>> for Joined {
+impl<X> Join<View<X>> for Joining {
     ghost use Rattle.tokens.specs.OneList.{joint_view, blank_view};
 
     ghost both = { joint_view };
@@ -113,9 +113,9 @@ impl<X> Join<View<X>> for Joined {
 }
 
 // The holder's part is cut off.
-struct Halves;
+struct HolderPart;
 
-impl<X> Split<View<X>> for Halves {
+impl<X> Split<View<X>> for HolderPart {
     ghost use Rattle.tokens.specs.OneList.{keeper_part, holder_part};
 
     ghost left = { keeper_part };
@@ -124,9 +124,9 @@ impl<X> Split<View<X>> for Halves {
 }
 
 // What the keeper knows is told to another seat.
-struct Shown;
+struct SeenPart;
 
-impl<X> Split<View<X>> for Shown {
+impl<X> Split<View<X>> for SeenPart {
     ghost use Rattle.tokens.specs.OneList.{keeper_part, seen_part};
 
     ghost left = { keeper_part };
@@ -134,19 +134,19 @@ impl<X> Split<View<X>> for Shown {
     ghost right = { seen_part };
 }
 
-struct Appends<N> {
+struct Appending<N> {
     items: PhantomData<N>,
 }
 
-impl<X, N: Items<X>> Play<(), View<X>> for Appends<N> {
+impl<X, N: Items<X>> Play<(), View<X>> for Appending<N> {
     ghost use Rattle.tokens.specs.OneList.{AppendsBoth};
 
     ghost then = { λ _ me _ next. AppendsBoth N.items me next };
 }
 
-struct Compared;
+struct Comparing;
 
-impl<X> Play<(), View<X>> for Compared {
+impl<X> Play<(), View<X>> for Comparing {
     ghost use Rattle.tokens.specs.OneList.{Compares};
 
     ghost then = { λ _ me _ next. Compares me next };
@@ -158,7 +158,10 @@ pub fn pair<X>(alloc: Global) -> Result<(Kept<X>, Token<X>), OutOfMemory>
     ensures empty { IfOk result (λ p. p.0.list ≡ []) }
 {
     let (table, mut seat) = Table::of_words(alloc, &[0], &())?;
-    let badge = table.shared.split_seat::<Halves>(&mut seat).into_badge();
+    let badge = table
+        .shared
+        .split_seat::<HolderPart>(&mut seat)
+        .into_badge();
     Ok((Kept { table, seat }, Token { badge }))
 }
 
@@ -172,9 +175,9 @@ pub fn grow_by<X, N: Items<X>>(kept: &mut Kept<X>, token: &mut Token<X>)
     let table = &kept.table;
     let shared = &table.shared;
     let badge = mem::replace(&mut token.badge, Badge::blank());
-    shared.join_seat::<Joined>(&mut kept.seat, badge.into_seat());
-    shared.load::<Appends<N>>(&mut kept.seat, 0);
-    token.badge = shared.split_seat::<Halves>(&mut kept.seat).into_badge();
+    shared.join_seat::<Joining>(&mut kept.seat, badge.into_seat());
+    shared.load::<Appending<N>>(&mut kept.seat, 0);
+    token.badge = shared.split_seat::<HolderPart>(&mut kept.seat).into_badge();
 }
 
 /// Learns that the halves are equal.
@@ -216,7 +219,7 @@ pub fn watch<X>(kept: &mut Kept<X>) -> Seen<X>
     let table = &kept.table;
     let badge = table
         .shared
-        .split_seat::<Shown>(&mut kept.seat)
+        .split_seat::<SeenPart>(&mut kept.seat)
         .into_badge();
     Seen { badge }
 }
@@ -231,7 +234,7 @@ pub fn look<X>(kept: &mut Kept<X>, seen: &mut Seen<X>)
     let table = &kept.table;
     let shared = &table.shared;
     let badge = mem::replace(&mut seen.badge, Badge::blank());
-    shared.join_seat::<Joined>(&mut kept.seat, badge.into_seat());
-    shared.load::<Compared>(&mut kept.seat, 0);
-    seen.badge = shared.split_seat::<Shown>(&mut kept.seat).into_badge();
+    shared.join_seat::<Joining>(&mut kept.seat, badge.into_seat());
+    shared.load::<Comparing>(&mut kept.seat, 0);
+    seen.badge = shared.split_seat::<SeenPart>(&mut kept.seat).into_badge();
 }

@@ -98,9 +98,9 @@ impl<X> Drop for Slip<X> {
 }
 
 // The keeper's seat takes in the row of a slip.
-struct Joined;
+struct Joining;
 
-impl<X> Join<Row<X>> for Joined {
+impl<X> Join<Row<X>> for Joining {
     ghost use Rattle.tokens.specs.ManyLists.{joint_row, blank_row};
 
     ghost both = { joint_row };
@@ -109,9 +109,9 @@ impl<X> Join<Row<X>> for Joined {
 }
 
 // The slip's share is cut off.
-struct Shares;
+struct SlipShare;
 
-impl<X> Split<Row<X>> for Shares {
+impl<X> Split<Row<X>> for SlipShare {
     ghost use Rattle.tokens.specs.ManyLists.{keeper_share, slip_share};
 
     ghost left = { keeper_share };
@@ -120,35 +120,35 @@ impl<X> Split<Row<X>> for Shares {
 }
 
 // The number that is stored is opened.
-struct Opened;
+struct Opening;
 
-impl<X> Play<(), Row<X>> for Opened {
+impl<X> Play<(), Row<X>> for Opening {
     ghost use Rattle.tokens.specs.ManyLists.{Opens};
 
     ghost then = { λ st me _ next. Opens st.first me next };
 }
 
-struct Appended<N> {
+struct Appending<N> {
     items: PhantomData<N>,
 }
 
-impl<X, N: Items<X>> Play<(), Row<X>> for Appended<N> {
+impl<X, N: Items<X>> Play<(), Row<X>> for Appending<N> {
     ghost use Rattle.tokens.specs.ManyLists.{Appends};
 
     ghost then = { λ _ me _ next. Appends N.items me next };
 }
 
-struct Met;
+struct Meeting;
 
-impl<X> Play<(), Row<X>> for Met {
+impl<X> Play<(), Row<X>> for Meeting {
     ghost use Rattle.tokens.specs.ManyLists.{Meets};
 
     ghost then = { λ _ me _ next. Meets me next };
 }
 
-struct Ended;
+struct Closing;
 
-impl<X> Play<(), Row<X>> for Ended {
+impl<X> Play<(), Row<X>> for Closing {
     ghost use Rattle.tokens.specs.ManyLists.{Closes};
 
     ghost then = { λ _ me _ next. Closes me next };
@@ -171,8 +171,8 @@ impl<X> Book<X> {
     {
         let table = &self.table;
         let shared = &table.shared;
-        shared.store::<Opened>(&mut self.seat, 0, u64::from(number));
-        let badge = shared.split_seat::<Shares>(&mut self.seat).into_badge();
+        shared.store::<Opening>(&mut self.seat, 0, u64::from(number));
+        let badge = shared.split_seat::<SlipShare>(&mut self.seat).into_badge();
         Slip { number, badge }
     }
 
@@ -187,9 +187,9 @@ impl<X> Book<X> {
         let table = &self.table;
         let shared = &table.shared;
         let badge = mem::replace(&mut slip.badge, Badge::blank());
-        shared.join_seat::<Joined>(&mut self.seat, badge.into_seat());
-        shared.load::<Appended<N>>(&mut self.seat, 0);
-        slip.badge = shared.split_seat::<Shares>(&mut self.seat).into_badge();
+        shared.join_seat::<Joining>(&mut self.seat, badge.into_seat());
+        shared.load::<Appending<N>>(&mut self.seat, 0);
+        slip.badge = shared.split_seat::<SlipShare>(&mut self.seat).into_badge();
     }
 
     /// Appends an item, and learns that the slip's number is open, with just the slip's list.
@@ -223,9 +223,9 @@ impl<X> Book<X> {
         let table = &self.table;
         let shared = &table.shared;
         let badge = mem::replace(&mut slip.badge, Badge::blank());
-        shared.join_seat::<Joined>(&mut self.seat, badge.into_seat());
-        shared.load::<Met>(&mut self.seat, 0);
-        slip.badge = shared.split_seat::<Shares>(&mut self.seat).into_badge();
+        shared.join_seat::<Joining>(&mut self.seat, badge.into_seat());
+        shared.load::<Meeting>(&mut self.seat, 0);
+        slip.badge = shared.split_seat::<SlipShare>(&mut self.seat).into_badge();
     }
 
     /// Closes the slip's number, and learns that it was open, with just the slip's list.
@@ -237,8 +237,8 @@ impl<X> Book<X> {
         let badge = slip.into_badge();
         let table = &self.table;
         let shared = &table.shared;
-        shared.join_seat::<Joined>(&mut self.seat, badge.into_seat());
-        shared.load::<Ended>(&mut self.seat, 0);
+        shared.join_seat::<Joining>(&mut self.seat, badge.into_seat());
+        shared.load::<Closing>(&mut self.seat, 0);
     }
 }
 
