@@ -2,6 +2,7 @@
 --     IsManyLists      one seat keeps all lists, and each other that has a list has that of an open number, which no other has
 --     .._row      what a seat knows
 --     slip_number, slip_list      the number and the list in the row of a badge
+--     IsBook      what a book's seat is
 --     joint_row, keeper_share, slip_share      rows joined, and cut
 --     Opens, Appends, Meets, Closes      what the steps tell
 use Rattle.std.specs.Prelude.{◌≡◌, ℕ, List, [], ◌∷◌, ◌++◌, Option, Some, None}
@@ -10,6 +11,7 @@ use mathlib.Core.Option.{some}
 use lib.ListN.{get_elem?}
 use Rattle.atomic_table.specs.Table.{State, Me}
 use Rattle.tokens.specs.declared.slips.Row.{Row}
+use Rattle.tokens.specs.Half.{Name}
 use Rattle.tokens.specs.Lists.{ListMap}
 
 module _ {X : Type 0} where
@@ -43,6 +45,12 @@ module _ {X : Type 0} where
   abbrev pub lists_in : Option (ListMap X) → ListMap X
   lists_in None = map.empty
   lists_in (Some lists) = lists
+
+  -- the seat of a book: it is at the table, which has one word, and its row is all lists
+  pub record IsBook (table seat : Name) (me : Me (Unit {0}) (Row X)) : Type 0 where
+    pub same : table ≡ seat
+    pub one_word : seat.words ≡ 1
+    pub row : me ≡ (book_row (lists_in me.0.kept), [])
 
   -- the keeper's row with all that another seat knows
   abbrev pub joint_row : Row X → Row X → Row X

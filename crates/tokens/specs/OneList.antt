@@ -1,7 +1,9 @@
 -- The rule of a pair's table, and what each of its steps tells.
 --     IsOneList      there is one list: the keeper and the holder know all of it, the others a beginning
 --     .._view      what the seat of a half knows
+--     kept_list      the list that a view keeps
 --     held_list, seen_list      the list in the view of a badge
+--     IsKeeper      what a Kept's seat is
 --     joint_view, keeper_part, holder_part, seen_part      views joined, and cut
 --     AppendsBoth, Compares      what the steps tell
 use Rattle.std.specs.Prelude.{◌≡◌, ℕ, List, [], ◌∷◌, ◌++◌, Option, Some, None, unwrap_or}
@@ -9,7 +11,7 @@ use mathlib.Core.Option.{some}
 use lib.ListN.{get_elem?}
 use Rattle.atomic_table.specs.Table.{State, Me}
 use Rattle.tokens.specs.declared.halves.View.{View}
-use Rattle.tokens.specs.Half.{Begins}
+use Rattle.tokens.specs.Half.{Name, Begins}
 
 module _ {X : Type 0} where
   abbrev pub keeper_view : List X → View X
@@ -28,6 +30,16 @@ module _ {X : Type 0} where
   -- what a seat knows that was joined to another
   abbrev pub blank_view : View X
   blank_view = record { kept = None; held = None; seen = [] }
+
+  -- the list that a view keeps
+  abbrev pub kept_list : View X → List X
+  kept_list v = unwrap_or v.kept []
+
+  -- the seat of a Kept: it is at the table, which has one word, and its view is all of the list
+  pub record IsKeeper (table seat : Name) (me : Me (Unit {0}) (View X)) : Type 0 where
+    pub same : table ≡ seat
+    pub one_word : seat.words ≡ 1
+    pub view : me ≡ (keeper_view (kept_list me.0), [])
 
   -- the list that the holder knows
   abbrev pub held_list : List (View X) → List X
@@ -51,7 +63,7 @@ module _ {X : Type 0} where
 
   -- what was kept is now seen
   abbrev pub seen_part : View X → View X
-  seen_part v = seen_view (unwrap_or v.kept [])
+  seen_part v = seen_view (kept_list v)
 
   abbrev pub longer_list : List X → Option (List X) → Option (List X)
   longer_list items None = None

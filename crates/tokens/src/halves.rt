@@ -34,15 +34,14 @@ pub struct Kept<X> {
 }
 
 impl<X> Model for Kept<X> {
-    ghost use Rattle.std.specs.Prelude.{◌≡◌, [], unwrap_or};
     ghost use Rattle.tokens.specs.Half.{Half, half};
-    ghost use Rattle.tokens.specs.OneList.{keeper_view};
+    ghost use Rattle.tokens.specs.OneList.{IsKeeper, kept_list};
 
     ghost Value = { Half X };
 
-    ghost view = { λ s. half s.seat.table_id (unwrap_or s.seat.me.0.kept []) };
+    ghost view = { λ s. half s.seat.table_id (kept_list s.seat.me.0) };
 
-    ghost invariant = { λ s. (s.table.shared.table_id ≡ s.seat.table_id) × (s.seat.table_id.words ≡ 1) × (s.seat.me ≡ (keeper_view (unwrap_or s.seat.me.0.kept []), [])) };
+    ghost invariant = { λ s. IsKeeper s.table.shared.table_id s.seat.table_id s.seat.me };
 }
 
 impl<X> Drop for Kept<X> {

@@ -1,7 +1,7 @@
 // Many lists under one name, and a slip for each that is open.
-ghost use Rattle.std.specs.Prelude.{◌≡◌, ◌≢◌, [], ◌∷◌, ◌++◌, Some, None, IfOk};
+ghost use Rattle.std.specs.Prelude.{◌≡◌, [], ◌∷◌, ◌++◌, Some, None, IfOk};
 ghost use Rattle.std.specs.FinMap as map;
-ghost use Rattle.tokens.specs.Lists.{open_list};
+ghost use Rattle.tokens.specs.Lists.{open_list, with_list, without_list};
 
 use crate::items::Items;
 use atomic_table::{Badge, Join, Play, Seat, Split, Table, TableRule};
@@ -51,9 +51,8 @@ pub struct Book<X> {
 }
 
 impl<X> Model for Book<X> {
-    ghost use Rattle.std.specs.Prelude.{◌≡◌, []};
     ghost use Rattle.tokens.specs.Lists.{OpenLists, open_lists, open_lists_code};
-    ghost use Rattle.tokens.specs.ManyLists.{book_row, lists_in};
+    ghost use Rattle.tokens.specs.ManyLists.{IsBook, lists_in};
 
     ghost Value = { OpenLists X };
 
@@ -61,7 +60,7 @@ impl<X> Model for Book<X> {
 
     ghost view = { λ s. open_lists s.seat.table_id (lists_in s.seat.me.0.kept) };
 
-    ghost invariant = { λ s. (s.table.shared.table_id ≡ s.seat.table_id) × (s.seat.table_id.words ≡ 1) × (s.seat.me ≡ (book_row (lists_in s.seat.me.0.kept), [])) };
+    ghost invariant = { λ s. IsBook s.table.shared.table_id s.seat.table_id s.seat.me };
 }
 
 impl<X> Drop for Book<X> {
@@ -166,7 +165,7 @@ impl<X> Book<X> {
     /// Opens a number, with an empty list, and gives its one slip.
     pub fn open(&mut self, number: u32) -> Slip<X>
         requires { map.get self.old.lists number ≡ None }
-        ensures book { self.new ≡ record self.old { lists = map.insert self.old.lists number [] } }
+        ensures book { self.new ≡ with_list self.old number [] }
         ensures slip { result ≡ open_list self.old.name number [] }
     {
         let table = &self.table;
@@ -181,7 +180,7 @@ impl<X> Book<X> {
     pub fn grow_by<N: Items<X>>(&mut self, slip: &mut Slip<X>)
         requires { slip.old.name ≡ self.old.name }
         ensures listed { map.get self.old.lists slip.old.number ≡ Some slip.old.list }
-        ensures book { self.new ≡ record self.old { lists = map.insert self.old.lists slip.old.number (slip.old.list ++ N.items) } }
+        ensures book { self.new ≡ with_list self.old slip.old.number (slip.old.list ++ N.items) }
         ensures slip { slip.new ≡ record slip.old { list = slip.old.list ++ N.items } }
     {
         let table = &self.table;
@@ -196,7 +195,7 @@ impl<X> Book<X> {
     pub fn grow(&mut self, slip: &mut Slip<X>, x: &X)
         requires { slip.old.name ≡ self.old.name }
         ensures listed { map.get self.old.lists slip.old.number ≡ Some slip.old.list }
-        ensures book { self.new ≡ record self.old { lists = map.insert self.old.lists slip.old.number (slip.old.list ++ x.now ∷ []) } }
+        ensures book { self.new ≡ with_list self.old slip.old.number (slip.old.list ++ x.now ∷ []) }
         ensures slip { slip.new ≡ record slip.old { list = slip.old.list ++ x.now ∷ [] } }
     {
         self.grow_with::<Brand>(slip, x);
@@ -206,7 +205,7 @@ impl<X> Book<X> {
         requires name { slip.old.name ≡ self.old.name }
         requires item { N.items ≡ x.now ∷ [] }
         ensures listed { map.get self.old.lists slip.old.number ≡ Some slip.old.list }
-        ensures book { self.new ≡ record self.old { lists = map.insert self.old.lists slip.old.number (slip.old.list ++ x.now ∷ []) } }
+        ensures book { self.new ≡ with_list self.old slip.old.number (slip.old.list ++ x.now ∷ []) }
         ensures slip { slip.new ≡ record slip.old { list = slip.old.list ++ x.now ∷ [] } }
     {
         let _ = x;
@@ -232,7 +231,7 @@ impl<X> Book<X> {
     pub fn close(&mut self, slip: Slip<X>)
         requires { slip.name ≡ self.old.name }
         ensures listed { map.get self.old.lists slip.number ≡ Some slip.list }
-        ensures book { self.new ≡ record self.old { lists = map.remove self.old.lists slip.number } }
+        ensures book { self.new ≡ without_list self.old slip.number }
     {
         let badge = slip.into_badge();
         let table = &self.table;

@@ -4,7 +4,7 @@ ghost use Rattle.std.specs.Prelude.{◌≡◌, [], ◌∷◌, ◌++◌, Some, No
 ghost use Rattle.std.specs.FinMap as map;
 ghost use Rattle.std.specs.List.{last_or};
 ghost use Rattle.tokens.specs.Half.{Begins};
-ghost use Rattle.tokens.specs.Lists.{open_list};
+ghost use Rattle.tokens.specs.Lists.{open_list, with_list};
 
 use crate::{Book, Kept, Seen, Slip, Token, grow, grow_by, look, meet, pair, watch};
 use model::OutOfMemory;
@@ -60,7 +60,11 @@ impl<N: Naming> Model for Board<N> {
 
     ghost view = { λ s. (s.book, s.line) };
 
-    ghost invariant = { λ s. (s.book.name ≡ N.book) × (s.line.name ≡ N.line) × (s.closed ≡ last_or None s.line.list) × ((k : ℕ) → tree.get nat_cmp s.latest k ≡ option_map (last_or None) (map.get s.book.lists k)) };
+    ghost invariant = { λ s.
+        (s.book.name ≡ N.book)
+        × (s.line.name ≡ N.line)
+        × (s.closed ≡ last_or None s.line.list)
+        × ((k : ℕ) → tree.get nat_cmp s.latest k ≡ option_map (last_or None) (map.get s.book.lists k)) };
 }
 
 /// A slip of the run's book.
@@ -133,7 +137,7 @@ impl<N: Naming> Board<N> {
     fn open(&mut self, number: u32) -> Result<Job<N>, OutOfMemory>
         requires { map.get self.old.0.lists number ≡ None }
         ensures job { IfOk result (λ job. job ≡ open_list N.book number []) }
-        ensures book { OnOk result (self.new.0.lists ≡ map.insert self.old.0.lists number []) }
+        ensures book { OnOk result (self.new.0 ≡ with_list self.old.0 number []) }
     {
         self.latest.insert(number, None)?;
         let slip = self.book.open(number);
