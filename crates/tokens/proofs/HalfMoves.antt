@@ -1,10 +1,10 @@
 -- Each step of a pair keeps its rule.
-use Rattle.std.proofs.Common.{◌≡◌, ◌≢◌, ℕ, List, [], ◌∷◌, ◌++◌, length, set, Some, None, refl, sym, ap, ◌∙◌, subst, append_assoc}
+use Rattle.std.proofs.Common.{◌≡◌, ◌≢◌, ℕ, List, [], ◌∷◌, ◌++◌, length, set, Some, None, refl, sym, ap, ◌∙◌, subst}
 use Rattle.atomic_table.specs.Table.{Me, keeps, Allows, Splits, Joins}
 use Rattle.tokens.specs.declared.halves.View.{View}
 use Rattle.tokens.specs.Half.{Begins}
+use Rattle.tokens.specs.HalfLaws.{nothing_begins, same_begins, begins_longer}
 use Rattle.tokens.specs.OneList.{keeper_view, holder_view, first_view, seen_view, blank_view, joint_view, keeper_part, holder_part, seen_part, longer_list, Fits, IsOneList, AppendsBoth, Compares}
-use Rattle.std.proofs.lemmas.List.{append-nil}
 use Rattle.tokens.proofs.Places.{AtEach, each_set, each_one, each_end, each_other}
 
 module _ {X : Type 0} where
@@ -16,26 +16,17 @@ module _ {X : Type 0} where
   abbrev pub looking_view : List X → List X → View X
   looking_view kept seen = record { kept = Some kept; held = None; seen = seen }
 
-  begins_nothing : (list : List X) → Begins [] list
-  begins_nothing list = (list, refl)
-
-  begins_longer : (front list items : List X) → Begins front list → Begins front (list ++ items)
-  begins_longer front list items b = (b.0 ++ items, ap (λ l. l ++ items) b.1 ∙ append_assoc front b.0 items)
-
-  begins_all : (front list : List X) → front ≡ list → Begins front list
-  begins_all front list e = ([], sym e ∙ sym (append-nil front))
-
   none_is_some : (l : List X) → {P : Type 0} → None ≡ Some l → P
   none_is_some l e = absurd (cc)
 
   blank_fits : (list : List X) (keeper holder by : ℕ) → Fits list keeper holder by blank_view
-  blank_fits list keeper holder by = record { kept = λ l e. none_is_some l e; held = λ l e. none_is_some l e; seen = begins_nothing list }
+  blank_fits list keeper holder by = record { kept = λ l e. none_is_some l e; held = λ l e. none_is_some l e; seen = nothing_begins list }
 
   first_fits : (by : ℕ) → by ≡ 0 → Fits {X = X} [] 0 0 by first_view
   first_fits by zero_is = record {
     kept = λ l e. (zero_is, let h : [] ≡ l = cc in sym h);
     held = λ l e. (zero_is, let h : [] ≡ l = cc in sym h);
-    seen = begins_nothing [];
+    seen = nothing_begins [];
   }
 
   -- the table at the start
@@ -67,12 +58,12 @@ module _ {X : Type 0} where
             (record {
               kept = λ l e. mine.kept l e;
               held = λ l e. none_is_some l e;
-              seen = begins_nothing list;
+              seen = nothing_begins list;
             }))
             (record {
               kept = λ l e. none_is_some l e;
               held = λ l e. (refl, (mine.held l e).1);
-              seen = begins_nothing list;
+              seen = nothing_begins list;
             }),
       )
 
@@ -94,12 +85,12 @@ module _ {X : Type 0} where
             (record {
               kept = λ l e. mine.kept l e;
               held = λ l e. none_is_some l e;
-              seen = begins_nothing list;
+              seen = nothing_begins list;
             }))
             (record {
               kept = λ l e. none_is_some l e;
               held = λ l e. none_is_some l e;
-              seen = begins_all kept list ((mine.kept kept refl).1);
+              seen = same_begins kept list ((mine.kept kept refl).1);
             }),
       )
 
@@ -128,7 +119,7 @@ module _ {X : Type 0} where
             (λ _. record {
               kept = λ l is. mine.kept l is;
               held = λ l is. (refl, (theirs.held l is).1);
-              seen = begins_nothing list;
+              seen = nothing_begins list;
             })
             j u e far)
             (blank_fits list keeper id other),
@@ -189,7 +180,7 @@ module _ {X : Type 0} where
               (record {
                 kept = λ l is. (keeps_all.0, (let x : kept ++ items ≡ l = cc in sym x) ∙ ap (λ m. m ++ items) keeps_all.1);
                 held = λ l is. (holds_all.0, (let x : held ++ items ≡ l = cc in sym x) ∙ ap (λ m. m ++ items) holds_all.1);
-                seen = begins_nothing now;
+                seen = nothing_begins now;
               }),
         ),
         (ap (λ m. Some m) (holds_all.1 ∙ sym keeps_all.1), refl),
