@@ -214,6 +214,30 @@ fn work<N: Naming, R: Wait>(
     job
 }
 
+// The same, and then the job is closed.
+fn finish<N: Naming, R: Wait>(
+    rt: &R,
+    board: &Mutex<Board<N>>,
+    job: Job<N>,
+    items: &[u32],
+    mut line: Line<N>,
+) -> (Option<u32>, Line<N>)
+    ensures latest { result.0 ≡ last_or None (job.list ++ items.now) }
+    ensures line { result.1 ≡ line ++ job.number ∷ [] }
+{
+    let job = work(rt, board, job, items);
+    let latest = board.lock(rt).close(&mut line, job);
+    (latest, line)
+}
+
+fn look_often<N: Naming, R: Wait>(rt: &R, board: &Mutex<Board<N>>, past: &mut Past<N>)
+    ensures { Begins past.old past.new }
+{
+    for _ in 0..10 {
+        board.lock(rt).look(past);
+    }
+}
+
 // What the board has of each job at its end, and of the line.
 #[derive(Clone, Copy)]
 struct Ends {
@@ -225,7 +249,7 @@ struct Ends {
 fn share<N: Naming + Send + Sync, R: Threads + Wait + Sync>(
     rt: &R,
     mut board: Board<N>,
-    mut line: Line<N>,
+    line: Line<N>,
     one: &[u32],
     other: &[u32],
 ) -> Result<Ends, OutOfMemory>
@@ -239,22 +263,23 @@ fn share<N: Naming + Send + Sync, R: Threads + Wait + Sync>(
     let second = board.open(701)?;
     let board = Mutex::new(board);
     let shared = &board;
-    let ((first, second), ()) = thread::join(
+    let (((first, line), second), ()) = thread::join(
         rt,
         move ||
-            requires { (first ≡ open_list N.book 700 []) × (second ≡ open_list N.book 701 []) }
+            requires { (first ≡ open_list N.book 700 []) × (second ≡ open_list N.book 701 []) × (line ≡ []) }
         {
             thread::join(
                 rt,
-                move || work(rt, shared, first, one),
+                move || finish(rt, shared, first, one, line),
                 move || work(rt, shared, second, other),
             )
         },
-        move || shared.lock(rt).look(&mut past),
+        move || look_often(rt, shared, &mut past),
     );
     let mut board = board.into_inner();
+    let mut line = line;
     Ok(Ends {
-        first: board.close(&mut line, first),
+        first,
         second: board.close(&mut line, second),
         closed: board.last_closed(&mut line),
     })
