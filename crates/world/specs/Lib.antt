@@ -11,3 +11,8 @@ pub mod FrameLaws
 pub mod AlikeLaws
 pub mod SerialLaws
 pub mod LiveLaws
+pub mod ListingLaws
+pub mod OpenLaws
+pub mod WorkLaws
+pub mod FineLaws
+pub mod WorldLaws

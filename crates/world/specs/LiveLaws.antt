@@ -130,7 +130,7 @@ in_turn_serial schema rows (cs ∷ lists) =
 abbrev pub IsFreeOfAll : Schema → Rows → Cell → List (List Change) → Type 0
 IsFreeOfAll schema rows cell lists = AllByRecursion (λ cs. list_any (overlaps cell) (held_cells schema rows cs) ≡ false) lists
 
-free_past : (schema : Schema) (rows : Rows) → IsValid schema rows → (past : List Change) (cell : Cell) (lists : List (List Change))
+pub free_past : (schema : Schema) (rows : Rows) → IsValid schema rows → (past : List Change) (cell : Cell) (lists : List (List Change))
     → AreApartFrom schema rows past lists → IsFreeOfAll schema rows cell lists → IsFreeOfAll schema (serial schema rows past) cell lists
 free_past schema rows valid past cell [] from all = tt
 free_past schema rows valid past cell (cs ∷ lists) from all = (
