@@ -62,7 +62,7 @@ holds_free schema w fine xid o is other p differs at = fine.apart xid other o p 
 some_is_not_none : {X : Type 0} (x : X) → ¬ (None ≡ Some x)
 some_is_not_none x e = cc
 
-same_some : {X : Type 0} (x y : X) → Some x ≡ Some y → x ≡ y
+pub same_some : {X : Type 0} (x y : X) → Some x ≡ Some y → x ≡ y
 same_some x y e = cc
 
 not_stopped : (schema : Schema) (w : World) → w.stopped ≡ None → StillClashes schema w
@@ -71,7 +71,7 @@ not_stopped schema w running xid c cause is = absurd (some_is_not_none (ByClash 
 -- ---- with another record of one transaction
 
 -- one that is open afterwards is this one, or was open
-put_cases : (m : FinMap nat_cmp Opened) (xid : ℕ) (o : Opened) (other : ℕ) (p : Opened) → get (finite.insert m xid o) other ≡ Some p
+pub put_cases : (m : FinMap nat_cmp Opened) (xid : ℕ) (o : Opened) (other : ℕ) (p : Opened) → get (finite.insert m xid o) other ≡ Some p
     → ((other ≡ xid) × (p ≡ o)) ⊎ ((other ≢ xid) × (get m other ≡ Some p))
 put_cases m xid o other p at =
     elim (xid_cases other xid) [
@@ -380,7 +380,7 @@ fine_stopped schema w fine waiter holder = record {
     other_stop : (xid : ℕ) (c : Alteration) (cause : Conflict) → ¬ (Some (ByHold waiter holder) ≡ Some (ByClash xid c cause))
     other_stop xid c cause e = cc
 
-refused_stays : (w new : World) (fault : Fault) → IsRefused w fault new → new ≡ w
+pub refused_stays : (w new : World) (fault : Fault) → IsRefused w fault new → new ≡ w
 refused_stays w new AlreadyOpen refused = absurd refused
 refused_stays w new TooManyOpen refused = absurd refused
 refused_stays w new Stopped refused = refused.1

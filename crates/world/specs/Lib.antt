@@ -1,6 +1,7 @@
 pub mod World
 pub mod Settled
 pub mod Live
+pub mod Cut
 pub mod Steps
 pub mod Contents
 pub mod SharingLaws
@@ -16,3 +17,6 @@ pub mod OpenLaws
 pub mod WorkLaws
 pub mod FineLaws
 pub mod WorldLaws
+pub mod KeptLaws
+pub mod LawsOfCalls
+pub mod CallLaws

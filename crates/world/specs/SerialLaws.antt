@@ -2,11 +2,11 @@
 --     leaves_free_cell, leaves_cells      changes leave the cells that they don't hold
 --     alike_after_all, same_held, same_inverses, same_accepted      where rows are the same in what changes hold, the changes do the same
 --     same_past, held_past, inverses_past, accepted_past      so they do past changes that share no cell with them
---     either_first      two lists that share no cell come in either order
+--     either_first, changes_commute      two lists that share no cell come in either order
 --     undone_past      changes are undone past others that share no cell with them, and the others' stay
 --     held_append, accepted_append      one list after another
 use Rattle.std.specs.Prelude.{◌≡◌, Bool, false, List, [], ◌∷◌, ◌++◌, refl}
-use Rattle.std.proofs.Common.{sym, ◌∙◌, ap, subst, inl, inr, append_assoc}
+use Rattle.std.proofs.Common.{sym, ◌∙◌, ap, subst, inl, inr, append_assoc, append-nil}
 use Rattle.std.specs.List.{list_any, AllByRecursion}
 use Rattle.std.specs.FinMap.{get}
 use Rattle.std.proofs.lemmas.List.Folds.{list_any-append}
@@ -143,6 +143,27 @@ either_first schema rows valid cs others apart = same_rows _ _ (λ p.
       | inl free ↦ row_left schema rows valid cs others apart p free
       | inr free ↦ sym (row_left schema rows valid others cs (shares_either_way (held_cells schema rows cs) (held_cells schema rows others) apart) p free)
     ])
+
+pub lists_keep_theirs : (schema : Schema) (rows : Rows) → IsValid schema rows → (cs others : List Change)
+    → shares_cell (held_cells schema rows cs) (held_cells schema rows others) ≡ false
+    → (held_cells schema rows cs ≡ held_cells schema (serial schema rows others) cs) × (inverses schema rows cs ≡ inverses schema (serial schema rows others) cs)
+lists_keep_theirs schema rows valid cs others apart = (held_past schema rows valid cs others apart, inverses_past schema rows valid cs others apart)
+
+-- two changes
+pub changes_commute : (schema : Schema) (rows : Rows) → IsValid schema rows → (c other : Change)
+    → shares_cell (footprint schema rows c) (footprint schema rows other) ≡ false
+    → (effect schema (effect schema rows c) other ≡ effect schema (effect schema rows other) c)
+      × (outcome schema (effect schema rows other) c ≡ outcome schema rows c)
+      × (footprint schema (effect schema rows other) c ≡ footprint schema rows c)
+changes_commute schema rows valid c other apart =
+    let one : (d : Change) → held_cells schema rows (d ∷ []) ≡ footprint schema rows d = λ d. append-nil (footprint schema rows d) in
+    let lists : shares_cell (held_cells schema rows (c ∷ [])) (held_cells schema rows (other ∷ [])) ≡ false =
+        ap (λ cells. shares_cell cells (held_cells schema rows (other ∷ []))) (one c) ∙ ap (shares_cell (footprint schema rows c)) (one other) ∙ apart in
+    let alike : AreSame schema rows (effect schema rows other) (footprint schema rows c) =
+        each_of_first (SameAt schema rows (effect schema rows other)) (footprint schema rows c) [] (same_past schema rows valid (c ∷ []) (other ∷ []) lists) in
+    (either_first schema rows valid (c ∷ []) (other ∷ []) lists,
+     sym (same_outcome schema rows (effect schema rows other) valid (effect_valid schema rows other valid) c alike),
+     sym (same_footprint schema rows (effect schema rows other) c alike))
 
 -- changes are undone past others that share no cell with them
 pub undone_past : (schema : Schema) (rows : Rows) → IsValid schema rows → (cs others : List Change)

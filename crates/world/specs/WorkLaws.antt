@@ -2,14 +2,17 @@
 --     survivors_with, changes_of_both      the survivors of items with one more; the changes among two lists
 --     work_with_change, work_with_touch      a change is its last; what changes no row leaves it
 --     work_before      a rollback leaves a beginning of it
---     top_cuts_nothing, cut_is      which one
+--     rollback_cuts, top_cuts_nothing      which one, and that to the top transaction it is all of it
 use Rattle.std.specs.Prelude.{◌≡◌, ◌≢◌, ℕ, ◌==◌, Bool, true, false, cond, List, [], ◌∷◌, ◌++◌, take, drop, take_while, not, if◌then◌else◌, refl}
-use Rattle.std.proofs.Common.{sym, ◌∙◌, ap, subst, append_assoc, append-nil, eq-eqb}
-use Rattle.std.specs.List.{prefix_len}
-use Rattle.std.proofs.lemmas.List.{take-append-drop}
+use Rattle.std.proofs.Common.{true≢false, inl, inr, sym, ◌∙◌, ap, subst, append_assoc, append-nil, eq-eqb}
+use Rattle.std.specs.List.{list_any}
+use Rattle.std.proofs.lemmas.Bool.{cases_Bool}
+use Rattle.std.proofs.lemmas.List.Sums.{take_while-cons}
 use Rattle.model.specs.declared.change.Change.{Change as Alteration}
 use Rattle.model.specs.declared.item.Item.{Item}
 use Rattle.model.specs.declared.item.Item.TheVariants.{Change, Touch, BackTo, Last}
+use Rattle.world.specs.Cut.{IsCut}
+use Rattle.world.specs.SharingLaws.{neither, number_is}
 use Rattle.model.specs.Survivors.{is_of, before_savepoint, after_item, surviving, survivors, changes_of}
 
 surviving_with : (top : ℕ) (kept items : List Item) (item : Item) → surviving top kept (items ++ item ∷ []) ≡ after_item top (surviving top kept items) item
@@ -40,14 +43,49 @@ work_with_touch top sub items =
 
 -- ---- a rollback
 
--- the items before the first that names the subtransaction are a beginning
-beginning : (sub : ℕ) (items : List Item) → (rest : List Item) × (items ≡ before_savepoint sub items ++ rest)
-beginning sub items =
-    (drop (prefix_len (λ i. not (is_of sub i)) items) items, sym (take-append-drop (prefix_len (λ i. not (is_of sub i)) items) items))
+-- before the first item that names the subtransaction
+before_step : (sub : ℕ) (item : Item) (items : List Item) (b : Bool) → is_of sub item ≡ b
+    → before_savepoint sub (item ∷ items) ≡ cond (not b) (item ∷ before_savepoint sub items) []
+before_step sub item items b e =
+    take_while-cons (λ i. not (is_of sub i)) item items ∙ ap (λ b. cond (not b) (item ∷ before_savepoint sub items) []) e
+
+with_first : (sub : ℕ) (item : Item) (items kept rest : List Item) → is_of sub item ≡ false → IsCut sub items kept rest → IsCut sub (item ∷ items) (item ∷ kept) rest
+with_first sub item items kept rest other cut = record {
+  both = ap (λ more. item ∷ more) cut.both;
+  unnamed = neither _ _ other cut.unnamed;
+  starts = cut.starts;
+}
+
+pub cut_before : (sub : ℕ) (items : List Item) → (rest : List Item) × IsCut sub items (before_savepoint sub items) rest
+cut_before sub [] = ([], record { both = refl; unnamed = refl; starts = tt })
+cut_before sub (item ∷ items) =
+    elim (cases_Bool (is_of sub item)) [
+      | inl named ↦
+          (item ∷ items, subst (λ kept. IsCut sub (item ∷ items) kept (item ∷ items)) (sym (before_step sub item items true named))
+          (record { both = refl; unnamed = refl; starts = named }))
+      | inr other ↦
+          let rest = cut_before sub items in
+          (rest.0, subst (λ kept. IsCut sub (item ∷ items) kept rest.0) (sym (before_step sub item items false other))
+          (with_first sub item items (before_savepoint sub items) rest.0 other rest.1))
+    ]
+
+-- a rollback of a subtransaction cuts the survivors so
+pub rollback_cuts : (top sub : ℕ) (items : List Item) → sub ≢ top
+    → (rest : List Item) × IsCut sub (survivors top items) (survivors top (items ++ BackTo sub ∷ [])) rest
+rollback_cuts top sub items differs =
+    let cut = cut_before sub (survivors top items) in
+    let kept : survivors top (items ++ BackTo sub ∷ []) ≡ before_savepoint sub (survivors top items) =
+        survivors_with top items (BackTo sub)
+        ∙ ap (λ b. if b then survivors top items else before_savepoint sub (survivors top items)) (not_top (sub == top) refl) in
+    (cut.0, subst (λ k. IsCut sub (survivors top items) k cut.0) (sym kept) cut.1)
+  where
+    not_top : (b : Bool) → (sub == top) ≡ b → (sub == top) ≡ false
+    not_top true e = absurd (differs (number_is sub top e))
+    not_top false e = e
 
 cut_beginning : (top sub : ℕ) (items : List Item) (b : Bool) → (rest : List Item) × (items ≡ (if b then items else before_savepoint sub items) ++ rest)
 cut_beginning top sub items true = ([], sym (append-nil items))
-cut_beginning top sub items false = beginning sub items
+cut_beginning top sub items false = let cut = cut_before sub items in (cut.0, cut.1.both)
 
 pub survivors_before : (top sub : ℕ) (items : List Item) → (rest : List Item) × (survivors top items ≡ survivors top (items ++ BackTo sub ∷ []) ++ rest)
 survivors_before top sub items =

@@ -262,8 +262,8 @@ module _ (schema : Schema) (w : World) (fine : IsFine schema w) (rows : Rows) (l
     live_committed info fine_after =
         live_by schema (committed_with schema w xid o info) fine_after rows (entries (finite.remove w.opened xid)) same (live_is schema w fine xid o is rows live)
 
-    -- and the others' inverses
-    pub inverses_stay : (other : ℕ) (p : Opened) → other ≢ xid → get w.opened other ≡ Some p
-        → inverses schema w.committed (work other p) ≡ inverses schema (own_rows schema w xid o) (work other p)
-    inverses_stay other p differs at =
-        inverses_past schema w.committed (committed_valid schema w fine) (work other p) (work xid o) (fine.apart other xid p o differs at is)
+-- and the others' inverses
+pub inverses_stay : (schema : Schema) (w : World) → IsFine schema w → (xid : ℕ) (o : Opened) → get w.opened xid ≡ Some o → (other : ℕ) (p : Opened) → other ≢ xid
+    → get w.opened other ≡ Some p → inverses schema w.committed (work other p) ≡ inverses schema (own_rows schema w xid o) (work other p)
+inverses_stay schema w fine xid o is other p differs at =
+    inverses_past schema w.committed (committed_valid schema w fine) (work other p) (work xid o) (fine.apart other xid p o differs at is)
