@@ -1,22 +1,21 @@
--- The laws of calls, proved from what every reached world keeps. Each has the statement of its name in `LawsOfCalls`.
-use Rattle.std.specs.Prelude.{◌≡◌, ◌≢◌, ℕ, List, [], ◌∷◌, ◌++◌, Option, Some, None, Result, Ok, Err, refl}
-use Rattle.std.proofs.Common.{sym, ◌∙◌, ap, subst}
-use Rattle.std.specs.FinMap as finite
+-- The laws of calls, proved from what every reached world keeps. Each has the statement of its name in `Laws`.
+use Rattle.std.specs.Prelude.{◌≡◌, ℕ, List, [], ◌∷◌, ◌++◌, Some, None, Ok, Err, refl}
+use Rattle.std.proofs.Common.{sym, ◌∙◌, ap, subst, append-nil}
 use Rattle.std.specs.FinMap.{get, entries}
-use Rattle.model.specs.declared.change.Change.{Change as Alteration}
 use Rattle.model.specs.declared.item.Item.TheVariants.{Change, Touch, BackTo}
-use Rattle.model.specs.declared.item.CommitInfo.{CommitInfo}
-use Rattle.model.specs.Rows.{Rows, Schema, IsValid}
-use Rattle.model.specs.Effect.{serial, inverses, undone, effect, Skip, Clashes, outcome}
+use Rattle.model.specs.Rows.{Rows, Schema}
+use Rattle.model.specs.Effect.{serial, inverses, undone, effect}
 use Rattle.model.specs.EffectLaws.{effect_skipped}
-use Rattle.world.specs.World.{Opened, Stop, ByClash, World, starting, work, changes_in, own_rows, holds}
-use Rattle.world.specs.Live.{Reordered, same, under, swapped, through, IsListing, IsLive}
-use Rattle.world.specs.Steps.{Fault, AlreadyOpen, TooManyOpen, Stopped, OutOfMemory, Acted, IsDone, IsSkipped, Held, Clashed, opened_with, done_with, wanting, aborted_with, committed_with, Opens, IsRefused, Acts, Touches, GoesBack, Aborts, Commits, StopsHeld, Step, opens, acts, touches, goes_back, commits, aborts, stops_held, tells_stop, reads_live, reads_committed, reads_after, tells_journal, closes, watches, looks, Reaches, at_start, by_step}
+use Rattle.world.specs.World.{Opened, Past, ByClash, ByHold, World, starting, work, changes_in, own_rows, holds}
+use Rattle.world.specs.Live.{Reordered, same, under, swapped, through, IsLive}
+use Rattle.world.specs.Steps.{AlreadyOpen, TooManyOpen, Stopped, OutOfMemory, IsDone, IsSkipped, Held, Clashed, opened_with, done_with, wanting, aborted_with, committed_with, GoesBack, Step, opens, acts, touches, goes_back, commits, aborts, stops_held, tells_stop, reads_live, reads_committed, reads_after, tells_journal, closes, watches, looks, Reaches, at_start, by_step}
 use Rattle.world.specs.ListingLaws.{got_same, gone_other}
-use Rattle.world.specs.WorkLaws.{work_before}
+use Rattle.model.specs.SerialLaws.{held_append, inverses_append}
+use Rattle.model.specs.SurvivorLaws.{work_with_change, work_before}
+use Rattle.model.specs.Footprint.{footprint, held_cells}
 use Rattle.world.specs.FineLaws.{IsFine, fine_reached, fine_step, refused_stays, same_some, holds_stay}
 use Rattle.world.specs.WorldLaws.{one_live, live_valid, live_accepted, live_alone, footprint_live, outcome_live, inverse_live, live_opened, live_acted, live_touched, live_wanting, live_cut, live_aborted, live_committed, inverses_stay}
-use Rattle.world.specs.LawsOfCalls.{IsReached, SeesNoOthers, ListedInAnyOrder, OneLiveState, LiveIsValid, NoLiveChangeClashes, CommittedIsSerial, AloneIsSerial, NotedClashStands, FootprintOnLive, OutcomeOnLive, LiveAfterOpen, LiveAfterDone, LiveAfterSkip, LiveAfterHeld, LiveAfterClash, LiveAfterTouch, LiveAfterRollback, RollbackLeavesBeginning, LiveAfterAbort, LiveAfterCommit, CommitMovesNoHolds}
+use Rattle.world.specs.Laws.{IsReached, SeesNoOthers, ListedInAnyOrder, OneLiveState, LiveIsValid, NoLiveChangeClashes, CommittedIsSerial, AloneIsSerial, NotedClashStands, FootprintOnLive, OutcomeOnLive, LiveAfterOpen, LiveAfterDone, LiveAfterSkip, LiveAfterHeld, LiveAfterClash, LiveAfterTouch, LiveAfterRollback, RollbackLeavesBeginning, DoneComesLast, RollbackKeepsTheRest, LineGrows, LiveAfterAbort, LiveAfterCommit, CommitMovesNoHolds}
 
 -- ---- listings and views
 
@@ -95,9 +94,10 @@ pub footprint_on_live : FootprintOnLive
 footprint_on_live schema start w reached rows live xid o is = footprint_live schema w (fine schema start w reached) xid o is rows live
 
 pub outcome_on_live : OutcomeOnLive
-outcome_on_live schema start w reached rows live xid o is c free =
-    (outcome_live schema w (fine schema start w reached) xid o is rows live c free,
-     inverse_live schema w (fine schema start w reached) xid o is rows live c free)
+outcome_on_live schema start w reached rows live xid o is c free = (
+  outcome_live schema w (fine schema start w reached) xid o is rows live c free,
+  inverse_live schema w (fine schema start w reached) xid o is rows live c free,
+)
 
 -- ---- the live rows after each call
 
@@ -163,6 +163,36 @@ rollback_leaves_beginning w new xid o after sub h at =
     let cut = work_before xid sub o.items in
     (cut.0, cut.1 ∙ ap (λ (r : Opened). work xid r ++ cut.0) (sym (after_back w new xid o after sub h at)))
 
+-- ---- what it holds, and what takes its changes back
+
+pub done_comes_last : DoneComesLast
+done_comes_last schema w new xid o after sub c h at =
+    let next : Opened = record { items = o.items ++ Change sub c ∷ []; wants = None } in
+    let is : after ≡ next = same_some after next (sym at ∙ ap (λ (v : World). get v.opened xid) h ∙ got_same w.opened xid next) in
+    let work_is : work xid after ≡ work xid o ++ c ∷ [] = ap (work xid) is ∙ work_with_change xid sub o.items c in (
+      work_is,
+      ap (λ (v : World). held_cells schema v.committed (work xid after)) h
+          ∙ ap (held_cells schema w.committed) work_is
+          ∙ held_append schema w.committed (work xid o) (c ∷ [])
+          ∙ ap (λ cells. holds schema w xid o ++ cells) (append-nil (footprint schema (own_rows schema w xid o) c)),
+      ap (λ (v : World). inverses schema v.committed (work xid after)) h
+          ∙ ap (inverses schema w.committed) work_is
+          ∙ inverses_append schema w.committed (work xid o) (c ∷ []),
+    )
+
+pub rollback_keeps_the_rest : RollbackKeepsTheRest
+rollback_keeps_the_rest schema w new xid o after sub h at gone was =
+    let committed : w.committed ≡ new.committed = sym (ap (λ (v : World). v.committed) h) in (
+      ap (λ (r : Rows). held_cells schema r (work xid o)) committed
+          ∙ ap (held_cells schema new.committed) was
+          ∙ held_append schema new.committed (work xid after) gone,
+      ap (λ (r : Rows). inverses schema r (work xid o)) committed
+          ∙ ap (inverses schema new.committed) was
+          ∙ inverses_append schema new.committed (work xid after) gone,
+    )
+
+-- ---- the live rows after the other calls
+
 pub live_after_rollback : LiveAfterRollback
 live_after_rollback schema start w new reached rows live xid o next is sub h at gone was =
     let cut : Opened = record { items = o.items ++ BackTo sub ∷ []; wants = None } in
@@ -187,7 +217,44 @@ live_after_commit schema start w new reached rows live xid o is info h =
 
 pub commit_moves_no_holds : CommitMovesNoHolds
 commit_moves_no_holds schema start w new reached xid o is info h other p differs at =
-    let next = committed_with schema w xid o info in
-    (ap (λ (v : World). get v.opened other) h ∙ gone_other w.opened xid other differs ∙ at,
-     ap (λ (v : World). holds schema v other p) h ∙ sym (holds_stay schema w (fine schema start w reached) xid o info is other p differs at),
-     ap (λ (v : World). inverses schema v.committed (work other p)) h ∙ sym (inverses_stay schema w (fine schema start w reached) xid o is other p differs at))
+    let next = committed_with schema w xid o info in (
+      ap (λ (v : World). get v.opened other) h ∙ gone_other w.opened xid other differs ∙ at,
+      ap (λ (v : World). holds schema v other p) h ∙ sym (holds_stay schema w (fine schema start w reached) xid o info is other p differs at),
+      ap (λ (v : World). inverses schema v.committed (work other p)) h ∙ sym (inverses_stay schema w (fine schema start w reached) xid o is other p differs at),
+    )
+
+-- ---- the line
+
+stays : (w new : World) → new ≡ w → (more : List Past) × (new.line ≡ w.line ++ more)
+stays w new is = ([], ap (λ (v : World). v.line) is ∙ sym (append-nil w.line))
+
+same_line : (w new next : World) → new ≡ next → next.line ≡ w.line → (more : List Past) × (new.line ≡ w.line ++ more)
+same_line w new next is line = ([], ap (λ (v : World). v.line) is ∙ line ∙ sym (append-nil w.line))
+
+pub line_grows : LineGrows
+line_grows schema w _ (opens xid (Ok u) new h) = same_line w new (opened_with w xid) h.3 refl
+line_grows schema w _ (opens xid (Err AlreadyOpen) new h) = stays w new h.2
+line_grows schema w _ (opens xid (Err TooManyOpen) new h) = stays w new h.3
+line_grows schema w _ (opens xid (Err Stopped) new h) = stays w new h.1
+line_grows schema w _ (opens xid (Err OutOfMemory) new h) = stays w new h.3
+line_grows schema w _ (acts xid o sub c (Ok IsDone) new is h) = same_line w new (done_with w xid o (Change sub c)) h.3 refl
+line_grows schema w _ (acts xid o sub c (Ok IsSkipped) new is h) = same_line w new (done_with w xid o (Change sub c)) h.3 refl
+line_grows schema w _ (acts xid o sub c (Ok (Held holder)) new is h) = same_line w new (wanting w xid o sub c) h.2 refl
+line_grows schema w _ (acts xid o sub c (Ok (Clashed cause)) new is h) =
+    same_line w new (record (wanting w xid o sub c) { stopped = Some (ByClash xid c cause) }) h.3 refl
+line_grows schema w _ (acts xid o sub c (Err fault) new is h) = stays w new (refused_stays w new fault h)
+line_grows schema w _ (touches xid o sub (Ok u) new is h) = same_line w new (done_with w xid o (Touch sub)) h.1 refl
+line_grows schema w _ (touches xid o sub (Err fault) new is h) = stays w new (refused_stays w new fault h)
+line_grows schema w _ (goes_back xid o sub new is h) = same_line w new (done_with w xid o (BackTo sub)) h refl
+line_grows schema w _ (commits xid o info new is h) = (record { xid = xid; items = o.items; info = info } ∷ [], ap (λ (v : World). v.line) h)
+line_grows schema w _ (aborts xid o new is h) = same_line w new (aborted_with w xid) h refl
+line_grows schema w _ (stops_held sent waiter (Some holder) new h) = same_line w new (record w { stopped = Some (ByHold waiter holder) }) h.1 refl
+line_grows schema w _ (stops_held sent waiter None new h) = stays w new h.1
+line_grows schema w _ (tells_stop answer h) = stays w w refl
+line_grows schema w _ (reads_live place answer h) = stays w w refl
+line_grows schema w _ (reads_committed place answer h) = stays w w refl
+line_grows schema w _ (reads_after table count answer h) = stays w w refl
+line_grows schema w _ (tells_journal answer h) = stays w w refl
+line_grows schema w _ (closes rows entries h) = stays w w refl
+line_grows schema w _ (watches seen h) = stays w w refl
+line_grows schema w _ (looks seen now h) = stays w w refl

@@ -2,32 +2,31 @@
 --     IsFine      valid start; the commits are serial; no two open transactions share a cell; no change clashes; what clashed does so still
 --     fine_start, fine_step, fine_reached      the world before the first call is fine, and calls keep it so
 --     committed_valid, own_valid      the committed rows, and each view, are valid
-use Rattle.std.specs.Prelude.{◌≡◌, ◌≢◌, ℕ, Bool, true, false, List, [], ◌∷◌, ◌++◌, Option, Some, None, IsSome, Result, Ok, Err, flat_map, refl, ◌⊎◌}
+use Rattle.std.specs.Prelude.{◌≡◌, ◌≢◌, ℕ, false, List, [], ◌∷◌, ◌++◌, Option, Some, None, Ok, Err, refl, ◌⊎◌}
 use Rattle.std.proofs.Common.{sym, ◌∙◌, ap, subst, inl, inr, append-nil}
-use Rattle.std.specs.List.{list_any, AllByRecursion}
+use Rattle.std.specs.List.{list_any}
 use Rattle.std.specs.Ordering.{nat_cmp}
 use Rattle.std.specs.FinMap as finite
 use Rattle.std.specs.FinMap.{FinMap, get, get-empty}
 use Rattle.std.proofs.lemmas.Grind.{flat_map-append}
 use Rattle.model.specs.declared.change.Change.{Change as Alteration}
 use Rattle.model.specs.declared.cell.Cell.{Cell}
-use Rattle.model.specs.declared.item.Item.{Item}
 use Rattle.model.specs.declared.item.Item.TheVariants.{Change, Touch, BackTo}
 use Rattle.model.specs.declared.item.CommitInfo.{CommitInfo}
 use Rattle.model.specs.Rows.{Rows, Schema, IsValid}
-use Rattle.model.specs.Effect.{Conflict, Edits, Done, Skip, Clashes, Outcome, outcome, effect, serial}
+use Rattle.model.specs.Effect.{Conflict, Edits, Done, Skip, Clashes, Outcome, outcome, serial}
 use Rattle.model.specs.EffectLaws.{serial_valid, serial_append}
 use Rattle.model.specs.Cells.{overlaps}
 use Rattle.model.specs.Footprint.{footprint, held_cells, shares_cell}
-use Rattle.world.specs.World.{Opened, Past, Stop, ByClash, ByHold, World, starting, work, work_behind, changes_in, own_rows, holds, IsHeldBy, IsFree}
-use Rattle.world.specs.Contents.{SameAt, AreSame}
-use Rattle.world.specs.Live.{AreAccepted}
-use Rattle.world.specs.Steps.{Fault, AlreadyOpen, TooManyOpen, Stopped, OutOfMemory, Acted, IsDone, IsSkipped, Held, Clashed, done_with, wanting, opened_with, committed_with, aborted_with, Opens, IsRefused, Acts, Touches, StopsHeld, Step, opens, acts, touches, goes_back, commits, aborts, stops_held, tells_stop, reads_live, reads_committed, reads_after, tells_journal, closes, watches, looks, Reaches, at_start, by_step}
-use Rattle.world.specs.SharingLaws.{neither_first, neither, shares_append, shares_either_way, apart_from_first, apart_append, free_of_each}
-use Rattle.world.specs.AlikeLaws.{same_footprint, same_outcome}
-use Rattle.world.specs.SerialLaws.{each_so, held_past, accepted_past, cell_past, held_append, accepted_append, accepted_first}
+use Rattle.world.specs.World.{Opened, Stop, ByClash, ByHold, World, starting, work, work_behind, changes_in, own_rows, holds, IsFree}
+use Rattle.model.specs.CellContents.{SameAt, AreSame}
+use Rattle.model.specs.Accepted.{AreAccepted}
+use Rattle.world.specs.Steps.{Fault, AlreadyOpen, TooManyOpen, Stopped, OutOfMemory, IsDone, IsSkipped, Held, Clashed, done_with, wanting, opened_with, committed_with, aborted_with, IsRefused, Step, opens, acts, touches, goes_back, commits, aborts, stops_held, tells_stop, reads_live, reads_committed, reads_after, tells_journal, closes, watches, looks, Reaches, at_start, by_step}
+use Rattle.model.specs.OverlapLaws.{neither, shares_append, shares_either_way, apart_from_first, free_of_each}
+use Rattle.model.specs.AlikeLaws.{same_footprint, same_outcome}
+use Rattle.model.specs.SerialLaws.{each_so, held_past, accepted_past, cell_past, held_append, accepted_append, accepted_first}
 use Rattle.world.specs.ListingLaws.{xid_cases, got_same, got_other, gone_same, gone_other}
-use Rattle.world.specs.WorkLaws.{work_with_change, work_with_touch, work_before}
+use Rattle.model.specs.SurvivorLaws.{work_with_change, work_with_touch, work_before}
 
 -- the change clashes on the transaction's own view, and meets no cell of another
 abbrev pub IsClashing : Schema → World → ℕ → Opened → Alteration → Conflict → Type 0

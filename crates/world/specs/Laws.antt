@@ -1,117 +1,184 @@
--- The laws of cells and changes, each as one statement. `src/laws.rt` names them, so that the check proves them.
-use Rattle.std.specs.Prelude.{◌≡◌, ◌≢◌, ℕ, Bool, true, false, List, [], ◌∷◌, ◌++◌, Some}
-use Rattle.std.specs.List.{list_any}
-use Rattle.std.specs.FinMap.{get}
-use Rattle.model.specs.declared.key.Key.{Key}
-use Rattle.model.specs.declared.row.Row.{Row as Record}
-use Rattle.model.specs.declared.change.Change.{Change}
-use Rattle.model.specs.declared.change.Change.TheVariants.{Set}
-use Rattle.model.specs.declared.change.ColumnPatch.{ColumnPatch}
-use Rattle.model.specs.declared.cell.Cell.{Cell}
-use Rattle.model.specs.declared.cell.Cell.TheVariants.{Uniq}
-use Rattle.model.specs.declared.item.Item.{Item}
-use Rattle.model.specs.declared.item.Item.TheVariants.{BackTo}
-use Rattle.model.specs.Rows.{Rows, Schema, values_in, IsValid}
-use Rattle.model.specs.Effect.{patched, outcome, effect, inverse, serial, inverses, undone}
-use Rattle.model.specs.Cells.{overlaps}
-use Rattle.model.specs.Footprint.{looked_up, footprint, held_cells, shares_cell}
-use Rattle.model.specs.Survivors.{survivors}
-use Rattle.world.specs.Contents.{unique_key, SameAt, AreSame}
-use Rattle.world.specs.Cut.{IsCut}
+-- The laws of worlds and calls, each as one statement. `src/laws.rt` names them, so that the check proves them.
+use Rattle.std.specs.Prelude.{◌≡◌, ◌≢◌, ℕ, List, [], ◌∷◌, ◌++◌, Some, Result, Ok, flat_map}
+use Rattle.std.specs.FinMap as finite
+use Rattle.std.specs.FinMap.{get, entries}
+use Rattle.model.specs.declared.change.Change.{Change as Alteration}
+use Rattle.model.specs.declared.item.Item.TheVariants.{Change}
+use Rattle.model.specs.declared.item.CommitInfo.{CommitInfo}
+use Rattle.model.specs.Rows.{Rows, Schema, IsValid}
+use Rattle.model.specs.Effect.{Conflict, Clashes, outcome, effect, inverse, serial, inverses, undone}
+use Rattle.model.specs.Footprint.{looked_up, footprint, held_cells}
+use Rattle.world.specs.World.{Opened, Past, ByClash, World, OpenOnes, starting, work, changes_in, own_rows, holds, IsFree}
+use Rattle.model.specs.Accepted.{AreAccepted}
+use Rattle.world.specs.Live.{IsListing, works, live_rows, IsLive}
+use Rattle.world.specs.Steps.{IsDone, IsSkipped, Held, Clashed, Fault, Opens, Acts, Touches, GoesBack, Commits, Aborts, done_with, Step, Reaches}
 
--- ---- cells
+-- Calls lead to the world from these rows, which are valid.
+abbrev pub IsReached : Schema → Rows → World → Type 0
+IsReached schema start w = IsValid schema start × Reaches schema (starting start) w
 
--- cells overlap either way
-abbrev pub OverlapsEitherWay : Type 0
-OverlapsEitherWay = (cell other : Cell) → overlaps cell other ≡ overlaps other cell
+-- ---- listings and views
 
--- a footprint depends on the looked-up row alone
-abbrev pub FootprintByLookedUp : Type 0
-FootprintByLookedUp =
-    (schema : Schema) (rows others : Rows) (c : Change) → AreSame schema rows others (looked_up c) → footprint schema rows c ≡ footprint schema others c
+-- an open transaction sees the same whatever others are open
+abbrev pub SeesNoOthers : Type 0
+SeesNoOthers = (schema : Schema) (w : World) (opened : OpenOnes) (xid : ℕ) (o : Opened) → own_rows schema (record w { opened = opened }) xid o ≡ own_rows schema w xid o
 
--- whoever holds a cell of the looked-up row holds one of the footprint
-abbrev pub LookedUpIsInFootprint : Type 0
-LookedUpIsInFootprint =
-    (schema : Schema) (rows : Rows) (c : Change) (cells : List Cell) → shares_cell (looked_up c) cells ≡ true
-    → shares_cell (footprint schema rows c) cells ≡ true
+-- the open transactions can be listed, and two neighbours of a listing can change places
+abbrev pub ListedInAnyOrder : Type 0
+ListedInAnyOrder =
+    (w : World) → IsListing w (entries w.opened)
+    × ((listing more : List (ℕ × Opened)) (t other : ℕ × Opened) → IsListing w (listing ++ t ∷ other ∷ more) → IsListing w (listing ++ other ∷ t ∷ more))
 
--- a unique value that an update keeps is not in its footprint
-abbrev pub KeptValueIsFree : Type 0
-KeptValueIsFree =
-    (schema : Schema) (rows : Rows) (table : ℕ) (key : Key) (patch : List ColumnPatch) (old : Record) (number : ℕ) (columns : List ℕ) (values : Key)
-    → get rows (table, key) ≡ Some old → unique_key schema table number ≡ Some columns → values_in columns old ≡ Some values
-    → values_in columns (patched patch old) ≡ Some values
-    → list_any (overlaps (Uniq table number values)) (footprint schema rows (Set table key patch)) ≡ false
+-- ---- every world that is reached
 
--- ---- one change
+-- every listing gives the same live rows
+abbrev pub OneLiveState : Type 0
+OneLiveState =
+    (schema : Schema) (start : Rows) (w : World) → IsReached schema start w → (listing other : List (ℕ × Opened)) → IsListing w listing → IsListing w other
+    → live_rows schema w listing ≡ live_rows schema w other
 
--- a change leaves each cell that none of its footprint overlaps
-abbrev pub LeavesOtherCells : Type 0
-LeavesOtherCells =
-    (schema : Schema) (rows : Rows) (c : Change) (cell : Cell) → list_any (overlaps cell) (footprint schema rows c) ≡ false
-    → SameAt schema rows (effect schema rows c) cell
+-- they are valid
+abbrev pub LiveIsValid : Type 0
+LiveIsValid = (schema : Schema) (start : Rows) (w : World) → IsReached schema start w → (rows : Rows) → IsLive schema w rows → IsValid schema rows
 
--- where valid rows are the same in its footprint, its outcome is the same
-abbrev pub SameOutcome : Type 0
-SameOutcome =
-    (schema : Schema) (rows others : Rows) → IsValid schema rows → IsValid schema others → (c : Change)
-    → AreSame schema rows others (footprint schema rows c) → outcome schema rows c ≡ outcome schema others c
+-- no change clashes on the way to them
+abbrev pub NoLiveChangeClashes : Type 0
+NoLiveChangeClashes =
+    (schema : Schema) (start : Rows) (w : World) → IsReached schema start w → (listing : List (ℕ × Opened)) → IsListing w listing
+    → AreAccepted schema w.committed (flat_map (λ (cs : List Alteration). cs) (works listing))
 
--- and its inverse
-abbrev pub SameInverse : Type 0
-SameInverse =
-    (schema : Schema) (rows others : Rows) → IsValid schema rows → IsValid schema others → (c : Change)
-    → AreSame schema rows others (footprint schema rows c) → inverse schema rows c ≡ inverse schema others c
+-- the committed rows are the commits' changes, one after another in commit order
+abbrev pub CommittedIsSerial : Type 0
+CommittedIsSerial =
+    (schema : Schema) (start : Rows) (w : World) → IsReached schema start w
+    → (w.start ≡ start) × (w.committed ≡ serial schema start (changes_in w.line))
 
--- and what else was the same before it is the same after it
-abbrev pub SameStays : Type 0
-SameStays =
-    (schema : Schema) (rows others : Rows) → IsValid schema rows → IsValid schema others → (c : Change)
-    → AreSame schema rows others (footprint schema rows c) → (cell : Cell) → SameAt schema rows others cell
-    → SameAt schema (effect schema rows c) (effect schema others c) cell
+-- with no transaction open the live rows are these
+abbrev pub AloneIsSerial : Type 0
+AloneIsSerial =
+    (schema : Schema) (start : Rows) (w : World) → IsReached schema start w → w.opened ≡ finite.empty → (rows : Rows) → IsLive schema w rows
+    → (rows ≡ w.committed) × (rows ≡ serial schema start (changes_in w.line))
 
--- ---- two changes, and two lists of them
+-- what clashed and was noted clashes still, and meets no cell of another, while its transaction wants it
+abbrev pub NotedClashStands : Type 0
+NotedClashStands =
+    (schema : Schema) (start : Rows) (w : World) → IsReached schema start w → (xid : ℕ) (c : Alteration) (cause : Conflict) → w.stopped ≡ Some (ByClash xid c cause)
+    → (o : Opened) (sub : ℕ) → get w.opened xid ≡ Some o → o.wants ≡ Some (sub, c)
+    → IsFree schema w xid (footprint schema (own_rows schema w xid o) c) × (outcome schema (own_rows schema w xid o) c ≡ Clashes cause)
 
--- two changes that share no cell come in either order, and neither changes what comes of the other
-abbrev pub ChangesCommute : Type 0
-ChangesCommute =
-    (schema : Schema) (rows : Rows) → IsValid schema rows → (c other : Change)
-    → shares_cell (footprint schema rows c) (footprint schema rows other) ≡ false
-    → (effect schema (effect schema rows c) other ≡ effect schema (effect schema rows other) c)
-      × (outcome schema (effect schema rows other) c ≡ outcome schema rows c)
-      × (footprint schema (effect schema rows other) c ≡ footprint schema rows c)
+-- ---- a change on the live rows
 
--- so do lists of them
-abbrev pub ListsCommute : Type 0
-ListsCommute =
-    (schema : Schema) (rows : Rows) → IsValid schema rows → (cs others : List Change)
-    → shares_cell (held_cells schema rows cs) (held_cells schema rows others) ≡ false
-    → serial schema (serial schema rows cs) others ≡ serial schema (serial schema rows others) cs
+-- where the looked-up row is free of others, its footprint there is that on its transaction's view
+abbrev pub FootprintOnLive : Type 0
+FootprintOnLive =
+    (schema : Schema) (start : Rows) (w : World) → IsReached schema start w → (rows : Rows) → IsLive schema w rows
+    → (xid : ℕ) (o : Opened) → get w.opened xid ≡ Some o → (c : Alteration) → IsFree schema w xid (looked_up c)
+    → footprint schema rows c ≡ footprint schema (own_rows schema w xid o) c
 
--- what a list holds and what takes it back don't move past one that shares no cell with it
-abbrev pub ListsKeepTheirs : Type 0
-ListsKeepTheirs =
-    (schema : Schema) (rows : Rows) → IsValid schema rows → (cs others : List Change)
-    → shares_cell (held_cells schema rows cs) (held_cells schema rows others) ≡ false
-    → (held_cells schema rows cs ≡ held_cells schema (serial schema rows others) cs)
-      × (inverses schema rows cs ≡ inverses schema (serial schema rows others) cs)
+-- where all of its footprint is free, so are its outcome and its inverse
+abbrev pub OutcomeOnLive : Type 0
+OutcomeOnLive =
+    (schema : Schema) (start : Rows) (w : World) → IsReached schema start w → (rows : Rows) → IsLive schema w rows
+    → (xid : ℕ) (o : Opened) → get w.opened xid ≡ Some o → (c : Alteration) → IsFree schema w xid (footprint schema (own_rows schema w xid o) c)
+    → (outcome schema rows c ≡ outcome schema (own_rows schema w xid o) c)
+    × (inverse schema rows c ≡ inverse schema (own_rows schema w xid o) c)
 
--- the inverses of changes, put back past others that share no cell with them, give the rows before them with the others
-abbrev pub UndonePastOthers : Type 0
-UndonePastOthers =
-    (schema : Schema) (rows : Rows) → IsValid schema rows → (cs others : List Change)
-    → shares_cell (held_cells schema rows cs) (held_cells schema rows others) ≡ false
-    → undone (serial schema (serial schema rows cs) others) (inverses schema rows cs) ≡ serial schema rows others
+-- ---- what a transaction holds, and what takes its changes back, after each call
 
--- ---- rollbacks
+-- one more change: its footprint and its inverse come last
+abbrev pub DoneComesLast : Type 0
+DoneComesLast =
+    (schema : Schema) (w new : World) (xid : ℕ) (o after : Opened) (sub : ℕ) (c : Alteration) → new ≡ done_with w xid o (Change sub c) → get new.opened xid ≡ Some after
+    → (work xid after ≡ work xid o ++ c ∷ [])
+    × (holds schema new xid after ≡ holds schema w xid o ++ footprint schema (own_rows schema w xid o) c)
+    × (inverses schema new.committed (work xid after) ≡ inverses schema w.committed (work xid o) ++ inverse schema (own_rows schema w xid o) c ∷ [])
 
--- a rollback of a subtransaction cuts the survivors before their first item that names it
-abbrev pub RollbackCuts : Type 0
-RollbackCuts =
-    (top sub : ℕ) (items : List Item) → sub ≢ top
-    → (rest : List Item) × IsCut sub (survivors top items) (survivors top (items ++ BackTo sub ∷ [])) rest
+-- a rollback leaves a beginning of its changes
+abbrev pub RollbackLeavesBeginning : Type 0
+RollbackLeavesBeginning =
+    (w new : World) (xid : ℕ) (o after : Opened) (sub : ℕ) → GoesBack w xid o sub new → get new.opened xid ≡ Some after
+    → (gone : List Alteration) × (work xid o ≡ work xid after ++ gone)
 
--- one to the top transaction cuts nothing
-abbrev pub TopCutsNothing : Type 0
-TopCutsNothing = (top : ℕ) (items : List Item) → survivors top (items ++ BackTo top ∷ []) ≡ survivors top items
+-- and with it beginnings of what it holds and of what takes them back
+abbrev pub RollbackKeepsTheRest : Type 0
+RollbackKeepsTheRest =
+    (schema : Schema) (w new : World) (xid : ℕ) (o after : Opened) (sub : ℕ) → GoesBack w xid o sub new → get new.opened xid ≡ Some after
+    → (gone : List Alteration) → work xid o ≡ work xid after ++ gone
+    → (holds schema w xid o ≡ holds schema new xid after ++ held_cells schema (own_rows schema new xid after) gone)
+    × (inverses schema w.committed (work xid o)
+    ≡ inverses schema new.committed (work xid after) ++ inverses schema (own_rows schema new xid after) gone)
+
+-- ---- the live rows after each call
+
+abbrev pub LiveAfterOpen : Type 0
+LiveAfterOpen =
+    (schema : Schema) (start : Rows) (w new : World) → IsReached schema start w → (rows : Rows) → IsLive schema w rows
+    → (xid : ℕ) (answer : Result (Unit {0}) Fault) → Opens w xid answer new → IsLive schema new rows
+
+-- a change that is done has its effect on them; else they stay
+abbrev pub LiveAfterDone : Type 0
+LiveAfterDone =
+    (schema : Schema) (start : Rows) (w new : World) → IsReached schema start w → (rows : Rows) → IsLive schema w rows
+    → (xid : ℕ) (o : Opened) → get w.opened xid ≡ Some o → (sub : ℕ) (c : Alteration) → Acts schema w xid o sub c (Ok IsDone) new
+    → IsLive schema new (effect schema rows c)
+
+abbrev pub LiveAfterSkip : Type 0
+LiveAfterSkip =
+    (schema : Schema) (start : Rows) (w new : World) → IsReached schema start w → (rows : Rows) → IsLive schema w rows
+    → (xid : ℕ) (o : Opened) → get w.opened xid ≡ Some o → (sub : ℕ) (c : Alteration) → Acts schema w xid o sub c (Ok IsSkipped) new
+    → IsLive schema new rows
+
+abbrev pub LiveAfterHeld : Type 0
+LiveAfterHeld =
+    (schema : Schema) (start : Rows) (w new : World) → IsReached schema start w → (rows : Rows) → IsLive schema w rows
+    → (xid : ℕ) (o : Opened) → get w.opened xid ≡ Some o → (sub : ℕ) (c : Alteration) (holder : ℕ) → Acts schema w xid o sub c (Ok (Held holder)) new
+    → IsLive schema new rows
+
+abbrev pub LiveAfterClash : Type 0
+LiveAfterClash =
+    (schema : Schema) (start : Rows) (w new : World) → IsReached schema start w → (rows : Rows) → IsLive schema w rows
+    → (xid : ℕ) (o : Opened) → get w.opened xid ≡ Some o → (sub : ℕ) (c : Alteration) (cause : Conflict) → Acts schema w xid o sub c (Ok (Clashed cause)) new
+    → IsLive schema new rows
+
+abbrev pub LiveAfterTouch : Type 0
+LiveAfterTouch =
+    (schema : Schema) (start : Rows) (w new : World) → IsReached schema start w → (rows : Rows) → IsLive schema w rows
+    → (xid : ℕ) (o : Opened) → get w.opened xid ≡ Some o → (sub : ℕ) (answer : Result (Unit {0}) Fault) → Touches w xid o sub answer new
+    → IsLive schema new rows
+
+-- a rollback drops the last of the transaction's changes; their inverses, put back past all that others did, give the live rows
+abbrev pub LiveAfterRollback : Type 0
+LiveAfterRollback =
+    (schema : Schema) (start : Rows) (w new : World) → IsReached schema start w → (rows : Rows) → IsLive schema w rows
+    → (xid : ℕ) (o after : Opened) → get w.opened xid ≡ Some o → (sub : ℕ) → GoesBack w xid o sub new → get new.opened xid ≡ Some after
+    → (gone : List Alteration) → work xid o ≡ work xid after ++ gone
+    → IsLive schema new (undone rows (inverses schema (own_rows schema new xid after) gone))
+
+-- an abort takes the transaction's changes back, and leaves the others'
+abbrev pub LiveAfterAbort : Type 0
+LiveAfterAbort =
+    (schema : Schema) (start : Rows) (w new : World) → IsReached schema start w → (rows : Rows) → IsLive schema w rows
+    → (xid : ℕ) (o : Opened) → get w.opened xid ≡ Some o → Aborts w xid new
+    → IsLive schema new (undone rows (inverses schema w.committed (work xid o)))
+
+-- a commit leaves the live rows
+abbrev pub LiveAfterCommit : Type 0
+LiveAfterCommit =
+    (schema : Schema) (start : Rows) (w new : World) → IsReached schema start w → (rows : Rows) → IsLive schema w rows
+    → (xid : ℕ) (o : Opened) → get w.opened xid ≡ Some o → (info : CommitInfo) → Commits schema w xid o info new
+    → IsLive schema new rows
+
+-- and it moves nobody's holds, nor what takes their changes back
+abbrev pub CommitMovesNoHolds : Type 0
+CommitMovesNoHolds =
+    (schema : Schema) (start : Rows) (w new : World) → IsReached schema start w
+    → (xid : ℕ) (o : Opened) → get w.opened xid ≡ Some o → (info : CommitInfo) → Commits schema w xid o info new
+    → (other : ℕ) (p : Opened) → other ≢ xid → get w.opened other ≡ Some p
+    → (get new.opened other ≡ Some p) × (holds schema new other p ≡ holds schema w other p)
+    × (inverses schema new.committed (work other p) ≡ inverses schema w.committed (work other p))
+
+-- ---- the line
+
+-- no call takes a commit away
+abbrev pub LineGrows : Type 0
+LineGrows = (schema : Schema) (w new : World) → Step schema w new → (more : List Past) × (new.line ≡ w.line ++ more)

@@ -2,22 +2,21 @@
 --     alone_as_live      in the cells that no other holds, its own view and the live rows are the same
 --     outcome_on_live, footprint_on_live, inverse_on_live      a change that meets no other's cell does there what it does on its own view
 --     still_apart, acted, cut_back      its changes with one more, and with the last of them undone
-use Rattle.std.specs.Prelude.{◌≡◌, Bool, false, List, [], ◌∷◌, ◌++◌, refl}
+use Rattle.std.specs.Prelude.{◌≡◌, false, List, [], ◌∷◌, ◌++◌}
 use Rattle.std.proofs.Common.{sym, ◌∙◌, ap, subst}
-use Rattle.std.specs.List.{list_any, AllByRecursion}
+use Rattle.std.specs.List.{AllByRecursion}
 use Rattle.model.specs.declared.change.Change.{Change}
 use Rattle.model.specs.declared.cell.Cell.{Cell}
 use Rattle.model.specs.Rows.{Rows, Schema, IsValid}
-use Rattle.model.specs.Effect.{outcome, effect, inverse, serial, inverses, undone}
+use Rattle.model.specs.Effect.{outcome, inverse, serial, inverses, undone}
 use Rattle.model.specs.EffectLaws.{serial_valid, serial_append, undone_serial}
-use Rattle.model.specs.Cells.{overlaps}
 use Rattle.model.specs.Footprint.{footprint, held_cells, shares_cell}
-use Rattle.world.specs.Contents.{SameAt, AreSame}
+use Rattle.model.specs.CellContents.{SameAt, AreSame}
 use Rattle.world.specs.Live.{in_turn}
-use Rattle.world.specs.SharingLaws.{neither_first, neither_second, neither, shares_append}
-use Rattle.world.specs.FrameLaws.{Each}
-use Rattle.world.specs.AlikeLaws.{same_footprint, same_outcome, same_inverse}
-use Rattle.world.specs.SerialLaws.{each_so, same_inverses, held_append}
+use Rattle.model.specs.OverlapLaws.{neither_first, neither_second, neither, shares_append}
+use Rattle.model.specs.FrameLaws.{Each}
+use Rattle.model.specs.AlikeLaws.{same_footprint, same_outcome, same_inverse}
+use Rattle.model.specs.SerialLaws.{each_so, same_inverses, held_append}
 use Rattle.world.specs.LiveLaws.{AreApartFrom, ArePairwiseApart, IsFreeOfAll, pairwise_past, free_past, first_or_last, in_turn_valid, leaves_in_turn}
 
 -- these cells are free of all lists

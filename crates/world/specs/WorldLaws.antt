@@ -4,31 +4,31 @@
 --     footprint_live, outcome_live, inverse_live      a change that meets no other's cell does on the live rows what it does on its own view
 --     live_opened, live_acted, live_touched, live_wanting, live_cut, live_aborted, live_committed      the live rows after each call
 --     live_alone      with no transaction open they are the committed rows
-use Rattle.std.specs.Prelude.{◌≡◌, ◌≢◌, ℕ, Bool, false, List, [], ◌∷◌, ◌++◌, map, Option, Some, None, flat_map, length, refl, ◌⊎◌}
+use Rattle.std.specs.Prelude.{◌≡◌, ◌≢◌, ℕ, List, [], ◌∷◌, ◌++◌, Option, Some, None, flat_map, length, refl}
 use Rattle.std.proofs.Common.{sym, ◌∙◌, ap, subst, inl, inr, append-nil, arith}
-use Rattle.std.specs.List.{list_any, AllByRecursion}
+use Rattle.std.specs.List.{AllByRecursion}
 use Rattle.std.specs.Ordering.{nat_cmp}
 use Rattle.std.specs.FinMap as finite
-use Rattle.std.specs.FinMap.{FinMap, get, entries, get-empty}
+use Rattle.std.specs.FinMap.{FinMap, get, entries}
 use Rattle.model.specs.declared.change.Change.{Change as Alteration}
 use Rattle.model.specs.declared.cell.Cell.{Cell}
-use Rattle.model.specs.declared.item.Item.{Item}
 use Rattle.model.specs.declared.item.Item.TheVariants.{Change, Touch, BackTo}
 use Rattle.model.specs.declared.item.CommitInfo.{CommitInfo}
 use Rattle.model.specs.Rows.{Rows, Schema, IsValid}
-use Rattle.model.specs.Effect.{Conflict, Clashes, outcome, effect, inverse, serial, inverses, undone}
-use Rattle.model.specs.Footprint.{looked_up, footprint, held_cells, shares_cell}
+use Rattle.model.specs.Effect.{outcome, effect, inverse, serial, inverses, undone}
+use Rattle.model.specs.Footprint.{looked_up, footprint}
 use Rattle.world.specs.World.{Opened, Stop, World, work, own_rows, holds, IsFree}
-use Rattle.world.specs.Contents.{AreSame}
-use Rattle.world.specs.Live.{in_turn, Reordered, same, under, swapped, through, IsListing, works, live_rows, IsLive, AreAccepted}
+use Rattle.model.specs.CellContents.{AreSame}
+use Rattle.model.specs.Accepted.{AreAccepted}
+use Rattle.world.specs.Live.{in_turn, Reordered, same, under, swapped, through, IsListing, works, live_rows, IsLive}
 use Rattle.world.specs.Steps.{opened_with, done_with, wanting, committed_with, aborted_with}
-use Rattle.world.specs.AlikeLaws.{footprint_by_looked_up}
-use Rattle.world.specs.SerialLaws.{inverses_past}
+use Rattle.model.specs.AlikeLaws.{footprint_by_looked_up}
+use Rattle.model.specs.SerialLaws.{inverses_past}
 use Rattle.world.specs.LiveLaws.{AreApartFrom, ArePairwiseApart, reordered_pairwise, any_order, in_turn_valid, in_turn_accepted}
-use Rattle.world.specs.ListingLaws.{got_same, gone_same, gone_other, removed_again, none_removed, reordered_back, reordered_map, listed_with, listed_first, KeysDiffer, keys_differ, each_found, xid_cases}
-use Rattle.world.specs.OpenLaws.{AreFreeOfAll, alone_as_live_each, outcome_on_live, footprint_on_live, inverse_on_live, live_with_more, still_apart, cut_back}
-use Rattle.world.specs.WorkLaws.{work_with_change, work_with_touch}
-use Rattle.world.specs.FineLaws.{IsFine, committed_valid, own_valid, holds_free, fine_put, holds_stay}
+use Rattle.world.specs.ListingLaws.{got_same, gone_same, gone_other, removed_again, reordered_back, reordered_map, listed_with, listed_first, KeysDiffer, keys_differ, each_found, xid_cases}
+use Rattle.world.specs.OpenLaws.{AreFreeOfAll, alone_as_live_each, outcome_on_live, inverse_on_live, live_with_more, still_apart, cut_back}
+use Rattle.model.specs.SurvivorLaws.{work_with_change, work_with_touch}
+use Rattle.world.specs.FineLaws.{IsFine, committed_valid, holds_free}
 
 -- ---- the open ones, of which no two share a cell
 

@@ -1,5 +1,0 @@
-use Rattle.world.specs.CallLaws.{alone_is_serial}
-use Rattle.world.proofs.laws_of_calls.alone_is_serial.Goals as goal
-
-pub returns : goal.returns
-returns c = alone_is_serial

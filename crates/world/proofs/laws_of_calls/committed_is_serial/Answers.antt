@@ -1,5 +1,0 @@
-use Rattle.world.specs.CallLaws.{committed_is_serial}
-use Rattle.world.proofs.laws_of_calls.committed_is_serial.Goals as goal
-
-pub returns : goal.returns
-returns c = committed_is_serial

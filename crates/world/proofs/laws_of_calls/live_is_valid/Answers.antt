@@ -1,5 +1,0 @@
-use Rattle.world.specs.CallLaws.{live_is_valid}
-use Rattle.world.proofs.laws_of_calls.live_is_valid.Goals as goal
-
-pub returns : goal.returns
-returns c = live_is_valid

@@ -1,5 +1,0 @@
-use Rattle.world.specs.CallLaws.{no_live_change_clashes}
-use Rattle.world.proofs.laws_of_calls.no_live_change_clashes.Goals as goal
-
-pub returns : goal.returns
-returns c = no_live_change_clashes

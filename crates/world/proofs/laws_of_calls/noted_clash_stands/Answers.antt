@@ -1,5 +1,0 @@
-use Rattle.world.specs.CallLaws.{noted_clash_stands}
-use Rattle.world.proofs.laws_of_calls.noted_clash_stands.Goals as goal
-
-pub returns : goal.returns
-returns c = noted_clash_stands

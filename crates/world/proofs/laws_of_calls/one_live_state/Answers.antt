@@ -1,5 +1,0 @@
-use Rattle.world.specs.CallLaws.{one_live_state}
-use Rattle.world.proofs.laws_of_calls.one_live_state.Goals as goal
-
-pub returns : goal.returns
-returns c = one_live_state

@@ -1,5 +1,0 @@
-use Rattle.world.specs.CallLaws.{outcome_on_live}
-use Rattle.world.proofs.laws_of_calls.outcome_on_live.Goals as goal
-
-pub returns : goal.returns
-returns c = outcome_on_live

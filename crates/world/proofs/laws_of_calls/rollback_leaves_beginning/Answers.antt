@@ -1,5 +1,0 @@
-use Rattle.world.specs.CallLaws.{rollback_leaves_beginning}
-use Rattle.world.proofs.laws_of_calls.rollback_leaves_beginning.Goals as goal
-
-pub returns : goal.returns
-returns c = rollback_leaves_beginning

@@ -1,5 +1,0 @@
-use Rattle.world.specs.CallLaws.{sees_no_others}
-use Rattle.world.proofs.laws_of_calls.sees_no_others.Goals as goal
-
-pub returns : goal.returns
-returns c = sees_no_others
