@@ -1,5 +1,6 @@
 -- Which cells a change looks up or alters.
 --     footprint      those of a change, on the rows that it meets
+--     looked_up      the cell of the row that a change looks up
 --     held_cells      those of changes, one after another, each on the rows that those before it leave
 --     shares_cell      two lists of cells in which one overlaps another
 use Rattle.std.specs.Prelude.{ℕ, suc, Bool, false, List, [], ◌∷◌, ◌++◌, map, Option, Some, None, if◌then◌else◌}
@@ -53,6 +54,13 @@ footprint schema rows (Put table row) = cells_of schema table row
 footprint schema rows (Set table key patch) = Row table key ∷ replaced_cells schema table key patch (get rows (table, key))
 footprint schema rows (Remove table key) = Row table key ∷ removed_cells schema table (get rows (table, key))
 footprint schema rows (Wipe tables) = map Whole tables
+
+-- The cell of the row that a change looks up before all else: the rest of its footprint depends on this row alone.
+abbrev pub looked_up : Change → List Cell
+looked_up (Put table row) = []
+looked_up (Set table key patch) = Row table key ∷ []
+looked_up (Remove table key) = Row table key ∷ []
+looked_up (Wipe tables) = []
 
 -- the cells of changes that are made one after another
 abbrev pub held_cells : Schema → Rows → List Change → List Cell

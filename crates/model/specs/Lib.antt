@@ -15,4 +15,16 @@ pub mod EffectLaws
 pub mod Laws
 pub mod Cells
 pub mod Footprint
+pub mod CellContents
 pub mod Survivors
+pub mod Cut
+pub mod Accepted
+pub mod OverlapLaws
+pub mod TakenBesideLaws
+pub mod OutcomeLaws
+pub mod FrameLaws
+pub mod AlikeLaws
+pub mod FootprintLaws
+pub mod SerialLaws
+pub mod SurvivorLaws
+pub mod LawsOfCells

@@ -1,6 +1,6 @@
 -- Which items of a transaction survive its rollbacks.
 use Rattle.std.specs.Prelude.{ℕ, ◌==◌, Bool, false, List, [], ◌∷◌, ◌++◌, not, take_while, if◌then◌else◌}
-use Rattle.model.specs.declared.change.Change.{Change as Alteration}
+use Rattle.model.specs.declared.change.Change as change_type
 use Rattle.model.specs.declared.item.Item.{Item}
 use Rattle.model.specs.declared.item.Item.TheVariants.{Change, Touch, BackTo, Last}
 
@@ -32,7 +32,7 @@ abbrev pub survivors : ℕ → List Item → List Item
 survivors top items = surviving top [] items
 
 -- the changes among items
-abbrev pub changes_of : List Item → List Alteration
+abbrev pub changes_of : List Item → List change_type.Change
 changes_of [] = []
 changes_of (Change sub c ∷ items) = c ∷ changes_of items
 changes_of (Touch sub ∷ items) = changes_of items

@@ -14,6 +14,7 @@
 //   specs/Effect         what a change does, and what takes it back
 //   specs/Cells          cells, and those that a row fills
 //   specs/Footprint      the cells that a change looks up or alters
+//   specs/CellContents   when two states of the rows have the same in a cell
 //   specs/Survivors      the items of a transaction that survive its rollbacks
 //
 // The laws of these words are lemmas of `specs/` too, where the layers above can cite them:
@@ -23,12 +24,17 @@
 //   specs/TakenLaws      values are taken exactly where a row has them
 //   specs/ValidLaws      what keeps rows valid
 //   specs/EffectLaws     the effects and inverses of the four changes
-//   specs/Laws           the main ones as statements, which `laws` promises
+//   specs/FrameLaws      a change leaves each cell outside its footprint
+//   specs/AlikeLaws      where rows are the same in its footprint, it does the same
+//   specs/SerialLaws     lists of changes that share no cell come in any order
+//   specs/SurvivorLaws   what one more item does to the changes that survive
+//   specs/Laws, LawsOfCells   the main ones as statements, which `laws`, `laws_of_cells` promise
 pub mod cell;
 pub mod change;
 pub mod item;
 pub mod key;
 pub mod laws;
+pub mod laws_of_cells;
 pub mod memory;
 pub mod row;
 pub mod table_def;

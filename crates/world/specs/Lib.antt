@@ -2,12 +2,10 @@ pub mod World
 pub mod Settled
 pub mod Live
 pub mod Steps
-pub mod Contents
-pub mod SharingLaws
 pub mod Laws
-pub mod TakenBesideLaws
-pub mod ShapeLaws
-pub mod FrameLaws
-pub mod AlikeLaws
-pub mod SerialLaws
 pub mod LiveLaws
+pub mod ListingLaws
+pub mod OpenLaws
+pub mod FineLaws
+pub mod WorldLaws
+pub mod CallLaws

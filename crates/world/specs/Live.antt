@@ -2,12 +2,11 @@
 --     in_turn      the rows after lists of changes, one list after the other
 --     Reordered, IsListing      the same items in some order; the open transactions in some order
 --     live_rows, IsLive      the committed rows, and then each open transaction's work; the same for every order of them
---     AreAccepted      no change of these clashes, each on the rows that those before it leave
-use Rattle.std.specs.Prelude.{◌≡◌, ◌≢◌, ℕ, List, [], ◌∷◌, map, flat_map}
+use Rattle.std.specs.Prelude.{◌≡◌, ℕ, List, [], ◌∷◌, map}
 use Rattle.std.specs.FinMap.{entries}
 use Rattle.model.specs.declared.change.Change.{Change}
 use Rattle.model.specs.Rows.{Rows, Schema}
-use Rattle.model.specs.Effect.{ClashCause, Clashes, outcome, effect, serial}
+use Rattle.model.specs.Effect.{serial}
 use Rattle.world.specs.World.{Opened, World, work}
 
 -- the rows after lists of changes, one list after the other
@@ -37,8 +36,3 @@ live_rows schema w listing = in_turn schema w.committed (works listing)
 -- These are the live rows, whatever the order in which the open transactions are taken.
 abbrev pub IsLive : Schema → World → Rows → Type 0
 IsLive schema w rows = (listing : List (ℕ × Opened)) → IsListing w listing → rows ≡ live_rows schema w listing
-
--- No change of these clashes, each on the rows that those before it leave.
-abbrev pub AreAccepted : Schema → Rows → List Change → Type 0
-AreAccepted schema rows [] = Unit {0}
-AreAccepted schema rows (c ∷ cs) = ((cause : ClashCause) → outcome schema rows c ≢ Clashes cause) × AreAccepted schema (effect schema rows c) cs

@@ -4,21 +4,22 @@
 --     first_or_last      the first list may as well come last
 --     in_turn_valid, in_turn_accepted      the rows stay valid, and no change clashes
 --     leaves_in_turn      they leave the cells that none of them holds
-use Rattle.std.specs.Prelude.{◌≡◌, Bool, false, List, [], ◌∷◌, ◌++◌, flat_map, refl}
-use Rattle.std.proofs.Common.{sym, ◌∙◌, ap, subst}
+use Rattle.std.specs.Prelude.{◌≡◌, false, List, [], ◌∷◌, flat_map, refl}
+use Rattle.std.proofs.Common.{sym, ◌∙◌, ap}
 use Rattle.std.specs.List.{list_any, AllByRecursion}
 use Rattle.model.specs.declared.change.Change.{Change}
 use Rattle.model.specs.declared.cell.Cell.{Cell}
 use Rattle.model.specs.Rows.{Rows, Schema, IsValid}
-use Rattle.model.specs.Effect.{serial, inverses, all_back}
-use Rattle.model.specs.EffectLaws.{serial_valid, serial_append, all_back_serial}
+use Rattle.model.specs.Effect.{serial}
+use Rattle.model.specs.EffectLaws.{serial_valid, serial_append}
 use Rattle.model.specs.Cells.{overlaps}
 use Rattle.model.specs.Footprint.{held_cells, shares_cell}
-use Rattle.world.specs.Contents.{SameAt, AreSame}
-use Rattle.world.specs.Live.{in_turn, Reordered, same, under, swapped, through, AreAccepted}
-use Rattle.world.specs.SharingLaws.{shares_either_way}
-use Rattle.world.specs.FrameLaws.{same_at_itself, same_through}
-use Rattle.world.specs.SerialLaws.{leaves_free_cell, held_past, accepted_past, either_first, accepted_append}
+use Rattle.model.specs.CellContents.{SameAt}
+use Rattle.model.specs.Accepted.{AreAccepted}
+use Rattle.world.specs.Live.{in_turn, Reordered, same, under, swapped, through}
+use Rattle.model.specs.OverlapLaws.{shares_either_way}
+use Rattle.model.specs.FrameLaws.{same_at_itself, same_through}
+use Rattle.model.specs.SerialLaws.{leaves_free_cell, held_past, accepted_past, either_first, accepted_append}
 
 -- no list shares a cell with this one, each on these rows
 abbrev pub AreApartFrom : Schema → Rows → List Change → List (List Change) → Type 0
@@ -130,7 +131,7 @@ in_turn_serial schema rows (cs ∷ lists) =
 abbrev pub IsFreeOfAll : Schema → Rows → Cell → List (List Change) → Type 0
 IsFreeOfAll schema rows cell lists = AllByRecursion (λ cs. list_any (overlaps cell) (held_cells schema rows cs) ≡ false) lists
 
-free_past : (schema : Schema) (rows : Rows) → IsValid schema rows → (past : List Change) (cell : Cell) (lists : List (List Change))
+pub free_past : (schema : Schema) (rows : Rows) → IsValid schema rows → (past : List Change) (cell : Cell) (lists : List (List Change))
     → AreApartFrom schema rows past lists → IsFreeOfAll schema rows cell lists → IsFreeOfAll schema (serial schema rows past) cell lists
 free_past schema rows valid past cell [] from all = tt
 free_past schema rows valid past cell (cs ∷ lists) from all = (

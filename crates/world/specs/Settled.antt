@@ -1,7 +1,7 @@
 -- When no more can come of the items that were sent.
 --     WaitsFor      an open transaction waits with a change for a cell of another
 --     IsNamed, IsSettled      its items are all that were sent; each open transaction is named so, or waits
-use Rattle.std.specs.Prelude.{◌≡◌, ℕ, ◌<◌, ◌-◌, ◌^◌, List, Option, Some, length, Contains, ◌⊎◌}
+use Rattle.std.specs.Prelude.{◌≡◌, ℕ, ◌<◌, ◌-◌, ◌^◌, List, Some, length, Contains, ◌⊎◌}
 use Rattle.std.specs.FinMap.{get}
 use Rattle.model.specs.declared.change.Change.{Change}
 use Rattle.model.specs.Rows.{Schema}

@@ -6,7 +6,7 @@
 use Rattle.std.specs.Prelude.{◌≡◌, ℕ, ◌<◌, ◌≤◌, List, [], ◌∷◌, ◌++◌, Option, Some, None, IsSome, Result, Ok, Err, IfOk, take}
 use Rattle.std.specs.FinMap as finite
 use Rattle.std.specs.FinMap.{get}
-use Rattle.model.specs.declared.change.Change.{Change as Alteration}
+use Rattle.model.specs.declared.change.Change as change_type
 use Rattle.model.specs.declared.row.Row.{Row}
 use Rattle.model.specs.declared.item.Item.{Item}
 use Rattle.model.specs.declared.item.Item.TheVariants.{Change, Touch, BackTo}
@@ -48,7 +48,7 @@ abbrev pub done_with : World → ℕ → Opened → Item → World
 done_with w xid o item = record w { opened = finite.insert w.opened xid (record { items = o.items ++ item ∷ []; wants = None }) }
 
 -- it wants a change, which it has not done
-abbrev pub wanting : World → ℕ → Opened → ℕ → Alteration → World
+abbrev pub wanting : World → ℕ → Opened → ℕ → change_type.Change → World
 wanting w xid o sub c = record w { opened = finite.insert w.opened xid (record o { wants = Some (sub, c) }) }
 
 -- its work is committed
@@ -81,7 +81,7 @@ IsRefused w Stopped new = IsSome w.stopped × (new ≡ w)
 IsRefused w OutOfMemory new = (w.stopped ≡ None) × (new ≡ w)
 
 -- A subtransaction of an open transaction tries a change, on the rows as the transaction sees them. Held goes before all else.
-abbrev pub Acts : Schema → World → ℕ → Opened → ℕ → Alteration → Result Acted Fault → World → Type 0
+abbrev pub Acts : Schema → World → ℕ → Opened → ℕ → change_type.Change → Result Acted Fault → World → Type 0
 Acts schema w xid o sub c (Ok IsDone) new =
     (w.stopped ≡ None) × IsFree schema w xid (footprint schema (own_rows schema w xid o) c)
     × ((edits : Edits) × (outcome schema (own_rows schema w xid o) c ≡ Done edits)) × (new ≡ done_with w xid o (Change sub c))
@@ -164,7 +164,7 @@ Looks w seen now = Watches w seen × (now ≡ journal w)
 
 pub data Step (schema : Schema) (w : World) : World → Type 0 where
   opens : (xid : ℕ) (answer : Result (Unit {0}) Fault) (new : World) → Opens w xid answer new → Step schema w new
-  acts : (xid : ℕ) (o : Opened) (sub : ℕ) (c : Alteration) (answer : Result Acted Fault) (new : World) → get w.opened xid ≡ Some o
+  acts : (xid : ℕ) (o : Opened) (sub : ℕ) (c : change_type.Change) (answer : Result Acted Fault) (new : World) → get w.opened xid ≡ Some o
       → Acts schema w xid o sub c answer new → Step schema w new
   touches : (xid : ℕ) (o : Opened) (sub : ℕ) (answer : Result (Unit {0}) Fault) (new : World) → get w.opened xid ≡ Some o
       → Touches w xid o sub answer new → Step schema w new

@@ -5,7 +5,7 @@
 --     work, changes_in      the changes of a transaction, and of commits, that survived their rollbacks
 --     own_rows, holds      the rows as an open transaction sees them, and the cells that its changes hold
 --     IsHeldBy, IsFree      some other open transaction holds one of these cells; none does
-use Rattle.std.specs.Prelude.{◌≡◌, ◌≢◌, ℕ, Bool, true, false, List, [], ◌∷◌, ◌++◌, Option, Some, None, map, flat_map}
+use Rattle.std.specs.Prelude.{◌≡◌, ◌≢◌, ℕ, true, false, List, [], Option, Some, None, map, flat_map}
 use Rattle.std.specs.Ordering.{nat_cmp}
 use Rattle.std.specs.FinMap as finite
 use Rattle.std.specs.FinMap.{FinMap, get}

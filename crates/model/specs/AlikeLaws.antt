@@ -1,7 +1,8 @@
 -- Where rows are the same in a change's footprint, the change does the same.
 --     same_footprint, same_outcome, same_inverse      its footprint, its outcome and its inverse
+--     footprint_by_looked_up      its footprint already where the row that it looks up is the same
 --     alike_after      what was the same before it is the same after it
-use Rattle.std.specs.Prelude.{◌≡◌, ℕ, zero, suc, ◌+◌, ◌==◌, Bool, true, false, cond, ◌&&◌, ◌||◌, List, [], ◌∷◌, ◌++◌, map, Option, Some, None, if◌then◌else◌, is_some, refl, slice_get, unwrap_or}
+use Rattle.std.specs.Prelude.{◌≡◌, ℕ, suc, ◌==◌, Bool, true, false, cond, ◌&&◌, ◌||◌, List, [], ◌∷◌, ◌++◌, map, Option, Some, None, if◌then◌else◌, is_some, refl, slice_get, unwrap_or}
 use Rattle.std.proofs.Common.{sym, ◌∙◌, ap, subst, inl, inr, true≢false, arith}
 use Rattle.std.specs.FinMap as map_of
 use Rattle.std.specs.FinMap.{get, insert, remove}
@@ -17,15 +18,15 @@ use Rattle.model.specs.declared.cell.Cell.TheVariants.{Row, Uniq, Whole}
 use Rattle.model.specs.Exact.{key_cmp_exact}
 use Rattle.model.specs.Rows.{Place, Rows, Schema, keys_at, values_in, key_of, is_key, are_taken, IsValid}
 use Rattle.model.specs.Effect.{Edits, overlay, rows_under, one_edit, Outcome, Done, Clashes, Unique, are_taken_unless_null, first_taken, unless_taken, row_outcome_at, row_outcome, patch_row, set_outcome, remove_outcome, wipe_edits, outcome, edits_of, effect, inverse}
-use Rattle.model.specs.EditLaws.{is_place, same_edits, get_overlay, overlay_empty, get_remove, get_remove_same, rows_under_none, rows_under_one, rows_under_two}
+use Rattle.model.specs.EditLaws.{is_place, same_edits, get_overlay, overlay_empty, get_remove, rows_under_none, rows_under_one, rows_under_two}
 use Rattle.model.specs.EffectLaws.{is_named, cleared_row, row_before_wipe, get_wiped, get_effect_wipe, get_inverse_wipe}
-use Rattle.model.specs.Cells.{row_cell, unique_cell, unique_cells}
-use Rattle.model.specs.Footprint.{both_have, moved_cell, moved_cells, new_place, replaced_cells, removed_cells, footprint}
-use Rattle.world.specs.Contents.{unique_key, SameAt, AreSame}
-use Rattle.world.specs.SharingLaws.{neither, number_is, and_first, and_second}
-use Rattle.world.specs.TakenBesideLaws.{same_number, key_found, key_is, has_values, taken_insert, taken_without, untaken_without}
-use Rattle.world.specs.ShapeLaws.{Shape, clashes, skips, puts, sets, removes, wipes, shape, after_put, after_set, after_remove}
-use Rattle.world.specs.FrameLaws.{taken_alike, each_of_first, each_of_second, in_unique_cells, in_moved_cells, left_by_wipe, or_false}
+use Rattle.model.specs.Cells.{row_cell, unique_cell}
+use Rattle.model.specs.Footprint.{moved_cell, new_place, replaced_cells, removed_cells, looked_up, footprint}
+use Rattle.model.specs.CellContents.{unique_key, SameAt, AreSame}
+use Rattle.model.specs.OverlapLaws.{number_is, and_first, and_second}
+use Rattle.model.specs.TakenBesideLaws.{same_number, key_is, has_values, taken_insert, taken_without, untaken_without}
+use Rattle.model.specs.OutcomeLaws.{Shape, clashes, skips, puts, sets, removes, wipes, shape, after_put, after_set, after_remove}
+use Rattle.model.specs.FrameLaws.{taken_alike, each_of_first, each_of_second, in_unique_cells, in_moved_cells, left_by_wipe, or_false}
 
 module _ (schema : Schema) (rows others : Rows) where
   -- ---- the footprint
@@ -36,6 +37,14 @@ module _ (schema : Schema) (rows others : Rows) where
   same_footprint (Set table key patch) same = ap (λ (r : Option Record). Row table key ∷ replaced_cells schema table key patch r) same.0
   same_footprint (Remove table key) same = ap (λ (r : Option Record). Row table key ∷ removed_cells schema table r) same.0
   same_footprint (Wipe tables) same = refl
+
+  -- it depends on the looked-up row alone
+  pub footprint_by_looked_up : (c : Change) → AreSame schema rows others (looked_up c) → footprint schema rows c ≡ footprint schema others c
+  unfolding footprint
+  footprint_by_looked_up (Put table row) same = refl
+  footprint_by_looked_up (Set table key patch) same = ap (λ (r : Option Record). Row table key ∷ replaced_cells schema table key patch r) same.0
+  footprint_by_looked_up (Remove table key) same = ap (λ (r : Option Record). Row table key ∷ removed_cells schema table r) same.0
+  footprint_by_looked_up (Wipe tables) same = refl
 
   -- ---- a row that is placed
 

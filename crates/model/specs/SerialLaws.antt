@@ -2,28 +2,28 @@
 --     leaves_free_cell, leaves_cells      changes leave the cells that they don't hold
 --     alike_after_all, same_held, same_inverses, same_accepted      where rows are the same in what changes hold, the changes do the same
 --     same_past, held_past, inverses_past, accepted_past      so they do past changes that share no cell with them
---     either_first      two lists that share no cell come in either order
+--     either_first, changes_commute      two lists that share no cell come in either order
 --     undone_past      changes are undone past others that share no cell with them, and the others' stay
 --     held_append, accepted_append      one list after another
-use Rattle.std.specs.Prelude.{◌≡◌, Bool, false, List, [], ◌∷◌, ◌++◌, refl}
-use Rattle.std.proofs.Common.{sym, ◌∙◌, ap, subst, inl, inr, append_assoc}
-use Rattle.std.specs.List.{list_any, AllByRecursion}
+use Rattle.std.specs.Prelude.{◌≡◌, false, List, [], ◌∷◌, ◌++◌, refl}
+use Rattle.std.proofs.Common.{sym, ◌∙◌, ap, inl, inr, append_assoc, append-nil}
+use Rattle.std.specs.List.{list_any}
 use Rattle.std.specs.FinMap.{get}
 use Rattle.std.proofs.lemmas.List.Folds.{list_any-append}
 use Rattle.model.specs.declared.change.Change.{Change}
 use Rattle.model.specs.declared.cell.Cell.{Cell}
 use Rattle.model.specs.declared.cell.Cell.TheVariants.{Row}
 use Rattle.model.specs.Rows.{Place, Rows, Schema, IsValid}
-use Rattle.model.specs.Effect.{Edits, ClashCause, Clashes, outcome, effect, inverse, serial, inverses, all_back}
+use Rattle.model.specs.Effect.{Edits, outcome, effect, inverse, serial, inverses, all_back}
 use Rattle.model.specs.EditLaws.{same_rows}
-use Rattle.model.specs.EffectLaws.{effect_valid, serial_valid, serial_append, all_back_serial}
+use Rattle.model.specs.EffectLaws.{effect_valid, serial_valid, all_back_serial}
 use Rattle.model.specs.Cells.{overlaps}
 use Rattle.model.specs.Footprint.{footprint, held_cells, shares_cell}
-use Rattle.world.specs.Contents.{SameAt, AreSame}
-use Rattle.world.specs.Live.{AreAccepted}
-use Rattle.world.specs.SharingLaws.{neither_first, neither_second, free_of_each, shares_either_way, place_free_of_one}
-use Rattle.world.specs.FrameLaws.{Each, each_of_first, each_of_second, same_at_itself, same_at_back, same_through, leaves_free}
-use Rattle.world.specs.AlikeLaws.{same_footprint, same_outcome, same_inverse, alike_after}
+use Rattle.model.specs.CellContents.{SameAt, AreSame}
+use Rattle.model.specs.Accepted.{AreAccepted}
+use Rattle.model.specs.OverlapLaws.{neither_first, neither_second, free_of_each, shares_either_way, place_free_of_one}
+use Rattle.model.specs.FrameLaws.{Each, each_of_first, each_of_second, same_at_itself, same_at_back, same_through, leaves_free}
+use Rattle.model.specs.AlikeLaws.{same_footprint, same_outcome, same_inverse, alike_after}
 
 -- each cell for which the one holds is one for which the other does
 pub each_so : (P Q : Cell → Type 0) → ((cell : Cell) → P cell → Q cell) → (cells : List Cell) → Each P cells → Each Q cells
@@ -143,6 +143,28 @@ either_first schema rows valid cs others apart = same_rows _ _ (λ p.
       | inl free ↦ row_left schema rows valid cs others apart p free
       | inr free ↦ sym (row_left schema rows valid others cs (shares_either_way (held_cells schema rows cs) (held_cells schema rows others) apart) p free)
     ])
+
+pub lists_keep_theirs : (schema : Schema) (rows : Rows) → IsValid schema rows → (cs others : List Change)
+    → shares_cell (held_cells schema rows cs) (held_cells schema rows others) ≡ false
+    → (held_cells schema rows cs ≡ held_cells schema (serial schema rows others) cs) × (inverses schema rows cs ≡ inverses schema (serial schema rows others) cs)
+lists_keep_theirs schema rows valid cs others apart = (held_past schema rows valid cs others apart, inverses_past schema rows valid cs others apart)
+
+-- two changes
+pub changes_commute : (schema : Schema) (rows : Rows) → IsValid schema rows → (c other : Change)
+    → shares_cell (footprint schema rows c) (footprint schema rows other) ≡ false
+    → (effect schema (effect schema rows c) other ≡ effect schema (effect schema rows other) c)
+    × (outcome schema (effect schema rows other) c ≡ outcome schema rows c)
+    × (footprint schema (effect schema rows other) c ≡ footprint schema rows c)
+changes_commute schema rows valid c other apart =
+    let one : (d : Change) → held_cells schema rows (d ∷ []) ≡ footprint schema rows d = λ d. append-nil (footprint schema rows d) in
+    let lists : shares_cell (held_cells schema rows (c ∷ [])) (held_cells schema rows (other ∷ [])) ≡ false =
+    ap (λ cells. shares_cell cells (held_cells schema rows (other ∷ []))) (one c) ∙ ap (shares_cell (footprint schema rows c)) (one other) ∙ apart in
+    let alike : AreSame schema rows (effect schema rows other) (footprint schema rows c) =
+    each_of_first (SameAt schema rows (effect schema rows other)) (footprint schema rows c) [] (same_past schema rows valid (c ∷ []) (other ∷ []) lists) in (
+      either_first schema rows valid (c ∷ []) (other ∷ []) lists,
+      sym (same_outcome schema rows (effect schema rows other) valid (effect_valid schema rows other valid) c alike),
+      sym (same_footprint schema rows (effect schema rows other) c alike),
+    )
 
 -- changes are undone past others that share no cell with them
 pub undone_past : (schema : Schema) (rows : Rows) → IsValid schema rows → (cs others : List Change)

@@ -2,35 +2,32 @@
 --     same_at_both, same_through      the same in a cell, one way and the other, and through a third
 --     in_whole_table      tables with the same rows have the same in each of their cells
 --     leaves_free      a cell that none of the footprint overlaps has the same before and after the change
-use Rattle.std.specs.Prelude.{◌≡◌, ℕ, zero, suc, ◌+◌, ◌==◌, Bool, true, false, cond, ◌&&◌, ◌||◌, List, [], ◌∷◌, ◌++◌, map, Option, Some, None, if◌then◌else◌, refl, slice_get, unwrap_or}
-use Rattle.std.proofs.Common.{sym, ◌∙◌, ap, subst, inl, inr, true≢false, rules, arith}
+use Rattle.std.specs.Prelude.{◌≡◌, ℕ, zero, suc, ◌+◌, ◌==◌, Bool, true, false, cond, ◌&&◌, ◌||◌, List, [], ◌∷◌, ◌++◌, map, Option, Some, None, if◌then◌else◌, refl, slice_get}
+use Rattle.std.proofs.Common.{sym, ◌∙◌, ap, subst, inl, inr, true≢false, arith}
 use Rattle.std.specs.List.{list_any, AllByRecursion}
 use Rattle.std.proofs.lemmas.Map.Views.{tells_apart}
-use Rattle.std.specs.FinMap as map_of
 use Rattle.std.specs.FinMap.{get, insert, remove}
 use Rattle.std.specs.Cmp.{eq_by_cmp_equiv}
 use Rattle.std.proofs.lemmas.Bool.{cases_Bool}
-use Rattle.std.proofs.lemmas.List.Folds.{list_any-append}
 use Rattle.model.specs.declared.key.Key.{Key}
 use Rattle.model.specs.declared.row.Row.{Row as Record}
 use Rattle.model.specs.declared.change.Change.{Change}
-use Rattle.model.specs.declared.change.Change.TheVariants.{Put, Set, Remove, Wipe}
-use Rattle.model.specs.declared.change.ColumnPatch.{ColumnPatch}
+use Rattle.model.specs.declared.change.Change.TheVariants.{Wipe}
 use Rattle.model.specs.declared.cell.Cell.{Cell}
 use Rattle.model.specs.declared.cell.Cell.TheVariants.{Row, Uniq, Whole}
 use Rattle.model.specs.Key.{key_cmp_total}
 use Rattle.model.specs.Exact.{key_cmp_exact}
 use Rattle.model.specs.Rows.{Place, Rows, Schema, keys_at, values_in, key_of, is_key, are_taken}
-use Rattle.model.specs.Effect.{overlay, Outcome, Done, Skip, Clashes, edits_of, patch_row, wipe_edits, outcome, effect}
+use Rattle.model.specs.Effect.{overlay, Outcome, edits_of, patch_row, outcome, effect}
 use Rattle.model.specs.EditLaws.{is_place, place_is, overlay_empty, get_insert_other, get_remove_other}
 use Rattle.model.specs.TakenLaws.{taken_by_row, row_of_taken}
 use Rattle.model.specs.EffectLaws.{is_named, get_effect_wipe}
-use Rattle.model.specs.Cells.{table_of, overlaps, same_key, row_cell, unique_cell, unique_cells, cells_of}
+use Rattle.model.specs.Cells.{table_of, overlaps, same_key, row_cell, unique_cell, unique_cells}
 use Rattle.model.specs.Footprint.{both_have, moved_cell, moved_cells, new_place, replaced_cells, removed_cells, footprint}
-use Rattle.world.specs.Contents.{unique_key, SameAt}
-use Rattle.world.specs.SharingLaws.{neither_first, neither_second, neither, number_is}
-use Rattle.world.specs.TakenBesideLaws.{not_none, same_answer, same_number, key_found, key_is, has_values, taken_insert, taken_without}
-use Rattle.world.specs.ShapeLaws.{Shape, clashes, skips, puts, sets, removes, wipes, shape, after_put, after_set, after_remove}
+use Rattle.model.specs.CellContents.{unique_key, SameAt}
+use Rattle.model.specs.OverlapLaws.{neither_first, neither_second, neither, number_is}
+use Rattle.model.specs.TakenBesideLaws.{not_none, same_answer, same_number, key_is, has_values, taken_insert, taken_without}
+use Rattle.model.specs.OutcomeLaws.{Shape, clashes, skips, puts, sets, removes, wipes, shape, after_put, after_set, after_remove}
 
 -- ---- the same in a cell
 

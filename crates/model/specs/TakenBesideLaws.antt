@@ -2,10 +2,9 @@
 --     has_values      a row at a place has these values in these columns of a table
 --     taken_insert, taken_without      what one more row adds, and what one less leaves
 --     untaken_without      in valid rows nobody else has a row's values in a unique key
-use Rattle.std.specs.Prelude.{◌≡◌, ℕ, zero, suc, ◌==◌, Bool, true, false, cond, ◌&&◌, ◌||◌, List, Option, Some, None, refl, slice_get}
-use Rattle.std.proofs.Common.{sym, ◌∙◌, ap, subst, inl, inr, true≢false, rules}
+use Rattle.std.specs.Prelude.{◌≡◌, ℕ, zero, suc, ◌==◌, Bool, true, false, cond, ◌&&◌, ◌||◌, List, Option, Some, None, refl}
+use Rattle.std.proofs.Common.{sym, ◌∙◌, ap, inl, inr, true≢false, rules}
 use Rattle.std.specs.FinMap.{get, insert, remove}
-use Rattle.std.specs.Ordering.{eq_by_cmp}
 use Rattle.std.specs.Cmp.{eq_by_cmp_equiv}
 use Rattle.std.proofs.lemmas.Bool.{cases_Bool}
 use Rattle.std.proofs.lemmas.Map.Views.{tells_apart}
@@ -13,11 +12,11 @@ use Rattle.model.specs.declared.key.Key.{Key}
 use Rattle.model.specs.declared.row.Row.{Row}
 use Rattle.model.specs.Key.{key_cmp_total}
 use Rattle.model.specs.Exact.{key_cmp_exact}
-use Rattle.model.specs.Rows.{Place, Rows, Schema, keys_at, values_in, is_key, are_taken, IsValid}
+use Rattle.model.specs.Rows.{Place, Rows, Schema, values_in, is_key, are_taken, IsValid}
 use Rattle.model.specs.EditLaws.{is_place, same_place, place_is, place_cases, same_rows, get_insert, get_insert_same, get_insert_other, get_remove, get_remove_same, get_remove_other}
-use Rattle.model.specs.TakenLaws.{taken_by_row, TakenBy, row_of_taken}
-use Rattle.world.specs.Contents.{unique_key}
-use Rattle.world.specs.SharingLaws.{and_first, and_second, and_both, number_is}
+use Rattle.model.specs.TakenLaws.{taken_by_row, row_of_taken}
+use Rattle.model.specs.CellContents.{unique_key}
+use Rattle.model.specs.OverlapLaws.{and_first, and_second, and_both, number_is}
 
 -- two tests that imply each other give one answer
 pub same_answer : (a b : Bool) → (a ≡ true → b ≡ true) → (b ≡ true → a ≡ true) → a ≡ b

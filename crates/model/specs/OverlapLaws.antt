@@ -4,7 +4,7 @@
 --     free_of_each, apart_first, apart_rest      what lists that share no cell say of their cells
 --     place_free_of_one      of two lists that share no cell, one has none that overlaps a place
 use Rattle.std.specs.Prelude.{◌≡◌, ℕ, ◌==◌, Bool, true, false, ◌&&◌, ◌||◌, List, [], ◌∷◌, ◌++◌, refl, ◌⊎◌}
-use Rattle.std.proofs.Common.{sym, ◌∙◌, ap, subst, inl, inr, true≢false, rules}
+use Rattle.std.proofs.Common.{sym, ◌∙◌, ap, inl, inr, true≢false, rules}
 use Rattle.std.specs.List.{list_any, AllByRecursion}
 use Rattle.std.specs.Cmp.{eq_by_cmp_equiv}
 use Rattle.std.proofs.lemmas.Bool.{cases_Bool}

@@ -2,7 +2,6 @@
 --     Shape, shape      the cases, and that they are all
 --     after_put, after_set, after_remove      the rows after each
 use Rattle.std.specs.Prelude.{◌≡◌, ℕ, Bool, true, false, List, Option, Some, None, is_some, if◌then◌else◌, refl}
-use Rattle.std.proofs.Common.{sym, ◌∙◌, ap}
 use Rattle.std.specs.FinMap as map_of
 use Rattle.std.specs.FinMap.{get, insert, remove, contains_key}
 use Rattle.model.specs.declared.row.Row.{Row}
@@ -12,7 +11,7 @@ use Rattle.model.specs.declared.change.Change.TheVariants.{Put, Set, Remove, Wip
 use Rattle.model.specs.declared.change.ColumnPatch.{ColumnPatch}
 use Rattle.model.specs.Rows.{Rows, Schema, keys_at, key_of}
 use Rattle.model.specs.Effect.{Edits, overlay, one_edit, Outcome, Done, Skip, Clashes, ClashCause, Unique, first_taken, unless_taken, row_outcome_at, row_outcome, patch_row, set_outcome, remove_outcome, wipe_edits, outcome}
-use Rattle.model.specs.EditLaws.{overlay_one, overlay_two, overlay_more, overlay_empty}
+use Rattle.model.specs.EditLaws.{overlay_one, overlay_two}
 
 pub data Shape (schema : Schema) (rows : Rows) : Change → Outcome → Type 0 where
   clashes : (c : Change) (cause : ClashCause) → Shape schema rows c (Clashes cause)

@@ -1,0 +1,5 @@
+use Rattle.world.specs.CallLaws.{alone_is_serial}
+use Rattle.world.proofs.laws.alone_is_serial.Goals as goal
+
+pub returns : goal.returns
+returns c = alone_is_serial

@@ -1,0 +1,5 @@
+use Rattle.world.specs.CallLaws.{commit_moves_no_holds}
+use Rattle.world.proofs.laws.commit_moves_no_holds.Goals as goal
+
+pub returns : goal.returns
+returns c = commit_moves_no_holds

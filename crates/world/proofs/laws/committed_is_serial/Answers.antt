@@ -1,0 +1,5 @@
+use Rattle.world.specs.CallLaws.{committed_is_serial}
+use Rattle.world.proofs.laws.committed_is_serial.Goals as goal
+
+pub returns : goal.returns
+returns c = committed_is_serial

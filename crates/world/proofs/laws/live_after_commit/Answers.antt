@@ -1,0 +1,5 @@
+use Rattle.world.specs.CallLaws.{live_after_commit}
+use Rattle.world.proofs.laws.live_after_commit.Goals as goal
+
+pub returns : goal.returns
+returns c = live_after_commit

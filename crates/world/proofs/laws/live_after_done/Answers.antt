@@ -1,0 +1,5 @@
+use Rattle.world.specs.CallLaws.{live_after_done}
+use Rattle.world.proofs.laws.live_after_done.Goals as goal
+
+pub returns : goal.returns
+returns c = live_after_done

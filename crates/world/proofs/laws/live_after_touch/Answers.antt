@@ -1,0 +1,5 @@
+use Rattle.world.specs.CallLaws.{live_after_touch}
+use Rattle.world.proofs.laws.live_after_touch.Goals as goal
+
+pub returns : goal.returns
+returns c = live_after_touch

@@ -1,0 +1,5 @@
+use Rattle.world.specs.CallLaws.{outcome_on_live}
+use Rattle.world.proofs.laws.outcome_on_live.Goals as goal
+
+pub returns : goal.returns
+returns c = outcome_on_live

@@ -1,0 +1,5 @@
+use Rattle.world.specs.CallLaws.{rollback_leaves_beginning}
+use Rattle.world.proofs.laws.rollback_leaves_beginning.Goals as goal
+
+pub returns : goal.returns
+returns c = rollback_leaves_beginning
