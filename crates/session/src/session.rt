@@ -6,7 +6,7 @@ use crate::fault::{Refused, SessionFault};
 use crate::phase::Phase;
 use crate::relations::KnownRelations;
 use crate::step::Step;
-use crate::transactions::{Transactions, OpenTransaction};
+use crate::transactions::{OpenTransaction, Transactions};
 use bytes::Bytes;
 use catalog::Catalog;
 use messages::{

@@ -142,7 +142,8 @@ impl Transactions {
             self.working += 1;
             Ok(true)
         } else {
-            self.ways.insert(xid, OpenTransaction::Spooled(Spool::new(self.alloc)))?;
+            self.ways
+                .insert(xid, OpenTransaction::Spooled(Spool::new(self.alloc)))?;
             Ok(false)
         }
     }
@@ -238,7 +239,9 @@ impl Transactions {
         match &way {
             OpenTransaction::Direct => {}
             OpenTransaction::Worker => self.working = self.working.saturating_sub(1),
-            OpenTransaction::Spooled(spool) => self.spooled = self.spooled.saturating_sub(spool.bytes()),
+            OpenTransaction::Spooled(spool) => self.spooled = self
+                .spooled
+                .saturating_sub(spool.bytes()),
         }
         Some(way)
     }
