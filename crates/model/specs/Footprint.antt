@@ -24,13 +24,15 @@ both_have old (Some values) = is_key old values
 
 -- the cells of the values that the old row and the new one have in a unique key, unless both have the same
 abbrev pub moved_cell : ℕ → ℕ → Option Key → Option Key → List Cell
-moved_cell table number old new = if both_have old new then [] else unique_cell table number old ++ unique_cell table number new
+moved_cell table number old new =
+    if both_have old new then [] else unique_cell table number old ++ unique_cell table number new
 
 -- of the unique keys, numbered from `number`
 abbrev pub moved_cells : ℕ → Record → Record → ℕ → List (List ℕ) → List Cell
 moved_cells table old new number [] = []
 moved_cells table old new number (columns ∷ uniques) =
-    moved_cell table number (values_in columns old) (values_in columns new) ++ moved_cells table old new (suc number) uniques
+    moved_cell table number (values_in columns old) (values_in columns new) ++ moved_cells table old new
+    (suc number) uniques
 
 -- the cell of the new key's place, if the key differs from the old one and holds no null
 abbrev pub new_place : ℕ → Key → Option Key → List Cell
@@ -40,7 +42,8 @@ new_place table key new = if is_key new key then [] else row_cell table new
 abbrev pub replaced_cells : Schema → ℕ → Key → List ColumnPatch → Option Record → List Cell
 replaced_cells schema table key patch None = []
 replaced_cells schema table key patch (Some old) =
-    new_place table key (key_of schema table (patch_row patch old)) ++ moved_cells table old (patch_row patch old) 1 (keys_at schema table).uniques
+    new_place table key (key_of schema table (patched patch old)) ++ moved_cells table old (patched patch old) 1
+    (keys_at schema table).uniques
 
 -- what a delete alters beside its place, where this row stands there
 abbrev pub removed_cells : Schema → ℕ → Option Record → List Cell
@@ -51,7 +54,8 @@ removed_cells schema table (Some old) = unique_cells table old 1 (keys_at schema
 -- brings or takes away. A value that the old and the new row both have is not among them.
 unfoldable pub footprint : Schema → Rows → Change → List Cell
 footprint schema rows (Put table row) = cells_of schema table row
-footprint schema rows (Set table key patch) = Row table key ∷ replaced_cells schema table key patch (get rows (table, key))
+footprint schema rows (Set table key patch) =
+    Row table key ∷ replaced_cells schema table key patch (get rows (table, key))
 footprint schema rows (Remove table key) = Row table key ∷ removed_cells schema table (get rows (table, key))
 footprint schema rows (Wipe tables) = map Whole tables
 

@@ -29,13 +29,15 @@ no_second : (a b : Bool) → b ≡ false → (a && b) ≡ false
 no_second true b e = e
 no_second false b e = refl
 
-free_append : (cell : Cell) (cells more : List Cell) → list_any (overlaps cell) cells ≡ false → list_any (overlaps cell) more ≡ false
+free_append : (cell : Cell) (cells more : List Cell) → list_any (overlaps cell) cells ≡ false
+    → list_any (overlaps cell) more ≡ false
     → list_any (overlaps cell) (cells ++ more) ≡ false
 free_append cell cells more p q = list_any-append (overlaps cell) cells more ∙ neither _ _ p q
 
 module _ (table number : ℕ) (values : Key) where
   -- the values of a key of another number
-  another_number : (first : ℕ) (found : Option Key) → (number == first) ≡ false → list_any (overlaps (Uniq table number values)) (unique_cell table first found) ≡ false
+  another_number : (first : ℕ) (found : Option Key) → (number == first) ≡ false
+      → list_any (overlaps (Uniq table number values)) (unique_cell table first found) ≡ false
   another_number first None differs = refl
   another_number first (Some own) differs =
       neither _ _ (no_second (table == table) _ (no_first (number == first) (same_key values own) differs)) refl
@@ -46,7 +48,8 @@ module _ (table number : ℕ) (values : Key) where
       by_both (both_have old new) refl
     where
       by_both : (b : Bool) → both_have old new ≡ b
-          → list_any (overlaps (Uniq table number values)) (if b then [] else unique_cell table first old ++ unique_cell table first new) ≡ false
+          → list_any (overlaps (Uniq table number values))
+          (if b then [] else unique_cell table first old ++ unique_cell table first new) ≡ false
       by_both true is = refl
       by_both false is =
           elim (cases_Bool (number == first)) [
@@ -61,13 +64,16 @@ module _ (table number : ℕ) (values : Key) where
       → list_any (overlaps (Uniq table number values)) (moved_cells table old new first uniques) ≡ false
   free_of_all_moved old new [] first both = refl
   free_of_all_moved old new (columns ∷ uniques) first both =
-      free_append (Uniq table number values) (moved_cell table first (values_in columns old) (values_in columns new)) (moved_cells table old new (suc first) uniques)
+      free_append (Uniq table number values) (moved_cell table first (values_in columns old) (values_in columns new))
+      (moved_cells table old new (suc first) uniques)
       (free_of_moved first (values_in columns old) (values_in columns new) (λ is. both 0 columns refl (omega (arith, is))))
       (free_of_all_moved old new uniques (suc first) (λ i own at is. both (suc i) own at (omega (arith, is))))
 
-  free_of_place : (key : Key) (new : Option Key) → list_any (overlaps (Uniq table number values)) (new_place table key new) ≡ false
+  free_of_place : (key : Key) (new : Option Key)
+      → list_any (overlaps (Uniq table number values)) (new_place table key new) ≡ false
   free_of_place key new =
-      elim (is_key new key) as (λ b. list_any (overlaps (Uniq table number values)) (if b then [] else row_cell table new) ≡ false) [
+      elim (is_key new key) as
+      (λ b. list_any (overlaps (Uniq table number values)) (if b then [] else row_cell table new) ≡ false) [
         | true ↦ refl
         | false ↦ no_row new
       ]
@@ -76,9 +82,11 @@ module _ (table number : ℕ) (values : Key) where
       no_row None = refl
       no_row (Some key) = refl
 
-kept_among : (schema : Schema) (table : ℕ) (old new : Record) (number : ℕ) (columns : List ℕ) (values : Key) → unique_key schema table number ≡ Some columns
+kept_among : (schema : Schema) (table : ℕ) (old new : Record) (number : ℕ) (columns : List ℕ) (values : Key)
+    → unique_key schema table number ≡ Some columns
     → values_in columns old ≡ Some values → values_in columns new ≡ Some values
-    → list_any (overlaps (Uniq table number values)) (moved_cells table old new 1 (keys_at schema table).uniques) ≡ false
+    → list_any (overlaps (Uniq table number values))
+    (moved_cells table old new 1 (keys_at schema table).uniques) ≡ false
 kept_among schema table old new zero columns values is had has = absurd (not_none columns is)
 kept_among schema table old new (suc n) columns values is had has =
     free_of_all_moved table (suc n) values old new (keys_at schema table).uniques 1 (λ i own at same.
@@ -90,8 +98,9 @@ kept_among schema table old new (suc n) columns values is had has =
     ap (both_have (values_in own old)) has_own ∙ key_found (values_in own old) values had_own)
 
 pub kept_is_free : (schema : Schema) (rows : Rows) (table : ℕ) (key : Key) (patch : List ColumnPatch) (old : Record) (number : ℕ) (columns : List ℕ) (values : Key)
-    → get rows (table, key) ≡ Some old → unique_key schema table number ≡ Some columns → values_in columns old ≡ Some values
-    → values_in columns (patch_row patch old) ≡ Some values
+    → get rows (table, key) ≡ Some old → unique_key schema table number ≡ Some columns
+    → values_in columns old ≡ Some values
+    → values_in columns (patched patch old) ≡ Some values
     → list_any (overlaps (Uniq table number values)) (footprint schema rows (Set table key patch)) ≡ false
 unfolding footprint
 kept_is_free schema rows table key patch old number columns values stands is had has =
@@ -106,10 +115,13 @@ first_too true b e = refl
 first_too false b e = absurd (true≢false (sym e))
 
 -- whoever meets the looked-up row meets the footprint
-pub looked_up_meets : (schema : Schema) (rows : Rows) (c : Change) (cells : List Cell) → shares_cell (looked_up c) cells ≡ true
+pub looked_up_meets : (schema : Schema) (rows : Rows) (c : Change) (cells : List Cell)
+    → shares_cell (looked_up c) cells ≡ true
     → shares_cell (footprint schema rows c) cells ≡ true
 unfolding footprint
 looked_up_meets schema rows (Put table row) cells meets = absurd (true≢false (sym meets))
-looked_up_meets schema rows (Set table key patch) cells meets = first_too (list_any (overlaps (Row table key)) cells) _ meets
-looked_up_meets schema rows (Remove table key) cells meets = first_too (list_any (overlaps (Row table key)) cells) _ meets
+looked_up_meets schema rows (Set table key patch) cells meets =
+    first_too (list_any (overlaps (Row table key)) cells) _ meets
+looked_up_meets schema rows (Remove table key) cells meets =
+    first_too (list_any (overlaps (Row table key)) cells) _ meets
 looked_up_meets schema rows (Wipe tables) cells meets = absurd (true≢false (sym meets))

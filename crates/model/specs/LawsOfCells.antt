@@ -28,7 +28,8 @@ OverlapsEitherWay = (cell other : Cell) → overlaps cell other ≡ overlaps oth
 -- a footprint depends on the looked-up row alone
 abbrev pub FootprintByLookedUp : Type 0
 FootprintByLookedUp =
-    (schema : Schema) (rows others : Rows) (c : Change) → AreSame schema rows others (looked_up c) → footprint schema rows c ≡ footprint schema others c
+    (schema : Schema) (rows others : Rows) (c : Change) → AreSame schema rows others (looked_up c)
+    → footprint schema rows c ≡ footprint schema others c
 
 -- whoever holds a cell of the looked-up row holds one of the footprint
 abbrev pub LookedUpIsInFootprint : Type 0
@@ -39,9 +40,11 @@ LookedUpIsInFootprint =
 -- a unique value that an update keeps is not in its footprint
 abbrev pub KeptValueIsFree : Type 0
 KeptValueIsFree =
-    (schema : Schema) (rows : Rows) (table : ℕ) (key : Key) (patch : List ColumnPatch) (old : Record) (number : ℕ) (columns : List ℕ) (values : Key)
-    → get rows (table, key) ≡ Some old → unique_key schema table number ≡ Some columns → values_in columns old ≡ Some values
-    → values_in columns (patch_row patch old) ≡ Some values
+    (schema : Schema) (rows : Rows) (table : ℕ) (key : Key) (patch : List ColumnPatch) (old : Record) (number : ℕ)
+    (columns : List ℕ) (values : Key)
+    → get rows (table, key) ≡ Some old → unique_key schema table number ≡ Some columns
+    → values_in columns old ≡ Some values
+    → values_in columns (patched patch old) ≡ Some values
     → list_any (overlaps (Uniq table number values)) (footprint schema rows (Set table key patch)) ≡ false
 
 -- ---- one change
@@ -49,7 +52,8 @@ KeptValueIsFree =
 -- a change leaves each cell that none of its footprint overlaps
 abbrev pub LeavesOtherCells : Type 0
 LeavesOtherCells =
-    (schema : Schema) (rows : Rows) (c : Change) (cell : Cell) → list_any (overlaps cell) (footprint schema rows c) ≡ false
+    (schema : Schema) (rows : Rows) (c : Change) (cell : Cell)
+    → list_any (overlaps cell) (footprint schema rows c) ≡ false
     → SameAt schema rows (effect schema rows c) cell
 
 -- where valid rows are the same in its footprint, its outcome is the same

@@ -60,7 +60,8 @@ same_keys : (k l m : Key) → same_key k l ≡ true → same_key k m ≡ same_ke
 same_keys = (eq_by_cmp_equiv key_cmp_total).congr
 
 pub overlaps_either_way : (cell other : Cell) → overlaps cell other ≡ overlaps other cell
-overlaps_either_way (Row t k) (Row u l) = ap (λ b. b && same_key k l) (same_number_back t u) ∙ ap (λ b. (u == t) && b) (same_key_back k l)
+overlaps_either_way (Row t k) (Row u l) =
+    ap (λ b. b && same_key k l) (same_number_back t u) ∙ ap (λ b. (u == t) && b) (same_key_back k l)
 overlaps_either_way (Row t k) (Uniq u i v) = refl
 overlaps_either_way (Row t k) (Whole u) = same_number_back t u
 overlaps_either_way (Uniq t i v) (Row u l) = refl
@@ -74,7 +75,8 @@ overlaps_either_way (Whole t) (Uniq u j w) = same_number_back t u
 overlaps_either_way (Whole t) (Whole u) = same_number_back t u
 
 -- two cells that overlap one place overlap each other
-meet_at_place : (t : ℕ) (k : Key) (cell other : Cell) → overlaps (Row t k) cell ≡ true → overlaps (Row t k) other ≡ true → overlaps cell other ≡ true
+meet_at_place : (t : ℕ) (k : Key) (cell other : Cell) → overlaps (Row t k) cell ≡ true
+    → overlaps (Row t k) other ≡ true → overlaps cell other ≡ true
 meet_at_place t k (Row u l) (Row v m) p q =
     and_both (u == v) (same_key l m)
     (ap (λ n. n == v) (sym (number_is t u (and_first _ _ p))) ∙ and_first _ _ q)
@@ -88,18 +90,21 @@ meet_at_place t k (Whole u) (Whole v) p q = ap (λ n. n == v) (sym (number_is t 
 
 -- ---- two lists of cells
 
-pub shares_append : (cells more others : List Cell) → shares_cell (cells ++ more) others ≡ (shares_cell cells others || shares_cell more others)
+pub shares_append : (cells more others : List Cell)
+    → shares_cell (cells ++ more) others ≡ (shares_cell cells others || shares_cell more others)
 shares_append cells more others = list_any-append (λ cell. list_any (overlaps cell) others) cells more
 
 -- no cell of the list overlaps the first of the others, nor any of the rest
-pub apart_first : (cells : List Cell) (other : Cell) (others : List Cell) → shares_cell cells (other ∷ others) ≡ false → list_any (overlaps other) cells ≡ false
+pub apart_first : (cells : List Cell) (other : Cell) (others : List Cell)
+    → shares_cell cells (other ∷ others) ≡ false → list_any (overlaps other) cells ≡ false
 apart_first [] other others e = refl
 apart_first (cell ∷ cells) other others e =
     neither _ _
     (overlaps_either_way other cell ∙ neither_first _ _ (neither_first _ _ e))
     (apart_first cells other others (neither_second _ _ e))
 
-pub apart_rest : (cells : List Cell) (other : Cell) (others : List Cell) → shares_cell cells (other ∷ others) ≡ false → shares_cell cells others ≡ false
+pub apart_rest : (cells : List Cell) (other : Cell) (others : List Cell) → shares_cell cells (other ∷ others) ≡ false
+    → shares_cell cells others ≡ false
 apart_rest [] other others e = refl
 apart_rest (cell ∷ cells) other others e =
     neither _ _ (neither_second _ _ (neither_first _ _ e)) (apart_rest cells other others (neither_second _ _ e))
@@ -109,28 +114,36 @@ shares_either_way cells [] e = refl
 shares_either_way cells (other ∷ others) e =
     neither _ _ (apart_first cells other others e) (shares_either_way cells others (apart_rest cells other others e))
 
-pub apart_append : (cells others more : List Cell) → shares_cell cells others ≡ false → shares_cell cells more ≡ false → shares_cell cells (others ++ more) ≡ false
+pub apart_append : (cells others more : List Cell) → shares_cell cells others ≡ false
+    → shares_cell cells more ≡ false → shares_cell cells (others ++ more) ≡ false
 apart_append cells others more p q =
     shares_either_way (others ++ more) cells
     (shares_append others more cells ∙ neither _ _ (shares_either_way cells others p) (shares_either_way cells more q))
 
-pub apart_from_first : (cells others more : List Cell) → shares_cell cells (others ++ more) ≡ false → shares_cell cells others ≡ false
+pub apart_from_first : (cells others more : List Cell) → shares_cell cells (others ++ more) ≡ false
+    → shares_cell cells others ≡ false
 apart_from_first cells others more e =
-    shares_either_way others cells (neither_first _ _ (sym (shares_append others more cells) ∙ shares_either_way cells (others ++ more) e))
+    shares_either_way others cells
+    (neither_first _ _ (sym (shares_append others more cells) ∙ shares_either_way cells (others ++ more) e))
 
-pub apart_from_second : (cells others more : List Cell) → shares_cell cells (others ++ more) ≡ false → shares_cell cells more ≡ false
+pub apart_from_second : (cells others more : List Cell) → shares_cell cells (others ++ more) ≡ false
+    → shares_cell cells more ≡ false
 apart_from_second cells others more e =
-    shares_either_way more cells (neither_second _ _ (sym (shares_append others more cells) ∙ shares_either_way cells (others ++ more) e))
+    shares_either_way more cells
+    (neither_second _ _ (sym (shares_append others more cells) ∙ shares_either_way cells (others ++ more) e))
 
 -- each cell of the others is free of the list
-pub free_of_each : (cells others : List Cell) → shares_cell cells others ≡ false → AllByRecursion (λ other. list_any (overlaps other) cells ≡ false) others
+pub free_of_each : (cells others : List Cell) → shares_cell cells others ≡ false
+    → AllByRecursion (λ other. list_any (overlaps other) cells ≡ false) others
 free_of_each cells [] e = tt
-free_of_each cells (other ∷ others) e = (apart_first cells other others e, free_of_each cells others (apart_rest cells other others e))
+free_of_each cells (other ∷ others) e =
+    (apart_first cells other others e, free_of_each cells others (apart_rest cells other others e))
 
 -- ---- a place
 
 -- a cell that overlaps a place overlaps a cell of each list that has one at the place
-meets_list : (t : ℕ) (k : Key) (cell : Cell) (others : List Cell) → overlaps (Row t k) cell ≡ true → list_any (overlaps (Row t k)) others ≡ true
+meets_list : (t : ℕ) (k : Key) (cell : Cell) (others : List Cell) → overlaps (Row t k) cell ≡ true
+    → list_any (overlaps (Row t k)) others ≡ true
     → list_any (overlaps cell) others ≡ true
 meets_list t k cell [] p q = absurd (true≢false (sym q))
 meets_list t k cell (other ∷ others) p q =
@@ -139,7 +152,8 @@ meets_list t k cell (other ∷ others) p q =
       | inr not ↦ or_second _ _ (meets_list t k cell others p (ap (λ b. b || list_any (overlaps (Row t k)) others) (sym not) ∙ q))
     ]
 
-both_at_place : (t : ℕ) (k : Key) (cells others : List Cell) → list_any (overlaps (Row t k)) cells ≡ true → list_any (overlaps (Row t k)) others ≡ true
+both_at_place : (t : ℕ) (k : Key) (cells others : List Cell) → list_any (overlaps (Row t k)) cells ≡ true
+    → list_any (overlaps (Row t k)) others ≡ true
     → shares_cell cells others ≡ true
 both_at_place t k [] others p q = absurd (true≢false (sym p))
 both_at_place t k (cell ∷ cells) others p q =

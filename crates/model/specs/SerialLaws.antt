@@ -26,16 +26,20 @@ use Rattle.model.specs.FrameLaws.{Each, each_of_first, each_of_second, same_at_i
 use Rattle.model.specs.AlikeLaws.{same_footprint, same_outcome, same_inverse, alike_after}
 
 -- each cell for which the one holds is one for which the other does
-pub each_so : (P Q : Cell → Type 0) → ((cell : Cell) → P cell → Q cell) → (cells : List Cell) → Each P cells → Each Q cells
+pub each_so : (P Q : Cell → Type 0) → ((cell : Cell) → P cell → Q cell) → (cells : List Cell) → Each P cells
+    → Each Q cells
 each_so P Q so [] all = tt
 each_so P Q so (cell ∷ cells) all = (so cell all.0, each_so P Q so cells all.1)
 
-pub same_back : (schema : Schema) (rows others : Rows) (cells : List Cell) → AreSame schema rows others cells → AreSame schema others rows cells
-same_back schema rows others = each_so (SameAt schema rows others) (SameAt schema others rows) (same_at_back schema rows others)
+pub same_back : (schema : Schema) (rows others : Rows) (cells : List Cell) → AreSame schema rows others cells
+    → AreSame schema others rows cells
+same_back schema rows others =
+    each_so (SameAt schema rows others) (SameAt schema others rows) (same_at_back schema rows others)
 
 -- ---- what changes leave
 
-pub leaves_free_cell : (schema : Schema) (rows : Rows) (cs : List Change) (cell : Cell) → list_any (overlaps cell) (held_cells schema rows cs) ≡ false
+pub leaves_free_cell : (schema : Schema) (rows : Rows) (cs : List Change) (cell : Cell)
+    → list_any (overlaps cell) (held_cells schema rows cs) ≡ false
     → SameAt schema rows (serial schema rows cs) cell
 leaves_free_cell schema rows [] cell free = same_at_itself schema rows cell
 leaves_free_cell schema rows (c ∷ cs) cell free =
@@ -44,10 +48,12 @@ leaves_free_cell schema rows (c ∷ cs) cell free =
     (leaves_free schema rows c cell (neither_first _ _ parts))
     (leaves_free_cell schema (effect schema rows c) cs cell (neither_second _ _ parts))
 
-pub leaves_cells : (schema : Schema) (rows : Rows) (cs : List Change) (cells : List Cell) → shares_cell (held_cells schema rows cs) cells ≡ false
+pub leaves_cells : (schema : Schema) (rows : Rows) (cs : List Change) (cells : List Cell)
+    → shares_cell (held_cells schema rows cs) cells ≡ false
     → AreSame schema rows (serial schema rows cs) cells
 leaves_cells schema rows cs cells apart =
-    each_so (λ cell. list_any (overlaps cell) (held_cells schema rows cs) ≡ false) (SameAt schema rows (serial schema rows cs))
+    each_so (λ cell. list_any (overlaps cell) (held_cells schema rows cs) ≡ false)
+    (SameAt schema rows (serial schema rows cs))
     (leaves_free_cell schema rows cs) cells (free_of_each (held_cells schema rows cs) cells apart)
 
 -- ---- where rows are the same in what changes hold
@@ -67,7 +73,8 @@ module _ (schema : Schema) where
       → SameAt schema (serial schema rows cs) (serial schema others cs) cell
   alike_after_all rows others valid valid_too [] same cell before = before
   alike_after_all rows others valid valid_too (c ∷ cs) same cell before =
-      alike_after_all (effect schema rows c) (effect schema others c) (effect_valid schema rows c valid) (effect_valid schema others c valid_too) cs
+      alike_after_all (effect schema rows c) (effect schema others c) (effect_valid schema rows c valid)
+      (effect_valid schema others c valid_too) cs
       (rest_same rows others valid valid_too c cs same) cell
       (alike_after schema rows others valid valid_too c (each_of_first (SameAt schema rows others) (footprint schema rows c) _ same) cell before)
 
@@ -92,12 +99,14 @@ module _ (schema : Schema) where
       (rest_same rows others valid valid_too c cs same))
 
   pub same_accepted : (rows others : Rows) → IsValid schema rows → IsValid schema others → (cs : List Change)
-      → AreSame schema rows others (held_cells schema rows cs) → AreAccepted schema rows cs → AreAccepted schema others cs
+      → AreSame schema rows others (held_cells schema rows cs) → AreAccepted schema rows cs
+      → AreAccepted schema others cs
   same_accepted rows others valid valid_too [] same accepted = tt
   same_accepted rows others valid valid_too (c ∷ cs) same accepted = (
     λ cause is. accepted.0 cause
         (same_outcome schema rows others valid valid_too c (each_of_first (SameAt schema rows others) (footprint schema rows c) _ same) ∙ is),
-    same_accepted (effect schema rows c) (effect schema others c) (effect_valid schema rows c valid) (effect_valid schema others c valid_too) cs
+    same_accepted (effect schema rows c) (effect schema others c) (effect_valid schema rows c valid)
+        (effect_valid schema others c valid_too) cs
         (rest_same rows others valid valid_too c cs same) accepted.1,
   )
 
@@ -106,22 +115,28 @@ module _ (schema : Schema) where
 module _ (schema : Schema) (rows : Rows) (valid : IsValid schema rows) (cs others : List Change)
     (apart : shares_cell (held_cells schema rows cs) (held_cells schema rows others) ≡ false) where
   pub same_past : AreSame schema rows (serial schema rows others) (held_cells schema rows cs)
-  same_past = leaves_cells schema rows others (held_cells schema rows cs) (shares_either_way (held_cells schema rows cs) (held_cells schema rows others) apart)
+  same_past =
+      leaves_cells schema rows others (held_cells schema rows cs)
+      (shares_either_way (held_cells schema rows cs) (held_cells schema rows others) apart)
 
   pub held_past : held_cells schema rows cs ≡ held_cells schema (serial schema rows others) cs
-  held_past = same_held schema rows (serial schema rows others) valid (serial_valid schema rows others valid) cs same_past
+  held_past =
+      same_held schema rows (serial schema rows others) valid (serial_valid schema rows others valid) cs same_past
 
   pub inverses_past : inverses schema rows cs ≡ inverses schema (serial schema rows others) cs
-  inverses_past = same_inverses schema rows (serial schema rows others) valid (serial_valid schema rows others valid) cs same_past
+  inverses_past =
+      same_inverses schema rows (serial schema rows others) valid (serial_valid schema rows others valid) cs same_past
 
   pub accepted_past : AreAccepted schema rows cs → AreAccepted schema (serial schema rows others) cs
-  accepted_past = same_accepted schema rows (serial schema rows others) valid (serial_valid schema rows others valid) cs same_past
+  accepted_past =
+      same_accepted schema rows (serial schema rows others) valid (serial_valid schema rows others valid) cs same_past
 
   -- a cell that the others leave has the same after these, past the others or not
   pub cell_past : (cell : Cell) → list_any (overlaps cell) (held_cells schema rows others) ≡ false
       → SameAt schema (serial schema rows cs) (serial schema (serial schema rows others) cs) cell
   cell_past cell free =
-      alike_after_all schema rows (serial schema rows others) valid (serial_valid schema rows others valid) cs same_past cell
+      alike_after_all schema rows (serial schema rows others) valid
+      (serial_valid schema rows others valid) cs same_past cell
       (leaves_free_cell schema rows others cell free)
 
 module _ (schema : Schema) (rows : Rows) (valid : IsValid schema rows) (cs others : List Change)
@@ -146,8 +161,10 @@ either_first schema rows valid cs others apart = same_rows _ _ (λ p.
 
 pub lists_keep_theirs : (schema : Schema) (rows : Rows) → IsValid schema rows → (cs others : List Change)
     → shares_cell (held_cells schema rows cs) (held_cells schema rows others) ≡ false
-    → (held_cells schema rows cs ≡ held_cells schema (serial schema rows others) cs) × (inverses schema rows cs ≡ inverses schema (serial schema rows others) cs)
-lists_keep_theirs schema rows valid cs others apart = (held_past schema rows valid cs others apart, inverses_past schema rows valid cs others apart)
+    → (held_cells schema rows cs ≡ held_cells schema (serial schema rows others) cs) ×
+    (inverses schema rows cs ≡ inverses schema (serial schema rows others) cs)
+lists_keep_theirs schema rows valid cs others apart =
+    (held_past schema rows valid cs others apart, inverses_past schema rows valid cs others apart)
 
 -- two changes
 pub changes_commute : (schema : Schema) (rows : Rows) → IsValid schema rows → (c other : Change)
@@ -160,7 +177,8 @@ changes_commute schema rows valid c other apart =
     let lists : shares_cell (held_cells schema rows (c ∷ [])) (held_cells schema rows (other ∷ [])) ≡ false =
     ap (λ cells. shares_cell cells (held_cells schema rows (other ∷ []))) (one c) ∙ ap (shares_cell (footprint schema rows c)) (one other) ∙ apart in
     let alike : AreSame schema rows (effect schema rows other) (footprint schema rows c) =
-    each_of_first (SameAt schema rows (effect schema rows other)) (footprint schema rows c) [] (same_past schema rows valid (c ∷ []) (other ∷ []) lists) in (
+    each_of_first (SameAt schema rows (effect schema rows other)) (footprint schema rows c) []
+    (same_past schema rows valid (c ∷ []) (other ∷ []) lists) in (
       either_first schema rows valid (c ∷ []) (other ∷ []) lists,
       sym (same_outcome schema rows (effect schema rows other) valid (effect_valid schema rows other valid) c alike),
       sym (same_footprint schema rows (effect schema rows other) c alike),
@@ -187,13 +205,17 @@ held_append schema rows (c ∷ cs) more =
 pub inverses_append : (schema : Schema) (rows : Rows) (cs more : List Change)
     → inverses schema rows (cs ++ more) ≡ inverses schema rows cs ++ inverses schema (serial schema rows cs) more
 inverses_append schema rows [] more = refl
-inverses_append schema rows (c ∷ cs) more = ap (λ is. inverse schema rows c ∷ is) (inverses_append schema (effect schema rows c) cs more)
+inverses_append schema rows (c ∷ cs) more =
+    ap (λ is. inverse schema rows c ∷ is) (inverses_append schema (effect schema rows c) cs more)
 
-pub accepted_append : (schema : Schema) (rows : Rows) (cs more : List Change) → AreAccepted schema rows cs → AreAccepted schema (serial schema rows cs) more
+pub accepted_append : (schema : Schema) (rows : Rows) (cs more : List Change) → AreAccepted schema rows cs
+    → AreAccepted schema (serial schema rows cs) more
     → AreAccepted schema rows (cs ++ more)
 accepted_append schema rows [] more first rest = rest
-accepted_append schema rows (c ∷ cs) more first rest = (first.0, accepted_append schema (effect schema rows c) cs more first.1 rest)
+accepted_append schema rows (c ∷ cs) more first rest =
+    (first.0, accepted_append schema (effect schema rows c) cs more first.1 rest)
 
-pub accepted_first : (schema : Schema) (rows : Rows) (cs more : List Change) → AreAccepted schema rows (cs ++ more) → AreAccepted schema rows cs
+pub accepted_first : (schema : Schema) (rows : Rows) (cs more : List Change) → AreAccepted schema rows (cs ++ more)
+    → AreAccepted schema rows cs
 accepted_first schema rows [] more all = tt
 accepted_first schema rows (c ∷ cs) more all = (all.0, accepted_first schema (effect schema rows c) cs more all.1)

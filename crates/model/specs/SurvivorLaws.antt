@@ -14,11 +14,13 @@ use Rattle.model.specs.Cut.{IsCut}
 use Rattle.model.specs.OverlapLaws.{neither, number_is}
 use Rattle.model.specs.Survivors.{is_of, before_savepoint, after_item, surviving, survivors, changes_of}
 
-surviving_with : (top : ℕ) (kept items : List Item) (item : Item) → surviving top kept (items ++ item ∷ []) ≡ after_item top (surviving top kept items) item
+surviving_with : (top : ℕ) (kept items : List Item) (item : Item)
+    → surviving top kept (items ++ item ∷ []) ≡ after_item top (surviving top kept items) item
 surviving_with top kept [] item = refl
 surviving_with top kept (first ∷ items) item = surviving_with top (after_item top kept first) items item
 
-pub survivors_with : (top : ℕ) (items : List Item) (item : Item) → survivors top (items ++ item ∷ []) ≡ after_item top (survivors top items) item
+pub survivors_with : (top : ℕ) (items : List Item) (item : Item)
+    → survivors top (items ++ item ∷ []) ≡ after_item top (survivors top items) item
 survivors_with top = surviving_with top []
 
 pub changes_of_both : (items more : List Item) → changes_of (items ++ more) ≡ changes_of items ++ changes_of more
@@ -32,13 +34,15 @@ changes_of_both (Last ∷ items) more = changes_of_both items more
 abbrev pub work_of : ℕ → List Item → List change_type.Change
 work_of top items = changes_of (survivors top items)
 
-pub work_with_change : (top sub : ℕ) (items : List Item) (c : change_type.Change) → work_of top (items ++ Change sub c ∷ []) ≡ work_of top items ++ c ∷ []
+pub work_with_change : (top sub : ℕ) (items : List Item) (c : Alteration)
+    → work_of top (items ++ Change sub c ∷ []) ≡ work_of top items ++ c ∷ []
 work_with_change top sub items c =
     ap changes_of (survivors_with top items (Change sub c)) ∙ changes_of_both (survivors top items) (Change sub c ∷ [])
 
 pub work_with_touch : (top sub : ℕ) (items : List Item) → work_of top (items ++ Touch sub ∷ []) ≡ work_of top items
 work_with_touch top sub items =
-    ap changes_of (survivors_with top items (Touch sub)) ∙ changes_of_both (survivors top items) (Touch sub ∷ []) ∙ append-nil (work_of top items)
+    ap changes_of (survivors_with top items (Touch sub)) ∙ changes_of_both (survivors top items) (Touch sub ∷ [])
+    ∙ append-nil (work_of top items)
 
 -- ---- a rollback
 
@@ -46,9 +50,11 @@ work_with_touch top sub items =
 before_step : (sub : ℕ) (item : Item) (items : List Item) (b : Bool) → is_of sub item ≡ b
     → before_savepoint sub (item ∷ items) ≡ cond (not b) (item ∷ before_savepoint sub items) []
 before_step sub item items b e =
-    take_while-cons (λ i. not (is_of sub i)) item items ∙ ap (λ b. cond (not b) (item ∷ before_savepoint sub items) []) e
+    take_while-cons (λ i. not (is_of sub i)) item items
+    ∙ ap (λ b. cond (not b) (item ∷ before_savepoint sub items) []) e
 
-with_first : (sub : ℕ) (item : Item) (items kept rest : List Item) → is_of sub item ≡ false → IsCut sub items kept rest → IsCut sub (item ∷ items) (item ∷ kept) rest
+with_first : (sub : ℕ) (item : Item) (items kept rest : List Item) → is_of sub item ≡ false
+    → IsCut sub items kept rest → IsCut sub (item ∷ items) (item ∷ kept) rest
 with_first sub item items kept rest other cut = record {
   both = ap (λ more. item ∷ more) cut.both;
   unnamed = neither _ _ other cut.unnamed;
@@ -86,16 +92,19 @@ rollback_cuts top sub items differs =
     not_top true e = absurd (differs (number_is sub top e))
     not_top false e = e
 
-cut_beginning : (top sub : ℕ) (items : List Item) (b : Bool) → (rest : List Item) × (items ≡ (if b then items else before_savepoint sub items) ++ rest)
+cut_beginning : (top sub : ℕ) (items : List Item) (b : Bool)
+    → (rest : List Item) × (items ≡ (if b then items else before_savepoint sub items) ++ rest)
 cut_beginning top sub items true = ([], sym (append-nil items))
 cut_beginning top sub items false = let cut = cut_before sub items in (cut.0, cut.1.both)
 
-pub survivors_before : (top sub : ℕ) (items : List Item) → (rest : List Item) × (survivors top items ≡ survivors top (items ++ BackTo sub ∷ []) ++ rest)
+pub survivors_before : (top sub : ℕ) (items : List Item)
+    → (rest : List Item) × (survivors top items ≡ survivors top (items ++ BackTo sub ∷ []) ++ rest)
 survivors_before top sub items =
     let cut = cut_beginning top sub (survivors top items) (sub == top) in
     (cut.0, cut.1 ∙ ap (λ kept. kept ++ cut.0) (sym (survivors_with top items (BackTo sub))))
 
-pub work_before : (top sub : ℕ) (items : List Item) → (rest : List change_type.Change) × (work_of top items ≡ work_of top (items ++ BackTo sub ∷ []) ++ rest)
+pub work_before : (top sub : ℕ) (items : List Item)
+    → (rest : List Alteration) × (work_of top items ≡ work_of top (items ++ BackTo sub ∷ []) ++ rest)
 work_before top sub items =
     let cut = survivors_before top sub items in
     (changes_of cut.0, ap changes_of cut.1 ∙ changes_of_both (survivors top (items ++ BackTo sub ∷ [])) cut.0)

@@ -52,7 +52,8 @@ module _ (rows : Rows) (at : ℕ) (key : Key) (row : Row) (table : ℕ) (columns
   abbrev more : Rows
   more = insert rows (at, key) row
 
-  taken_with : are_taken more table columns values ≡ true → (are_taken rows table columns values || has_values at row table columns values) ≡ true
+  taken_with : taken more table columns values ≡ true
+      → (taken rows table columns values || has_values at row table columns values) ≡ true
   taken_with is =
       let t = row_of_taken more table columns values is in
       elim (place_cases (table, t.key) (at, key)) [
@@ -63,10 +64,13 @@ module _ (rows : Rows) (at : ℕ) (key : Key) (row : Row) (table : ℕ) (columns
             (ap (λ (p : Place). p.0 == table) (sym same) ∙ same_number table)
             (key_found _ values (ap (values_in columns) (sym row_same) ∙ t.has)))
         | inr other ↦
-            or_true_first _ _ (taken_by_row rows table columns values t.key t.row (sym (get_insert_other rows (at, key) row (table, t.key) other) ∙ t.at) t.has)
+            or_true_first _ _
+            (taken_by_row rows table columns values t.key t.row (sym (get_insert_other rows (at, key) row (table, t.key) other) ∙ t.at) t.has)
       ]
 
-  with_taken : get rows (at, key) ≡ None → (are_taken rows table columns values || has_values at row table columns values) ≡ true → are_taken more table columns values ≡ true
+  with_taken : get rows (at, key) ≡ None
+      → (taken rows table columns values || has_values at row table columns values) ≡ true
+      → taken more table columns values ≡ true
   with_taken free is =
       elim (cases_Bool (are_taken rows table columns values)) [
         | inl is_taken ↦
@@ -83,10 +87,12 @@ module _ (rows : Rows) (at : ℕ) (key : Key) (row : Row) (table : ℕ) (columns
       ]
 
   -- a row more, at a place where none stood
-  pub taken_insert : get rows (at, key) ≡ None → are_taken more table columns values ≡ (are_taken rows table columns values || has_values at row table columns values)
+  pub taken_insert : get rows (at, key) ≡ None
+      → taken more table columns values ≡ (taken rows table columns values || has_values at row table columns values)
   taken_insert free = same_answer _ _ taken_with (with_taken free)
 
-put_in_again : (b : Bool) (row : Row) (was : Option Row) → (b ≡ true → was ≡ Some row) → was ≡ cond b (Some row) (cond b None was)
+put_in_again : (b : Bool) (row : Row) (was : Option Row) → (b ≡ true → was ≡ Some row)
+    → was ≡ cond b (Some row) (cond b None was)
 put_in_again true row was is = is refl
 put_in_again false row was is = refl
 
@@ -100,16 +106,20 @@ module _ (rows : Rows) (at : ℕ) (key : Key) (row : Row) (stands : get rows (at
 
   -- a row less
   pub taken_without : (table : ℕ) (columns : List ℕ) (values : Key)
-      → are_taken rows table columns values ≡ (are_taken (remove rows (at, key)) table columns values || has_values at row table columns values)
+      → taken rows table columns values ≡
+      (taken (remove rows (at, key)) table columns values || has_values at row table columns values)
   taken_without table columns values =
       ap (λ (r : Rows). are_taken r table columns values) inserted_again
       ∙ taken_insert (remove rows (at, key)) at key row table columns values (get_remove_same rows (at, key))
 
 -- in valid rows nobody else has a row's values in a unique key
-pub untaken_without : (schema : Schema) (rows : Rows) → IsValid schema rows → (table : ℕ) (key : Key) (row : Row) → get rows (table, key) ≡ Some row
-    → (number : ℕ) (columns : List ℕ) (values : Key) → unique_key schema table number ≡ Some columns → values_in columns row ≡ Some values
-    → are_taken (remove rows (table, key)) table columns values ≡ false
-untaken_without schema rows valid table key row stands zero columns values is_unique has = absurd (not_none columns is_unique)
+pub untaken_without : (schema : Schema) (rows : Rows) → IsValid schema rows → (table : ℕ) (key : Key) (row : Row)
+    → get rows (table, key) ≡ Some row
+    → (number : ℕ) (columns : List ℕ) (values : Key) → unique_key schema table number ≡ Some columns
+    → values_in columns row ≡ Some values
+    → taken (remove rows (table, key)) table columns values ≡ false
+untaken_without schema rows valid table key row stands zero columns values is_unique has =
+    absurd (not_none columns is_unique)
 untaken_without schema rows valid table key row stands (suc i) columns values is_unique has =
     elim (cases_Bool (are_taken (remove rows (table, key)) table columns values)) [
       | inr untaken ↦ untaken

@@ -22,7 +22,8 @@ use Rattle.world.specs.Laws.{IsReached, SeesNoOthers, ListedInAnyOrder, OneLiveS
 pub sees_no_others : SeesNoOthers
 sees_no_others schema w opened xid o = refl
 
-swapped_within : {A : Type 0} (before after : List A) (x y : A) → Reordered (before ++ x ∷ y ∷ after) (before ++ y ∷ x ∷ after)
+swapped_within : {A : Type 0} (before after : List A) (x y : A)
+    → Reordered (before ++ x ∷ y ∷ after) (before ++ y ∷ x ∷ after)
 swapped_within [] after x y = swapped x y after
 swapped_within (z ∷ before) after x y = under z (swapped_within before after x y)
 
@@ -54,9 +55,11 @@ start_stays schema w _ (acts xid o sub c (Ok IsDone) new is h) = ap (λ (v : Wor
 start_stays schema w _ (acts xid o sub c (Ok IsSkipped) new is h) = ap (λ (v : World). v.start) h.3
 start_stays schema w _ (acts xid o sub c (Ok (Held holder)) new is h) = ap (λ (v : World). v.start) h.2
 start_stays schema w _ (acts xid o sub c (Ok (Clashed cause)) new is h) = ap (λ (v : World). v.start) h.3
-start_stays schema w _ (acts xid o sub c (Err fault) new is h) = ap (λ (v : World). v.start) (refused_stays w new fault h)
+start_stays schema w _ (acts xid o sub c (Err fault) new is h) =
+    ap (λ (v : World). v.start) (refused_stays w new fault h)
 start_stays schema w _ (touches xid o sub (Ok u) new is h) = ap (λ (v : World). v.start) h.1
-start_stays schema w _ (touches xid o sub (Err fault) new is h) = ap (λ (v : World). v.start) (refused_stays w new fault h)
+start_stays schema w _ (touches xid o sub (Err fault) new is h) =
+    ap (λ (v : World). v.start) (refused_stays w new fault h)
 start_stays schema w _ (goes_back xid o sub new is h) = ap (λ (v : World). v.start) h
 start_stays schema w _ (commits xid o info new is h) = ap (λ (v : World). v.start) h
 start_stays schema w _ (aborts xid o new is h) = ap (λ (v : World). v.start) h
@@ -91,7 +94,8 @@ noted_clash_stands schema start w reached = (fine schema start w reached).noted
 -- ---- a change on the live rows
 
 pub footprint_on_live : FootprintOnLive
-footprint_on_live schema start w reached rows live xid o is = footprint_live schema w (fine schema start w reached) xid o is rows live
+footprint_on_live schema start w reached rows live xid o is =
+    footprint_live schema w (fine schema start w reached) xid o is rows live
 
 pub outcome_on_live : OutcomeOnLive
 outcome_on_live schema start w reached rows live xid o is c free = (
@@ -102,10 +106,13 @@ outcome_on_live schema start w reached rows live xid o is c free = (
 -- ---- the live rows after each call
 
 -- the next world, as the call says it
-after : (schema : Schema) (start : Rows) (w new next : World) → IsReached schema start w → Step schema w new → new ≡ next → IsFine schema next
-after schema start w new next reached step is = subst (IsFine schema) is (fine_step schema w new (fine schema start w reached) step)
+after : (schema : Schema) (start : Rows) (w new next : World) → IsReached schema start w → Step schema w new
+    → new ≡ next → IsFine schema next
+after schema start w new next reached step is =
+    subst (IsFine schema) is (fine_step schema w new (fine schema start w reached) step)
 
-carried : (schema : Schema) (new next : World) (rows : Rows) → new ≡ next → IsLive schema next rows → IsLive schema new rows
+carried : (schema : Schema) (new next : World) (rows : Rows) → new ≡ next → IsLive schema next rows
+    → IsLive schema new rows
 carried schema new next rows is = subst (λ (v : World). IsLive schema v rows) (sym is)
 
 pub live_after_open : LiveAfterOpen
@@ -149,10 +156,12 @@ live_after_touch schema start w new reached rows live xid o is sub (Ok u) h =
     carried schema new (done_with w xid o (Touch sub)) rows h.1
     (live_touched schema w (fine schema start w reached) rows live xid o is sub
     (after schema start w new (done_with w xid o (Touch sub)) reached (touches xid o sub (Ok u) new is h) h.1))
-live_after_touch schema start w new reached rows live xid o is sub (Err fault) h = carried schema new w rows (refused_stays w new fault h) live
+live_after_touch schema start w new reached rows live xid o is sub (Err fault) h =
+    carried schema new w rows (refused_stays w new fault h) live
 
 -- the record of a transaction that was rolled back
-after_back : (w new : World) (xid : ℕ) (o after : Opened) (sub : ℕ) → GoesBack w xid o sub new → get new.opened xid ≡ Some after
+after_back : (w new : World) (xid : ℕ) (o after : Opened) (sub : ℕ) → GoesBack w xid o sub new
+    → get new.opened xid ≡ Some after
     → after ≡ record { items = o.items ++ BackTo sub ∷ []; wants = None }
 after_back w new xid o after sub h at =
     same_some after (record { items = o.items ++ BackTo sub ∷ []; wants = None })
@@ -198,8 +207,9 @@ live_after_rollback schema start w new reached rows live xid o next is sub h at 
     let cut : Opened = record { items = o.items ++ BackTo sub ∷ []; wants = None } in
     let kept : work xid cut ≡ work xid next = ap (work xid) (sym (after_back w new xid o next sub h at)) in
     let committed : new.committed ≡ w.committed = ap (λ (v : World). v.committed) h in
-    subst (λ (r : Rows). IsLive schema new (all_back rows (inverses schema (serial schema r (work xid next)) gone))) (sym committed)
-    (carried schema new (done_with w xid o (BackTo sub)) (all_back rows (inverses schema (serial schema w.committed (work xid next)) gone)) h
+    subst (λ (r : Rows). IsLive schema new (undone rows (inverses schema (serial schema r (work xid next)) gone)))
+    (sym committed)
+    (carried schema new (done_with w xid o (BackTo sub)) (undone rows (inverses schema (serial schema w.committed (work xid next)) gone)) h
     (live_cut schema w (fine schema start w reached) rows live xid o is sub (work xid next) gone was kept
     (after schema start w new (done_with w xid o (BackTo sub)) reached (goes_back xid o sub new is h) h)))
 
@@ -219,8 +229,10 @@ pub commit_moves_no_holds : CommitMovesNoHolds
 commit_moves_no_holds schema start w new reached xid o is info h other p differs at =
     let next = committed_with schema w xid o info in (
       ap (λ (v : World). get v.opened other) h ∙ gone_other w.opened xid other differs ∙ at,
-      ap (λ (v : World). holds schema v other p) h ∙ sym (holds_stay schema w (fine schema start w reached) xid o info is other p differs at),
-      ap (λ (v : World). inverses schema v.committed (work other p)) h ∙ sym (inverses_stay schema w (fine schema start w reached) xid o is other p differs at),
+      ap (λ (v : World). holds schema v other p) h
+          ∙ sym (holds_stay schema w (fine schema start w reached) xid o info is other p differs at),
+      ap (λ (v : World). inverses schema v.committed (work other p)) h
+          ∙ sym (inverses_stay schema w (fine schema start w reached) xid o is other p differs at),
     )
 
 -- ---- the line
@@ -237,8 +249,10 @@ line_grows schema w _ (opens xid (Err AlreadyOpen) new h) = stays w new h.2
 line_grows schema w _ (opens xid (Err TooManyOpen) new h) = stays w new h.3
 line_grows schema w _ (opens xid (Err Stopped) new h) = stays w new h.1
 line_grows schema w _ (opens xid (Err OutOfMemory) new h) = stays w new h.3
-line_grows schema w _ (acts xid o sub c (Ok IsDone) new is h) = same_line w new (done_with w xid o (Change sub c)) h.3 refl
-line_grows schema w _ (acts xid o sub c (Ok IsSkipped) new is h) = same_line w new (done_with w xid o (Change sub c)) h.3 refl
+line_grows schema w _ (acts xid o sub c (Ok IsDone) new is h) =
+    same_line w new (done_with w xid o (Change sub c)) h.3 refl
+line_grows schema w _ (acts xid o sub c (Ok IsSkipped) new is h) =
+    same_line w new (done_with w xid o (Change sub c)) h.3 refl
 line_grows schema w _ (acts xid o sub c (Ok (Held holder)) new is h) = same_line w new (wanting w xid o sub c) h.2 refl
 line_grows schema w _ (acts xid o sub c (Ok (Clashed cause)) new is h) =
     same_line w new (record (wanting w xid o sub c) { stopped = Some (ByClash xid c cause) }) h.3 refl
@@ -246,9 +260,11 @@ line_grows schema w _ (acts xid o sub c (Err fault) new is h) = stays w new (ref
 line_grows schema w _ (touches xid o sub (Ok u) new is h) = same_line w new (done_with w xid o (Touch sub)) h.1 refl
 line_grows schema w _ (touches xid o sub (Err fault) new is h) = stays w new (refused_stays w new fault h)
 line_grows schema w _ (goes_back xid o sub new is h) = same_line w new (done_with w xid o (BackTo sub)) h refl
-line_grows schema w _ (commits xid o info new is h) = (record { xid = xid; items = o.items; info = info } ∷ [], ap (λ (v : World). v.line) h)
+line_grows schema w _ (commits xid o info new is h) =
+    (record { xid = xid; items = o.items; info = info } ∷ [], ap (λ (v : World). v.line) h)
 line_grows schema w _ (aborts xid o new is h) = same_line w new (aborted_with w xid) h refl
-line_grows schema w _ (stops_held sent waiter (Some holder) new h) = same_line w new (record w { stopped = Some (ByHold waiter holder) }) h.1 refl
+line_grows schema w _ (stops_held sent waiter (Some holder) new h) =
+    same_line w new (record w { stopped = Some (ByHold waiter holder) }) h.1 refl
 line_grows schema w _ (stops_held sent waiter None new h) = stays w new h.1
 line_grows schema w _ (tells_stop answer h) = stays w w refl
 line_grows schema w _ (reads_live place answer h) = stays w w refl

@@ -31,12 +31,14 @@ use Rattle.model.specs.SurvivorLaws.{work_with_change, work_with_touch, work_bef
 -- the change clashes on the transaction's own view, and meets no cell of another
 abbrev pub IsClashing : Schema → World → ℕ → Opened → change_type.Change → ClashCause → Type 0
 IsClashing schema w xid o c cause =
-    IsFree schema w xid (footprint schema (own_rows schema w xid o) c) × (outcome schema (own_rows schema w xid o) c ≡ Clashes cause)
+    IsFree schema w xid (footprint schema (own_rows schema w xid o) c) ×
+    (outcome schema (own_rows schema w xid o) c ≡ Clashes cause)
 
 -- the clash that stopped the world is one still, while its transaction wants the change
 abbrev pub StillClashes : Schema → World → Type 0
 StillClashes schema w =
-    (xid : ℕ) (c : change_type.Change) (cause : ClashCause) → w.stopped ≡ Some (ByClash xid c cause) → (o : Opened) (sub : ℕ) → get w.opened xid ≡ Some o
+    (xid : ℕ) (c : Alteration) (cause : Conflict) → w.stopped ≡ Some (ByClash xid c cause) → (o : Opened) (sub : ℕ)
+    → get w.opened xid ≡ Some o
     → o.wants ≡ Some (sub, c) → IsClashing schema w xid o c cause
 
 pub record IsFine (schema : Schema) (w : World) : Type 0 where
@@ -51,11 +53,13 @@ pub committed_valid : (schema : Schema) (w : World) → IsFine schema w → IsVa
 committed_valid schema w fine =
     subst (IsValid schema) (sym fine.serial_commits) (serial_valid schema w.start (changes_in w.line) fine.valid_start)
 
-pub own_valid : (schema : Schema) (w : World) → IsFine schema w → (xid : ℕ) (o : Opened) → IsValid schema (own_rows schema w xid o)
+pub own_valid : (schema : Schema) (w : World) → IsFine schema w → (xid : ℕ) (o : Opened)
+    → IsValid schema (own_rows schema w xid o)
 own_valid schema w fine xid o = serial_valid schema w.committed (work xid o) (committed_valid schema w fine)
 
 -- an open transaction's cells are free of the others'
-pub holds_free : (schema : Schema) (w : World) → IsFine schema w → (xid : ℕ) (o : Opened) → get w.opened xid ≡ Some o → IsFree schema w xid (holds schema w xid o)
+pub holds_free : (schema : Schema) (w : World) → IsFine schema w → (xid : ℕ) (o : Opened) → get w.opened xid ≡ Some o
+    → IsFree schema w xid (holds schema w xid o)
 holds_free schema w fine xid o is other p differs at = fine.apart xid other o p (λ s. differs (sym s)) is at
 
 some_is_not_none : {X : Type 0} (x : X) → ¬ (None ≡ Some x)
@@ -70,7 +74,8 @@ not_stopped schema w running xid c cause is = absurd (some_is_not_none (ByClash 
 -- ---- with another record of one transaction
 
 -- one that is open afterwards is this one, or was open
-pub put_cases : (m : FinMap nat_cmp Opened) (xid : ℕ) (o : Opened) (other : ℕ) (p : Opened) → get (finite.insert m xid o) other ≡ Some p
+pub put_cases : (m : FinMap nat_cmp Opened) (xid : ℕ) (o : Opened) (other : ℕ) (p : Opened)
+    → get (finite.insert m xid o) other ≡ Some p
     → ((other ≡ xid) × (p ≡ o)) ⊎ ((other ≢ xid) × (get m other ≡ Some p))
 put_cases m xid o other p at =
     elim (xid_cases other xid) [
@@ -85,7 +90,8 @@ module _ (schema : Schema) (w : World) (fine : IsFine schema w) (xid : ℕ) (o :
   same_holds : (other : ℕ) (p : Opened) → other ≡ xid → p ≡ o → holds schema w other p ≡ holds schema w xid o
   same_holds other p is same = ap (λ n. holds schema w n p) is ∙ ap (holds schema w xid) same
 
-  apart_put : IsFree schema w xid (holds schema w xid o) → (one other : ℕ) (p q : Opened) → one ≢ other → get put.opened one ≡ Some p
+  apart_put : IsFree schema w xid (holds schema w xid o) → (one other : ℕ) (p q : Opened) → one ≢ other
+      → get put.opened one ≡ Some p
       → get put.opened other ≡ Some q → shares_cell (holds schema w one p) (holds schema w other q) ≡ false
   apart_put free one other p q differs at too =
       elim (put_cases w.opened xid o one p at) [
@@ -103,7 +109,8 @@ module _ (schema : Schema) (w : World) (fine : IsFine schema w) (xid : ℕ) (o :
             ]
       ]
 
-  accepted_put : AreAccepted schema w.committed (work xid o) → (one : ℕ) (p : Opened) → get put.opened one ≡ Some p → AreAccepted schema w.committed (work one p)
+  accepted_put : AreAccepted schema w.committed (work xid o) → (one : ℕ) (p : Opened) → get put.opened one ≡ Some p
+      → AreAccepted schema w.committed (work one p)
   accepted_put accepted one p at =
       elim (put_cases w.opened xid o one p at) [
         | inl is ↦
@@ -112,7 +119,8 @@ module _ (schema : Schema) (w : World) (fine : IsFine schema w) (xid : ℕ) (o :
         | inr was ↦ fine.accepted one p was.1
       ]
 
-  pub fine_put : AreAccepted schema w.committed (work xid o) → IsFree schema w xid (holds schema w xid o) → StillClashes schema put → IsFine schema put
+  pub fine_put : AreAccepted schema w.committed (work xid o) → IsFree schema w xid (holds schema w xid o)
+      → StillClashes schema put → IsFine schema put
   fine_put accepted free noted = record {
     valid_start = fine.valid_start;
     serial_commits = fine.serial_commits;
@@ -127,15 +135,18 @@ module _ (schema : Schema) (w : World) (fine : IsFine schema w) (xid : ℕ) (o :
 
 -- ---- the calls
 
-fine_opens : (schema : Schema) (w : World) → IsFine schema w → (xid : ℕ) → w.stopped ≡ None → IsFine schema (opened_with w xid)
+fine_opens : (schema : Schema) (w : World) → IsFine schema w → (xid : ℕ) → w.stopped ≡ None
+    → IsFine schema (opened_with w xid)
 fine_opens schema w fine xid running =
     fine_put schema w fine xid (record { items = []; wants = None }) w.stopped tt (λ other p differs at. refl)
     (not_stopped schema (opened_with w xid) running)
 
 -- a change that meets no other's cell, and doesn't clash
-fine_with_change : (schema : Schema) (w : World) → IsFine schema w → (xid : ℕ) (o : Opened) (sub : ℕ) (c : change_type.Change) → get w.opened xid ≡ Some o
+fine_with_change : (schema : Schema) (w : World) → IsFine schema w
+    → (xid : ℕ) (o : Opened) (sub : ℕ) (c : Alteration) → get w.opened xid ≡ Some o
     → w.stopped ≡ None → IsFree schema w xid (footprint schema (own_rows schema w xid o) c)
-    → ((cause : ClashCause) → outcome schema (own_rows schema w xid o) c ≢ Clashes cause) → IsFine schema (done_with w xid o (Change sub c))
+    → ((cause : Conflict) → outcome schema (own_rows schema w xid o) c ≢ Clashes cause)
+    → IsFine schema (done_with w xid o (Change sub c))
 fine_with_change schema w fine xid o sub c is running free fits =
     let items = o.items ++ Change sub c ∷ [] in
     let after : Opened = record { items = items; wants = None } in
@@ -164,7 +175,8 @@ fits_skip o is cause clashes = apart (sym is ∙ clashes)
     apart e = cc
 
 -- an item that leaves its work
-fine_with_touch : (schema : Schema) (w : World) → IsFine schema w → (xid : ℕ) (o : Opened) (sub : ℕ) → get w.opened xid ≡ Some o → w.stopped ≡ None
+fine_with_touch : (schema : Schema) (w : World) → IsFine schema w → (xid : ℕ) (o : Opened) (sub : ℕ)
+    → get w.opened xid ≡ Some o → w.stopped ≡ None
     → IsFine schema (done_with w xid o (Touch sub))
 fine_with_touch schema w fine xid o sub is running =
     let after : Opened = record { items = o.items ++ Touch sub ∷ []; wants = None } in
@@ -172,16 +184,20 @@ fine_with_touch schema w fine xid o sub is running =
     fine_put schema w fine xid after w.stopped
     (subst (AreAccepted schema w.committed) (sym work_is) (fine.accepted xid o is))
     (λ other p differs at.
-    ap (λ cs. shares_cell (held_cells schema w.committed cs) (holds schema w other p)) work_is ∙ holds_free schema w fine xid o is other p differs at)
+    ap (λ cs. shares_cell (held_cells schema w.committed cs) (holds schema w other p)) work_is
+    ∙ holds_free schema w fine xid o is other p differs at)
     (not_stopped schema (done_with w xid o (Touch sub)) running)
 
-fine_wanting : (schema : Schema) (w : World) → IsFine schema w → (xid : ℕ) (o : Opened) (sub : ℕ) (c : change_type.Change) → get w.opened xid ≡ Some o → w.stopped ≡ None
+fine_wanting : (schema : Schema) (w : World) → IsFine schema w → (xid : ℕ) (o : Opened) (sub : ℕ) (c : Alteration)
+    → get w.opened xid ≡ Some o → w.stopped ≡ None
     → IsFine schema (wanting w xid o sub c)
 fine_wanting schema w fine xid o sub c is running =
-    fine_put schema w fine xid (record o { wants = Some (sub, c) }) w.stopped (fine.accepted xid o is) (holds_free schema w fine xid o is)
+    fine_put schema w fine xid (record o { wants = Some (sub, c) }) w.stopped (fine.accepted xid o is)
+    (holds_free schema w fine xid o is)
     (not_stopped schema (wanting w xid o sub c) running)
 
-clash_is : (xid other : ℕ) (c d : change_type.Change) (cause why : ClashCause) → Some (ByClash xid c cause) ≡ Some (ByClash other d why)
+clash_is : (xid other : ℕ) (c d : Alteration) (cause why : Conflict)
+    → Some (ByClash xid c cause) ≡ Some (ByClash other d why)
     → (xid ≡ other) × (c ≡ d) × (cause ≡ why)
 clash_is xid other c d cause why e = (cc, cc, cc)
 
@@ -194,11 +210,14 @@ same_clashing schema w xid other o p c d cause why x_is o_is c_is cause_is clash
     (subst (λ (e : change_type.Change). IsClashing schema w xid o e why) c_is
     (subst (λ (k : ClashCause). IsClashing schema w xid o c k) cause_is clashing)))
 
-fine_clashed : (schema : Schema) (w : World) → IsFine schema w → (xid : ℕ) (o : Opened) (sub : ℕ) (c : change_type.Change) (cause : ClashCause) → get w.opened xid ≡ Some o
-    → IsFree schema w xid (footprint schema (own_rows schema w xid o) c) → outcome schema (own_rows schema w xid o) c ≡ Clashes cause
+fine_clashed : (schema : Schema) (w : World) → IsFine schema w
+    → (xid : ℕ) (o : Opened) (sub : ℕ) (c : Alteration) (cause : Conflict) → get w.opened xid ≡ Some o
+    → IsFree schema w xid (footprint schema (own_rows schema w xid o) c)
+    → outcome schema (own_rows schema w xid o) c ≡ Clashes cause
     → IsFine schema (record (wanting w xid o sub c) { stopped = Some (ByClash xid c cause) })
 fine_clashed schema w fine xid o sub c cause is free clashes =
-    fine_put schema w fine xid after (Some (ByClash xid c cause)) (fine.accepted xid o is) (holds_free schema w fine xid o is) noted
+    fine_put schema w fine xid after (Some (ByClash xid c cause)) (fine.accepted xid o is)
+    (holds_free schema w fine xid o is) noted
   where
     after : Opened
     after = record o { wants = Some (sub, c) }
@@ -233,9 +252,11 @@ module _ (schema : Schema) (w : World) (fine : IsFine schema w) (xid : ℕ) (o :
   holds_were = ap (held_cells schema w.committed) work_was ∙ held_append schema w.committed (work xid cut) gone
 
   -- what it holds afterwards it held before
-  free_of_cut : (cells : List Cell) → shares_cell cells (holds schema w xid o) ≡ false → shares_cell cells (holds schema w xid cut) ≡ false
+  free_of_cut : (cells : List Cell) → shares_cell cells (holds schema w xid o) ≡ false
+      → shares_cell cells (holds schema w xid cut) ≡ false
   free_of_cut cells free =
-      apart_from_first cells (holds schema w xid cut) (held_cells schema (own_rows schema w xid cut) gone) (ap (shares_cell cells) (sym holds_were) ∙ free)
+      apart_from_first cells (holds schema w xid cut) (held_cells schema (own_rows schema w xid cut) gone)
+      (ap (shares_cell cells) (sym holds_were) ∙ free)
 
   none_wanted : (sub : ℕ) (c : change_type.Change) (p : Opened) → p ≡ cut → ¬ (p.wants ≡ Some (sub, c))
   none_wanted sub c p same wants = some_is_not_none (sub, c) (sym (ap (λ (r : Opened). r.wants) same) ∙ wants)
@@ -251,7 +272,8 @@ module _ (schema : Schema) (w : World) (fine : IsFine schema w) (xid : ℕ) (o :
                     | inl it ↦
                         ap (λ (n : ℕ). shares_cell (footprint schema (own_rows schema w other p) d) (holds schema w n q)) it.0
                         ∙ ap (λ (r : Opened). shares_cell (footprint schema (own_rows schema w other p) d) (holds schema w xid r)) it.1
-                        ∙ free_of_cut (footprint schema (own_rows schema w other p) d) (before.0 xid o (λ s. was.0 (sym s)) is)
+                        ∙ free_of_cut (footprint schema (own_rows schema w other p) d)
+                        (before.0 xid o (λ s. was.0 (sym s)) is)
                     | inr too ↦ before.0 third q differs too.1
                   ],
               before.1,
@@ -270,7 +292,8 @@ module _ (schema : Schema) (w : World) (fine : IsFine schema w) (xid : ℕ) (o :
 
 -- ---- once a transaction is gone
 
-gone_cases : (m : FinMap nat_cmp Opened) (xid other : ℕ) (p : Opened) → get (finite.remove m xid) other ≡ Some p → (other ≢ xid) × (get m other ≡ Some p)
+gone_cases : (m : FinMap nat_cmp Opened) (xid other : ℕ) (p : Opened) → get (finite.remove m xid) other ≡ Some p
+    → (other ≢ xid) × (get m other ≡ Some p)
 gone_cases m xid other p at =
     elim (xid_cases other xid) [
       | inl is ↦ absurd (some_is_not_none p (sym (gone_same m xid) ∙ ap (get (finite.remove m xid)) (sym is) ∙ at))
@@ -281,7 +304,9 @@ pub fine_aborted : (schema : Schema) (w : World) → IsFine schema w → (xid : 
 fine_aborted schema w fine xid = record {
   valid_start = fine.valid_start;
   serial_commits = fine.serial_commits;
-  apart = λ one other p q differs at too. fine.apart one other p q differs (gone_cases w.opened xid one p at).1 (gone_cases w.opened xid other q too).1;
+  apart =
+      λ one other p q differs at too. fine.apart one other p q differs (gone_cases w.opened xid one p at).1
+      (gone_cases w.opened xid other q too).1;
   accepted = λ one p at. fine.accepted one p (gone_cases w.opened xid one p at).1;
   noted = λ other d why stopped p named at wants.
       let before = fine.noted other d why stopped p named (gone_cases w.opened xid other p at).1 wants in
@@ -296,13 +321,17 @@ module _ (schema : Schema) (w : World) (fine : IsFine schema w) (xid : ℕ) (o :
   valid = committed_valid schema w fine
 
   -- another's cells, and that none of them is among those of the one that commits
-  apart_from : (other : ℕ) (p : Opened) → other ≢ xid → get w.opened other ≡ Some p → shares_cell (holds schema w other p) (holds schema w xid o) ≡ false
+  apart_from : (other : ℕ) (p : Opened) → other ≢ xid → get w.opened other ≡ Some p
+      → shares_cell (holds schema w other p) (holds schema w xid o) ≡ false
   apart_from other p differs at = fine.apart other xid p o differs at is
 
-  pub holds_stay : (other : ℕ) (p : Opened) → other ≢ xid → get w.opened other ≡ Some p → holds schema w other p ≡ holds schema after other p
-  holds_stay other p differs at = held_past schema w.committed valid (work other p) (work xid o) (apart_from other p differs at)
+  pub holds_stay : (other : ℕ) (p : Opened) → other ≢ xid → get w.opened other ≡ Some p
+      → holds schema w other p ≡ holds schema after other p
+  holds_stay other p differs at =
+      held_past schema w.committed valid (work other p) (work xid o) (apart_from other p differs at)
 
-  apart_committed : (one other : ℕ) (p q : Opened) → one ≢ other → get after.opened one ≡ Some p → get after.opened other ≡ Some q
+  apart_committed : (one other : ℕ) (p q : Opened) → one ≢ other → get after.opened one ≡ Some p
+      → get after.opened other ≡ Some q
       → shares_cell (holds schema after one p) (holds schema after other q) ≡ false
   apart_committed one other p q differs at too =
       let first = gone_cases w.opened xid one p at in
@@ -316,13 +345,16 @@ module _ (schema : Schema) (w : World) (fine : IsFine schema w) (xid : ℕ) (o :
       ap (λ (r : Rows). serial schema r (work xid o)) fine.serial_commits
       ∙ ap (serial schema (serial schema w.start (changes_in w.line))) (sym (append-nil (work xid o)))
       ∙ sym (serial_append schema w.start (changes_in w.line) (work xid o ++ []))
-      ∙ ap (serial schema w.start) (sym (flat_map-append work_behind w.line (record { xid = xid; items = o.items; info = info } ∷ [])))
+      ∙ ap (serial schema w.start)
+      (sym (flat_map-append work_behind w.line (record { xid = xid; items = o.items; info = info } ∷ [])))
 
   -- its cells that meet none of the committed have the same on its view as before
-  same_view : (other : ℕ) (p : Opened) (cells : List Cell) → other ≢ xid → get w.opened other ≡ Some p → shares_cell cells (holds schema w xid o) ≡ false
+  same_view : (other : ℕ) (p : Opened) (cells : List Cell) → other ≢ xid → get w.opened other ≡ Some p
+      → shares_cell cells (holds schema w xid o) ≡ false
       → AreSame schema (own_rows schema w other p) (own_rows schema after other p) cells
   same_view other p cells differs at free =
-      each_so (λ cell. list_any (overlaps cell) (holds schema w xid o) ≡ false) (SameAt schema (own_rows schema w other p) (own_rows schema after other p))
+      each_so (λ cell. list_any (overlaps cell) (holds schema w xid o) ≡ false)
+      (SameAt schema (own_rows schema w other p) (own_rows schema after other p))
       (cell_past schema w.committed valid (work other p) (work xid o) (apart_from other p differs at)) cells
       (free_of_each (holds schema w xid o) cells (shares_either_way cells (holds schema w xid o) free))
 
@@ -361,13 +393,15 @@ module _ (schema : Schema) (w : World) (fine : IsFine schema w) (xid : ℕ) (o :
     apart = apart_committed;
     accepted = λ one p at.
         let there = gone_cases w.opened xid one p at in
-        accepted_past schema w.committed valid (work one p) (work xid o) (apart_from one p there.0 there.1) (fine.accepted one p there.1);
+        accepted_past schema w.committed valid (work one p) (work xid o) (apart_from one p there.0 there.1)
+        (fine.accepted one p there.1);
     noted = noted_committed;
   }
 
 -- ---- any call
 
-fine_stopped : (schema : Schema) (w : World) → IsFine schema w → (waiter holder : ℕ) → IsFine schema (record w { stopped = Some (ByHold waiter holder) })
+fine_stopped : (schema : Schema) (w : World) → IsFine schema w → (waiter holder : ℕ)
+    → IsFine schema (record w { stopped = Some (ByHold waiter holder) })
 fine_stopped schema w fine waiter holder = record {
   valid_start = fine.valid_start;
   serial_commits = fine.serial_commits;
@@ -376,7 +410,8 @@ fine_stopped schema w fine waiter holder = record {
   noted = λ xid c cause stopped. absurd (other_stop xid c cause stopped);
 }
   where
-    other_stop : (xid : ℕ) (c : change_type.Change) (cause : ClashCause) → ¬ (Some (ByHold waiter holder) ≡ Some (ByClash xid c cause))
+    other_stop : (xid : ℕ) (c : Alteration) (cause : Conflict)
+        → ¬ (Some (ByHold waiter holder) ≡ Some (ByClash xid c cause))
     other_stop xid c cause e = cc
 
 pub refused_stays : (w new : World) (fault : Fault) → IsRefused w fault new → new ≡ w
@@ -395,16 +430,25 @@ fine_step schema w _ fine (acts xid o sub c (Ok IsDone) new is h) =
     subst (IsFine schema) (sym h.3)
     (fine_with_change schema w fine xid o sub c is h.0 h.1 (fits_done (outcome schema (own_rows schema w xid o) c) h.2.0 h.2.1))
 fine_step schema w _ fine (acts xid o sub c (Ok IsSkipped) new is h) =
-    subst (IsFine schema) (sym h.3) (fine_with_change schema w fine xid o sub c is h.0 h.1 (fits_skip (outcome schema (own_rows schema w xid o) c) h.2))
-fine_step schema w _ fine (acts xid o sub c (Ok (Held holder)) new is h) = subst (IsFine schema) (sym h.2) (fine_wanting schema w fine xid o sub c is h.0)
-fine_step schema w _ fine (acts xid o sub c (Ok (Clashed cause)) new is h) = subst (IsFine schema) (sym h.3) (fine_clashed schema w fine xid o sub c cause is h.1 h.2)
-fine_step schema w _ fine (acts xid o sub c (Err fault) new is h) = subst (IsFine schema) (sym (refused_stays w new fault h)) fine
-fine_step schema w _ fine (touches xid o sub (Ok u) new is h) = subst (IsFine schema) (sym h.1) (fine_with_touch schema w fine xid o sub is h.0)
-fine_step schema w _ fine (touches xid o sub (Err fault) new is h) = subst (IsFine schema) (sym (refused_stays w new fault h)) fine
-fine_step schema w _ fine (goes_back xid o sub new is h) = subst (IsFine schema) (sym h) (fine_back schema w fine xid o sub is)
-fine_step schema w _ fine (commits xid o info new is h) = subst (IsFine schema) (sym h) (fine_committed schema w fine xid o info is)
+    subst (IsFine schema) (sym h.3)
+    (fine_with_change schema w fine xid o sub c is h.0 h.1 (fits_skip (outcome schema (own_rows schema w xid o) c) h.2))
+fine_step schema w _ fine (acts xid o sub c (Ok (Held holder)) new is h) =
+    subst (IsFine schema) (sym h.2) (fine_wanting schema w fine xid o sub c is h.0)
+fine_step schema w _ fine (acts xid o sub c (Ok (Clashed cause)) new is h) =
+    subst (IsFine schema) (sym h.3) (fine_clashed schema w fine xid o sub c cause is h.1 h.2)
+fine_step schema w _ fine (acts xid o sub c (Err fault) new is h) =
+    subst (IsFine schema) (sym (refused_stays w new fault h)) fine
+fine_step schema w _ fine (touches xid o sub (Ok u) new is h) =
+    subst (IsFine schema) (sym h.1) (fine_with_touch schema w fine xid o sub is h.0)
+fine_step schema w _ fine (touches xid o sub (Err fault) new is h) =
+    subst (IsFine schema) (sym (refused_stays w new fault h)) fine
+fine_step schema w _ fine (goes_back xid o sub new is h) =
+    subst (IsFine schema) (sym h) (fine_back schema w fine xid o sub is)
+fine_step schema w _ fine (commits xid o info new is h) =
+    subst (IsFine schema) (sym h) (fine_committed schema w fine xid o info is)
 fine_step schema w _ fine (aborts xid o new is h) = subst (IsFine schema) (sym h) (fine_aborted schema w fine xid)
-fine_step schema w _ fine (stops_held sent waiter (Some holder) new h) = subst (IsFine schema) (sym h.1) (fine_stopped schema w fine waiter holder)
+fine_step schema w _ fine (stops_held sent waiter (Some holder) new h) =
+    subst (IsFine schema) (sym h.1) (fine_stopped schema w fine waiter holder)
 fine_step schema w _ fine (stops_held sent waiter None new h) = subst (IsFine schema) (sym h.1) fine
 fine_step schema w _ fine (tells_stop answer h) = fine
 fine_step schema w _ fine (reads_live place answer h) = fine
@@ -427,6 +471,8 @@ fine_start schema rows valid = record {
   noted = not_stopped schema (starting rows) refl;
 }
 
-pub fine_reached : (schema : Schema) (rows : Rows) → IsValid schema rows → (w : World) → Reaches schema (starting rows) w → IsFine schema w
+pub fine_reached : (schema : Schema) (rows : Rows) → IsValid schema rows → (w : World)
+    → Reaches schema (starting rows) w → IsFine schema w
 fine_reached schema rows valid _ at_start = fine_start schema rows valid
-fine_reached schema rows valid _ (by_step w new before step) = fine_step schema w new (fine_reached schema rows valid w before) step
+fine_reached schema rows valid _ (by_step w new before step) =
+    fine_step schema w new (fine_reached schema rows valid w before) step

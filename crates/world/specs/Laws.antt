@@ -21,7 +21,9 @@ IsReached schema start w = IsValid schema start × Reaches schema (starting star
 
 -- an open transaction sees the same whatever others are open
 abbrev pub SeesNoOthers : Type 0
-SeesNoOthers = (schema : Schema) (w : World) (opened : OpenOnes) (xid : ℕ) (o : Opened) → own_rows schema (record w { opened = opened }) xid o ≡ own_rows schema w xid o
+SeesNoOthers =
+    (schema : Schema) (w : World) (opened : OpenOnes) (xid : ℕ) (o : Opened)
+    → own_rows schema (record w { opened = opened }) xid o ≡ own_rows schema w xid o
 
 -- the open transactions can be listed, and two neighbours of a listing can change places
 abbrev pub ListedInAnyOrder : Type 0
@@ -34,18 +36,22 @@ ListedInAnyOrder =
 -- every listing gives the same live rows
 abbrev pub OneLiveState : Type 0
 OneLiveState =
-    (schema : Schema) (start : Rows) (w : World) → IsReached schema start w → (listing other : List (ℕ × Opened)) → IsListing w listing → IsListing w other
+    (schema : Schema) (start : Rows) (w : World) → IsReached schema start w → (listing other : List (ℕ × Opened))
+    → IsListing w listing → IsListing w other
     → live_rows schema w listing ≡ live_rows schema w other
 
 -- they are valid
 abbrev pub LiveIsValid : Type 0
-LiveIsValid = (schema : Schema) (start : Rows) (w : World) → IsReached schema start w → (rows : Rows) → IsLive schema w rows → IsValid schema rows
+LiveIsValid =
+    (schema : Schema) (start : Rows) (w : World) → IsReached schema start w → (rows : Rows) → IsLive schema w rows
+    → IsValid schema rows
 
 -- no change clashes on the way to them
 abbrev pub NoLiveChangeClashes : Type 0
 NoLiveChangeClashes =
-    (schema : Schema) (start : Rows) (w : World) → IsReached schema start w → (listing : List (ℕ × Opened)) → IsListing w listing
-    → AreAccepted schema w.committed (flat_map (λ (cs : List change_type.Change). cs) (works listing))
+    (schema : Schema) (start : Rows) (w : World) → IsReached schema start w → (listing : List (ℕ × Opened))
+    → IsListing w listing
+    → AreAccepted schema w.committed (flat_map (λ (cs : List Alteration). cs) (works listing))
 
 -- the committed rows are the commits' changes, one after another in commit order
 abbrev pub CommittedIsSerial : Type 0
@@ -56,15 +62,18 @@ CommittedIsSerial =
 -- with no transaction open the live rows are these
 abbrev pub AloneIsSerial : Type 0
 AloneIsSerial =
-    (schema : Schema) (start : Rows) (w : World) → IsReached schema start w → w.opened ≡ finite.empty → (rows : Rows) → IsLive schema w rows
+    (schema : Schema) (start : Rows) (w : World) → IsReached schema start w → w.opened ≡ finite.empty → (rows : Rows)
+    → IsLive schema w rows
     → (rows ≡ w.committed) × (rows ≡ serial schema start (changes_in w.line))
 
 -- what clashed and was noted clashes still, and meets no cell of another, while its transaction wants it
 abbrev pub NotedClashStands : Type 0
 NotedClashStands =
-    (schema : Schema) (start : Rows) (w : World) → IsReached schema start w → (xid : ℕ) (c : change_type.Change) (cause : ClashCause) → w.stopped ≡ Some (ByClash xid c cause)
+    (schema : Schema) (start : Rows) (w : World) → IsReached schema start w
+    → (xid : ℕ) (c : Alteration) (cause : Conflict) → w.stopped ≡ Some (ByClash xid c cause)
     → (o : Opened) (sub : ℕ) → get w.opened xid ≡ Some o → o.wants ≡ Some (sub, c)
-    → IsFree schema w xid (footprint schema (own_rows schema w xid o) c) × (outcome schema (own_rows schema w xid o) c ≡ Clashes cause)
+    → IsFree schema w xid (footprint schema (own_rows schema w xid o) c) ×
+    (outcome schema (own_rows schema w xid o) c ≡ Clashes cause)
 
 -- ---- a change on the live rows
 
@@ -79,7 +88,8 @@ FootprintOnLive =
 abbrev pub OutcomeOnLive : Type 0
 OutcomeOnLive =
     (schema : Schema) (start : Rows) (w : World) → IsReached schema start w → (rows : Rows) → IsLive schema w rows
-    → (xid : ℕ) (o : Opened) → get w.opened xid ≡ Some o → (c : change_type.Change) → IsFree schema w xid (footprint schema (own_rows schema w xid o) c)
+    → (xid : ℕ) (o : Opened) → get w.opened xid ≡ Some o → (c : Alteration)
+    → IsFree schema w xid (footprint schema (own_rows schema w xid o) c)
     → (outcome schema rows c ≡ outcome schema (own_rows schema w xid o) c)
     × (inverse schema rows c ≡ inverse schema (own_rows schema w xid o) c)
 
@@ -88,7 +98,8 @@ OutcomeOnLive =
 -- one more change: its footprint and its inverse come last
 abbrev pub DoneComesLast : Type 0
 DoneComesLast =
-    (schema : Schema) (w new : World) (xid : ℕ) (o after : Opened) (sub : ℕ) (c : change_type.Change) → new ≡ done_with w xid o (Change sub c) → get new.opened xid ≡ Some after
+    (schema : Schema) (w new : World) (xid : ℕ) (o after : Opened) (sub : ℕ) (c : Alteration)
+    → new ≡ done_with w xid o (Change sub c) → get new.opened xid ≡ Some after
     → (work xid after ≡ work xid o ++ c ∷ [])
     × (holds schema new xid after ≡ holds schema w xid o ++ footprint schema (own_rows schema w xid o) c)
     × (inverses schema new.committed (work xid after) ≡ inverses schema w.committed (work xid o) ++ inverse schema (own_rows schema w xid o) c ∷ [])
@@ -102,8 +113,9 @@ RollbackLeavesBeginning =
 -- and with it beginnings of what it holds and of what takes them back
 abbrev pub RollbackKeepsTheRest : Type 0
 RollbackKeepsTheRest =
-    (schema : Schema) (w new : World) (xid : ℕ) (o after : Opened) (sub : ℕ) → GoesBack w xid o sub new → get new.opened xid ≡ Some after
-    → (gone : List change_type.Change) → work xid o ≡ work xid after ++ gone
+    (schema : Schema) (w new : World) (xid : ℕ) (o after : Opened) (sub : ℕ) → GoesBack w xid o sub new
+    → get new.opened xid ≡ Some after
+    → (gone : List Alteration) → work xid o ≡ work xid after ++ gone
     → (holds schema w xid o ≡ holds schema new xid after ++ held_cells schema (own_rows schema new xid after) gone)
     × (inverses schema w.committed (work xid o)
     ≡ inverses schema new.committed (work xid after) ++ inverses schema (own_rows schema new xid after) gone)
@@ -119,40 +131,46 @@ LiveAfterOpen =
 abbrev pub LiveAfterDone : Type 0
 LiveAfterDone =
     (schema : Schema) (start : Rows) (w new : World) → IsReached schema start w → (rows : Rows) → IsLive schema w rows
-    → (xid : ℕ) (o : Opened) → get w.opened xid ≡ Some o → (sub : ℕ) (c : change_type.Change) → Acts schema w xid o sub c (Ok IsDone) new
+    → (xid : ℕ) (o : Opened) → get w.opened xid ≡ Some o → (sub : ℕ) (c : Alteration)
+    → Acts schema w xid o sub c (Ok IsDone) new
     → IsLive schema new (effect schema rows c)
 
 abbrev pub LiveAfterSkip : Type 0
 LiveAfterSkip =
     (schema : Schema) (start : Rows) (w new : World) → IsReached schema start w → (rows : Rows) → IsLive schema w rows
-    → (xid : ℕ) (o : Opened) → get w.opened xid ≡ Some o → (sub : ℕ) (c : change_type.Change) → Acts schema w xid o sub c (Ok IsSkipped) new
+    → (xid : ℕ) (o : Opened) → get w.opened xid ≡ Some o → (sub : ℕ) (c : Alteration)
+    → Acts schema w xid o sub c (Ok IsSkipped) new
     → IsLive schema new rows
 
 abbrev pub LiveAfterHeld : Type 0
 LiveAfterHeld =
     (schema : Schema) (start : Rows) (w new : World) → IsReached schema start w → (rows : Rows) → IsLive schema w rows
-    → (xid : ℕ) (o : Opened) → get w.opened xid ≡ Some o → (sub : ℕ) (c : change_type.Change) (holder : ℕ) → Acts schema w xid o sub c (Ok (Held holder)) new
+    → (xid : ℕ) (o : Opened) → get w.opened xid ≡ Some o → (sub : ℕ) (c : Alteration) (holder : ℕ)
+    → Acts schema w xid o sub c (Ok (Held holder)) new
     → IsLive schema new rows
 
 abbrev pub LiveAfterClash : Type 0
 LiveAfterClash =
     (schema : Schema) (start : Rows) (w new : World) → IsReached schema start w → (rows : Rows) → IsLive schema w rows
-    → (xid : ℕ) (o : Opened) → get w.opened xid ≡ Some o → (sub : ℕ) (c : change_type.Change) (cause : ClashCause) → Acts schema w xid o sub c (Ok (Clashed cause)) new
+    → (xid : ℕ) (o : Opened) → get w.opened xid ≡ Some o → (sub : ℕ) (c : Alteration) (cause : Conflict)
+    → Acts schema w xid o sub c (Ok (Clashed cause)) new
     → IsLive schema new rows
 
 abbrev pub LiveAfterTouch : Type 0
 LiveAfterTouch =
     (schema : Schema) (start : Rows) (w new : World) → IsReached schema start w → (rows : Rows) → IsLive schema w rows
-    → (xid : ℕ) (o : Opened) → get w.opened xid ≡ Some o → (sub : ℕ) (answer : Result (Unit {0}) Fault) → Touches w xid o sub answer new
+    → (xid : ℕ) (o : Opened) → get w.opened xid ≡ Some o → (sub : ℕ) (answer : Result (Unit {0}) Fault)
+    → Touches w xid o sub answer new
     → IsLive schema new rows
 
 -- a rollback drops the last of the transaction's changes; their inverses, put back past all that others did, give the live rows
 abbrev pub LiveAfterRollback : Type 0
 LiveAfterRollback =
     (schema : Schema) (start : Rows) (w new : World) → IsReached schema start w → (rows : Rows) → IsLive schema w rows
-    → (xid : ℕ) (o after : Opened) → get w.opened xid ≡ Some o → (sub : ℕ) → GoesBack w xid o sub new → get new.opened xid ≡ Some after
-    → (gone : List change_type.Change) → work xid o ≡ work xid after ++ gone
-    → IsLive schema new (all_back rows (inverses schema (own_rows schema new xid after) gone))
+    → (xid : ℕ) (o after : Opened) → get w.opened xid ≡ Some o → (sub : ℕ) → GoesBack w xid o sub new
+    → get new.opened xid ≡ Some after
+    → (gone : List Alteration) → work xid o ≡ work xid after ++ gone
+    → IsLive schema new (undone rows (inverses schema (own_rows schema new xid after) gone))
 
 -- an abort takes the transaction's changes back, and leaves the others'
 abbrev pub LiveAfterAbort : Type 0

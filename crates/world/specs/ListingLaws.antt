@@ -44,19 +44,22 @@ module _ {X : Type 0} (m : FinMap nat_cmp X) (xid : ℕ) where
   got_same x = get-insert nat_cmp_total m xid x xid ∙ ap (λ b. cond b (Some x) (get m xid)) (same_xid xid)
 
   pub got_other : (x : X) (other : ℕ) → other ≢ xid → get (insert m xid x) other ≡ get m other
-  got_other x other apart = get-insert nat_cmp_total m xid x other ∙ ap (λ b. cond b (Some x) (get m other)) (other_xid other xid apart)
+  got_other x other apart =
+      get-insert nat_cmp_total m xid x other ∙ ap (λ b. cond b (Some x) (get m other)) (other_xid other xid apart)
 
   pub gone_same : get (remove m xid) xid ≡ None
   gone_same = get-remove nat_cmp_total m xid xid ∙ ap (λ b. cond b None (get m xid)) (same_xid xid)
 
   pub gone_other : (other : ℕ) → other ≢ xid → get (remove m xid) other ≡ get m other
-  gone_other other apart = get-remove nat_cmp_total m xid other ∙ ap (λ b. cond b None (get m other)) (other_xid other xid apart)
+  gone_other other apart =
+      get-remove nat_cmp_total m xid other ∙ ap (λ b. cond b None (get m other)) (other_xid other xid apart)
 
 pub same_by_xid : {X : Type 0} (m n : FinMap nat_cmp X) → ((xid : ℕ) → get m xid ≡ get n xid) → m ≡ n
 same_by_xid m n alike = same_map nat_cmp_total nat_cmp-IsAntisymmetric m n alike
 
 -- what is there is what is left without it, and it
-pub there_again : {X : Type 0} (m : FinMap nat_cmp X) (xid : ℕ) (x : X) → get m xid ≡ Some x → m ≡ insert (remove m xid) xid x
+pub there_again : {X : Type 0} (m : FinMap nat_cmp X) (xid : ℕ) (x : X) → get m xid ≡ Some x
+    → m ≡ insert (remove m xid) xid x
 there_again m xid x is = same_by_xid m (insert (remove m xid) xid x) (λ other.
     elim (xid_cases other xid) [
       | inl at ↦ ap (get m) at ∙ is ∙ sym (got_same (remove m xid) xid x) ∙ ap (get (insert (remove m xid) xid x)) (sym at)
@@ -84,16 +87,19 @@ pub reordered_back : {A : Type 0} (xs ys : List A) → Reordered xs ys → Reord
 reordered_back _ _ same = same
 reordered_back _ _ (under x {xs = xs} {ys = ys} rest) = under x (reordered_back xs ys rest)
 reordered_back _ _ (swapped x y xs) = swapped y x xs
-reordered_back _ _ (through {xs = xs} {ys = ys} {zs = zs} first rest) = through (reordered_back ys zs rest) (reordered_back xs ys first)
+reordered_back _ _ (through {xs = xs} {ys = ys} {zs = zs} first rest) =
+    through (reordered_back ys zs rest) (reordered_back xs ys first)
 
 pub reordered_map : {A B : Type 0} (f : A → B) (xs ys : List A) → Reordered xs ys → Reordered (map f xs) (map f ys)
 reordered_map f _ _ same = same
 reordered_map f _ _ (under x {xs = xs} {ys = ys} rest) = under (f x) (reordered_map f xs ys rest)
 reordered_map f _ _ (swapped x y xs) = swapped (f x) (f y) (map f xs)
-reordered_map f _ _ (through {xs = xs} {ys = ys} {zs = zs} first rest) = through (reordered_map f xs ys first) (reordered_map f ys zs rest)
+reordered_map f _ _ (through {xs = xs} {ys = ys} {zs = zs} first rest) =
+    through (reordered_map f xs ys first) (reordered_map f ys zs rest)
 
 -- an entry whose key is new, put in its place
-put_listed : {X : Type 0} (xid : ℕ) (x : X) (es : List (ℕ × X)) → find nat_cmp xid es ≡ None → Reordered ((xid, x) ∷ es) (put nat_cmp xid x es)
+put_listed : {X : Type 0} (xid : ℕ) (x : X) (es : List (ℕ × X)) → find nat_cmp xid es ≡ None
+    → Reordered ((xid, x) ∷ es) (put nat_cmp xid x es)
 put_listed xid x [] none = same
 put_listed {X} xid x (e ∷ es) none =
     elim (nat_cmp xid e.0) as (λ o. cond (is_eq o) (Some e.1) (find nat_cmp xid es) ≡ None
@@ -115,11 +121,13 @@ module _ {X : Type 0} (m : FinMap nat_cmp X) (xid : ℕ) (x : X) where
   -- the one that is there, and then the others
   pub listed_first : get m xid ≡ Some x → Reordered ((xid, x) ∷ entries (remove m xid)) (entries m)
   listed_first is =
-      subst (λ (n : FinMap nat_cmp X). Reordered ((xid, x) ∷ entries (remove m xid)) (entries n)) (sym (there_again m xid x is)) (with_again)
+      subst (λ (n : FinMap nat_cmp X). Reordered ((xid, x) ∷ entries (remove m xid)) (entries n))
+      (sym (there_again m xid x is)) (with_again)
     where
       with_again : Reordered ((xid, x) ∷ entries (remove m xid)) (entries (insert (remove m xid) xid x))
       with_again =
-          subst (λ (es : List (ℕ × X)). Reordered ((xid, x) ∷ entries (remove m xid)) es) (sym (entries-insert nat_cmp_total (remove m xid) xid x))
+          subst (λ (es : List (ℕ × X)). Reordered ((xid, x) ∷ entries (remove m xid)) es)
+          (sym (entries-insert nat_cmp_total (remove m xid) xid x))
           (put_listed xid x (entries (remove m xid)) (sym (get-entries (remove m xid) xid) ∙ gone_same m xid))
 
 -- ---- entries
@@ -143,7 +151,8 @@ less_differs xid other less e =
     both Equal e l = l
     both Greater e l = l
 
-all_above : {X : Type 0} (xid : ℕ) (es : List (ℕ × X)) → T (below_all nat_cmp xid es) → AllByRecursion (λ (f : ℕ × X). xid ≢ f.0) es
+all_above : {X : Type 0} (xid : ℕ) (es : List (ℕ × X)) → T (below_all nat_cmp xid es)
+    → AllByRecursion (λ (f : ℕ × X). xid ≢ f.0) es
 all_above xid [] below = tt
 all_above xid (e ∷ es) below = (less_differs xid e.0 (first_T _ _ below), all_above xid es (second_T _ _ below))
 
@@ -160,12 +169,14 @@ pub keys_differ : {X : Type 0} (m : FinMap nat_cmp X) → KeysDiffer (entries m)
 keys_differ m = sorted_differ (entries m) (entries_sorted m)
 
 found_past : {X : Type 0} (e : ℕ × X) (es fs : List (ℕ × X)) → AllByRecursion (λ (f : ℕ × X). e.0 ≢ f.0) fs
-    → AllByRecursion (λ (f : ℕ × X). find nat_cmp f.0 es ≡ Some f.1) fs → AllByRecursion (λ (f : ℕ × X). find nat_cmp f.0 (e ∷ es) ≡ Some f.1) fs
+    → AllByRecursion (λ (f : ℕ × X). find nat_cmp f.0 es ≡ Some f.1) fs
+    → AllByRecursion (λ (f : ℕ × X). find nat_cmp f.0 (e ∷ es) ≡ Some f.1) fs
 found_past e es [] apart found = tt
 found_past e es (f ∷ fs) apart found =
     (ap (λ b. cond b (Some e.1) (find nat_cmp f.0 es)) (other_xid f.0 e.0 (λ s. apart.0 (sym s))) ∙ found.0, found_past e es fs apart.1 found.1)
 
-all_found : {X : Type 0} (es : List (ℕ × X)) → KeysDiffer es → AllByRecursion (λ (e : ℕ × X). find nat_cmp e.0 es ≡ Some e.1) es
+all_found : {X : Type 0} (es : List (ℕ × X)) → KeysDiffer es
+    → AllByRecursion (λ (e : ℕ × X). find nat_cmp e.0 es ≡ Some e.1) es
 all_found [] differ = tt
 all_found (e ∷ es) differ =
     (ap (λ b. cond b (Some e.1) (find nat_cmp e.0 es)) (same_xid e.0), found_past e es es differ.0 (all_found es differ.1))
@@ -174,6 +185,7 @@ all_found (e ∷ es) differ =
 pub each_found : {X : Type 0} (m : FinMap nat_cmp X) → AllByRecursion (λ (e : ℕ × X). get m e.0 ≡ Some e.1) (entries m)
 each_found {X} m = found (entries m) (all_found (entries m) (keys_differ m))
   where
-    found : (es : List (ℕ × X)) → AllByRecursion (λ (e : ℕ × X). find nat_cmp e.0 (entries m) ≡ Some e.1) es → AllByRecursion (λ (e : ℕ × X). get m e.0 ≡ Some e.1) es
+    found : (es : List (ℕ × X)) → AllByRecursion (λ (e : ℕ × X). find nat_cmp e.0 (entries m) ≡ Some e.1) es
+        → AllByRecursion (λ (e : ℕ × X). get m e.0 ≡ Some e.1) es
     found [] all = tt
     found (e ∷ es) all = (get-entries m e.0 ∙ all.0, found es all.1)

@@ -21,38 +21,47 @@ use Rattle.world.specs.LiveLaws.{AreApartFrom, ArePairwiseApart, IsFreeOfAll, pa
 
 -- these cells are free of all lists
 abbrev pub AreFreeOfAll : Schema → Rows → List Cell → List (List Change) → Type 0
-AreFreeOfAll schema rows cells lists = AllByRecursion (λ (cs : List Change). shares_cell cells (held_cells schema rows cs) ≡ false) lists
+AreFreeOfAll schema rows cells lists =
+    AllByRecursion (λ (cs : List Change). shares_cell cells (held_cells schema rows cs) ≡ false) lists
 
-first_free : (schema : Schema) (rows : Rows) (cell : Cell) (cells : List Cell) (lists : List (List Change)) → AreFreeOfAll schema rows (cell ∷ cells) lists
+first_free : (schema : Schema) (rows : Rows) (cell : Cell) (cells : List Cell) (lists : List (List Change))
+    → AreFreeOfAll schema rows (cell ∷ cells) lists
     → IsFreeOfAll schema rows cell lists
 first_free schema rows cell cells [] free = tt
-first_free schema rows cell cells (cs ∷ lists) free = (neither_first _ _ free.0, first_free schema rows cell cells lists free.1)
+first_free schema rows cell cells (cs ∷ lists) free =
+    (neither_first _ _ free.0, first_free schema rows cell cells lists free.1)
 
-rest_free : (schema : Schema) (rows : Rows) (cell : Cell) (cells : List Cell) (lists : List (List Change)) → AreFreeOfAll schema rows (cell ∷ cells) lists
+rest_free : (schema : Schema) (rows : Rows) (cell : Cell) (cells : List Cell) (lists : List (List Change))
+    → AreFreeOfAll schema rows (cell ∷ cells) lists
     → AreFreeOfAll schema rows cells lists
 rest_free schema rows cell cells [] free = tt
-rest_free schema rows cell cells (cs ∷ lists) free = (neither_second _ _ free.0, rest_free schema rows cell cells lists free.1)
+rest_free schema rows cell cells (cs ∷ lists) free =
+    (neither_second _ _ free.0, rest_free schema rows cell cells lists free.1)
 
-each_free : (schema : Schema) (rows : Rows) (cells : List Cell) (lists : List (List Change)) → AreFreeOfAll schema rows cells lists
+each_free : (schema : Schema) (rows : Rows) (cells : List Cell) (lists : List (List Change))
+    → AreFreeOfAll schema rows cells lists
     → Each (λ cell. IsFreeOfAll schema rows cell lists) cells
 each_free schema rows [] lists free = tt
 each_free schema rows (cell ∷ cells) lists free =
     (first_free schema rows cell cells lists free, each_free schema rows cells lists (rest_free schema rows cell cells lists free))
 
 -- some cells of them
-pub fewer_free : (schema : Schema) (rows : Rows) (cells more : List Cell) (lists : List (List Change)) → AreFreeOfAll schema rows (cells ++ more) lists
+pub fewer_free : (schema : Schema) (rows : Rows) (cells more : List Cell) (lists : List (List Change))
+    → AreFreeOfAll schema rows (cells ++ more) lists
     → AreFreeOfAll schema rows cells lists
 fewer_free schema rows cells more [] free = tt
 fewer_free schema rows cells more (cs ∷ lists) free =
     (neither_first _ _ (sym (shares_append cells more (held_cells schema rows cs)) ∙ free.0), fewer_free schema rows cells more lists free.1)
 
-pub later_free : (schema : Schema) (rows : Rows) (cells more : List Cell) (lists : List (List Change)) → AreFreeOfAll schema rows (cells ++ more) lists
+pub later_free : (schema : Schema) (rows : Rows) (cells more : List Cell) (lists : List (List Change))
+    → AreFreeOfAll schema rows (cells ++ more) lists
     → AreFreeOfAll schema rows more lists
 later_free schema rows cells more [] free = tt
 later_free schema rows cells more (cs ∷ lists) free =
     (neither_second _ _ (sym (shares_append cells more (held_cells schema rows cs)) ∙ free.0), later_free schema rows cells more lists free.1)
 
-pub both_free : (schema : Schema) (rows : Rows) (cells more : List Cell) (lists : List (List Change)) → AreFreeOfAll schema rows cells lists
+pub both_free : (schema : Schema) (rows : Rows) (cells more : List Cell) (lists : List (List Change))
+    → AreFreeOfAll schema rows cells lists
     → AreFreeOfAll schema rows more lists → AreFreeOfAll schema rows (cells ++ more) lists
 both_free schema rows cells more [] free too = tt
 both_free schema rows cells more (cs ∷ lists) free too =
@@ -74,26 +83,31 @@ module _ (schema : Schema) (rows : Rows) (valid : IsValid schema rows) (cs : Lis
 
   pub alone_as_live : (cell : Cell) → IsFreeOfAll schema rows cell others → SameAt schema own live cell
   alone_as_live cell free =
-      leaves_in_turn schema own own_valid others (pairwise_past schema rows valid cs others from apart) cell (free_past schema rows valid cs cell others from free)
+      leaves_in_turn schema own own_valid others (pairwise_past schema rows valid cs others from apart) cell
+      (free_past schema rows valid cs cell others from free)
 
   pub alone_as_live_each : (cells : List Cell) → AreFreeOfAll schema rows cells others → AreSame schema own live cells
   alone_as_live_each cells free =
-      each_so (λ cell. IsFreeOfAll schema rows cell others) (SameAt schema own live) alone_as_live cells (each_free schema rows cells others free)
+      each_so (λ cell. IsFreeOfAll schema rows cell others) (SameAt schema own live) alone_as_live cells
+      (each_free schema rows cells others free)
 
   -- a change whose footprint on its own view meets no cell of another
   module _ (c : Change) (free : AreFreeOfAll schema rows (footprint schema own c) others) where
     pub outcome_on_live : outcome schema live c ≡ outcome schema own c
-    outcome_on_live = sym (same_outcome schema own live own_valid live_valid c (alone_as_live_each (footprint schema own c) free))
+    outcome_on_live =
+        sym (same_outcome schema own live own_valid live_valid c (alone_as_live_each (footprint schema own c) free))
 
     pub footprint_on_live : footprint schema live c ≡ footprint schema own c
     footprint_on_live = sym (same_footprint schema own live c (alone_as_live_each (footprint schema own c) free))
 
     pub inverse_on_live : inverse schema live c ≡ inverse schema own c
-    inverse_on_live = sym (same_inverse schema own live own_valid live_valid c (alone_as_live_each (footprint schema own c) free))
+    inverse_on_live =
+        sym (same_inverse schema own live own_valid live_valid c (alone_as_live_each (footprint schema own c) free))
 
 -- its changes with more that meet no cell of another
 module _ (schema : Schema) (rows : Rows) (valid : IsValid schema rows) (cs more : List Change) (others : List (List Change)) where
-  pub still_apart : AreApartFrom schema rows cs others → AreFreeOfAll schema rows (held_cells schema (serial schema rows cs) more) others
+  pub still_apart : AreApartFrom schema rows cs others
+      → AreFreeOfAll schema rows (held_cells schema (serial schema rows cs) more) others
       → AreApartFrom schema rows (cs ++ more) others
   still_apart from free =
       subst (λ cells. AreFreeOfAll schema rows cells others) (sym (held_append schema rows cs more))
@@ -104,18 +118,21 @@ module _ (schema : Schema) (rows : Rows) (valid : IsValid schema rows) (cs more 
       fewer_free schema rows (held_cells schema rows cs) (held_cells schema (serial schema rows cs) more) others
       (subst (λ cells. AreFreeOfAll schema rows cells others) (held_append schema rows cs more) from)
 
-  pub apart_later : AreApartFrom schema rows (cs ++ more) others → AreFreeOfAll schema rows (held_cells schema (serial schema rows cs) more) others
+  pub apart_later : AreApartFrom schema rows (cs ++ more) others
+      → AreFreeOfAll schema rows (held_cells schema (serial schema rows cs) more) others
   apart_later from =
       later_free schema rows (held_cells schema rows cs) (held_cells schema (serial schema rows cs) more) others
       (subst (λ cells. AreFreeOfAll schema rows cells others) (held_append schema rows cs more) from)
 
   -- the live rows with them are those without, and then these
   pub live_with_more : AreApartFrom schema rows (cs ++ more) others → ArePairwiseApart schema rows others
-      → in_turn schema (serial schema rows (cs ++ more)) others ≡ serial schema (in_turn schema (serial schema rows cs) others) more
+      → in_turn schema (serial schema rows (cs ++ more)) others ≡ serial schema
+      (in_turn schema (serial schema rows cs) others) more
   live_with_more from apart =
       first_or_last schema rows valid (cs ++ more) others from apart
       ∙ serial_append schema (in_turn schema rows others) cs more
-      ∙ ap (λ (r : Rows). serial schema r more) (sym (first_or_last schema rows valid cs others (apart_before from) apart))
+      ∙ ap (λ (r : Rows). serial schema r more)
+      (sym (first_or_last schema rows valid cs others (apart_before from) apart))
 
   -- their inverses, put back past all that others did, give the live rows without them
   pub cut_back : AreApartFrom schema rows (cs ++ more) others → ArePairwiseApart schema rows others

@@ -45,7 +45,8 @@ opened_with w xid = record w { opened = finite.insert w.opened xid (record { ite
 
 -- it has done one more item, and waits no more
 abbrev pub done_with : World → ℕ → Opened → Item → World
-done_with w xid o item = record w { opened = finite.insert w.opened xid (record { items = o.items ++ item ∷ []; wants = None }) }
+done_with w xid o item =
+    record w { opened = finite.insert w.opened xid (record { items = o.items ++ item ∷ []; wants = None }) }
 
 -- it wants a change, which it has not done
 abbrev pub wanting : World → ℕ → Opened → ℕ → change_type.Change → World
@@ -67,11 +68,14 @@ aborted_with w xid = record w { opened = finite.remove w.opened xid }
 
 -- A transaction opens. Stopped goes before AlreadyOpen, and that before TooManyOpen.
 abbrev pub Opens : World → ℕ → Result (Unit {0}) Fault → World → Type 0
-Opens w xid (Ok u) new = (w.stopped ≡ None) × (get w.opened xid ≡ None) × (finite.len w.opened < most_open) × (new ≡ opened_with w xid)
+Opens w xid (Ok u) new =
+    (w.stopped ≡ None) × (get w.opened xid ≡ None) × (finite.len w.opened < most_open) × (new ≡ opened_with w xid)
 Opens w xid (Err AlreadyOpen) new = (w.stopped ≡ None) × IsSome (get w.opened xid) × (new ≡ w)
-Opens w xid (Err TooManyOpen) new = (w.stopped ≡ None) × (get w.opened xid ≡ None) × (most_open ≤ finite.len w.opened) × (new ≡ w)
+Opens w xid (Err TooManyOpen) new =
+    (w.stopped ≡ None) × (get w.opened xid ≡ None) × (most_open ≤ finite.len w.opened) × (new ≡ w)
 Opens w xid (Err Stopped) new = IsSome w.stopped × (new ≡ w)
-Opens w xid (Err OutOfMemory) new = (w.stopped ≡ None) × (get w.opened xid ≡ None) × (finite.len w.opened < most_open) × (new ≡ w)
+Opens w xid (Err OutOfMemory) new =
+    (w.stopped ≡ None) × (get w.opened xid ≡ None) × (finite.len w.opened < most_open) × (new ≡ w)
 
 -- A call of an open transaction is refused, and alters nothing.
 abbrev pub IsRefused : World → Fault → World → Type 0
@@ -84,12 +88,14 @@ IsRefused w OutOfMemory new = (w.stopped ≡ None) × (new ≡ w)
 abbrev pub Acts : Schema → World → ℕ → Opened → ℕ → change_type.Change → Result Acted Fault → World → Type 0
 Acts schema w xid o sub c (Ok IsDone) new =
     (w.stopped ≡ None) × IsFree schema w xid (footprint schema (own_rows schema w xid o) c)
-    × ((edits : Edits) × (outcome schema (own_rows schema w xid o) c ≡ Done edits)) × (new ≡ done_with w xid o (Change sub c))
+    × ((edits : Edits) × (outcome schema (own_rows schema w xid o) c ≡ Done edits)) ×
+    (new ≡ done_with w xid o (Change sub c))
 Acts schema w xid o sub c (Ok IsSkipped) new =
     (w.stopped ≡ None) × IsFree schema w xid (footprint schema (own_rows schema w xid o) c)
     × (outcome schema (own_rows schema w xid o) c ≡ Skip) × (new ≡ done_with w xid o (Change sub c))
 Acts schema w xid o sub c (Ok (Held holder)) new =
-    (w.stopped ≡ None) × IsHeldBy schema w xid (footprint schema (own_rows schema w xid o) c) holder × (new ≡ wanting w xid o sub c)
+    (w.stopped ≡ None) × IsHeldBy schema w xid (footprint schema (own_rows schema w xid o) c) holder ×
+    (new ≡ wanting w xid o sub c)
 Acts schema w xid o sub c (Ok (Clashed cause)) new =
     (w.stopped ≡ None) × IsFree schema w xid (footprint schema (own_rows schema w xid o) c)
     × (outcome schema (own_rows schema w xid o) c ≡ Clashes cause)
@@ -134,7 +140,8 @@ TellsStop w answer = answer ≡ w.stopped
 -- the row at a place with the work of all open transactions
 abbrev pub ReadsLive : {E : Type 0} → Schema → World → Place → Result (Option Row) E → Type 0
 ReadsLive schema w place answer =
-    (listing : List (ℕ × Opened)) → IsListing w listing → IfOk answer (λ row. row ≡ get (live_rows schema w listing) place)
+    (listing : List (ℕ × Opened)) → IsListing w listing
+    → IfOk answer (λ row. row ≡ get (live_rows schema w listing) place)
 
 -- the committed row
 abbrev pub ReadsCommitted : {E : Type 0} → World → Place → Result (Option Row) E → Type 0
@@ -164,20 +171,27 @@ Looks w seen now = Watches w seen × (now ≡ journal w)
 
 pub data Step (schema : Schema) (w : World) : World → Type 0 where
   opens : (xid : ℕ) (answer : Result (Unit {0}) Fault) (new : World) → Opens w xid answer new → Step schema w new
-  acts : (xid : ℕ) (o : Opened) (sub : ℕ) (c : change_type.Change) (answer : Result Acted Fault) (new : World) → get w.opened xid ≡ Some o
+  acts : (xid : ℕ) (o : Opened) (sub : ℕ) (c : Alteration) (answer : Result Acted Fault) (new : World)
+      → get w.opened xid ≡ Some o
       → Acts schema w xid o sub c answer new → Step schema w new
-  touches : (xid : ℕ) (o : Opened) (sub : ℕ) (answer : Result (Unit {0}) Fault) (new : World) → get w.opened xid ≡ Some o
+  touches : (xid : ℕ) (o : Opened) (sub : ℕ) (answer : Result (Unit {0}) Fault) (new : World)
+      → get w.opened xid ≡ Some o
       → Touches w xid o sub answer new → Step schema w new
-  goes_back : (xid : ℕ) (o : Opened) (sub : ℕ) (new : World) → get w.opened xid ≡ Some o → GoesBack w xid o sub new → Step schema w new
-  commits : (xid : ℕ) (o : Opened) (info : CommitInfo) (new : World) → get w.opened xid ≡ Some o → Commits schema w xid o info new
+  goes_back : (xid : ℕ) (o : Opened) (sub : ℕ) (new : World) → get w.opened xid ≡ Some o → GoesBack w xid o sub new
+      → Step schema w new
+  commits : (xid : ℕ) (o : Opened) (info : CommitInfo) (new : World) → get w.opened xid ≡ Some o
+      → Commits schema w xid o info new
       → Step schema w new
   aborts : (xid : ℕ) (o : Opened) (new : World) → get w.opened xid ≡ Some o → Aborts w xid new → Step schema w new
-  stops_held : (sent : List (ℕ × ℕ)) (waiter : ℕ) (answer : Option ℕ) (new : World) → StopsHeld schema w sent waiter answer new
+  stops_held : (sent : List (ℕ × ℕ)) (waiter : ℕ) (answer : Option ℕ) (new : World)
+      → StopsHeld schema w sent waiter answer new
       → Step schema w new
   tells_stop : (answer : Option Stop) → TellsStop w answer → Step schema w w
   reads_live : (place : Place) (answer : Result (Option Row) Fault) → ReadsLive schema w place answer → Step schema w w
-  reads_committed : (place : Place) (answer : Result (Option Row) Fault) → ReadsCommitted w place answer → Step schema w w
-  reads_after : (table count : ℕ) (answer : Result (List Row) Fault) → ReadsAfter schema w table count answer → Step schema w w
+  reads_committed : (place : Place) (answer : Result (Option Row) Fault) → ReadsCommitted w place answer
+      → Step schema w w
+  reads_after : (table count : ℕ) (answer : Result (List Row) Fault) → ReadsAfter schema w table count answer
+      → Step schema w w
   tells_journal : (answer : List Entry) → TellsJournal w answer → Step schema w w
   closes : (rows : Rows) (entries : List Entry) → Closes w rows entries → Step schema w w
   watches : (seen : List Entry) → Watches w seen → Step schema w w

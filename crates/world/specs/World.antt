@@ -96,9 +96,11 @@ holds schema w xid o = held_cells schema w.committed (work xid o)
 -- Another open transaction, the holder, holds a cell that overlaps one of these.
 abbrev pub IsHeldBy : Schema → World → ℕ → List Cell → ℕ → Type 0
 IsHeldBy schema w xid cells holder =
-    (holder ≢ xid) × (o : Opened) × (get w.opened holder ≡ Some o) × (shares_cell cells (holds schema w holder o) ≡ true)
+    (holder ≢ xid) × (o : Opened) × (get w.opened holder ≡ Some o) ×
+    (shares_cell cells (holds schema w holder o) ≡ true)
 
 -- No other open transaction holds a cell that overlaps one of these.
 abbrev pub IsFree : Schema → World → ℕ → List Cell → Type 0
 IsFree schema w xid cells =
-    (other : ℕ) (o : Opened) → other ≢ xid → get w.opened other ≡ Some o → shares_cell cells (holds schema w other o) ≡ false
+    (other : ℕ) (o : Opened) → other ≢ xid → get w.opened other ≡ Some o
+    → shares_cell cells (holds schema w other o) ≡ false

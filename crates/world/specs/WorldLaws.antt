@@ -36,13 +36,16 @@ use Rattle.world.specs.FineLaws.{IsFine, committed_valid, holds_free}
 abbrev AreOpen : World → List (ℕ × Opened) → Type 0
 AreOpen w listing = AllByRecursion (λ (t : ℕ × Opened). get w.opened t.0 ≡ Some t.1) listing
 
-free_of_listed : (schema : Schema) (w : World) (xid : ℕ) (cells : List Cell) (listing : List (ℕ × Opened)) → AreOpen w listing
-    → AllByRecursion (λ (t : ℕ × Opened). xid ≢ t.0) listing → IsFree schema w xid cells → AreFreeOfAll schema w.committed cells (works listing)
+free_of_listed : (schema : Schema) (w : World) (xid : ℕ) (cells : List Cell) (listing : List (ℕ × Opened))
+    → AreOpen w listing
+    → AllByRecursion (λ (t : ℕ × Opened). xid ≢ t.0) listing → IsFree schema w xid cells
+    → AreFreeOfAll schema w.committed cells (works listing)
 free_of_listed schema w xid cells [] are differ free = tt
 free_of_listed schema w xid cells (t ∷ listing) are differ free =
     (free t.0 t.1 (λ s. differ.0 (sym s)) are.0, free_of_listed schema w xid cells listing are.1 differ.1 free)
 
-pairwise_listed : (schema : Schema) (w : World) → IsFine schema w → (listing : List (ℕ × Opened)) → AreOpen w listing → KeysDiffer listing
+pairwise_listed : (schema : Schema) (w : World) → IsFine schema w → (listing : List (ℕ × Opened)) → AreOpen w listing
+    → KeysDiffer listing
     → ArePairwiseApart schema w.committed (works listing)
 pairwise_listed schema w fine [] are differ = tt
 pairwise_listed schema w fine (t ∷ listing) are differ = (
@@ -53,13 +56,16 @@ pairwise_listed schema w fine (t ∷ listing) are differ = (
 accepted_listed : (schema : Schema) (w : World) → IsFine schema w → (listing : List (ℕ × Opened)) → AreOpen w listing
     → AllByRecursion (AreAccepted schema w.committed) (works listing)
 accepted_listed schema w fine [] are = tt
-accepted_listed schema w fine (t ∷ listing) are = (fine.accepted t.0 t.1 are.0, accepted_listed schema w fine listing are.1)
+accepted_listed schema w fine (t ∷ listing) are =
+    (fine.accepted t.0 t.1 are.0, accepted_listed schema w fine listing are.1)
 
-each_reordered : {A : Type 0} (P : A → Type 0) (xs ys : List A) → Reordered xs ys → AllByRecursion P xs → AllByRecursion P ys
+each_reordered : {A : Type 0} (P : A → Type 0) (xs ys : List A) → Reordered xs ys → AllByRecursion P xs
+    → AllByRecursion P ys
 each_reordered P _ _ same all = all
 each_reordered P _ _ (under x {xs = xs} {ys = ys} rest) all = (all.0, each_reordered P xs ys rest all.1)
 each_reordered P _ _ (swapped x y xs) all = (all.1.0, (all.0, all.1.1))
-each_reordered P _ _ (through {xs = xs} {ys = ys} {zs = zs} first rest) all = each_reordered P ys zs rest (each_reordered P xs ys first all)
+each_reordered P _ _ (through {xs = xs} {ys = ys} {zs = zs} first rest) all =
+    each_reordered P ys zs rest (each_reordered P xs ys first all)
 
 no_items : {X : Type 0} (es : List X) → length es ≡ 0 → es ≡ []
 no_items [] e = refl
@@ -67,16 +73,19 @@ no_items (x ∷ es) e = absurd (omega (arith, e))
 
 no_entries : (m : FinMap nat_cmp Opened) → m ≡ finite.empty → entries m ≡ []
 no_entries m none =
-    no_items (entries m) (sym (finite.len-entries m) ∙ ap (λ (n : FinMap nat_cmp Opened). finite.len n) none ∙ finite.len-empty nat_cmp Opened)
+    no_items (entries m)
+    (sym (finite.len-entries m) ∙ ap (λ (n : FinMap nat_cmp Opened). finite.len n) none ∙ finite.len-empty nat_cmp Opened)
 
 -- one that is left when another is gone is another, and was there
-not_gone : (m : FinMap nat_cmp Opened) (xid other : ℕ) (p : Opened) → other ≡ xid → ¬ (get (finite.remove m xid) other ≡ Some p)
+not_gone : (m : FinMap nat_cmp Opened) (xid other : ℕ) (p : Opened) → other ≡ xid
+    → ¬ (get (finite.remove m xid) other ≡ Some p)
 not_gone m xid other p is at = absent p (sym (gone_same m xid) ∙ ap (get (finite.remove m xid)) (sym is) ∙ at)
   where
     absent : (q : Opened) → ¬ (None ≡ Some q)
     absent q e = cc
 
-was_open : (m : FinMap nat_cmp Opened) (xid other : ℕ) (p : Opened) → get (finite.remove m xid) other ≡ Some p → get m other ≡ Some p
+was_open : (m : FinMap nat_cmp Opened) (xid other : ℕ) (p : Opened) → get (finite.remove m xid) other ≡ Some p
+    → get m other ≡ Some p
 was_open m xid other p at =
     elim (xid_cases other xid) [
       | inl is ↦ absurd (not_gone m xid other p is at)
@@ -87,29 +96,34 @@ module _ (schema : Schema) (w : World) (fine : IsFine schema w) where
   entries_apart : ArePairwiseApart schema w.committed (works (entries w.opened))
   entries_apart = pairwise_listed schema w fine (entries w.opened) (each_found w.opened) (keys_differ w.opened)
 
-  pub listing_apart : (listing : List (ℕ × Opened)) → IsListing w listing → ArePairwiseApart schema w.committed (works listing)
+  pub listing_apart : (listing : List (ℕ × Opened)) → IsListing w listing
+      → ArePairwiseApart schema w.committed (works listing)
   listing_apart listing is =
       reordered_pairwise schema w.committed (works (entries w.opened)) (works listing)
       (reordered_map (λ (t : ℕ × Opened). work t.0 t.1) (entries w.opened) listing (reordered_back listing (entries w.opened) is)) entries_apart
 
-  as_entries : (listing : List (ℕ × Opened)) → IsListing w listing → live_rows schema w listing ≡ live_rows schema w (entries w.opened)
+  as_entries : (listing : List (ℕ × Opened)) → IsListing w listing
+      → live_rows schema w listing ≡ live_rows schema w (entries w.opened)
   as_entries listing is =
       any_order schema w.committed (committed_valid schema w fine) (works listing) (works (entries w.opened))
       (reordered_map (λ (t : ℕ × Opened). work t.0 t.1) listing (entries w.opened) is) (listing_apart listing is)
 
   -- every listing gives the same rows
-  pub one_live : (listing other : List (ℕ × Opened)) → IsListing w listing → IsListing w other → live_rows schema w listing ≡ live_rows schema w other
+  pub one_live : (listing other : List (ℕ × Opened)) → IsListing w listing → IsListing w other
+      → live_rows schema w listing ≡ live_rows schema w other
   one_live listing other is too = as_entries listing is ∙ sym (as_entries other too)
 
   -- so one listing tells them
-  pub live_by : (rows : Rows) (listing : List (ℕ × Opened)) → IsListing w listing → rows ≡ live_rows schema w listing → IsLive schema w rows
+  pub live_by : (rows : Rows) (listing : List (ℕ × Opened)) → IsListing w listing → rows ≡ live_rows schema w listing
+      → IsLive schema w rows
   live_by rows listing is same_rows other too = same_rows ∙ one_live listing other is too
 
   pub live_listing_valid : (listing : List (ℕ × Opened)) → IsValid schema (live_rows schema w listing)
   live_listing_valid listing = in_turn_valid schema w.committed (committed_valid schema w fine) (works listing)
 
   pub live_valid : (rows : Rows) → IsLive schema w rows → IsValid schema rows
-  live_valid rows live = subst (IsValid schema) (sym (live (entries w.opened) same)) (live_listing_valid (entries w.opened))
+  live_valid rows live =
+      subst (IsValid schema) (sym (live (entries w.opened) same)) (live_listing_valid (entries w.opened))
 
   -- no change clashes on the way to them
   pub live_accepted : (listing : List (ℕ × Opened)) → IsListing w listing
@@ -122,7 +136,8 @@ module _ (schema : Schema) (w : World) (fine : IsFine schema w) where
 
   -- with no transaction open they are the committed rows
   pub live_alone : w.opened ≡ finite.empty → (rows : Rows) → IsLive schema w rows → rows ≡ w.committed
-  live_alone none rows live = live [] (subst (λ (es : List (ℕ × Opened)). Reordered [] es) (sym (no_entries w.opened none)) same)
+  live_alone none rows live =
+      live [] (subst (λ (es : List (ℕ × Opened)). Reordered [] es) (sym (no_entries w.opened none)) same)
 
 -- ---- one of them, and the others
 
@@ -151,12 +166,14 @@ module _ (schema : Schema) (w : World) (fine : IsFine schema w) (xid : ℕ) (o :
       (each_open (entries (finite.remove w.opened xid)) (each_found (finite.remove w.opened xid)))
       (each_differs (entries (finite.remove w.opened xid)) (each_found (finite.remove w.opened xid))) free
     where
-      each_differs : (es : List (ℕ × Opened)) → AllByRecursion (λ (t : ℕ × Opened). get (finite.remove w.opened xid) t.0 ≡ Some t.1) es
+      each_differs : (es : List (ℕ × Opened))
+          → AllByRecursion (λ (t : ℕ × Opened). get (finite.remove w.opened xid) t.0 ≡ Some t.1) es
           → AllByRecursion (λ (t : ℕ × Opened). xid ≢ t.0) es
       each_differs [] all = tt
       each_differs (t ∷ es) all = (λ is. not_gone w.opened xid t.0 t.1 (sym is) all.0, each_differs es all.1)
 
-      each_open : (es : List (ℕ × Opened)) → AllByRecursion (λ (t : ℕ × Opened). get (finite.remove w.opened xid) t.0 ≡ Some t.1) es → AreOpen w es
+      each_open : (es : List (ℕ × Opened))
+          → AllByRecursion (λ (t : ℕ × Opened). get (finite.remove w.opened xid) t.0 ≡ Some t.1) es → AreOpen w es
       each_open [] all = tt
       each_open (t ∷ es) all = (was_open w.opened xid t.0 t.1 all.0, each_open es all.1)
 
@@ -168,20 +185,24 @@ module _ (schema : Schema) (w : World) (fine : IsFine schema w) (xid : ℕ) (o :
         (alone_as_live_each schema w.committed (committed_valid schema w fine) (work xid o) others from_others others_apart cells (free_of_others cells free))
 
     -- if the row that a change looks up is free of the others, its footprint there is that on its own view
-    pub footprint_live : (c : change_type.Change) → IsFree schema w xid (looked_up c) → footprint schema rows c ≡ footprint schema (own_rows schema w xid o) c
-    footprint_live c free = sym (footprint_by_looked_up schema (own_rows schema w xid o) rows c (same_cells (looked_up c) free))
+    pub footprint_live : (c : Alteration) → IsFree schema w xid (looked_up c)
+        → footprint schema rows c ≡ footprint schema (own_rows schema w xid o) c
+    footprint_live c free =
+        sym (footprint_by_looked_up schema (own_rows schema w xid o) rows c (same_cells (looked_up c) free))
 
     module _ (c : change_type.Change) (free : IsFree schema w xid (footprint schema (own_rows schema w xid o) c)) where
       pub outcome_live : outcome schema rows c ≡ outcome schema (own_rows schema w xid o) c
       outcome_live =
           ap (λ (r : Rows). outcome schema r c) (live_is rows live)
-          ∙ outcome_on_live schema w.committed (committed_valid schema w fine) (work xid o) others from_others others_apart c
+          ∙ outcome_on_live schema w.committed (committed_valid schema w fine)
+          (work xid o) others from_others others_apart c
           (free_of_others (footprint schema (own_rows schema w xid o) c) free)
 
       pub inverse_live : inverse schema rows c ≡ inverse schema (own_rows schema w xid o) c
       inverse_live =
           ap (λ (r : Rows). inverse schema r c) (live_is rows live)
-          ∙ inverse_on_live schema w.committed (committed_valid schema w fine) (work xid o) others from_others others_apart c
+          ∙ inverse_on_live schema w.committed (committed_valid schema w fine)
+          (work xid o) others from_others others_apart c
           (free_of_others (footprint schema (own_rows schema w xid o) c) free)
 
       -- the live rows after it
@@ -205,65 +226,89 @@ module _ (schema : Schema) (w : World) (fine : IsFine schema w) (xid : ℕ) (o :
         subst (λ (m : FinMap nat_cmp Opened). Reordered ((xid, after) ∷ entries m) (entries (finite.insert w.opened xid after))) (removed_again w.opened xid after)
         (listed_first (finite.insert w.opened xid after) xid after (got_same w.opened xid after))
 
-    live_put : IsFine schema put → (rows : Rows) → rows ≡ in_turn schema (serial schema w.committed (work xid after)) others → IsLive schema put rows
-    live_put fine_after rows same_rows = live_by schema put fine_after rows ((xid, after) ∷ entries (finite.remove w.opened xid)) put_listed same_rows
+    live_put : IsFine schema put → (rows : Rows)
+        → rows ≡ in_turn schema (serial schema w.committed (work xid after)) others → IsLive schema put rows
+    live_put fine_after rows same_rows =
+        live_by schema put fine_after rows ((xid, after) ∷ entries (finite.remove w.opened xid)) put_listed same_rows
 
 -- ---- after each call
 
 module _ (schema : Schema) (w : World) (fine : IsFine schema w) (rows : Rows) (live : IsLive schema w rows) where
-  pub live_opened : (xid : ℕ) → get w.opened xid ≡ None → IsFine schema (opened_with w xid) → IsLive schema (opened_with w xid) rows
+  pub live_opened : (xid : ℕ) → get w.opened xid ≡ None → IsFine schema (opened_with w xid)
+      → IsLive schema (opened_with w xid) rows
   live_opened xid absent fine_after =
       let fresh : Opened = record { items = []; wants = None } in
-      live_by schema (opened_with w xid) fine_after rows ((xid, fresh) ∷ entries w.opened) (listed_with w.opened xid fresh absent) (live (entries w.opened) same)
+      live_by schema (opened_with w xid) fine_after rows ((xid, fresh) ∷ entries w.opened)
+      (listed_with w.opened xid fresh absent) (live (entries w.opened) same)
 
   module _ (xid : ℕ) (o : Opened) (is : get w.opened xid ≡ Some o) where
-    pub live_acted : (sub : ℕ) (c : change_type.Change) → IsFree schema w xid (footprint schema (own_rows schema w xid o) c)
-        → IsFine schema (done_with w xid o (Change sub c)) → IsLive schema (done_with w xid o (Change sub c)) (effect schema rows c)
+    pub live_acted : (sub : ℕ) (c : Alteration) → IsFree schema w xid (footprint schema (own_rows schema w xid o) c)
+        → IsFine schema (done_with w xid o (Change sub c))
+        → IsLive schema (done_with w xid o (Change sub c)) (effect schema rows c)
     live_acted sub c free fine_after =
-        live_put schema w fine xid o is (record { items = o.items ++ Change sub c ∷ []; wants = None }) w.stopped fine_after (effect schema rows c)
+        live_put schema w fine xid o is
+        (record { items = o.items ++ Change sub c ∷ []; wants = None }) w.stopped fine_after (effect schema rows c)
         (effect_live schema w fine xid o is rows live c free
-        ∙ ap (λ cs. in_turn schema (serial schema w.committed cs) (others schema w fine xid o is)) (sym (work_with_change xid sub o.items c)))
+        ∙ ap (λ cs. in_turn schema (serial schema w.committed cs) (others schema w fine xid o is))
+        (sym (work_with_change xid sub o.items c)))
 
-    pub live_touched : (sub : ℕ) → IsFine schema (done_with w xid o (Touch sub)) → IsLive schema (done_with w xid o (Touch sub)) rows
+    pub live_touched : (sub : ℕ) → IsFine schema (done_with w xid o (Touch sub))
+        → IsLive schema (done_with w xid o (Touch sub)) rows
     live_touched sub fine_after =
-        live_put schema w fine xid o is (record { items = o.items ++ Touch sub ∷ []; wants = None }) w.stopped fine_after rows
+        live_put schema w fine xid o is
+        (record { items = o.items ++ Touch sub ∷ []; wants = None }) w.stopped fine_after rows
         (live_is schema w fine xid o is rows live
-        ∙ ap (λ cs. in_turn schema (serial schema w.committed cs) (others schema w fine xid o is)) (sym (work_with_touch xid sub o.items)))
+        ∙ ap (λ cs. in_turn schema (serial schema w.committed cs) (others schema w fine xid o is))
+        (sym (work_with_touch xid sub o.items)))
 
-    pub live_wanting : (sub : ℕ) (c : change_type.Change) (stopped : Option Stop) → IsFine schema (record (wanting w xid o sub c) { stopped = stopped })
+    pub live_wanting : (sub : ℕ) (c : Alteration) (stopped : Option Stop)
+        → IsFine schema (record (wanting w xid o sub c) { stopped = stopped })
         → IsLive schema (record (wanting w xid o sub c) { stopped = stopped }) rows
     live_wanting sub c stopped fine_after =
-        live_put schema w fine xid o is (record o { wants = Some (sub, c) }) stopped fine_after rows (live_is schema w fine xid o is rows live)
+        live_put schema w fine xid o is (record o { wants = Some (sub, c) }) stopped fine_after rows
+        (live_is schema w fine xid o is rows live)
 
     -- the inverses of what a rollback drops, put back past all that others did, give the live rows of what is left
-    pub live_cut : (sub : ℕ) (kept gone : List change_type.Change) → work xid o ≡ kept ++ gone
-        → work xid (record { items = o.items ++ BackTo sub ∷ []; wants = None }) ≡ kept → IsFine schema (done_with w xid o (BackTo sub))
-        → IsLive schema (done_with w xid o (BackTo sub)) (all_back rows (inverses schema (serial schema w.committed kept) gone))
+    pub live_cut : (sub : ℕ) (kept gone : List Alteration) → work xid o ≡ kept ++ gone
+        → work xid (record { items = o.items ++ BackTo sub ∷ []; wants = None }) ≡ kept
+        → IsFine schema (done_with w xid o (BackTo sub))
+        → IsLive schema (done_with w xid o (BackTo sub))
+        (undone rows (inverses schema (serial schema w.committed kept) gone))
     live_cut sub kept gone was left fine_after =
         let from : AreApartFrom schema w.committed (kept ++ gone) (others schema w fine xid o is) =
         subst (λ cs. AreApartFrom schema w.committed cs (others schema w fine xid o is)) was (from_others schema w fine xid o is) in
-        live_put schema w fine xid o is (record { items = o.items ++ BackTo sub ∷ []; wants = None }) w.stopped fine_after
-        (all_back rows (inverses schema (serial schema w.committed kept) gone))
-        (ap (λ (r : Rows). all_back r (inverses schema (serial schema w.committed kept) gone))
+        live_put schema w fine xid o is
+        (record { items = o.items ++ BackTo sub ∷ []; wants = None }) w.stopped fine_after
+        (undone rows (inverses schema (serial schema w.committed kept) gone))
+        (ap (λ (r : Rows). undone r (inverses schema (serial schema w.committed kept) gone))
         (live_is schema w fine xid o is rows live ∙ ap (λ cs. in_turn schema (serial schema w.committed cs) (others schema w fine xid o is)) was)
-        ∙ cut_back schema w.committed (committed_valid schema w fine) kept gone (others schema w fine xid o is) from (others_apart schema w fine xid o is)
+        ∙ cut_back schema w.committed (committed_valid schema w fine) kept gone (others schema w fine xid o is) from
+        (others_apart schema w fine xid o is)
         ∙ ap (λ cs. in_turn schema (serial schema w.committed cs) (others schema w fine xid o is)) (sym left))
 
     -- an abort leaves the others' work
-    pub live_aborted : IsFine schema (aborted_with w xid) → IsLive schema (aborted_with w xid) (all_back rows (inverses schema w.committed (work xid o)))
+    pub live_aborted : IsFine schema (aborted_with w xid)
+        → IsLive schema (aborted_with w xid) (undone rows (inverses schema w.committed (work xid o)))
     live_aborted fine_after =
-        live_by schema (aborted_with w xid) fine_after (all_back rows (inverses schema w.committed (work xid o))) (entries (finite.remove w.opened xid)) same
-        (ap (λ (r : Rows). all_back r (inverses schema w.committed (work xid o))) (live_is schema w fine xid o is rows live)
-        ∙ cut_back schema w.committed (committed_valid schema w fine) [] (work xid o) (others schema w fine xid o is) (from_others schema w fine xid o is)
+        live_by schema (aborted_with w xid) fine_after (undone rows (inverses schema w.committed (work xid o)))
+        (entries (finite.remove w.opened xid)) same
+        (ap (λ (r : Rows). undone r (inverses schema w.committed (work xid o))) (live_is schema w fine xid o is rows live)
+        ∙ cut_back schema w.committed (committed_valid schema w fine) [] (work xid o) (others schema w fine xid o is)
+        (from_others schema w fine xid o is)
         (others_apart schema w fine xid o is))
 
     -- a commit leaves the live rows
-    pub live_committed : (info : CommitInfo) → IsFine schema (committed_with schema w xid o info) → IsLive schema (committed_with schema w xid o info) rows
+    pub live_committed : (info : CommitInfo) → IsFine schema (committed_with schema w xid o info)
+        → IsLive schema (committed_with schema w xid o info) rows
     live_committed info fine_after =
-        live_by schema (committed_with schema w xid o info) fine_after rows (entries (finite.remove w.opened xid)) same (live_is schema w fine xid o is rows live)
+        live_by schema (committed_with schema w xid o info) fine_after rows
+        (entries (finite.remove w.opened xid)) same (live_is schema w fine xid o is rows live)
 
 -- and the others' inverses
-pub inverses_stay : (schema : Schema) (w : World) → IsFine schema w → (xid : ℕ) (o : Opened) → get w.opened xid ≡ Some o → (other : ℕ) (p : Opened) → other ≢ xid
-    → get w.opened other ≡ Some p → inverses schema w.committed (work other p) ≡ inverses schema (own_rows schema w xid o) (work other p)
+pub inverses_stay : (schema : Schema) (w : World) → IsFine schema w → (xid : ℕ) (o : Opened)
+    → get w.opened xid ≡ Some o → (other : ℕ) (p : Opened) → other ≢ xid
+    → get w.opened other ≡ Some p
+    → inverses schema w.committed (work other p) ≡ inverses schema (own_rows schema w xid o) (work other p)
 inverses_stay schema w fine xid o is other p differs at =
-    inverses_past schema w.committed (committed_valid schema w fine) (work other p) (work xid o) (fine.apart other xid p o differs at is)
+    inverses_past schema w.committed (committed_valid schema w fine) (work other p) (work xid o)
+    (fine.apart other xid p o differs at is)
