@@ -13,3 +13,4 @@ pub mod ValidLaws
 pub mod EffectLaws
 pub mod Laws
 pub mod Cells
+pub mod CellOrder
