@@ -1,0 +1,4 @@
+pub mod Holds
+pub mod Counts
+pub mod Places
+pub mod Lists
