@@ -1,2 +1,4 @@
 mod Ties
 mod Counting
+mod Overlaps
+mod Placing

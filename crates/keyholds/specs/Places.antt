@@ -14,7 +14,7 @@ use Rattle.keyholds.specs.Holds.{AreApart}
 
 -- how many cells of a list lie in a table
 abbrev pub count_of_table : ℕ → List Cell → ℕ
-count_of_table table cells = count_by (λ c. table_of c == table) cells
+count_of_table table cells = count_by (λ c. table == table_of c) cells
 
 -- each cell of each transaction's list stands at its place, and nothing else does
 pub record ArePlaces (held : ℕ → List Cell) (places : Places) : Type 0 where
