@@ -2,3 +2,5 @@ mod Ties
 mod Counting
 mod Overlaps
 mod Placing
+mod Listing
+mod Longer

@@ -4,7 +4,7 @@ use Rattle.std.proofs.Common.{sym, ◌∙◌, ap, subst, inl, inr, arith, zero-a
 use Rattle.std.proofs.lemmas.Grind.{common_steps}
 use Rattle.std.proofs.lemmas.Option.{slice_get_read, slice_get_within, get_or_from_slice_get}
 use Rattle.std.proofs.lemmas.List.Sums.{sum_by-append}
-use Rattle.std.specs.Cmp.{nat_eq_equiv}
+use Rattle.std.specs.Cmp.{nat_eq_equiv, eq_by_cmp_equiv}
 use Rattle.std.proofs.lemmas.Map.Views.{tells_apart, exact_unsigned_eq}
 use Rattle.model.specs.declared.key.Key.{Key}
 use Rattle.model.specs.declared.cell.Cell.{Cell}
@@ -92,3 +92,25 @@ overlap_cases (Uniq t n k) (Uniq u m l) apart e =
     inl (λ i. Uniq (sym (same_number t u h.0) i) (sym (same_number n m g.0) i) (sym (same_keys k l g.1) i))
 overlap_cases (Uniq t n k) (Whole u) apart e = inr (ap Whole (sym (same_number t u e)))
 overlap_cases (Whole t) d apart e = absurd (apart t refl)
+
+both_symm : (a b c d : Bool) → a ≡ c → b ≡ d → (a && b) ≡ (c && d)
+both_symm a b c d e f = λ i. e i && f i
+
+number_symm : (n m : ℕ) → (n == m) ≡ (m == n)
+number_symm = nat_eq_equiv.symm
+
+keys_symm : (k l : Key) → same_key k l ≡ same_key l k
+keys_symm = (eq_by_cmp_equiv key_cmp_total).symm
+
+pub overlaps_symm : (c d : Cell) → overlaps c d ≡ overlaps d c
+overlaps_symm (Row t k) (Row u l) = both_symm (t == u) (same_key k l) (u == t) (same_key l k) (number_symm t u) (keys_symm k l)
+overlaps_symm (Row t k) (Uniq u m l) = refl
+overlaps_symm (Row t k) (Whole u) = number_symm t u
+overlaps_symm (Uniq t n k) (Row u l) = refl
+overlaps_symm (Uniq t n k) (Uniq u m l) =
+    both_symm (t == u) ((n == m) && same_key k l) (u == t) ((m == n) && same_key l k) (number_symm t u)
+    (both_symm (n == m) (same_key k l) (m == n) (same_key l k) (number_symm n m) (keys_symm k l))
+overlaps_symm (Uniq t n k) (Whole u) = number_symm t u
+overlaps_symm (Whole t) (Row u l) = number_symm t u
+overlaps_symm (Whole t) (Uniq u m l) = number_symm t u
+overlaps_symm (Whole t) (Whole u) = number_symm t u

@@ -61,3 +61,8 @@ pub record IsFirstHeldBy (held : ℕ → List Cell) (xid : ℕ) (cells : List Ce
 -- no two transactions hold cells that overlap
 abbrev pub AreApart : (ℕ → List Cell) → Type 0
 AreApart held = (xid other : ℕ) (c d : Cell) → other ≢ xid → Contains (held xid) c → Contains (held other) d → overlaps c d ≡ false
+
+-- a transaction holds the cell, and this stood there when it was first held
+pub record StoodAt {S : Type 0} (holds : FinMap nat_cmp (List (Cell × S))) (cell : Cell) (stood : S) : Type 0 where
+  pub holder : ℕ
+  pub among : Contains (holds_of holds holder) (cell, stood)
