@@ -4,3 +4,4 @@ mod Overlaps
 mod Placing
 mod Listing
 mod Longer
+mod Seen

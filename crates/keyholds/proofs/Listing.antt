@@ -58,7 +58,11 @@ module _ {X Z : Type 0} where
   pub get-lists_seen : (lists : BTreeMap ℕ (Vec X Z)) (xid : ℕ) → unwrap_or (get (lists_seen lists) xid) [] ≡ listed lists xid
   get-lists_seen lists xid =
       ap (λ o. unwrap_or o []) (get-lists_in _ xid) ∙ unwrap_or-filled _
-      ∙ ap (λ o. unwrap_or o []) (lookup-map_values (λ (v : Vec X Z). v.items) (is_at (nat_cmp xid)) lists.entries) ∙ items_of_map _
+      ∙ ap (λ o. unwrap_or o []) (lookup-map_values (λ (v : Vec X Z). v.items) (is_at (nat_cmp xid)) lists.entries) ∙ items_of_map (lookup (is_at (nat_cmp xid)) lists.entries)
+
+  -- a map with no entries has no list
+  pub no_lists : (lists : BTreeMap ℕ (Vec X Z)) → lists.entries ≡ [] → (xid : ℕ) → unwrap_or (get (lists_seen lists) xid) [] ≡ []
+  no_lists lists none xid = get-lists_seen lists xid ∙ ap (λ (es : List (ℕ × Vec X Z)). items_in (lookup (is_at (nat_cmp xid)) es)) none
 
   pub lists_seen_filled : (lists : BTreeMap ℕ (Vec X Z)) (xid : ℕ) → get (lists_seen lists) xid ≢ Some []
   lists_seen_filled lists xid e = never_empty _ (sym (get-lists_in _ xid) ∙ e)

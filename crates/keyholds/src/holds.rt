@@ -71,8 +71,9 @@ impl<S: Drop> Holds<S> {
         // No two transactions hold cells that overlap.
         ensures apart { AreApart (cells_held self.now) }
     {
+        let places = &self.places;
         for cell in cells {
-            if let Some(other) = self.other_holder(xid, cell) {
+            if let Some(other) = places.other_holder(xid, cell) {
                 return Some(other);
             }
         }
@@ -108,7 +109,6 @@ impl<S: Drop> Holds<S> {
         ensures ok { OnOk result (holds_of self.new xid ≡ with_holds (holds_of self.old xid) cells.items) }
         ensures others { (other : ℕ) → other ≢ xid → holds_of self.new other ≡ holds_of self.old other }
         ensures err { OnErr result (self.new ≡ self.old) }
-        ensures apart { AreApart (cells_held self.new) }
     {
         let mark = self.mark(xid);
         if self.take_each(xid, cells).is_err() {
