@@ -5,3 +5,5 @@ mod Placing
 mod Listing
 mod Longer
 mod Seen
+mod Answering
+mod Taking

@@ -1,7 +1,6 @@
 -- One cell more at the end of a transaction's list: its place, its counts, and what overlaps.
-use Rattle.std.specs.Prelude.{◌≡◌, ◌≢◌, ℕ, zero, suc, ◌+◌, ◌-◌, ◌<◌, ◌==◌, Bool, true, false, cond, List, [], ◌∷◌, ◌++◌, length, Option, Some, None, refl, ◌⊎◌, slice_get, Contains, unwrap_or, if◌then◌else◌}
-use Rattle.std.proofs.Common.{sym, ◌∙◌, ap, subst, inl, inr, arith, zero-add, true≢false}
-use Rattle.std.proofs.lemmas.Grind.{common_steps}
+use Rattle.std.specs.Prelude.{◌≡◌, ◌≢◌, ℕ, zero, suc, ◌+◌, ◌==◌, Bool, true, false, cond, List, [], ◌∷◌, ◌++◌, length, Some, None, refl, ◌⊎◌, slice_get, Contains, if◌then◌else◌}
+use Rattle.std.proofs.Common.{sym, ◌∙◌, ap, subst, inl, inr, arith, zero-add}
 use Rattle.std.specs.Prelude.{◌≤◌, take}
 use Rattle.std.specs.Map.{keys_of}
 use Rattle.std.proofs.lemmas.List.{map-append, take-append-le}
@@ -120,9 +119,9 @@ module _ (held more : ℕ → List Cell) (xid : ℕ) (cell : Cell) (longer : IsL
     added_found : (c : Cell) (p : Place) → tree.get cell_cmp new.places c ≡ Some p → slice_get (more p.xid) p.index ≡ Some c
     added_found c p e = elim (same_or_apart cell_cmp_total cell_cmp_exact c cell) [
       | inl is ↦
-        let place : Place = record { xid = xid; index = length (held xid) } in
-        let same : place ≡ p = same_value place p (sym adds.here ∙ ap (tree.get cell_cmp new.places) (sym is) ∙ e) in
-        ap (λ (q : Place). slice_get (more q.xid) q.index) (sym same) ∙ at_new ∙ ap Some (sym is)
+          let place : Place = record { xid = xid; index = length (held xid) } in
+          let same : place ≡ p = same_value place p (sym adds.here ∙ ap (tree.get cell_cmp new.places) (sym is) ∙ e) in
+          ap (λ (q : Place). slice_get (more q.xid) q.index) (sym same) ∙ at_new ∙ ap Some (sym is)
       | inr apart ↦ at_old p.xid p.index c (kept.found c p (sym (adds.beside c apart) ∙ e))
     ]
 
@@ -157,15 +156,15 @@ module _ (held more : ℕ → List Cell) (xid : ℕ) (cell : Cell) (longer : IsL
     removed_at x i c e =
         let stood = kept.at x i c (at_old x i c e) in
         removes.beside c (λ is.
-          let last = kept.at xid (length (held xid)) cell at_new in
-          let place : Place = record { xid = x; index = i } in
-          let end : Place = record { xid = xid; index = length (held xid) } in
-          let same : place ≡ end = same_value place end (sym stood ∙ ap (tree.get cell_cmp old.places) is ∙ last) in
-          let within = slice_get_within (held x) i c e in
-          let whose : x ≡ xid = ap (λ (q : Place). q.xid) same in
-          let where_at : i ≡ length (held xid) = ap (λ (q : Place). q.index) same in
-          let long : length (held x) ≡ length (held xid) = ap (λ y. length (held y)) whose in
-          omega (arith, within, where_at, long))
+        let last = kept.at xid (length (held xid)) cell at_new in
+        let place : Place = record { xid = x; index = i } in
+        let end : Place = record { xid = xid; index = length (held xid) } in
+        let same : place ≡ end = same_value place end (sym stood ∙ ap (tree.get cell_cmp old.places) is ∙ last) in
+        let within = slice_get_within (held x) i c e in
+        let whose : x ≡ xid = ap (λ (q : Place). q.xid) same in
+        let where_at : i ≡ length (held xid) = ap (λ (q : Place). q.index) same in
+        let long : length (held x) ≡ length (held xid) = ap (λ y. length (held y)) whose in
+        omega (arith, within, where_at, long))
         ∙ stood
 
     removed_found : (c : Cell) (p : Place) → tree.get cell_cmp new.places c ≡ Some p → slice_get (held p.xid) p.index ≡ Some c
@@ -180,8 +179,8 @@ module _ (held more : ℕ → List Cell) (xid : ℕ) (cell : Cell) (longer : IsL
     removed_counted table x = elim (cases_eq x xid) [
       | inl is ↦ elim (cases_eq table (table_of cell)) [
         | inl same ↦
-          let less : count_in new.counts.counts (table_of cell) xid ≡ count_of_table (table_of cell) (held xid) = omega (arith, removes.count.here, kept.counted (table_of cell) xid, count_here) in
-          (λ j. count_in new.counts.counts (same j) (is j)) ∙ less ∙ (λ j. count_of_table (sym same j) (held (sym is j)))
+            let less : count_in new.counts.counts (table_of cell) xid ≡ count_of_table (table_of cell) (held xid) = omega (arith, removes.count.here, kept.counted (table_of cell) xid, count_here) in
+            (λ j. count_in new.counts.counts (same j) (is j)) ∙ less ∙ (λ j. count_of_table (sym same j) (held (sym is j)))
         | inr differs ↦ ap (count_in new.counts.counts table) is ∙ removes.count.tables table xid differs ∙ kept.counted table xid ∙ count_in_others table differs ∙ ap (λ y. count_of_table table (held y)) (sym is)
       ]
       | inr apart ↦ removes.count.others table x apart ∙ kept.counted table x ∙ count_of_others table x apart

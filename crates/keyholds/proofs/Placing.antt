@@ -1,7 +1,6 @@
 -- What a look-up among the places says of the cells that transactions hold.
-use Rattle.std.specs.Prelude.{◌≡◌, ◌≢◌, ℕ, ◌+◌, ◌-◌, ◌<◌, Bool, true, false, List, Option, Some, None, refl, ◌⊎◌, slice_get, Contains, MatchOption, IfSome, IfNone, IsTrue}
-use Rattle.std.proofs.Common.{sym, ◌∙◌, ap, subst, inl, inr, arith}
-use Rattle.std.specs.BTreeMap as tree
+use Rattle.std.specs.Prelude.{◌≡◌, ◌≢◌, ℕ, ◌+◌, ◌-◌, ◌<◌, true, false, List, Option, Some, None, refl, Contains, MatchOption, IfSome, IfNone}
+use Rattle.std.proofs.Common.{sym, ◌∙◌, subst, inl, inr}
 use Rattle.std.specs.BTreeMap.{Updates}
 use Rattle.std.specs.Prelude.{Result, Ok, Err, OnOk, OnErr, is_err}
 use Rattle.model.specs.declared.cell.Cell.{Cell}

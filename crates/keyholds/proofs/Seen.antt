@@ -1,5 +1,5 @@
 -- What callers see of the holds once a list was changed, and what they see of a look-up.
-use Rattle.std.specs.Prelude.{◌≡◌, ◌≢◌, ℕ, ◌<◌, List, [], Option, Some, None, Vec, refl, slice_get, Contains, MatchOption, IfSome, IfNone, take, zero, suc}
+use Rattle.std.specs.Prelude.{◌≡◌, ◌≢◌, ℕ, List, [], Option, Some, None, Vec, refl, MatchOption, IfSome, IfNone, take, zero, suc}
 use Rattle.std.proofs.Common.{sym, ◌∙◌, ap, subst, inl, inr}
 use Rattle.std.specs.Ordering.{nat_cmp}
 use Rattle.std.specs.Map.{keys_of}
@@ -8,7 +8,7 @@ use Rattle.std.specs.BTreeMap as tree
 use Rattle.std.specs.BTreeMap.{BTreeMap}
 use Rattle.model.specs.declared.cell.Cell.{Cell}
 use Rattle.keyholds.specs.declared.places.Places.{Places}
-use Rattle.keyholds.specs.Holds.{holds_of, cells_held, IsFree, IsHeldBy, AreApart, HasNoEmptyList}
+use Rattle.keyholds.specs.Holds.{holds_of, cells_held, AreApart, HasNoEmptyList}
 use Rattle.keyholds.specs.Lists.{lists_seen, listed, items_in, SetsList, SameLists}
 use Rattle.keyholds.specs.Places.{ArePlaces, with_cells}
 use Rattle.keyholds.proofs.Listing.{get-lists_seen, lists_seen_filled}

@@ -3,7 +3,6 @@
 --     with_cells      the lists, with another one for a transaction
 use Rattle.std.specs.Prelude.{◌≡◌, ◌≢◌, ℕ, ◌+◌, ◌-◌, ◌==◌, List, Some, None, if◌then◌else◌, slice_get, count_by}
 use Rattle.std.specs.BTreeMap as tree
-use Rattle.std.specs.BTreeMap.{BTreeMap}
 use Rattle.model.specs.declared.cell.Cell.{Cell}
 use Rattle.model.specs.Cells.{table_of}
 use Rattle.model.specs.CellOrder.{cell_cmp}

@@ -141,7 +141,13 @@ impl<S: Drop> Holds<S> {
         if self.places.find(&cell).is_some() {
             return Ok(());
         }
-        hold_cell(&mut self.lists, &mut self.places, self.alloc, xid, (cell, stood))
+        hold_cell(
+            &mut self.lists,
+            &mut self.places,
+            self.alloc,
+            xid,
+            (cell, stood),
+        )
     }
 
     /// How many cells a transaction holds. It takes no memory.

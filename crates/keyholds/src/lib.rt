@@ -27,15 +27,10 @@
 // It stands on `model` for cells and their overlap.
 mod counts;
 mod holds;
-
 mod places;
 
 pub use holds::Holds;
-
 pub use model::Cell;
-
-
-
 
 /// A transaction's number.
 pub type Xid = u32;

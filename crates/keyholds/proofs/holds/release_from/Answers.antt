@@ -9,8 +9,8 @@ pub loop-list-init : goal.loop-list-init
 loop-list-init g c = record {
   front = refl;
   placed = λ held is kept.
-    places_alike held (with_cells held c.args.xid (keys_of c.args.list.now.items)) c.args.places.now
-    (λ x. sym (with_cells_same held c.args.xid (keys_of c.args.list.now.items) is x)) kept;
+      places_alike held (with_cells held c.args.xid (keys_of c.args.list.now.items)) c.args.places.now
+      (λ x. sym (with_cells_same held c.args.xid (keys_of c.args.list.now.items) is x)) kept;
 }
 
 pub loop-list-preserved-in-Some : goal.loop-list-preserved-in-Some
@@ -19,7 +19,7 @@ loop-list-preserved-in-Some g c =
     record {
       front = take-popped c.args.mark c.loop-list.list.items c.pop.new.self.items _ c.in-Some.ensures.items within ∙ c.loop-list.invariant.front;
       placed = λ held is kept.
-        places_removed (with_cells held c.args.xid (keys_of c.pop.new.self.items)) (with_cells held c.args.xid (keys_of c.loop-list.list.items)) c.args.xid c.in-Some.cell
-        (longer_with_cells held c.args.xid (keys_of c.pop.new.self.items) (keys_of c.loop-list.list.items) c.in-Some.cell (keys_of-push c.pop.new.self.items c.loop-list.list.items _ c.in-Some.ensures.items))
-        c.loop-list.places c.remove.new.self (c.loop-list.invariant.placed held is kept) c.remove.ensures;
+          places_removed (with_cells held c.args.xid (keys_of c.pop.new.self.items)) (with_cells held c.args.xid (keys_of c.loop-list.list.items)) c.args.xid c.in-Some.cell
+          (longer_with_cells held c.args.xid (keys_of c.pop.new.self.items) (keys_of c.loop-list.list.items) c.in-Some.cell (keys_of-push c.pop.new.self.items c.loop-list.list.items _ c.in-Some.ensures.items))
+          c.loop-list.places c.remove.new.self (c.loop-list.invariant.placed held is kept) c.remove.ensures;
     }

@@ -1,4 +1,3 @@
-use Rattle.std.proofs.Common.{◌≡◌, ℕ, ◌⊎◌, ◌<◌, arith, sym, ◌∙◌, inl, inr}
 use Rattle.std.specs.Map.Iter.{deref_pair}
 use Rattle.keyholds.proofs.Counting.{by_side, none_below, none_above, none_past, ended}
 use Rattle.keyholds.proofs.counts.Counts.other.Goals as goal

@@ -6,15 +6,15 @@ use Rattle.keyholds.proofs.counts.Counts.remove_one.Goals as goal
 pub invariant_of-self : goal.invariant_of-self
 invariant_of-self c = record {
   counted = lowered_counted c.args.self.now.counts c.set_count.new.counts c.args.table c.args.xid c.unwrap_or-count.result
-  (c.unwrap_or-count.ensures ∙ ap (λ o. unwrap_or o 0) (c.copied.ensures ∙ c.get.ensures.value))
-  c.if-count-gt1.true c.set_count.ensures c.args.self.now.counted;
+      (c.unwrap_or-count.ensures ∙ ap (λ o. unwrap_or o 0) (c.copied.ensures ∙ c.get.ensures.value))
+      c.if-count-gt1.true c.set_count.ensures c.args.self.now.counted;
 }
 
 pub invariant_of-self-else-count-gt1 : goal.invariant_of-self-else-count-gt1
 invariant_of-self-else-count-gt1 c = record {
   counted = removed_counted c.args.self.now.counts c.remove.new.self c.args.table c.args.xid c.unwrap_or-count.result
-  (c.unwrap_or-count.ensures ∙ ap (λ o. unwrap_or o 0) (c.copied.ensures ∙ c.get.ensures.value))
-  c.remove.ensures.updates c.args.self.now.counted;
+      (c.unwrap_or-count.ensures ∙ ap (λ o. unwrap_or o 0) (c.copied.ensures ∙ c.get.ensures.value))
+      c.remove.ensures.updates c.args.self.now.counted;
 }
 
 pub returns-then-count-gt1 : goal.returns-then-count-gt1
