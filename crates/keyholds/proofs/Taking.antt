@@ -8,10 +8,10 @@ use Rattle.std.specs.FinMap.{FinMap}
 use Rattle.std.specs.BTreeMap as tree
 use Rattle.std.specs.BTreeMap.{BTreeMap}
 use Rattle.std.proofs.lemmas.Bool.{cases_eq}
-use Rattle.std.proofs.lemmas.List.{take-append-le}
+use Rattle.std.proofs.lemmas.List.{take-append-le, map-append}
 use Rattle.std.proofs.Common.{length-append}
 use Rattle.std.proofs.Math.Seq.{take-length}
-use Rattle.std.proofs.lemmas.List.Elements.{All-contains, Contains-append_right}
+use Rattle.std.proofs.lemmas.List.Elements.{All-contains, All-cons, All-nil, Contains-append_right}
 use Rattle.std.specs.Iterator.{Yields}
 use Rattle.std.specs.Vec.Iter.{into_iter_items, into_iter_steps}
 use Rattle.std.specs.declared.vec.IntoIter.{IntoIter}
@@ -105,9 +105,16 @@ module _ {S : Type 0} where
   pub free_still : (old new : FinMap nat_cmp (List (Cell × S))) (xid : ℕ) (cell : Cell) → ((other : ℕ) → other ≢ xid → holds_of new other ≡ holds_of old other) → IsFree (cells_held old) xid cell → IsFree (cells_held new) xid cell
   free_still old new xid cell same free other d apart has = free other d apart (subst (λ l. Contains (keys_of l) d) (same other apart) has)
 
-  pub free_among : (held : ℕ → List Cell) (xid : ℕ) (holds before after : List (Cell × S)) (hold : Cell × S) → holds ≡ before ++ hold ∷ after → All (λ h. IsFree held xid h.0) holds → IsFree held xid hold.0
+  pub free_among : (held : ℕ → List Cell) (xid : ℕ) (holds before after : List (Cell × S)) (hold : Cell × S) → holds ≡ before ++ hold ∷ after → All (IsFree held xid) (keys_of holds) → IsFree held xid hold.0
   free_among held xid holds before after hold is free =
-      All-contains (λ (h : Cell × S). IsFree held xid h.0) holds hold free (subst (λ l. Contains l hold) (sym is) (Contains-append_right before (hold ∷ after) hold (contains_at (hold ∷ after) 0 hold refl)))
+      let split : keys_of holds ≡ keys_of before ++ hold.0 ∷ keys_of after = ap keys_of is ∙ map-append (λ e. e.0) before (hold ∷ after) in
+      All-contains (IsFree held xid) (keys_of holds) hold.0 free (subst (λ l. Contains l hold.0) (sym split) (Contains-append_right (keys_of before) (hold.0 ∷ keys_of after) hold.0 (contains_at (hold.0 ∷ keys_of after) 0 hold.0 refl)))
+
+  -- a list of one
+  pub free_alone : (held : ℕ → List Cell) (xid : ℕ) (holds before : List (Cell × S)) (hold : Cell × S) → before ≡ [] → holds ≡ before ++ hold ∷ [] → IsFree held xid hold.0 → All (IsFree held xid) (keys_of holds)
+  free_alone held xid holds before hold none is free =
+      let one : hold.0 ∷ [] ≡ keys_of holds = ap keys_of (ap (λ l. l ++ hold ∷ []) (sym none) ∙ sym is) in
+      subst (λ l. All (IsFree held xid) l) one (All-cons (IsFree held xid) hold.0 [] free (All-nil (IsFree held xid)))
 
 -- what the iterator of a vector has given is a front of its items
 pub taken_front : {X A : Type 0} (s : IntoIter X A) (xs : List X) (t : IntoIter X A) → Yields into_iter_steps s xs t → into_iter_items s ≡ xs ++ into_iter_items t

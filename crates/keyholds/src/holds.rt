@@ -105,7 +105,7 @@ impl<S: Drop> Holds<S> {
     ///
     /// What the caller owes is that no other transaction holds a cell that overlaps one of them.
     pub fn take(&mut self, xid: Xid, cells: Vec<(Cell, S)>) -> Result<(), OutOfMemory>
-        requires { All (λ hold. IsFree (cells_held self.old) xid hold.0) cells.items }
+        requires { All (IsFree (cells_held self.old) xid) (keys_of cells.items) }
         ensures ok { OnOk result (holds_of self.new xid ≡ with_holds (holds_of self.old xid) cells.items) }
         ensures others { (other : ℕ) → other ≢ xid → holds_of self.new other ≡ holds_of self.old other }
         ensures err { OnErr result (self.new ≡ self.old) }
@@ -120,7 +120,7 @@ impl<S: Drop> Holds<S> {
 
     // The same; refused for memory, the cells that it took are held.
     fn take_each(&mut self, xid: Xid, cells: Vec<(Cell, S)>) -> Result<(), OutOfMemory>
-        requires { All (λ hold. IsFree (cells_held self.old) xid hold.0) cells.items }
+        requires { All (IsFree (cells_held self.old) xid) (keys_of cells.items) }
         ensures ok { OnOk result (holds_of self.new xid ≡ with_holds (holds_of self.old xid) cells.items) }
         ensures first { take (length (holds_of self.old xid)) (holds_of self.new xid) ≡ holds_of self.old xid }
         ensures others { (other : ℕ) → other ≢ xid → holds_of self.new other ≡ holds_of self.old other }

@@ -32,5 +32,8 @@ mod places;
 pub use holds::Holds;
 pub use model::Cell;
 
+#[cfg(test)]
+mod tests;
+
 /// A transaction's number.
 pub type Xid = u32;
