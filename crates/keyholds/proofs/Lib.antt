@@ -7,3 +7,4 @@ mod Longer
 mod Seen
 mod Answering
 mod Taking
+pub mod HoldsLaws

@@ -23,10 +23,12 @@
 //   counts     how many cells each transaction holds in each table
 //   places     where each cell that is held stands, and who holds one that overlaps
 //   holds      `Holds`
+//   laws       what is held once cells are taken: as a set, from the front, and apart from others
 //
 // It stands on `model` for cells and their overlap.
 mod counts;
 mod holds;
+pub mod laws;
 mod places;
 
 pub use holds::Holds;
