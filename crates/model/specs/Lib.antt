@@ -28,3 +28,4 @@ pub mod FootprintLaws
 pub mod SerialLaws
 pub mod SurvivorLaws
 pub mod LawsOfCells
+pub mod CellOrder

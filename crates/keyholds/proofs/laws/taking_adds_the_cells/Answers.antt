@@ -1,0 +1,5 @@
+use Rattle.keyholds.proofs.HoldsLaws.{taking_adds}
+use Rattle.keyholds.proofs.laws.taking_adds_the_cells.Goals as goal
+
+pub returns : goal.returns
+returns g c = taking_adds

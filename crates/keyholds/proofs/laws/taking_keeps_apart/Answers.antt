@@ -1,0 +1,5 @@
+use Rattle.keyholds.proofs.HoldsLaws.{taking_keeps_apart as kept_apart}
+use Rattle.keyholds.proofs.laws.taking_keeps_apart.Goals as goal
+
+pub returns : goal.returns
+returns c = kept_apart

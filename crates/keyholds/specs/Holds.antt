@@ -1,0 +1,68 @@
+-- What transactions hold: cells, each with what stood there, in the order in which they were first held.
+--     holds_of, cells_held      what a transaction holds; its cells alone
+--     with_hold, with_holds      what is held once a cell is taken; once cells are taken in turn
+--     IsFree, IsHeldBy      no other transaction holds a cell that overlaps; this one does
+--     IsFirstHeldBy      it does so for the first cell of a list that another has
+--     AreApart      no two transactions hold cells that overlap
+use Rattle.std.specs.Prelude.{◌≡◌, ◌≢◌, ℕ, Bool, false, List, [], ◌∷◌, ◌++◌, Some, IsTrue, is_some, if◌then◌else◌, unwrap_or, fold, take, slice_get, All, Contains}
+use Rattle.std.specs.Ordering.{nat_cmp, eq_by_cmp}
+use Rattle.std.specs.FinMap.{FinMap, get}
+use Rattle.std.specs.Map.{lookup, keys_of}
+use Rattle.model.specs.declared.cell.Cell.{Cell}
+use Rattle.model.specs.Cells.{overlaps}
+use Rattle.model.specs.CellOrder.{cell_cmp}
+
+module _ {S : Type 0} where
+  -- what a transaction holds; nothing where it has no entry
+  abbrev pub holds_of : FinMap nat_cmp (List (Cell × S)) → ℕ → List (Cell × S)
+  holds_of holds xid = unwrap_or (get holds xid) []
+
+  -- its cells alone
+  abbrev pub cells_held : FinMap nat_cmp (List (Cell × S)) → ℕ → List Cell
+  cells_held holds xid = keys_of (holds_of holds xid)
+
+  -- a transaction that holds nothing has no entry
+  abbrev pub HasNoEmptyList : FinMap nat_cmp (List (Cell × S)) → Type 0
+  HasNoEmptyList holds = (xid : ℕ) → get holds xid ≢ Some []
+
+  -- the cell is among those held
+  abbrev pub has_cell : Cell → List (Cell × S) → Bool
+  has_cell cell held = is_some (lookup (eq_by_cmp cell_cmp cell) held)
+
+  -- what is held once a cell is taken: one that is held already stays as it is
+  abbrev pub with_hold : List (Cell × S) → Cell × S → List (Cell × S)
+  with_hold held hold = if has_cell hold.0 held then held else held ++ hold ∷ []
+
+  -- once cells are taken in turn
+  abbrev pub with_holds : List (Cell × S) → List (Cell × S) → List (Cell × S)
+  with_holds held holds = fold with_hold held holds
+
+-- ---- by the cells that each transaction holds
+
+-- no other transaction holds a cell that overlaps it
+abbrev pub IsFree : (ℕ → List Cell) → ℕ → Cell → Type 0
+IsFree held xid cell = (other : ℕ) (d : Cell) → other ≢ xid → Contains (held other) d → overlaps cell d ≡ false
+
+-- another transaction, the holder, holds a cell that overlaps it
+pub record IsHeldBy (held : ℕ → List Cell) (xid : ℕ) (cell : Cell) (holder : ℕ) : Type 0 where
+  pub another : holder ≢ xid
+  pub its : Cell
+  pub holds : Contains (held holder) its
+  pub overlap : IsTrue (overlaps cell its)
+
+-- the holder has the first cell of a list that another transaction has
+pub record IsFirstHeldBy (held : ℕ → List Cell) (xid : ℕ) (cells : List Cell) (holder : ℕ) : Type 0 where
+  pub place : ℕ
+  pub cell : Cell
+  pub at : slice_get cells place ≡ Some cell
+  pub before : All (IsFree held xid) (take place cells)
+  pub here : IsHeldBy held xid cell holder
+
+-- no two transactions hold cells that overlap
+abbrev pub AreApart : (ℕ → List Cell) → Type 0
+AreApart held = (xid other : ℕ) (c d : Cell) → other ≢ xid → Contains (held xid) c → Contains (held other) d → overlaps c d ≡ false
+
+-- a transaction holds the cell, and this stood there when it was first held
+pub record StoodAt {S : Type 0} (holds : FinMap nat_cmp (List (Cell × S))) (cell : Cell) (stood : S) : Type 0 where
+  pub holder : ℕ
+  pub among : Contains (holds_of holds holder) (cell, stood)

@@ -1,0 +1,21 @@
+-- The laws of what is held once cells are taken, which `laws` promises.
+use Rattle.std.specs.Prelude.{◌≡◌, ◌≢◌, ℕ, ◌↔◌, ◌⊎◌, List, take, length, All, Contains}
+use Rattle.std.specs.Map.{keys_of}
+use Rattle.model.specs.declared.cell.Cell.{Cell}
+use Rattle.keyholds.specs.Holds.{with_holds, IsFree, AreApart}
+
+-- once cells were taken, a cell is held exactly where it was held before or is among them
+abbrev pub TakingAddsCells : Type 0 → Type 0
+TakingAddsCells S =
+    (held more : List (Cell × S)) (cell : Cell) → Contains (keys_of (with_holds held more)) cell ↔ (Contains (keys_of held) cell ⊎ Contains (keys_of more) cell)
+
+-- what was held before is the front of what is held then
+abbrev pub TakingKeepsHeld : Type 0 → Type 0
+TakingKeepsHeld S = (held more : List (Cell × S)) → take (length held) (with_holds held more) ≡ held
+
+-- all stay apart where a transaction takes cells that are free for it, and no other changes
+abbrev pub TakingKeepsApart : Type 0
+TakingKeepsApart =
+    (held new : ℕ → List Cell) (xid : ℕ) (cells : List Cell) → AreApart held → All (IsFree held xid) cells
+    → ((cell : Cell) → Contains (new xid) cell → Contains (held xid) cell ⊎ Contains cells cell)
+    → ((other : ℕ) → other ≢ xid → new other ≡ held other) → AreApart new

@@ -1,0 +1,5 @@
+pub mod Holds
+pub mod Counts
+pub mod Places
+pub mod Lists
+pub mod Laws

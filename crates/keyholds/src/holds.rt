@@ -1,0 +1,251 @@
+// The holds of all open transactions.
+ghost use Rattle.std.specs.Prelude.{◌≡◌, ◌≢◌, ℕ, ◌<◌, ◌↔◌, List, ◌++◌, ◌∷◌, [], take, length, ◌≤◌, None, OnOk, OnErr, IfOk, IfSome, IfNone, IsNone, All, Contains};
+ghost use Rattle.std.specs.Map.{keys_of};
+ghost use Rattle.model.specs.declared.cell.Cell.{Cell as AnyCell};
+ghost use Rattle.keyholds.specs.Holds.{holds_of, cells_held, with_hold, with_holds, HasNoEmptyList, IsFree, IsHeldBy, IsFirstHeldBy, AreApart, StoodAt};
+ghost use Rattle.model.specs.CellOrder.{cell_cmp};
+ghost use Rattle.model.specs.Cells.{table_of};
+ghost use Rattle.std.specs.BTreeMap.{get};
+ghost use Rattle.keyholds.specs.Counts.{count_in};
+ghost use Rattle.keyholds.specs.Places.{ArePlaces, with_cells, AddsPlace, SamePlaces};
+ghost use Rattle.keyholds.specs.Lists.{listed, SameLists, SetsList, HasRoom};
+
+use crate::Xid;
+use crate::places::{Place, Places};
+use model::{Cell, OutOfMemory};
+use std::alloc::Global;
+use std::collections::BTreeMap;
+use std::marker::Model;
+
+/// What each open transaction holds: cells, each with what stood there when it was first held.
+///
+/// A clause sees it as a finite map from a transaction to the list of its cells, in the order in
+/// which they were first held; one that holds nothing has no entry. No two transactions hold cells
+/// that overlap. A cell is looked up with the work of a search in a tree of all that are held.
+#[derive(Drop)]
+pub struct Holds<S> {
+    lists: BTreeMap<Xid, Vec<(Cell, S)>>,
+    places: Places,
+    alloc: Global,
+}
+
+impl<S> Model for Holds<S> {
+    ghost use Rattle.std.specs.Prelude.{List};
+    ghost use Rattle.std.specs.Ordering.{nat_cmp};
+    ghost use Rattle.std.specs.FinMap as finite;
+    ghost use Rattle.std.specs.Coded.{coded_ℕ, coded_list, coded×};
+    ghost use Rattle.model.specs.declared.cell.Cell.{Cell as AnyCell};
+    ghost use Rattle.model.specs.contracts.cell.Cell as cell_type;
+
+    ghost Value = { finite.FinMap nat_cmp (List (AnyCell × S)) };
+
+    ghost coded = { finite.code coded_ℕ (coded_list (coded× cell_type.the_row.coded S.code)) };
+
+    ghost use Rattle.keyholds.specs.Lists.{lists_seen};
+    ghost use Rattle.keyholds.specs.Holds.{cells_held};
+    ghost use Rattle.keyholds.specs.Places.{ArePlaces};
+
+    ghost view = { λ h. lists_seen h.lists };
+
+    ghost invariant = { λ h. ArePlaces (cells_held (lists_seen h.lists)) h.places };
+}
+
+impl<S: Drop> Holds<S> {
+    /// Nothing is held. It takes no memory.
+    pub fn new(alloc: Global) -> Holds<S>
+        ensures { (xid : ℕ) → holds_of result xid ≡ [] }
+    {
+        Holds {
+            lists: BTreeMap::new(alloc),
+            places: Places::new(alloc),
+            alloc,
+        }
+    }
+
+    /// Another transaction that holds a cell which overlaps one of these. It is one that has the
+    /// first of them that another has. It takes no memory.
+    pub fn free_for(&self, xid: Xid, cells: &[Cell]) -> Option<Xid>
+        ensures free { IsNone result ↔ All (IsFree (cells_held self.now) xid) cells.now }
+        ensures first { IfSome result (IsFirstHeldBy (cells_held self.now) xid cells.now) }
+
+        // No two transactions hold cells that overlap.
+        ensures apart { AreApart (cells_held self.now) }
+    {
+        let places = &self.places;
+        for cell in cells {
+            if let Some(other) = places.other_holder(xid, cell) {
+                return Some(other);
+            }
+        }
+        None
+    }
+
+    /// Another transaction that holds a cell which overlaps this one. It takes no memory.
+    pub fn other_holder(&self, xid: Xid, cell: &Cell) -> Option<Xid>
+        ensures free { IfNone result (IsFree (cells_held self.now) xid cell.now) }
+        ensures held { IfSome result (IsHeldBy (cells_held self.now) xid cell.now) }
+        ensures apart { AreApart (cells_held self.now) }
+    {
+        self.places.other_holder(xid, cell)
+    }
+
+    /// What stood at a cell when it was first held, if it is held. It takes no memory.
+    pub fn stood(&self, cell: &Cell) -> Option<&S>
+        ensures held { IfSome result (λ stood. StoodAt self.now cell.now stood.now) }
+        ensures free { IfNone result ((xid : ℕ) → Contains (cells_held self.now xid) cell.now → ⊥) }
+    {
+        let place = self.places.find(cell)?;
+        let list = self.lists.get(&place.xid)?;
+        let (_, stood) = &list[place.index];
+        Some(stood)
+    }
+
+    /// Holds these cells too, each with what stood there; one that the transaction holds already
+    /// stays as it is. Refused for memory, nothing changes.
+    ///
+    /// What the caller owes is that no other transaction holds a cell that overlaps one of them.
+    pub fn take(&mut self, xid: Xid, cells: Vec<(Cell, S)>) -> Result<(), OutOfMemory>
+        requires { All (IsFree (cells_held self.old) xid) (keys_of cells.items) }
+        ensures ok { OnOk result (holds_of self.new xid ≡ with_holds (holds_of self.old xid) cells.items) }
+        ensures others { (other : ℕ) → other ≢ xid → holds_of self.new other ≡ holds_of self.old other }
+        ensures err { OnErr result (self.new ≡ self.old) }
+    {
+        let mark = self.mark(xid);
+        if self.take_each(xid, cells).is_err() {
+            self.release_since(xid, mark);
+            return Err(OutOfMemory);
+        }
+        Ok(())
+    }
+
+    // The same; refused for memory, the cells that it took are held.
+    fn take_each(&mut self, xid: Xid, cells: Vec<(Cell, S)>) -> Result<(), OutOfMemory>
+        requires { All (IsFree (cells_held self.old) xid) (keys_of cells.items) }
+        ensures ok { OnOk result (holds_of self.new xid ≡ with_holds (holds_of self.old xid) cells.items) }
+        ensures first { take (length (holds_of self.old xid)) (holds_of self.new xid) ≡ holds_of self.old xid }
+        ensures others { (other : ℕ) → other ≢ xid → holds_of self.new other ≡ holds_of self.old other }
+    {
+        for (cell, stood) in cells {
+            self.take_one(xid, cell, stood)?;
+        }
+        Ok(())
+    }
+
+    // One cell more, unless the transaction holds it already. Refused for memory, nothing changes.
+    fn take_one(&mut self, xid: Xid, cell: Cell, stood: S) -> Result<(), OutOfMemory>
+        requires { IsFree (cells_held self.old) xid cell }
+        ensures ok { OnOk result (holds_of self.new xid ≡ with_hold (holds_of self.old xid) (cell, stood)) }
+        ensures others { (other : ℕ) → other ≢ xid → holds_of self.new other ≡ holds_of self.old other }
+        ensures err { OnErr result (holds_of self.new xid ≡ holds_of self.old xid) }
+    {
+        if self.places.find(&cell).is_some() {
+            return Ok(());
+        }
+        hold_cell(
+            &mut self.lists,
+            &mut self.places,
+            self.alloc,
+            xid,
+            (cell, stood),
+        )
+    }
+
+    /// How many cells a transaction holds. It takes no memory.
+    pub fn mark(&self, xid: Xid) -> usize
+        ensures count { result ≡ length (holds_of self.now xid) }
+        ensures filled { HasNoEmptyList self.now }
+    {
+        match self.lists.get(&xid) {
+            Some(list) => list.len(),
+            None => 0,
+        }
+    }
+
+    /// Lets go the cells that a transaction holds past so many: those that it took since it held
+    /// that many. It takes no memory.
+    pub fn release_since(&mut self, xid: Xid, mark: usize)
+        ensures own { holds_of self.new xid ≡ take mark (holds_of self.old xid) }
+        ensures others { (other : ℕ) → other ≢ xid → holds_of self.new other ≡ holds_of self.old other }
+        ensures filled { HasNoEmptyList self.new }
+    {
+        if let Some(list) = self.lists.get_mut(&xid) {
+            release_from(list, &mut self.places, xid, mark);
+        }
+    }
+
+    /// Lets go all that a transaction holds. It takes no memory.
+    pub fn release_all(&mut self, xid: Xid)
+        ensures own { holds_of self.new xid ≡ [] }
+        ensures others { (other : ℕ) → other ≢ xid → holds_of self.new other ≡ holds_of self.old other }
+        ensures filled { HasNoEmptyList self.new }
+    {
+        if let Some(mut list) = self.lists.remove(&xid) {
+            release_from(&mut list, &mut self.places, xid, 0);
+        }
+    }
+}
+
+// One cell more for a transaction, which isn't held yet. Refused for memory, nothing changes.
+fn hold_cell<S: Drop>(
+    lists: &mut BTreeMap<Xid, Vec<(Cell, S)>>,
+    places: &mut Places,
+    alloc: Global,
+    xid: Xid,
+    hold: (Cell, S),
+) -> Result<(), OutOfMemory>
+    requires absent { get cell_cmp places.old.places hold.0 ≡ None }
+    requires counted { count_in places.old.counts.counts (table_of hold.0) xid ≤ length (listed lists.old xid) }
+    ensures list { OnOk result (SetsList xid (listed lists.old xid ++ hold ∷ []) lists.old lists.new) }
+    ensures place { OnOk result (AddsPlace hold.0 (record { xid = xid; index = length (listed lists.old xid) }) places.old places.new) }
+    ensures same_lists { OnErr result (SameLists lists.old lists.new) }
+    ensures same_places { OnErr result (SamePlaces places.old places.new) }
+{
+    let cell = hold.0.copy()?;
+    let index = make_room(lists, alloc, xid)?;
+    places.add(cell, Place { xid, index })?;
+    push(lists, xid, hold);
+    Ok(())
+}
+
+// Room for one more cell in a transaction's list, and how many are in it. No list changes.
+fn make_room<S: Drop>(
+    lists: &mut BTreeMap<Xid, Vec<(Cell, S)>>,
+    alloc: Global,
+    xid: Xid,
+) -> Result<usize, OutOfMemory>
+    ensures same { SameLists lists.old lists.new }
+    ensures room { OnOk result (HasRoom lists.new xid) }
+    ensures count { IfOk result (λ index. index ≡ length (listed lists.old xid)) }
+    ensures small { IfOk result (λ index. index < usize.MAX) }
+{
+    if let Some(list) = lists.get_mut(&xid) {
+        list.reserve(1)?;
+        return Ok(list.len());
+    }
+    let mut list = Vec::new(alloc);
+    list.reserve(1)?;
+    lists.insert(xid, list)?;
+    Ok(0)
+}
+
+// One cell more at the end of a transaction's list, into room that was made before.
+fn push<S: Drop>(lists: &mut BTreeMap<Xid, Vec<(Cell, S)>>, xid: Xid, hold: (Cell, S))
+    requires { HasRoom lists.old xid }
+    ensures { SetsList xid (listed lists.old xid ++ hold ∷ []) lists.old lists.new }
+{
+    if let Some(list) = lists.get_mut(&xid) {
+        list.push_reserved(hold);
+    }
+}
+
+// Cuts a transaction's list to so many cells; the others are at no place any more.
+fn release_from<S: Drop>(list: &mut Vec<(Cell, S)>, places: &mut Places, xid: Xid, mark: usize)
+    ensures items { list.new.items ≡ take mark list.old.items }
+    ensures places { (held : ℕ → List AnyCell) → held xid ≡ keys_of list.old.items → ArePlaces held places.old → ArePlaces (with_cells held xid (keys_of list.new.items)) places.new }
+{
+    while list.len() > mark {
+        if let Some((cell, _)) = list.pop() {
+            places.remove(&cell, xid);
+        }
+    }
+}

@@ -1,0 +1,41 @@
+#![tactic(auto)]
+
+// What open transactions hold, so that no two of them change what the other reads.
+//
+// A change looks up and alters cells: the rows at some keys, the values of some unique keys, whole
+// tables. Its transaction holds them, absent ones too, until it ends or is rolled back to a
+// savepoint before the change. Two cells overlap if they are equal or one is the whole of the
+// other's table (`model`, specs/Cells), and no two transactions hold cells that overlap: before a
+// transaction takes cells, `free_for` says which other one is in its way, and the type of `Holds`
+// keeps that none is.
+//
+// Callers see, of each transaction, the list of what it holds: each cell once, in the order in
+// which it was first held, with what the caller says stood there then. So a mark is a number, how
+// many cells are held, and a release to it leaves just those held before it.
+//
+// Each cell that is held lies in an ordered map with the transaction that holds it and its place in
+// that transaction's list, so a cell is looked up with the work of a search in a tree, whatever the
+// values are, and so is the table that it lies in as a whole. For a whole table a second map counts
+// the cells that each transaction holds in each table: who stands before and who behind the asker
+// there. To let go takes a search for each cell that goes. Room is made when a cell is taken:
+// no other call takes memory.
+//
+//   counts     how many cells each transaction holds in each table
+//   places     where each cell that is held stands, and who holds one that overlaps
+//   holds      `Holds`
+//   laws       what is held once cells are taken: as a set, from the front, and apart from others
+//
+// It stands on `model` for cells and their overlap.
+mod counts;
+mod holds;
+pub mod laws;
+mod places;
+
+pub use holds::Holds;
+pub use model::Cell;
+
+#[cfg(test)]
+mod tests;
+
+/// A transaction's number.
+pub type Xid = u32;
