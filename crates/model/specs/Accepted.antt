@@ -9,4 +9,4 @@ use Rattle.model.specs.Effect.{ClashCause, Clashes, outcome, effect}
 abbrev pub AreAccepted : Schema → Rows → List Change → Type 0
 AreAccepted schema rows [] = Unit {0}
 AreAccepted schema rows (c ∷ cs) =
-    ((cause : Conflict) → outcome schema rows c ≢ Clashes cause) × AreAccepted schema (effect schema rows c) cs
+    ((cause : ClashCause) → outcome schema rows c ≢ Clashes cause) × AreAccepted schema (effect schema rows c) cs

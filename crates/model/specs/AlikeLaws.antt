@@ -57,7 +57,7 @@ module _ (schema : Schema) (rows others : Rows) where
   same_is_taken : (table number : ℕ) (columns : List ℕ) → unique_key schema table number ≡ Some columns
       → (found : Option Key)
       → AreSame schema rows others (unique_cell table number found)
-      → is_taken rows table columns found ≡ is_taken others table columns found
+      → are_taken_unless_null rows table columns found ≡ are_taken_unless_null others table columns found
   same_is_taken table number columns is None same = refl
   same_is_taken table number columns is (Some values) same = same.0 columns is
 
@@ -75,12 +75,12 @@ same_placed : (schema : Schema) (rows others : Rows) (edits : Edits) (table : �
     → ((key : Key) → key_of schema table row ≡ Some key → get rows (table, key) ≡ get others (table, key))
     → first_taken rows table row 1 (keys_at schema table).uniques ≡ first_taken others table row 1
     (keys_at schema table).uniques
-    → placed schema rows edits table row ≡ placed schema others edits table row
+    → row_outcome schema rows edits table row ≡ row_outcome schema others edits table row
 same_placed schema rows others edits table row places firsts =
     by_key (key_of schema table row) refl
   where
     by_key : (found : Option Key) → key_of schema table row ≡ found
-        → placed_at schema rows edits table row found ≡ placed_at schema others edits table row found
+        → row_outcome_at schema rows edits table row found ≡ row_outcome_at schema others edits table row found
     by_key None own = refl
     by_key (Some key) own =
         ap (λ (there : Option Record). if is_some there then Clashes (Unique table 0)
@@ -133,7 +133,7 @@ module _ (schema : Schema) (rows others : Rows) (valid : IsValid schema rows) (v
       by_both : (b : Bool) → is_key (values_in columns old) values ≡ b
           → AreSame schema rows others
           (if b then [] else unique_cell table number (values_in columns old) ++ unique_cell table number (Some values))
-          → taken (remove rows (table, key)) table columns values ≡ taken
+          → are_taken (remove rows (table, key)) table columns values ≡ are_taken
           (remove others (table, key)) table columns values
       by_both true both same =
           let has : values_in columns old ≡ Some values = key_is (values_in columns old) values both in
@@ -147,10 +147,10 @@ module _ (schema : Schema) (rows others : Rows) (valid : IsValid schema rows) (v
 
   same_replaced : (patch : List ColumnPatch)
       → AreSame schema rows others (replaced_cells schema table key patch (Some old))
-      → replaced schema rows (table, key) patch (Some old) ≡ replaced schema others (table, key) patch (Some old)
+      → set_outcome schema rows (table, key) patch (Some old) ≡ set_outcome schema others (table, key) patch (Some old)
   same_replaced patch same =
       same_placed schema (remove rows (table, key)) (remove others (table, key)) (one_edit (table, key) None) table
-      (patched patch old)
+      (patch_row patch old)
       (λ new own. same_new_without schema rows others table key old stands stands_too new
       (subst (λ (k : Option Key). AreSame schema rows others (new_place table key k)) own
       (each_of_first (SameAt schema rows others) (new_place table key (key_of schema table (patch_row patch old))) _ same)))
@@ -161,8 +161,8 @@ module _ (schema : Schema) (rows others : Rows) (valid : IsValid schema rows) (v
 
   -- what is taken once the row is gone
   same_without : (t number : ℕ) (columns : List ℕ) (values : Key) → unique_key schema t number ≡ Some columns
-      → taken rows t columns values ≡ taken others t columns values
-      → taken (remove rows (table, key)) t columns values ≡ taken (remove others (table, key)) t columns values
+      → are_taken rows t columns values ≡ are_taken others t columns values
+      → are_taken (remove rows (table, key)) t columns values ≡ are_taken (remove others (table, key)) t columns values
   same_without t number columns values is same =
       elim (cases_Bool (has_values table old t columns values)) [
         | inr not ↦
@@ -252,15 +252,15 @@ module _ (schema : Schema) (rows others : Rows) (valid : IsValid schema rows) (v
 
   inverse_alike : (c : Change) (o : Outcome) → Shape schema rows c o
       → AreSame schema rows others (footprint schema rows c)
-      → stood rows (edits_of o) ≡ stood others (edits_of o)
+      → rows_under rows (edits_of o) ≡ rows_under others (edits_of o)
   unfolding footprint
   inverse_alike _ _ (clashes c cause) same = rows_under_none rows ∙ sym (rows_under_none others)
   inverse_alike _ _ (skips c) same = rows_under_none rows ∙ sym (rows_under_none others)
   inverse_alike _ _ (puts table row key own free untaken) same =
       let there : AreSame schema rows others (row_cell table (Some key)) =
       subst (λ (k : Option Key). AreSame schema rows others (row_cell table k)) own (each_of_first (SameAt schema rows others) (row_cell table (key_of schema table row)) _ same) in
-      stood_one rows (table, key) (Some row) ∙ ap (one_edit (table, key)) there.0
-      ∙ sym (stood_one others (table, key) (Some row))
+      rows_under_one rows (table, key) (Some row) ∙ ap (one_edit (table, key)) there.0
+      ∙ sym (rows_under_one others (table, key) (Some row))
   inverse_alike _ _ (sets table key patch old new stands own free untaken) same =
       let cells : AreSame schema rows others (replaced_cells schema table key patch (Some old)) =
       subst (λ (r : Option Record). AreSame schema rows others (replaced_cells schema table key patch r)) stands same.1 in
@@ -271,12 +271,12 @@ module _ (schema : Schema) (rows others : Rows) (valid : IsValid schema rows) (v
       ∙ ap (λ (r : Option Record). insert (one_edit (table, key) r) (table, new) (get rows (table, new))) same.0
       ∙ ap (insert (one_edit (table, key) (get others (table, key))) (table, new))
       (same_new schema rows others table key old stands (sym same.0 ∙ stands) new there)
-      ∙ sym (stood_two others (table, key) (table, new) None (Some (patched patch old)))
+      ∙ sym (rows_under_two others (table, key) (table, new) None (Some (patch_row patch old)))
   inverse_alike _ _ (removes table key old stands) same =
       rows_under_one rows (table, key) None ∙ ap (one_edit (table, key)) same.0 ∙ sym (rows_under_one others (table, key) None)
   inverse_alike _ _ (wipes tables) same =
       same_inverse_wipe schema rows others tables same
-      ∙ ap (stood others) (sym (same_wiped schema rows others tables same))
+      ∙ ap (rows_under others) (sym (same_wiped schema rows others tables same))
 
   pub same_inverse : (c : Change) → AreSame schema rows others (footprint schema rows c)
       → inverse schema rows c ≡ inverse schema others c
@@ -288,15 +288,15 @@ module _ (schema : Schema) (rows others : Rows) (valid : IsValid schema rows) (v
   taken_after : (c : Change) (o : Outcome) → Shape schema rows c o
       → AreSame schema rows others (footprint schema rows c)
       → (t number : ℕ) (columns : List ℕ) (values : Key) → unique_key schema t number ≡ Some columns
-      → taken rows t columns values ≡ taken others t columns values
-      → taken (overlay rows (edits_of o)) t columns values ≡ taken (overlay others (edits_of o)) t columns values
+      → are_taken rows t columns values ≡ are_taken others t columns values
+      → are_taken (overlay rows (edits_of o)) t columns values ≡ are_taken (overlay others (edits_of o)) t columns values
   unfolding footprint
   taken_after _ _ (clashes c cause) same t number columns values is before =
-      ap (λ (r : Rows). taken r t columns values) (overlay_empty rows) ∙ before
-      ∙ ap (λ (r : Rows). taken r t columns values) (sym (overlay_empty others))
+      ap (λ (r : Rows). are_taken r t columns values) (overlay_empty rows) ∙ before
+      ∙ ap (λ (r : Rows). are_taken r t columns values) (sym (overlay_empty others))
   taken_after _ _ (skips c) same t number columns values is before =
-      ap (λ (r : Rows). taken r t columns values) (overlay_empty rows) ∙ before
-      ∙ ap (λ (r : Rows). taken r t columns values) (sym (overlay_empty others))
+      ap (λ (r : Rows). are_taken r t columns values) (overlay_empty rows) ∙ before
+      ∙ ap (λ (r : Rows). are_taken r t columns values) (sym (overlay_empty others))
   taken_after _ _ (puts table row key own free untaken) same t number columns values is before =
       let there : AreSame schema rows others (row_cell table (Some key)) =
       subst (λ (k : Option Key). AreSame schema rows others (row_cell table k)) own (each_of_first (SameAt schema rows others) (row_cell table (key_of schema table row)) _ same) in
@@ -320,24 +320,24 @@ module _ (schema : Schema) (rows others : Rows) (valid : IsValid schema rows) (v
       (sym (same_new_without schema rows others table key old stands stands_too new there) ∙ free))
       ∙ ap (λ (r : Rows). are_taken r t columns values) (sym (after_set others table key new (patch_row patch old)))
   taken_after _ _ (removes table key old stands) same t number columns values is before =
-      ap (λ (r : Rows). taken r t columns values) (after_remove rows table key)
+      ap (λ (r : Rows). are_taken r t columns values) (after_remove rows table key)
       ∙ same_without schema rows others valid valid_too table key old stands
       (sym same.0 ∙ stands) t number columns values is before
-      ∙ ap (λ (r : Rows). taken r t columns values) (sym (after_remove others table key))
+      ∙ ap (λ (r : Rows). are_taken r t columns values) (sym (after_remove others table key))
   taken_after _ _ (wipes tables) same t number columns values is before =
       elim (cases_Bool (is_named tables t)) [
         | inl named ↦
             taken_alike (effect schema rows (Wipe tables)) (effect schema others (Wipe tables)) t
             (λ key. get_effect_wipe schema rows tables (t, key) ∙ ap (λ b. cond b None (get rows (t, key))) named
             ∙ sym (get_effect_wipe schema others tables (t, key) ∙ ap (λ b. cond b None (get others (t, key))) named)) columns values
-            ∙ ap (λ edits. taken (overlay others edits) t columns values)
+            ∙ ap (λ edits. are_taken (overlay others edits) t columns values)
             (sym (same_wiped schema rows others tables same))
         | inr not ↦
             sym (taken_alike rows (effect schema rows (Wipe tables)) t (left_by_wipe schema rows tables t not) columns values)
             ∙ before
             ∙ taken_alike others (effect schema others (Wipe tables)) t
             (left_by_wipe schema others tables t not) columns values
-            ∙ ap (λ edits. taken (overlay others edits) t columns values)
+            ∙ ap (λ edits. are_taken (overlay others edits) t columns values)
             (sym (same_wiped schema rows others tables same))
       ]
 
@@ -357,5 +357,5 @@ module _ (schema : Schema) (rows others : Rows) (valid : IsValid schema rows) (v
   alike_after c same (Uniq table number values) before = λ columns is.
       taken_after c (outcome schema rows c) (shape schema rows c) same table number columns values is
       (before columns is)
-      ∙ ap (λ o. taken (overlay others (edits_of o)) table columns values) (same_outcome c same)
+      ∙ ap (λ o. are_taken (overlay others (edits_of o)) table columns values) (same_outcome c same)
   alike_after c same (Whole table) before = λ key. row_after c same (table, key) (before key)

@@ -20,7 +20,7 @@ abbrev pub SameAt : Schema → Rows → Rows → Cell → Type 0
 SameAt schema rows others (Row table key) = get rows (table, key) ≡ get others (table, key)
 SameAt schema rows others (Uniq table number values) =
     (columns : List ℕ) → unique_key schema table number ≡ Some columns
-    → taken rows table columns values ≡ taken others table columns values
+    → are_taken rows table columns values ≡ are_taken others table columns values
 SameAt schema rows others (Whole table) = (key : Key) → get rows (table, key) ≡ get others (table, key)
 
 abbrev pub AreSame : Schema → Rows → Rows → List Cell → Type 0

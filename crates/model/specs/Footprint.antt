@@ -42,7 +42,7 @@ new_place table key new = if is_key new key then [] else row_cell table new
 abbrev pub replaced_cells : Schema → ℕ → Key → List ColumnPatch → Option Record → List Cell
 replaced_cells schema table key patch None = []
 replaced_cells schema table key patch (Some old) =
-    new_place table key (key_of schema table (patched patch old)) ++ moved_cells table old (patched patch old) 1
+    new_place table key (key_of schema table (patch_row patch old)) ++ moved_cells table old (patch_row patch old) 1
     (keys_at schema table).uniques
 
 -- what a delete alters beside its place, where this row stands there

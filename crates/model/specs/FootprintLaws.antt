@@ -100,7 +100,7 @@ kept_among schema table old new (suc n) columns values is had has =
 pub kept_is_free : (schema : Schema) (rows : Rows) (table : ℕ) (key : Key) (patch : List ColumnPatch) (old : Record) (number : ℕ) (columns : List ℕ) (values : Key)
     → get rows (table, key) ≡ Some old → unique_key schema table number ≡ Some columns
     → values_in columns old ≡ Some values
-    → values_in columns (patched patch old) ≡ Some values
+    → values_in columns (patch_row patch old) ≡ Some values
     → list_any (overlaps (Uniq table number values)) (footprint schema rows (Set table key patch)) ≡ false
 unfolding footprint
 kept_is_free schema rows table key patch old number columns values stands is had has =

@@ -50,8 +50,8 @@ same_through schema rows middle others (Uniq table number values) s t = λ colum
 same_through schema rows middle others (Whole table) s t = λ key. s key ∙ t key
 
 taken_too : (rows others : Rows) (table : ℕ) → ((key : Key) → get rows (table, key) ≡ get others (table, key))
-    → (columns : List ℕ) (values : Key) → taken rows table columns values ≡ true
-    → taken others table columns values ≡ true
+    → (columns : List ℕ) (values : Key) → are_taken rows table columns values ≡ true
+    → are_taken others table columns values ≡ true
 taken_too rows others table alike columns values is =
     let t = row_of_taken rows table columns values is in
     taken_by_row others table columns values t.key t.row (sym (alike t.key) ∙ t.at) t.has
@@ -266,7 +266,7 @@ module _ (schema : Schema) (rows : Rows) (table : ℕ) (key : Key) (row : Record
       ∙ get_remove_other rows (table, key) (t, k) (other_place t table k key apart))
   replace_leaves new later stands free (Uniq t number values) apart beside unique = λ columns is.
       taken_without rows table key row stands t columns values
-      ∙ ap (λ b. taken (remove rows (table, key)) t columns values || b)
+      ∙ ap (λ b. are_taken (remove rows (table, key)) t columns values || b)
       (has_as_before schema table t number columns values is row later unique)
       ∙ sym (taken_insert (remove rows (table, key)) table new later t columns values free)
   replace_leaves new later stands free (Whole t) apart beside unique = λ k.

@@ -44,7 +44,7 @@ KeptValueIsFree =
     (columns : List ℕ) (values : Key)
     → get rows (table, key) ≡ Some old → unique_key schema table number ≡ Some columns
     → values_in columns old ≡ Some values
-    → values_in columns (patched patch old) ≡ Some values
+    → values_in columns (patch_row patch old) ≡ Some values
     → list_any (overlaps (Uniq table number values)) (footprint schema rows (Set table key patch)) ≡ false
 
 -- ---- one change

@@ -20,10 +20,10 @@ pub data Shape (schema : Schema) (rows : Rows) : Change → Outcome → Type 0 w
       → first_taken rows table row 1 (keys_at schema table).uniques ≡ None
       → Shape schema rows (Put table row) (Done (insert map_of.empty (table, key) (Some row)))
   sets : (table : ℕ) (key : Key) (patch : List ColumnPatch) (old : Row) (new : Key) → get rows (table, key) ≡ Some old
-      → key_of schema table (patched patch old) ≡ Some new → get (remove rows (table, key)) (table, new) ≡ None
-      → first_taken (remove rows (table, key)) table (patched patch old) 1 (keys_at schema table).uniques ≡ None
+      → key_of schema table (patch_row patch old) ≡ Some new → get (remove rows (table, key)) (table, new) ≡ None
+      → first_taken (remove rows (table, key)) table (patch_row patch old) 1 (keys_at schema table).uniques ≡ None
       → Shape schema rows (Set table key patch)
-      (Done (insert (one_edit (table, key) None) (table, new) (Some (patched patch old))))
+      (Done (insert (one_edit (table, key) None) (table, new) (Some (patch_row patch old))))
   removes : (table : ℕ) (key : Key) (old : Row) → get rows (table, key) ≡ Some old
       → Shape schema rows (Remove table key) (Done (one_edit (table, key) None))
   wipes : (tables : List ℕ) → Shape schema rows (Wipe tables) (Done (wipe_edits rows tables))
@@ -54,7 +54,7 @@ module _ (schema : Schema) (rows : Rows) (edits : Edits) (table : ℕ) (row : Ro
   by_place key false own is = by_taken key _ own (none_there (get rows (table, key)) is) refl
 
   by_key : (key : Option Key) → key_of schema table row ≡ key
-      → IsPlacing schema rows edits table row (placed_at schema rows edits table row key)
+      → IsPlacing schema rows edits table row (row_outcome_at schema rows edits table row key)
   by_key None own = refused _
   by_key (Some key) own = by_place key _ own refl
 
@@ -68,7 +68,7 @@ put_shape schema rows table row _ (refused cause) = clashes _ cause
 put_shape schema rows table row _ (placing key own free untaken) = puts table row key own free untaken
 
 set_shape : (schema : Schema) (rows : Rows) (table : ℕ) (key : Key) (patch : List ColumnPatch) (old : Row) (o : Outcome) → get rows (table, key) ≡ Some old
-    → IsPlacing schema (remove rows (table, key)) (one_edit (table, key) None) table (patched patch old) o
+    → IsPlacing schema (remove rows (table, key)) (one_edit (table, key) None) table (patch_row patch old) o
     → Shape schema rows (Set table key patch) o
 set_shape schema rows table key patch old _ stands (refused cause) = clashes _ cause
 set_shape schema rows table key patch old _ stands (placing new own free untaken) =
@@ -79,7 +79,7 @@ replaced_shape : (schema : Schema) (rows : Rows) (table : ℕ) (key : Key) (patc
 replaced_shape schema rows table key patch None stands = skips _
 replaced_shape schema rows table key patch (Some old) stands =
     set_shape schema rows table key patch old _ stands
-    (placing_of schema (remove rows (table, key)) (one_edit (table, key) None) table (patched patch old))
+    (placing_of schema (remove rows (table, key)) (one_edit (table, key) None) table (patch_row patch old))
 
 removed_shape : (schema : Schema) (rows : Rows) (table : ℕ) (key : Key) (old : Option Row) → get rows (table, key) ≡ old
     → Shape schema rows (Remove table key) (remove_outcome (table, key) old)

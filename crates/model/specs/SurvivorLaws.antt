@@ -34,7 +34,7 @@ changes_of_both (Last ∷ items) more = changes_of_both items more
 abbrev pub work_of : ℕ → List Item → List change_type.Change
 work_of top items = changes_of (survivors top items)
 
-pub work_with_change : (top sub : ℕ) (items : List Item) (c : Alteration)
+pub work_with_change : (top sub : ℕ) (items : List Item) (c : change_type.Change)
     → work_of top (items ++ Change sub c ∷ []) ≡ work_of top items ++ c ∷ []
 work_with_change top sub items c =
     ap changes_of (survivors_with top items (Change sub c)) ∙ changes_of_both (survivors top items) (Change sub c ∷ [])
@@ -104,7 +104,7 @@ survivors_before top sub items =
     (cut.0, cut.1 ∙ ap (λ kept. kept ++ cut.0) (sym (survivors_with top items (BackTo sub))))
 
 pub work_before : (top sub : ℕ) (items : List Item)
-    → (rest : List Alteration) × (work_of top items ≡ work_of top (items ++ BackTo sub ∷ []) ++ rest)
+    → (rest : List change_type.Change) × (work_of top items ≡ work_of top (items ++ BackTo sub ∷ []) ++ rest)
 work_before top sub items =
     let cut = survivors_before top sub items in
     (changes_of cut.0, ap changes_of cut.1 ∙ changes_of_both (survivors top (items ++ BackTo sub ∷ [])) cut.0)

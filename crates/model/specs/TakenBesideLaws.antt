@@ -52,8 +52,8 @@ module _ (rows : Rows) (at : ℕ) (key : Key) (row : Row) (table : ℕ) (columns
   abbrev more : Rows
   more = insert rows (at, key) row
 
-  taken_with : taken more table columns values ≡ true
-      → (taken rows table columns values || has_values at row table columns values) ≡ true
+  taken_with : are_taken more table columns values ≡ true
+      → (are_taken rows table columns values || has_values at row table columns values) ≡ true
   taken_with is =
       let t = row_of_taken more table columns values is in
       elim (place_cases (table, t.key) (at, key)) [
@@ -69,8 +69,8 @@ module _ (rows : Rows) (at : ℕ) (key : Key) (row : Row) (table : ℕ) (columns
       ]
 
   with_taken : get rows (at, key) ≡ None
-      → (taken rows table columns values || has_values at row table columns values) ≡ true
-      → taken more table columns values ≡ true
+      → (are_taken rows table columns values || has_values at row table columns values) ≡ true
+      → are_taken more table columns values ≡ true
   with_taken free is =
       elim (cases_Bool (are_taken rows table columns values)) [
         | inl is_taken ↦
@@ -88,7 +88,7 @@ module _ (rows : Rows) (at : ℕ) (key : Key) (row : Row) (table : ℕ) (columns
 
   -- a row more, at a place where none stood
   pub taken_insert : get rows (at, key) ≡ None
-      → taken more table columns values ≡ (taken rows table columns values || has_values at row table columns values)
+      → are_taken more table columns values ≡ (are_taken rows table columns values || has_values at row table columns values)
   taken_insert free = same_answer _ _ taken_with (with_taken free)
 
 put_in_again : (b : Bool) (row : Row) (was : Option Row) → (b ≡ true → was ≡ Some row)
@@ -106,8 +106,8 @@ module _ (rows : Rows) (at : ℕ) (key : Key) (row : Row) (stands : get rows (at
 
   -- a row less
   pub taken_without : (table : ℕ) (columns : List ℕ) (values : Key)
-      → taken rows table columns values ≡
-      (taken (remove rows (at, key)) table columns values || has_values at row table columns values)
+      → are_taken rows table columns values ≡
+      (are_taken (remove rows (at, key)) table columns values || has_values at row table columns values)
   taken_without table columns values =
       ap (λ (r : Rows). are_taken r table columns values) inserted_again
       ∙ taken_insert (remove rows (at, key)) at key row table columns values (get_remove_same rows (at, key))
@@ -117,7 +117,7 @@ pub untaken_without : (schema : Schema) (rows : Rows) → IsValid schema rows �
     → get rows (table, key) ≡ Some row
     → (number : ℕ) (columns : List ℕ) (values : Key) → unique_key schema table number ≡ Some columns
     → values_in columns row ≡ Some values
-    → taken (remove rows (table, key)) table columns values ≡ false
+    → are_taken (remove rows (table, key)) table columns values ≡ false
 untaken_without schema rows valid table key row stands zero columns values is_unique has =
     absurd (not_none columns is_unique)
 untaken_without schema rows valid table key row stands (suc i) columns values is_unique has =

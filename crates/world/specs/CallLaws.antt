@@ -207,9 +207,9 @@ live_after_rollback schema start w new reached rows live xid o next is sub h at 
     let cut : Opened = record { items = o.items ++ BackTo sub ∷ []; wants = None } in
     let kept : work xid cut ≡ work xid next = ap (work xid) (sym (after_back w new xid o next sub h at)) in
     let committed : new.committed ≡ w.committed = ap (λ (v : World). v.committed) h in
-    subst (λ (r : Rows). IsLive schema new (undone rows (inverses schema (serial schema r (work xid next)) gone)))
+    subst (λ (r : Rows). IsLive schema new (all_back rows (inverses schema (serial schema r (work xid next)) gone)))
     (sym committed)
-    (carried schema new (done_with w xid o (BackTo sub)) (undone rows (inverses schema (serial schema w.committed (work xid next)) gone)) h
+    (carried schema new (done_with w xid o (BackTo sub)) (all_back rows (inverses schema (serial schema w.committed (work xid next)) gone)) h
     (live_cut schema w (fine schema start w reached) rows live xid o is sub (work xid next) gone was kept
     (after schema start w new (done_with w xid o (BackTo sub)) reached (goes_back xid o sub new is h) h)))
 

@@ -37,7 +37,7 @@ IsClashing schema w xid o c cause =
 -- the clash that stopped the world is one still, while its transaction wants the change
 abbrev pub StillClashes : Schema → World → Type 0
 StillClashes schema w =
-    (xid : ℕ) (c : Alteration) (cause : Conflict) → w.stopped ≡ Some (ByClash xid c cause) → (o : Opened) (sub : ℕ)
+    (xid : ℕ) (c : change_type.Change) (cause : ClashCause) → w.stopped ≡ Some (ByClash xid c cause) → (o : Opened) (sub : ℕ)
     → get w.opened xid ≡ Some o
     → o.wants ≡ Some (sub, c) → IsClashing schema w xid o c cause
 
@@ -143,9 +143,9 @@ fine_opens schema w fine xid running =
 
 -- a change that meets no other's cell, and doesn't clash
 fine_with_change : (schema : Schema) (w : World) → IsFine schema w
-    → (xid : ℕ) (o : Opened) (sub : ℕ) (c : Alteration) → get w.opened xid ≡ Some o
+    → (xid : ℕ) (o : Opened) (sub : ℕ) (c : change_type.Change) → get w.opened xid ≡ Some o
     → w.stopped ≡ None → IsFree schema w xid (footprint schema (own_rows schema w xid o) c)
-    → ((cause : Conflict) → outcome schema (own_rows schema w xid o) c ≢ Clashes cause)
+    → ((cause : ClashCause) → outcome schema (own_rows schema w xid o) c ≢ Clashes cause)
     → IsFine schema (done_with w xid o (Change sub c))
 fine_with_change schema w fine xid o sub c is running free fits =
     let items = o.items ++ Change sub c ∷ [] in
@@ -188,7 +188,7 @@ fine_with_touch schema w fine xid o sub is running =
     ∙ holds_free schema w fine xid o is other p differs at)
     (not_stopped schema (done_with w xid o (Touch sub)) running)
 
-fine_wanting : (schema : Schema) (w : World) → IsFine schema w → (xid : ℕ) (o : Opened) (sub : ℕ) (c : Alteration)
+fine_wanting : (schema : Schema) (w : World) → IsFine schema w → (xid : ℕ) (o : Opened) (sub : ℕ) (c : change_type.Change)
     → get w.opened xid ≡ Some o → w.stopped ≡ None
     → IsFine schema (wanting w xid o sub c)
 fine_wanting schema w fine xid o sub c is running =
@@ -196,7 +196,7 @@ fine_wanting schema w fine xid o sub c is running =
     (holds_free schema w fine xid o is)
     (not_stopped schema (wanting w xid o sub c) running)
 
-clash_is : (xid other : ℕ) (c d : Alteration) (cause why : Conflict)
+clash_is : (xid other : ℕ) (c d : change_type.Change) (cause why : ClashCause)
     → Some (ByClash xid c cause) ≡ Some (ByClash other d why)
     → (xid ≡ other) × (c ≡ d) × (cause ≡ why)
 clash_is xid other c d cause why e = (cc, cc, cc)
@@ -211,7 +211,7 @@ same_clashing schema w xid other o p c d cause why x_is o_is c_is cause_is clash
     (subst (λ (k : ClashCause). IsClashing schema w xid o c k) cause_is clashing)))
 
 fine_clashed : (schema : Schema) (w : World) → IsFine schema w
-    → (xid : ℕ) (o : Opened) (sub : ℕ) (c : Alteration) (cause : Conflict) → get w.opened xid ≡ Some o
+    → (xid : ℕ) (o : Opened) (sub : ℕ) (c : change_type.Change) (cause : ClashCause) → get w.opened xid ≡ Some o
     → IsFree schema w xid (footprint schema (own_rows schema w xid o) c)
     → outcome schema (own_rows schema w xid o) c ≡ Clashes cause
     → IsFine schema (record (wanting w xid o sub c) { stopped = Some (ByClash xid c cause) })
@@ -410,7 +410,7 @@ fine_stopped schema w fine waiter holder = record {
   noted = λ xid c cause stopped. absurd (other_stop xid c cause stopped);
 }
   where
-    other_stop : (xid : ℕ) (c : Alteration) (cause : Conflict)
+    other_stop : (xid : ℕ) (c : change_type.Change) (cause : ClashCause)
         → ¬ (Some (ByHold waiter holder) ≡ Some (ByClash xid c cause))
     other_stop xid c cause e = cc
 

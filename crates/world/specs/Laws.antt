@@ -51,7 +51,7 @@ abbrev pub NoLiveChangeClashes : Type 0
 NoLiveChangeClashes =
     (schema : Schema) (start : Rows) (w : World) → IsReached schema start w → (listing : List (ℕ × Opened))
     → IsListing w listing
-    → AreAccepted schema w.committed (flat_map (λ (cs : List Alteration). cs) (works listing))
+    → AreAccepted schema w.committed (flat_map (λ (cs : List change_type.Change). cs) (works listing))
 
 -- the committed rows are the commits' changes, one after another in commit order
 abbrev pub CommittedIsSerial : Type 0
@@ -70,7 +70,7 @@ AloneIsSerial =
 abbrev pub NotedClashStands : Type 0
 NotedClashStands =
     (schema : Schema) (start : Rows) (w : World) → IsReached schema start w
-    → (xid : ℕ) (c : Alteration) (cause : Conflict) → w.stopped ≡ Some (ByClash xid c cause)
+    → (xid : ℕ) (c : change_type.Change) (cause : ClashCause) → w.stopped ≡ Some (ByClash xid c cause)
     → (o : Opened) (sub : ℕ) → get w.opened xid ≡ Some o → o.wants ≡ Some (sub, c)
     → IsFree schema w xid (footprint schema (own_rows schema w xid o) c) ×
     (outcome schema (own_rows schema w xid o) c ≡ Clashes cause)
@@ -88,7 +88,7 @@ FootprintOnLive =
 abbrev pub OutcomeOnLive : Type 0
 OutcomeOnLive =
     (schema : Schema) (start : Rows) (w : World) → IsReached schema start w → (rows : Rows) → IsLive schema w rows
-    → (xid : ℕ) (o : Opened) → get w.opened xid ≡ Some o → (c : Alteration)
+    → (xid : ℕ) (o : Opened) → get w.opened xid ≡ Some o → (c : change_type.Change)
     → IsFree schema w xid (footprint schema (own_rows schema w xid o) c)
     → (outcome schema rows c ≡ outcome schema (own_rows schema w xid o) c)
     × (inverse schema rows c ≡ inverse schema (own_rows schema w xid o) c)
@@ -98,7 +98,7 @@ OutcomeOnLive =
 -- one more change: its footprint and its inverse come last
 abbrev pub DoneComesLast : Type 0
 DoneComesLast =
-    (schema : Schema) (w new : World) (xid : ℕ) (o after : Opened) (sub : ℕ) (c : Alteration)
+    (schema : Schema) (w new : World) (xid : ℕ) (o after : Opened) (sub : ℕ) (c : change_type.Change)
     → new ≡ done_with w xid o (Change sub c) → get new.opened xid ≡ Some after
     → (work xid after ≡ work xid o ++ c ∷ [])
     × (holds schema new xid after ≡ holds schema w xid o ++ footprint schema (own_rows schema w xid o) c)
@@ -115,7 +115,7 @@ abbrev pub RollbackKeepsTheRest : Type 0
 RollbackKeepsTheRest =
     (schema : Schema) (w new : World) (xid : ℕ) (o after : Opened) (sub : ℕ) → GoesBack w xid o sub new
     → get new.opened xid ≡ Some after
-    → (gone : List Alteration) → work xid o ≡ work xid after ++ gone
+    → (gone : List change_type.Change) → work xid o ≡ work xid after ++ gone
     → (holds schema w xid o ≡ holds schema new xid after ++ held_cells schema (own_rows schema new xid after) gone)
     × (inverses schema w.committed (work xid o)
     ≡ inverses schema new.committed (work xid after) ++ inverses schema (own_rows schema new xid after) gone)
@@ -131,28 +131,28 @@ LiveAfterOpen =
 abbrev pub LiveAfterDone : Type 0
 LiveAfterDone =
     (schema : Schema) (start : Rows) (w new : World) → IsReached schema start w → (rows : Rows) → IsLive schema w rows
-    → (xid : ℕ) (o : Opened) → get w.opened xid ≡ Some o → (sub : ℕ) (c : Alteration)
+    → (xid : ℕ) (o : Opened) → get w.opened xid ≡ Some o → (sub : ℕ) (c : change_type.Change)
     → Acts schema w xid o sub c (Ok IsDone) new
     → IsLive schema new (effect schema rows c)
 
 abbrev pub LiveAfterSkip : Type 0
 LiveAfterSkip =
     (schema : Schema) (start : Rows) (w new : World) → IsReached schema start w → (rows : Rows) → IsLive schema w rows
-    → (xid : ℕ) (o : Opened) → get w.opened xid ≡ Some o → (sub : ℕ) (c : Alteration)
+    → (xid : ℕ) (o : Opened) → get w.opened xid ≡ Some o → (sub : ℕ) (c : change_type.Change)
     → Acts schema w xid o sub c (Ok IsSkipped) new
     → IsLive schema new rows
 
 abbrev pub LiveAfterHeld : Type 0
 LiveAfterHeld =
     (schema : Schema) (start : Rows) (w new : World) → IsReached schema start w → (rows : Rows) → IsLive schema w rows
-    → (xid : ℕ) (o : Opened) → get w.opened xid ≡ Some o → (sub : ℕ) (c : Alteration) (holder : ℕ)
+    → (xid : ℕ) (o : Opened) → get w.opened xid ≡ Some o → (sub : ℕ) (c : change_type.Change) (holder : ℕ)
     → Acts schema w xid o sub c (Ok (Held holder)) new
     → IsLive schema new rows
 
 abbrev pub LiveAfterClash : Type 0
 LiveAfterClash =
     (schema : Schema) (start : Rows) (w new : World) → IsReached schema start w → (rows : Rows) → IsLive schema w rows
-    → (xid : ℕ) (o : Opened) → get w.opened xid ≡ Some o → (sub : ℕ) (c : Alteration) (cause : Conflict)
+    → (xid : ℕ) (o : Opened) → get w.opened xid ≡ Some o → (sub : ℕ) (c : change_type.Change) (cause : ClashCause)
     → Acts schema w xid o sub c (Ok (Clashed cause)) new
     → IsLive schema new rows
 
@@ -169,8 +169,8 @@ LiveAfterRollback =
     (schema : Schema) (start : Rows) (w new : World) → IsReached schema start w → (rows : Rows) → IsLive schema w rows
     → (xid : ℕ) (o after : Opened) → get w.opened xid ≡ Some o → (sub : ℕ) → GoesBack w xid o sub new
     → get new.opened xid ≡ Some after
-    → (gone : List Alteration) → work xid o ≡ work xid after ++ gone
-    → IsLive schema new (undone rows (inverses schema (own_rows schema new xid after) gone))
+    → (gone : List change_type.Change) → work xid o ≡ work xid after ++ gone
+    → IsLive schema new (all_back rows (inverses schema (own_rows schema new xid after) gone))
 
 -- an abort takes the transaction's changes back, and leaves the others'
 abbrev pub LiveAfterAbort : Type 0

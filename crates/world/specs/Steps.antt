@@ -171,7 +171,7 @@ Looks w seen now = Watches w seen × (now ≡ journal w)
 
 pub data Step (schema : Schema) (w : World) : World → Type 0 where
   opens : (xid : ℕ) (answer : Result (Unit {0}) Fault) (new : World) → Opens w xid answer new → Step schema w new
-  acts : (xid : ℕ) (o : Opened) (sub : ℕ) (c : Alteration) (answer : Result Acted Fault) (new : World)
+  acts : (xid : ℕ) (o : Opened) (sub : ℕ) (c : change_type.Change) (answer : Result Acted Fault) (new : World)
       → get w.opened xid ≡ Some o
       → Acts schema w xid o sub c answer new → Step schema w new
   touches : (xid : ℕ) (o : Opened) (sub : ℕ) (answer : Result (Unit {0}) Fault) (new : World)

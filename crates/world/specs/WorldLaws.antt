@@ -185,7 +185,7 @@ module _ (schema : Schema) (w : World) (fine : IsFine schema w) (xid : ℕ) (o :
         (alone_as_live_each schema w.committed (committed_valid schema w fine) (work xid o) others from_others others_apart cells (free_of_others cells free))
 
     -- if the row that a change looks up is free of the others, its footprint there is that on its own view
-    pub footprint_live : (c : Alteration) → IsFree schema w xid (looked_up c)
+    pub footprint_live : (c : change_type.Change) → IsFree schema w xid (looked_up c)
         → footprint schema rows c ≡ footprint schema (own_rows schema w xid o) c
     footprint_live c free =
         sym (footprint_by_looked_up schema (own_rows schema w xid o) rows c (same_cells (looked_up c) free))
@@ -242,7 +242,7 @@ module _ (schema : Schema) (w : World) (fine : IsFine schema w) (rows : Rows) (l
       (listed_with w.opened xid fresh absent) (live (entries w.opened) same)
 
   module _ (xid : ℕ) (o : Opened) (is : get w.opened xid ≡ Some o) where
-    pub live_acted : (sub : ℕ) (c : Alteration) → IsFree schema w xid (footprint schema (own_rows schema w xid o) c)
+    pub live_acted : (sub : ℕ) (c : change_type.Change) → IsFree schema w xid (footprint schema (own_rows schema w xid o) c)
         → IsFine schema (done_with w xid o (Change sub c))
         → IsLive schema (done_with w xid o (Change sub c)) (effect schema rows c)
     live_acted sub c free fine_after =
@@ -261,7 +261,7 @@ module _ (schema : Schema) (w : World) (fine : IsFine schema w) (rows : Rows) (l
         ∙ ap (λ cs. in_turn schema (serial schema w.committed cs) (others schema w fine xid o is))
         (sym (work_with_touch xid sub o.items)))
 
-    pub live_wanting : (sub : ℕ) (c : Alteration) (stopped : Option Stop)
+    pub live_wanting : (sub : ℕ) (c : change_type.Change) (stopped : Option Stop)
         → IsFine schema (record (wanting w xid o sub c) { stopped = stopped })
         → IsLive schema (record (wanting w xid o sub c) { stopped = stopped }) rows
     live_wanting sub c stopped fine_after =
@@ -269,18 +269,18 @@ module _ (schema : Schema) (w : World) (fine : IsFine schema w) (rows : Rows) (l
         (live_is schema w fine xid o is rows live)
 
     -- the inverses of what a rollback drops, put back past all that others did, give the live rows of what is left
-    pub live_cut : (sub : ℕ) (kept gone : List Alteration) → work xid o ≡ kept ++ gone
+    pub live_cut : (sub : ℕ) (kept gone : List change_type.Change) → work xid o ≡ kept ++ gone
         → work xid (record { items = o.items ++ BackTo sub ∷ []; wants = None }) ≡ kept
         → IsFine schema (done_with w xid o (BackTo sub))
         → IsLive schema (done_with w xid o (BackTo sub))
-        (undone rows (inverses schema (serial schema w.committed kept) gone))
+        (all_back rows (inverses schema (serial schema w.committed kept) gone))
     live_cut sub kept gone was left fine_after =
         let from : AreApartFrom schema w.committed (kept ++ gone) (others schema w fine xid o is) =
         subst (λ cs. AreApartFrom schema w.committed cs (others schema w fine xid o is)) was (from_others schema w fine xid o is) in
         live_put schema w fine xid o is
         (record { items = o.items ++ BackTo sub ∷ []; wants = None }) w.stopped fine_after
-        (undone rows (inverses schema (serial schema w.committed kept) gone))
-        (ap (λ (r : Rows). undone r (inverses schema (serial schema w.committed kept) gone))
+        (all_back rows (inverses schema (serial schema w.committed kept) gone))
+        (ap (λ (r : Rows). all_back r (inverses schema (serial schema w.committed kept) gone))
         (live_is schema w fine xid o is rows live ∙ ap (λ cs. in_turn schema (serial schema w.committed cs) (others schema w fine xid o is)) was)
         ∙ cut_back schema w.committed (committed_valid schema w fine) kept gone (others schema w fine xid o is) from
         (others_apart schema w fine xid o is)
@@ -288,11 +288,11 @@ module _ (schema : Schema) (w : World) (fine : IsFine schema w) (rows : Rows) (l
 
     -- an abort leaves the others' work
     pub live_aborted : IsFine schema (aborted_with w xid)
-        → IsLive schema (aborted_with w xid) (undone rows (inverses schema w.committed (work xid o)))
+        → IsLive schema (aborted_with w xid) (all_back rows (inverses schema w.committed (work xid o)))
     live_aborted fine_after =
-        live_by schema (aborted_with w xid) fine_after (undone rows (inverses schema w.committed (work xid o)))
+        live_by schema (aborted_with w xid) fine_after (all_back rows (inverses schema w.committed (work xid o)))
         (entries (finite.remove w.opened xid)) same
-        (ap (λ (r : Rows). undone r (inverses schema w.committed (work xid o))) (live_is schema w fine xid o is rows live)
+        (ap (λ (r : Rows). all_back r (inverses schema w.committed (work xid o))) (live_is schema w fine xid o is rows live)
         ∙ cut_back schema w.committed (committed_valid schema w fine) [] (work xid o) (others schema w fine xid o is)
         (from_others schema w fine xid o is)
         (others_apart schema w fine xid o is))
