@@ -1,0 +1,7 @@
+mod Lists
+mod Slots
+mod Words
+mod Seats
+mod TakerSteps
+mod MetSteps
+mod SenderSteps
