@@ -1,4 +1,6 @@
 mod Lists
+mod Left
+mod Handing
 mod Slots
 mod Words
 mod Seats

@@ -22,7 +22,7 @@ module _ {T : Type 0} where
 
   pub compares : (n id : ℕ) (me : Me (Option T) (View T)) → me.0.sends ≡ true → me.0.takes ≡ true → Allows Flow n id me HEAD (λ m. m) (compared (step n HEAD 0 0 none) me)
   compares n id me on takes s law wide at _ = let c = law.course in let v : View T = me.0 in let a = (law.seats.of_sender id v at on).1 in let b = (law.seats.of_taker id v at takes).1 in let sl = slots_of s law n wide in
-      let long : length v.acked ≡ length c.acked = ap length b.acked_is in let all : length v.sent ≡ length (c.acked ++ c.left) = ap length a.sent_is in let base : v.base ≡ c.before = a.base_is in
+      let long : length v.acked ≡ length c.acked = ap length b.acked_is in let all : length v.sent ≡ length (c.acked ++ c.left) = ap length a.sent_is in let base : v.sent_before ≡ c.before = a.before_is in
       let far : tail_of c ≤ 2 ^ 63 = law.counts.far in let seen : v.counted ≤ length c.acked = a.counted_is in let known : v.known ≤ length (c.acked ++ c.left) = b.known_is in (
         v,
         keeps,
@@ -43,7 +43,7 @@ module _ {T : Type 0} where
             doomed = λ e. a.dooms_is ∙ b.doomed_is e;
             counted = omega arith;
             known = omega arith;
-            shows = law.counts.head_is ∙ (λ i. sym base i + length (sym b.acked_is i));
+            begun = b.before_is ∙ sym a.before_is;
             far = omega arith;
           },
           refl,
@@ -62,8 +62,8 @@ module _ {T : Type 0} where
           counts = doom_stored s.words c c' 0 law.counts refl refl refl;
           slots = law.slots;
           seats = reseats s.views c c' id v w law.seats at
-              (λ _. (on, record { base_is = a.base_is; sent_is = a.sent_is; counted_is = a.counted_is; dooms_is = refl; writing_is = a.writing_is }))
-              (λ _. (takes, record { base_is = b.base_is; acked_is = b.acked_is; known_is = b.known_is; doomed_is = λ (e : false ≡ true). cc; taken_is = b.taken_is }))
+              (λ _. (on, record { before_is = a.before_is; sent_is = a.sent_is; counted_is = a.counted_is; dooms_is = refl; writing_is = a.writing_is }))
+              (λ _. (takes, record { before_is = b.before_is; acked_is = b.acked_is; known_is = b.known_is; doomed_is = λ (e : false ≡ true). cc; taken_is = b.taken_is }))
               (λ i u other there sends. absurd (other (sends_alone s.views c id v law.seats at on i u there sends)))
               (λ i u other there takes'. absurd (other (takes_alone s.views c id v law.seats at takes i u there takes')));
         },
@@ -87,7 +87,7 @@ module _ {T : Type 0} where
           of_sender = λ i u z on. ⊎_elim (λ e. (e.0, subst (λ (y : View T). SenderKnows c y) e.1 a.1))
               (λ e. ⊎_elim (λ f. absurd (let g : false ≡ true = ap (λ (y : View T). y.sends) f.1 ∙ on in cc))
               (λ f. absurd (f.0 ((law.seats.of_sender i u f.1 on).0 ∙ sym a.0))) e) (old i u z);
-          of_taker = λ i u z on. ⊎_elim (λ e. (e.0 ∙ b.0, subst (λ (y : View T). TakerKnows c y) e.1 record { base_is = a.1.base_is; acked_is = b.1.acked_is; known_is = b.1.known_is; doomed_is = b.1.doomed_is; taken_is = b.1.taken_is }))
+          of_taker = λ i u z on. ⊎_elim (λ e. (e.0 ∙ b.0, subst (λ (y : View T). TakerKnows c y) e.1 record { before_is = b.1.before_is; acked_is = b.1.acked_is; known_is = b.1.known_is; doomed_is = b.1.doomed_is; taken_is = b.1.taken_is }))
               (λ e. ⊎_elim (λ f. absurd (let g : false ≡ true = ap (λ (y : View T). y.takes) f.1 ∙ on in cc)) (λ f. law.seats.of_taker i u f.1 on) e) (old i u z);
         };
       }
@@ -98,8 +98,8 @@ module _ {T : Type 0} where
       let same : length (c.acked ++ c.left) ≡ length c.acked = ap length (sym a.sent_is ∙ done ∙ b.acked_is) in let split : length (c.acked ++ c.left) ≡ length c.acked + length c.left = length-append c.acked c.left in
       let none' : c.left ≡ [] = nil_from_length c.left (omega arith) in let free : c.reading ≡ false = not_reading c.reading c.left v.taken b.taken_is idle in let shut : c.writing ≡ false = sym a.writing_is ∙ quiet in
       let begin : Course T = record { before = tail_of c; acked = []; left = []; dooms = false; writing = false; reading = false } in let head : get_or s.words HEAD 0 ≡ head_of c = h.head_is in let tail : get_or s.words TAIL 0 ≡ tail_of c = h.tail_is in
-      let base : v.base ≡ c.before = a.base_is in let long : length v.sent ≡ length (c.acked ++ c.left) = ap length a.sent_is in let far : tail_of c ≤ 2 ^ 63 = h.far in
-      let there : v.base + length v.sent ≡ tail_of c = omega arith in let l : View T = taker_of v in let r : View T = sender_of v in record {
+      let base : v.sent_before ≡ c.before = a.before_is in let long : length v.sent ≡ length (c.acked ++ c.left) = ap length a.sent_is in let far : tail_of c ≤ 2 ^ 63 = h.far in
+      let there : v.sent_before + length v.sent ≡ tail_of c = omega arith in let l : View T = taker_of v in let r : View T = sender_of v in record {
         course = begin;
         count = law.count;
         counts = record { wide = h.wide; head_is = omega arith; tail_is = omega arith; doom_is = h.doom_is ∙ ap worth (sym a.dooms_is ∙ spared); far = omega arith };
@@ -111,8 +111,8 @@ module _ {T : Type 0} where
           taker = id;
           of_sender = λ i u z sends. ⊎_elim (λ e. absurd (⊎_elim (λ f. let g : false ≡ true = ap (λ (y : View T). y.sends) f.1 ∙ sends in cc)
               (λ f. f.0 (sends_alone s.views c id v law.seats at on i u f.1 sends)) (at_set s.views id i l u e)))
-              (λ e. (e.0, subst (λ (y : View T). SenderKnows begin y) e.1 record { base_is = there; sent_is = refl; counted_is = le_refl 0; dooms_is = refl; writing_is = refl })) (at_end (set s.views id l) r i u z);
-          of_taker = λ i u z takes'. ⊎_elim (λ e. ⊎_elim (λ f. (f.0, subst (λ (y : View T). TakerKnows begin y) f.1 record { base_is = there; acked_is = refl; known_is = le_refl 0; doomed_is = λ (g : false ≡ true). cc; taken_is = refl }))
+              (λ e. (e.0, subst (λ (y : View T). SenderKnows begin y) e.1 record { before_is = there; sent_is = refl; counted_is = le_refl 0; dooms_is = refl; writing_is = refl })) (at_end (set s.views id l) r i u z);
+          of_taker = λ i u z takes'. ⊎_elim (λ e. ⊎_elim (λ f. (f.0, subst (λ (y : View T). TakerKnows begin y) f.1 record { before_is = there; acked_is = refl; known_is = le_refl 0; doomed_is = λ (g : false ≡ true). cc; taken_is = refl }))
               (λ f. absurd (f.0 (takes_alone s.views c id v law.seats at takes i u f.1 takes'))) (at_set s.views id i l u e))
               (λ e. absurd (let g : false ≡ true = ap (λ (y : View T). y.takes) e.1 ∙ takes' in cc)) (at_end (set s.views id l) r i u z);
         };
@@ -141,8 +141,8 @@ module _ {T : Type 0} where
       sender = 0;
       taker = 0;
       of_sender = λ i u z _. ⊎_elim (λ e. absurd (let h : i < length {A = View T} [] = within [] i u e in omega arith))
-          (λ e. (e.0, subst (λ (y : View T). SenderKnows begin y) e.1 record { base_is = refl; sent_is = refl; counted_is = le_refl 0; dooms_is = refl; writing_is = refl })) (at_end [] opened i u z);
+          (λ e. (e.0, subst (λ (y : View T). SenderKnows begin y) e.1 record { before_is = refl; sent_is = refl; counted_is = le_refl 0; dooms_is = refl; writing_is = refl })) (at_end [] opened i u z);
       of_taker = λ i u z _. ⊎_elim (λ e. absurd (let h : i < length {A = View T} [] = within [] i u e in omega arith))
-          (λ e. (e.0, subst (λ (y : View T). TakerKnows begin y) e.1 record { base_is = refl; acked_is = refl; known_is = le_refl 0; doomed_is = λ (g : false ≡ true). cc; taken_is = refl })) (at_end [] opened i u z);
+          (λ e. (e.0, subst (λ (y : View T). TakerKnows begin y) e.1 record { before_is = refl; acked_is = refl; known_is = le_refl 0; doomed_is = λ (g : false ≡ true). cc; taken_is = refl })) (at_end [] opened i u z);
     };
   }

@@ -2,7 +2,7 @@
 -- makes of it.
 --     Sending, Taking, Meeting      what the sender knows, the taker, and whoever holds both ends
 --     SentThrough, HasNoRoom      what the sender knows before and after a call; why an item is refused
---     Looked, Acknowledged, Heard, WaitedFor      the same for the taker
+--     Looked, Acknowledged, Heard, Waited      the same for the taker
 --     Meets, HandsOut      where both ends meet; an item that was left is handed out
 --     AtStart      a ring that is new or reopened
 use Rattle.std.specs.Prelude.{◌≡◌, ℕ, ◌+◌, ◌^◌, ◌<◌, ◌≤◌, ◌⊎◌, Bool, true, false, List, [], ◌∷◌, ◌++◌, length, Option, None, Some, MatchOption, IsSome, IsTrue}
@@ -74,14 +74,13 @@ module _ {T : Type 0} where
     pub doomed : new.doomed ≡ answer
     pub stays : old.doomed ≡ true → new.doomed ≡ true
 
-  -- an item is taken, or the taker is doomed
-  pub record WaitedFor (old new : Taking T) : Type 0 where
+  -- it has looked some times, and heard some times whether it is doomed
+  pub record Waited (old new : Taking T) : Type 0 where
     pub ring : new.ring ≡ old.ring
     pub acked : new.acked ≡ old.acked
     pub grows : old.known ≤ new.known
     pub stays : MatchOption old.taken (Unit {0}) (λ x. new.taken ≡ Some x)
     pub doomed : old.doomed ≡ true → new.doomed ≡ true
-    pub wakes : IsSome new.taken ⊎ (new.doomed ≡ true)
 
   -- what was acknowledged and what is left are what was sent, and neither end had seen more than there was
   pub record Meets (s : Sending T) (t : Taking T) (m : Meeting T) : Type 0 where

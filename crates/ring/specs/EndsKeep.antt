@@ -9,7 +9,7 @@ use Rattle.ring.specs.TakerKeeps.{out_of}
 module _ {T : Type 0} where
   -- the seat acknowledges each item that is handed out, behind those that the taker acknowledged
   abbrev pub meeting : Inside T → Meeting T
-  meeting a = let v = a.seat.me.0 in record { ring = a.seat.table_id; before = v.base; sent = v.sent; acked = take a.acked v.acked; left = drop (length v.acked) v.sent }
+  meeting a = let v = a.seat.me.0 in record { ring = a.seat.table_id; before = v.sent_before; sent = v.sent; acked = take a.acked v.acked; left = drop (length v.acked) v.sent }
 
   -- its seat is at the table of both ends and has the views of both
   pub record IsEnds (a : Inside T) : Type 0 where
@@ -22,7 +22,8 @@ module _ {T : Type 0} where
     pub takes : a.seat.me.0.takes ≡ true
     pub idle : a.seat.me.0.writing ≡ false
     pub item : a.item ≡ a.seat.me.0.taken
-    pub base : a.base ≡ a.seat.me.0.base
+    pub base : a.base ≡ a.seat.me.0.sent_before
+    pub begun : a.seat.me.0.acked_before ≡ a.seat.me.0.sent_before
     pub head : a.head ≡ a.base + length a.seat.me.0.acked
     pub far : a.base + length a.seat.me.0.sent ≤ 2 ^ 63
     pub counted : a.acked ≤ length a.seat.me.0.acked

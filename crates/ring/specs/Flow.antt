@@ -50,8 +50,8 @@ pub record Slots {T : Type 0} (n : ℕ) (homes : List (maybe.Option (Option T)))
   pub full : (p : ℕ) (x : T) → get_elem? left p ≡ some x → (reading ≡ true → 0 < p) → get_elem? homes ((head + p) % n) ≡ some (some (Some x))
   pub free : (p : ℕ) → length left ≤ p → p < n → (writing ≡ true → length left < p) → get_elem? homes ((head + p) % n) ≡ some (some None)
 
-pub record SenderSees {T : Type 0} (c : Course T) (base : ℕ) (sent : List T) (counted : ℕ) (dooms writing : Bool) : Type 0 where
-  pub base_is : base ≡ c.before
+pub record SenderSees {T : Type 0} (c : Course T) (before : ℕ) (sent : List T) (counted : ℕ) (dooms writing : Bool) : Type 0 where
+  pub before_is : before ≡ c.before
   pub sent_is : sent ≡ c.acked ++ c.left
   pub counted_is : counted ≤ length c.acked
   pub dooms_is : dooms ≡ c.dooms
@@ -62,8 +62,8 @@ abbrev pub Holds : {T : Type 0} → Bool → List T → Option T → Type 0
 Holds reading left None = reading ≡ false
 Holds {T} reading left (Some x) = (reading ≡ true) × ((others : List T) × (left ≡ x ∷ others))
 
-pub record TakerSees {T : Type 0} (c : Course T) (base : ℕ) (acked : List T) (known : ℕ) (doomed : Bool) (taken : Option T) : Type 0 where
-  pub base_is : base ≡ c.before
+pub record TakerSees {T : Type 0} (c : Course T) (before : ℕ) (acked : List T) (known : ℕ) (doomed : Bool) (taken : Option T) : Type 0 where
+  pub before_is : before ≡ c.before
   pub acked_is : acked ≡ c.acked
   pub known_is : known ≤ length (c.acked ++ c.left)
   pub doomed_is : doomed ≡ true → c.dooms ≡ true
@@ -71,10 +71,10 @@ pub record TakerSees {T : Type 0} (c : Course T) (base : ℕ) (acked : List T) (
 
 module _ {T : Type 0} where
   abbrev pub SenderKnows : Course T → View T → Type 0
-  SenderKnows c v = SenderSees c v.base v.sent v.counted v.dooms v.writing
+  SenderKnows c v = SenderSees c v.sent_before v.sent v.counted v.dooms v.writing
 
   abbrev pub TakerKnows : Course T → View T → Type 0
-  TakerKnows c v = TakerSees c v.base v.acked v.known v.doomed v.taken
+  TakerKnows c v = TakerSees c v.acked_before v.acked v.known v.doomed v.taken
 
 -- one seat at most sends, and one takes; both may be one seat, where the ends met
 pub record Seats {T : Type 0} (views : List (View T)) (c : Course T) : Type 0 where

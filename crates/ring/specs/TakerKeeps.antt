@@ -27,7 +27,7 @@ module _ {T : Type 0} where
     pub some_slot : 0 < a.slots
     pub takes : a.seat.me.0.takes ≡ true
     pub item : a.item ≡ a.seat.me.0.taken
-    pub head : a.head ≡ a.seat.me.0.base + length a.seat.me.0.acked
+    pub head : a.head ≡ a.seat.me.0.acked_before + length a.seat.me.0.acked
     pub out : a.seat.me.1 ≡ out_of (a.head % a.slots) a.item
     pub next : MayAck a.item a.head (length a.seat.me.0.acked) a.seat.me.0.known
     pub near : a.seat.me.0.known ≤ length a.seat.me.0.acked + a.slots

@@ -55,11 +55,11 @@ pub fn meet<T>(sender: Sender<T>, taker: Taker<T>) -> Ends<T>
         mut seat,
         parker,
         slots,
-        head: _,
+        head,
         item,
     } = taker;
     table.shared.join_seat::<Both>(&mut seat, other);
-    let head = table.shared.load::<Compare>(&mut seat, HEAD);
+    table.shared.load::<Compare>(&mut seat, HEAD);
     Ends {
         table,
         spare,

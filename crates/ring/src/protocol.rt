@@ -20,11 +20,12 @@ pub const WORDS: usize = 3;
 pub struct View<T> {
     pub sends: bool,
     pub takes: bool,
-    pub base: u64,
+    pub sent_before: u64,
     pub sent: LinkedList<T>,
     pub counted: u64,
     pub dooms: bool,
     pub writing: bool,
+    pub acked_before: u64,
     pub acked: LinkedList<T>,
     pub known: u64,
     pub doomed: bool,

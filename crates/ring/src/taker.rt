@@ -1,6 +1,6 @@
 // The end that takes.
-ghost use Rattle.std.specs.Prelude.{◌≡◌, IsSome, MatchOption, None, Some};
-ghost use Rattle.ring.specs.Ends.{Looked, Acknowledged, Heard, WaitedFor};
+ghost use Rattle.std.specs.Prelude.{◌≡◌, ◌⊎◌, true, IsSome, MatchOption, None, Some};
+ghost use Rattle.ring.specs.Ends.{Looked, Acknowledged, Heard, Waited};
 
 use crate::protocol::{Ack, DOOM, Find, HEAD, Hear, RingSeat, RingTable, TAIL};
 use crossbeam_utils::sync::Parker;
@@ -77,7 +77,8 @@ impl<T> Taker<T> {
     /// Waits until an item is taken or it is doomed. It sleeps between two looks, and a wake that
     /// comes before it sleeps is kept.
     pub fn wait_more<R: Wait>(&mut self, rt: &R)
-        ensures { WaitedFor self.old self.new }
+        ensures same { Waited self.old self.new }
+        ensures wakes { IsSome self.new.taken ⊎ (self.new.doomed ≡ true) }
     {
         for _ in rt.forever() {
             if self.take().is_some() || self.doomed() {
