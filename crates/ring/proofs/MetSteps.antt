@@ -76,7 +76,7 @@ module _ {T : Type 0} where
       let was : get_elem? views other ≡ some w = ⊎_elim (λ e. absurd (apart e.0)) (λ e. e.1) (at_set views id other m w there) in
       let b = (law.seats.of_taker id v at takes) in let a = (law.seats.of_sender other w was sends) in
       let old : (i : ℕ) (u : View T) → get_elem? (set (set views id m) other spent) i ≡ some u → ((i ≡ id) × (m ≡ u)) ⊎ (((i ≡ other) × (spent ≡ u)) ⊎ ((i ≢ other) × (get_elem? views i ≡ some u))) =
-          λ i u z. ⊎_elim (λ e. inr (inl e)) (λ e. ⊎_elim (λ f. inl f) (λ f. inr (inr (e.0, f.1))) (at_set views id i m u e.1)) (at_set (set views id m) other i spent u z) in record {
+      λ i u z. ⊎_elim (λ e. inr (inl e)) (λ e. ⊎_elim (λ f. inl f) (λ f. inr (inr (e.0, f.1))) (at_set views id i m u e.1)) (at_set (set views id m) other i spent u z) in record {
         course = c;
         count = law.count;
         counts = law.counts;

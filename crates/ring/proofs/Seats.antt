@@ -25,11 +25,11 @@ module _ {T : Type 0} where
     taker = s.taker;
     of_sender = λ i u there on. ⊎_elim
         (λ here. let told = sends (subst (λ (z : View T). z.sends ≡ true) (sym here.1) on) in
-            (here.0 ∙ (s.of_sender id v at told.0).0, subst (λ (z : View T). SenderKnows c' z) here.1 told.1))
+        (here.0 ∙ (s.of_sender id v at told.0).0, subst (λ (z : View T). SenderKnows c' z) here.1 told.1))
         (λ other. ((s.of_sender i u other.1 on).0, senders i u other.0 other.1 on)) (at_set views id i w u there);
     of_taker = λ i u there on. ⊎_elim
         (λ here. let told = takes (subst (λ (z : View T). z.takes ≡ true) (sym here.1) on) in
-            (here.0 ∙ (s.of_taker id v at told.0).0, subst (λ (z : View T). TakerKnows c' z) here.1 told.1))
+        (here.0 ∙ (s.of_taker id v at told.0).0, subst (λ (z : View T). TakerKnows c' z) here.1 told.1))
         (λ other. ((s.of_taker i u other.1 on).0, takers i u other.0 other.1 on)) (at_set views id i w u there);
   }
 

@@ -38,19 +38,19 @@ module _ {T : Type 0} where
   pub fills : (n : ℕ) (homes : List (maybe.Option (Option T))) (h : ℕ) (left : List T) (reading : Bool) (x : T) → Slots n homes h left true reading
       → Slots n (set homes ((h + length left) % n) (some (Some x))) h (left ++ x ∷ []) false reading
   fills n homes h left reading x s = let room : length left < n = s.room refl in let long : length (left ++ x ∷ []) ≡ length left + 1 = length-append left (x ∷ []) in let k : ℕ = (h + length left) % n in
-    let near : k < length homes = subst (λ m. k < m) (sym s.wide) (mod-lt (h + length left) s.some_slot) in record {
-      wide = length-set homes k (some (Some x)) ∙ s.wide;
-      some_slot = s.some_slot;
-      fits = omega arith;
-      room = λ (e : false ≡ true). cc;
-      full = λ p y at first. ⊎_elim
-          (λ old. let below : p < length left = within left p y old in
-              set_else homes k ((h + p) % n) (some (Some x)) (elsewhere n h p (length left) (omega arith) room (λ e. omega arith)) ∙ s.full p y old first)
-          (λ last. subst (λ q. get_elem? (set homes k (some (Some x))) ((h + q) % n) ≡ some (some (Some y))) (sym last.0)
-              (set_here homes k (some (Some x)) near ∙ ap (λ z. some (some (Some z))) last.1))
-          (at_end left x p y at);
-      free = λ p le lt later. set_else homes k ((h + p) % n) (some (Some x)) (elsewhere n h p (length left) lt room (λ e. omega arith)) ∙ s.free p (omega arith) lt (λ _. omega arith);
-    }
+      let near : k < length homes = subst (λ m. k < m) (sym s.wide) (mod-lt (h + length left) s.some_slot) in record {
+        wide = length-set homes k (some (Some x)) ∙ s.wide;
+        some_slot = s.some_slot;
+        fits = omega arith;
+        room = λ (e : false ≡ true). cc;
+        full = λ p y at first. ⊎_elim
+            (λ old. let below : p < length left = within left p y old in
+            set_else homes k ((h + p) % n) (some (Some x)) (elsewhere n h p (length left) (omega arith) room (λ e. omega arith)) ∙ s.full p y old first)
+            (λ last. subst (λ q. get_elem? (set homes k (some (Some x))) ((h + q) % n) ≡ some (some (Some y))) (sym last.0)
+            (set_here homes k (some (Some x)) near ∙ ap (λ z. some (some (Some z))) last.1))
+            (at_end left x p y at);
+        free = λ p le lt later. set_else homes k ((h + p) % n) (some (Some x)) (elsewhere n h p (length left) lt room (λ e. omega arith)) ∙ s.free p (omega arith) lt (λ _. omega arith);
+      }
 
   -- the first item's slot is taken
   pub lends : (n : ℕ) (homes : List (maybe.Option (Option T))) (h : ℕ) (x : T) (others : List T) (writing : Bool) → Slots n homes h (x ∷ others) writing false
@@ -72,17 +72,17 @@ module _ {T : Type 0} where
   pub frees : (n : ℕ) (homes : List (maybe.Option (Option T))) (h : ℕ) (x : T) (others : List T) (writing : Bool) → Slots n homes h (x ∷ others) writing true
       → Slots n (set homes (h % n) (some None)) (h + 1) others writing false
   frees n homes h x others writing s = let short : length (x ∷ others) ≤ n = s.fits in let long : length (x ∷ others) ≡ suc (length others) = refl in let k : ℕ = h % n in
-    let near : k < length homes = subst (λ m. k < m) (sym s.wide) (mod-lt h s.some_slot) in let zeroth : (h + 0) % n ≡ h % n = ap (λ m. m % n) (omega arith) in
-    let onward : (p : ℕ) → (h + suc p) % n ≡ (h + 1 + p) % n = λ p. ap (λ m. m % n) (omega arith) in
-    let other : (p : ℕ) → suc p < n → get_elem? (set homes k (some None)) ((h + 1 + p) % n) ≡ get_elem? homes ((h + suc p) % n) = λ p lt.
-        ap (get_elem? (set homes k (some None))) (sym (onward p)) ∙ set_else homes k ((h + suc p) % n) (some None) (λ e. elsewhere n h (suc p) 0 lt s.some_slot (λ z. omega arith) (e ∙ sym zeroth)) in record {
-      wide = length-set homes k (some None) ∙ s.wide;
-      some_slot = s.some_slot;
-      fits = omega arith;
-      room = λ e. let r : length (x ∷ others) < n = s.room e in omega arith;
-      full = λ p y at _. let below : p < length others = within others p y at in other p (omega arith) ∙ s.full (suc p) y at (λ _. omega arith);
-      free = λ p le lt later. dite (ℕ_discrete (suc p) n)
-          (λ last. let round : (h + 1 + p) % n ≡ k = ap (λ m. m % n) (let g : h + 1 + p ≡ h + n = omega arith in g) ∙ add-mod_right h n in
-              ap (get_elem? (set homes k (some None))) round ∙ set_here homes k (some None) near)
-          (λ inner. other p (omega arith) ∙ s.free (suc p) (omega arith) (omega arith) (λ e. let l : length others < p = later e in omega arith));
-    }
+      let near : k < length homes = subst (λ m. k < m) (sym s.wide) (mod-lt h s.some_slot) in let zeroth : (h + 0) % n ≡ h % n = ap (λ m. m % n) (omega arith) in
+      let onward : (p : ℕ) → (h + suc p) % n ≡ (h + 1 + p) % n = λ p. ap (λ m. m % n) (omega arith) in
+      let other : (p : ℕ) → suc p < n → get_elem? (set homes k (some None)) ((h + 1 + p) % n) ≡ get_elem? homes ((h + suc p) % n) = λ p lt.
+      ap (get_elem? (set homes k (some None))) (sym (onward p)) ∙ set_else homes k ((h + suc p) % n) (some None) (λ e. elsewhere n h (suc p) 0 lt s.some_slot (λ z. omega arith) (e ∙ sym zeroth)) in record {
+        wide = length-set homes k (some None) ∙ s.wide;
+        some_slot = s.some_slot;
+        fits = omega arith;
+        room = λ e. let r : length (x ∷ others) < n = s.room e in omega arith;
+        full = λ p y at _. let below : p < length others = within others p y at in other p (omega arith) ∙ s.full (suc p) y at (λ _. omega arith);
+        free = λ p le lt later. dite (ℕ_discrete (suc p) n)
+            (λ last. let round : (h + 1 + p) % n ≡ k = ap (λ m. m % n) (let g : h + 1 + p ≡ h + n = omega arith in g) ∙ add-mod_right h n in
+            ap (get_elem? (set homes k (some None))) round ∙ set_here homes k (some None) near)
+            (λ inner. other p (omega arith) ∙ s.free (suc p) (omega arith) (omega arith) (λ e. let l : length others < p = later e in omega arith));
+      }

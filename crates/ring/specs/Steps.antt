@@ -59,7 +59,7 @@ module _ {T : Type 0} where
   sought st m n m' =
       (a : ℕ) × SeesHead st m.0 n a
       × (length m.0.sent < a + st.slots → m.0.sent_before + length m.0.sent < 2 ^ 63
-          → m' ≡ (record m.0 { counted = a; writing = true }, ((m.0.sent_before + length m.0.sent) % st.slots, None) ∷ m.1))
+      → m' ≡ (record m.0 { counted = a; writing = true }, ((m.0.sent_before + length m.0.sent) % st.slots, None) ∷ m.1))
       × ((length m.0.sent ≡ a + st.slots) ⊎ (2 ^ 63 ≤ m.0.sent_before + length m.0.sent) → m' ≡ (record m.0 { counted = a }, m.1))
 
   abbrev pub sent_next : Told T
@@ -80,8 +80,8 @@ module _ {T : Type 0} where
   took_next st m n m' =
       (b : ℕ) × SeesTail st m.0 n b
       × (length m.0.acked < b
-          → (x : T) × (others : List T) × (m.0.sends ≡ true → m.0.sent ≡ m.0.acked ++ x ∷ others)
-          × (m' ≡ (record m.0 { known = b; taken = Some x }, ((m.0.acked_before + length m.0.acked) % st.slots, Some x) ∷ m.1)))
+      → (x : T) × (others : List T) × (m.0.sends ≡ true → m.0.sent ≡ m.0.acked ++ x ∷ others)
+      × (m' ≡ (record m.0 { known = b; taken = Some x }, ((m.0.acked_before + length m.0.acked) % st.slots, Some x) ∷ m.1)))
       × (b ≤ length m.0.acked → (m' ≡ (record m.0 { known = b }, m.1)) × (m.0.sends ≡ true → m.0.sent ≡ m.0.acked))
 
   abbrev pub acked_next : Told T

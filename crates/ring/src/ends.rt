@@ -89,7 +89,9 @@ impl<T> Ends<T> {
         match self.item.take() {
             Some(item) => {
                 self.head += 1;
-                self.table.shared.store::<Ack>(&mut self.seat, HEAD, self.head);
+                self.table
+                    .shared
+                    .store::<Ack>(&mut self.seat, HEAD, self.head);
                 Some(item)
             }
             None => {
@@ -100,7 +102,9 @@ impl<T> Ends<T> {
                 let slot = (self.head % self.slots) as usize;
                 let item = self.table.shared.exchange(&mut self.seat, slot, None);
                 self.head += 1;
-                self.table.shared.store::<Ack>(&mut self.seat, HEAD, self.head);
+                self.table
+                    .shared
+                    .store::<Ack>(&mut self.seat, HEAD, self.head);
                 item
             }
         }

@@ -11,3 +11,6 @@ pub use ends::{Ends, meet};
 pub use pair::Ring;
 pub use sender::{Full, Sender};
 pub use taker::Taker;
+
+#[cfg(test)]
+mod tests;

@@ -55,7 +55,9 @@ impl<T> Sender<T> {
             Some(_) => unreachable!(),
         }
         self.tail += 1;
-        self.table.shared.store::<Put>(&mut self.seat, TAIL, self.tail);
+        self.table
+            .shared
+            .store::<Put>(&mut self.seat, TAIL, self.tail);
         self.bell.unpark();
         Ok(())
     }

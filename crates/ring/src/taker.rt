@@ -98,6 +98,8 @@ impl<T: Drop> Taker<T> {
     {
         self.item = None;
         self.head += 1;
-        self.table.shared.store::<Ack>(&mut self.seat, HEAD, self.head);
+        self.table
+            .shared
+            .store::<Ack>(&mut self.seat, HEAD, self.head);
     }
 }

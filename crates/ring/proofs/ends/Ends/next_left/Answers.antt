@@ -43,7 +43,7 @@ invariant_of-self-in-None g c = let a = c.self.inside in let inv = c.self.invari
     let got = finds_next a inv n _ _ c.load-tail.ensures.2 wide (sym c.in-None.ensures.value) c.if-tail-self.false in
     let now = swapped a.seat.me.0 c.exchange-item.ensures.3 got.3 in
     handed a inv c.store-in-None.new.seat _ got.0 got.1 got.2 (c.store-in-None.ensures.0 ∙ c.exchange-item.ensures.0 ∙ c.load-tail.ensures.0)
-        (hands_found a.seat.me.0 got.0 (a.head % a.slots) got.1 c.exchange-item.new.seat.me c.store-in-None.new.seat.me now c.store-in-None.ensures.2) c.take.ensures.after got.4
+    (hands_found a.seat.me.0 got.0 (a.head % a.slots) got.1 c.exchange-item.new.seat.me c.store-in-None.new.seat.me now c.store-in-None.ensures.2) c.take.ensures.after got.4
 
 pub returns-else-tail-self : goal.returns-else-tail-self
 returns-else-tail-self g c = let a = c.self.inside in let inv = c.self.invariant in let n : ℕ = c.deref-in-None.result.now.shared.table_id.slots in
@@ -51,4 +51,4 @@ returns-else-tail-self g c = let a = c.self.inside in let inv = c.self.invariant
     let got = finds_next a inv n _ _ c.load-tail.ensures.2 wide (sym c.in-None.ensures.value) c.if-tail-self.false in
     let now = swapped a.seat.me.0 c.exchange-item.ensures.3 got.3 in let item = taken_out a.seat.me.0 c.exchange-item.ensures.2 got.3 in
     rw (← c.self.view_is, ← item) (hands_out a inv c.store-in-None.new.seat c.take.new.self got.0 got.1 got.2 (c.store-in-None.ensures.0 ∙ c.exchange-item.ensures.0 ∙ c.load-tail.ensures.0)
-        (hands_found a.seat.me.0 got.0 (a.head % a.slots) got.1 c.exchange-item.new.seat.me c.store-in-None.new.seat.me now c.store-in-None.ensures.2) got.4)
+    (hands_found a.seat.me.0 got.0 (a.head % a.slots) got.1 c.exchange-item.new.seat.me c.store-in-None.new.seat.me now c.store-in-None.ensures.2) got.4)
