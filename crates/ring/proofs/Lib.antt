@@ -1,0 +1,9 @@
+mod Lists
+mod Left
+mod Handing
+mod Slots
+mod Words
+mod Seats
+mod TakerSteps
+mod MetSteps
+mod SenderSteps

@@ -1,0 +1,6 @@
+pub mod Ends
+pub mod Flow
+pub mod Steps
+pub mod SenderKeeps
+pub mod TakerKeeps
+pub mod EndsKeep

@@ -1,0 +1,105 @@
+// The end that takes.
+ghost use Rattle.std.specs.Prelude.{◌≡◌, ◌⊎◌, true, IsSome, MatchOption, None, Some};
+ghost use Rattle.ring.specs.Ends.{Looked, Acknowledged, Heard, Waited};
+
+use crate::protocol::{Ack, DOOM, Find, HEAD, Hear, RingSeat, RingTable, TAIL};
+use crossbeam_utils::sync::Parker;
+use std::alloc::Global;
+use std::marker::Model;
+use std::mem;
+use std::sync::{Arc, Wait};
+
+/// The end that takes. There is one to a ring.
+#[derive(Drop)]
+pub struct Taker<T> {
+    pub(crate) table: Arc<RingTable<T>, Global>,
+    pub(crate) seat: RingSeat<T>,
+    pub(crate) parker: Parker,
+    pub(crate) slots: u64,
+    pub(crate) head: u64,
+    pub(crate) item: Option<T>,
+}
+
+impl<T> Model for Taker<T> {
+    ghost use Rattle.ring.specs.Ends.{Taking};
+
+    ghost Value = { Taking T };
+
+    ghost use Rattle.ring.specs.TakerKeeps.{taking, IsTaker};
+
+    ghost view = { taking };
+
+    ghost invariant = { IsTaker };
+}
+
+impl<T> Taker<T> {
+    ghost use Rattle.std.specs.Borrow.{sem};
+    ghost use denote.Follow.{follows_so};
+    ghost use mathlib.Core.Option.{none};
+    ghost use Rattle.ring.specs.contracts.taker.Taker.{the_row};
+
+    // Takes the first item that is left out of its slot, if there is one.
+    fn look(&mut self)
+        requires { self.old.taken ≡ None }
+        ensures { Looked self.old self.new }
+    {
+        let tail = self.table.shared.load::<Find>(&mut self.seat, TAIL);
+        if tail == self.head {
+            return;
+        }
+        let slot = (self.head % self.slots) as usize;
+        let item = self.table.shared.exchange(&mut self.seat, slot, None);
+        match mem::replace(&mut self.item, item) {
+            None => {}
+            Some(_) => unreachable!(),
+        }
+    }
+
+    /// The first item that was not acknowledged, and the same one again until `ack`. None where no
+    /// more were sent when it looked.
+    pub fn take(&mut self) -> Option<&T>
+        ensures* after { sem 𝓛 (follows_so (the_row T.row) (the_row T.row) self.entry.ghost_name none (λ _ _. Unit {0}) (λ n. Looked self.old n × MatchOption result (n.taken ≡ None) (λ x. n.taken ≡ Some x.now))) }
+    {
+        if self.item.is_none() {
+            self.look();
+        }
+        self.item.as_ref()
+    }
+
+    /// Whether the sender doomed it since the ring was made or reopened.
+    pub fn doomed(&mut self) -> bool
+        ensures { Heard self.old self.new result }
+    {
+        let doom = self.table.shared.load::<Hear>(&mut self.seat, DOOM);
+        doom == 1
+    }
+
+    /// Waits until an item is taken or it is doomed. It sleeps between two looks, and a wake that
+    /// comes before it sleeps is kept.
+    pub fn wait_more<R: Wait>(&mut self, rt: &R)
+        ensures same { Waited self.old self.new }
+        ensures wakes { IsSome self.new.taken ⊎ (self.new.doomed ≡ true) }
+    {
+        for _ in rt.forever() {
+            if self.take().is_some() || self.doomed() {
+                return;
+            }
+            self.parker.park(rt);
+        }
+        unreachable!()
+    }
+}
+
+impl<T: Drop> Taker<T> {
+    /// Drops the item that was taken, and gives its slot back.
+    pub fn ack(&mut self)
+        requires { IsSome self.old.taken }
+        ensures { Acknowledged self.old self.new }
+    {
+        self.item = None;
+        self.head += 1;
+        self.table
+            .shared
+            .store::<Ack>(&mut self.seat, HEAD, self.head);
+    }
+}
