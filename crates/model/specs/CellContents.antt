@@ -14,8 +14,8 @@ abbrev pub unique_key : Schema → ℕ → ℕ → Option (List ℕ)
 unique_key schema table zero = None
 unique_key schema table (suc number) = slice_get (keys_at schema table).uniques number
 
--- Both have the same in the cell: the same row at a place, or none; values that are taken in both or in neither, by whichever
--- row; the same rows of a table.
+-- Both have the same in the cell: the same row at a place, or none; values that are taken in both or in neither, by
+-- whichever row; the same rows of a table.
 abbrev pub SameAt : Schema → Rows → Rows → Cell → Type 0
 SameAt schema rows others (Row table key) = get rows (table, key) ≡ get others (table, key)
 SameAt schema rows others (Uniq table number values) =

@@ -10,7 +10,7 @@ abbrev pub StartsAt : ℕ → List Item → Type 0
 StartsAt sub [] = Unit {0}
 StartsAt sub (item ∷ items) = is_of sub item ≡ true
 
--- Items are cut before the first that names the subtransaction: what is kept doesn't name it, and the rest starts there.
+-- Items are cut before the first that names the subtransaction: none that is kept names it, and the rest starts there.
 pub record IsCut (sub : ℕ) (items kept rest : List Item) : Type 0 where
   pub both : items ≡ kept ++ rest
   pub unnamed : list_any (is_of sub) kept ≡ false

@@ -10,12 +10,13 @@ use Rattle.world.specs.World.{Opened, Past, ByClash, ByHold, World, starting, wo
 use Rattle.world.specs.Live.{Reordered, same, under, swapped, through, IsLive}
 use Rattle.world.specs.Steps.{AlreadyOpen, TooManyOpen, Stopped, OutOfMemory, IsDone, IsSkipped, Held, Clashed, opened_with, done_with, wanting, aborted_with, committed_with, GoesBack, Step, opens, acts, touches, goes_back, commits, aborts, stops_held, tells_stop, reads_live, reads_committed, reads_after, tells_journal, closes, watches, looks, Reaches, at_start, by_step}
 use Rattle.world.specs.ListingLaws.{got_same, gone_other}
-use Rattle.model.specs.SerialLaws.{held_append, inverses_append}
+use Rattle.model.specs.SerialLaws.{held_append, inverses_append, leaves_free_cell}
+use Rattle.model.specs.CellContents.{SameAt}
 use Rattle.model.specs.SurvivorLaws.{work_with_change, work_before}
 use Rattle.model.specs.Footprint.{footprint, held_cells}
 use Rattle.world.specs.FineLaws.{IsFine, fine_reached, fine_step, refused_stays, same_some, holds_stay}
-use Rattle.world.specs.WorldLaws.{one_live, live_valid, live_accepted, live_alone, footprint_live, outcome_live, inverse_live, live_opened, live_acted, live_touched, live_wanting, live_cut, live_aborted, live_committed, inverses_stay}
-use Rattle.world.specs.Laws.{IsReached, SeesNoOthers, ListedInAnyOrder, OneLiveState, LiveIsValid, NoLiveChangeClashes, CommittedIsSerial, AloneIsSerial, NotedClashStands, FootprintOnLive, OutcomeOnLive, LiveAfterOpen, LiveAfterDone, LiveAfterSkip, LiveAfterHeld, LiveAfterClash, LiveAfterTouch, LiveAfterRollback, RollbackLeavesBeginning, DoneComesLast, RollbackKeepsTheRest, LineGrows, LiveAfterAbort, LiveAfterCommit, CommitMovesNoHolds}
+use Rattle.world.specs.WorldLaws.{one_live, live_valid, live_accepted, live_alone, footprint_live, outcome_live, inverse_live, live_opened, live_acted, live_touched, live_wanting, live_cut, live_aborted, live_committed, inverses_stay, unheld_live}
+use Rattle.world.specs.Laws.{IsReached, SeesNoOthers, ListedInAnyOrder, OneLiveState, LiveIsValid, NoLiveChangeClashes, CommittedIsSerial, AloneIsSerial, NotedClashStands, FootprintOnLive, OutcomeOnLive, LiveAfterOpen, LiveAfterDone, LiveAfterSkip, LiveAfterHeld, LiveAfterClash, LiveAfterTouch, LiveAfterRollback, RollbackLeavesBeginning, DoneComesLast, RollbackKeepsTheRest, LineGrows, LiveAfterAbort, LiveAfterCommit, CommitMovesNoHolds, UnheldIsCommitted, CommitLeavesOtherCells}
 
 -- ---- listings and views
 
@@ -234,6 +235,17 @@ commit_moves_no_holds schema start w new reached xid o is info h other p differs
       ap (λ (v : World). inverses schema v.committed (work other p)) h
           ∙ sym (inverses_stay schema w (fine schema start w reached) xid o is other p differs at),
     )
+
+-- ---- the committed rows, by the live ones
+
+pub unheld_is_committed : UnheldIsCommitted
+unheld_is_committed schema start w reached rows live cell unheld =
+    unheld_live schema w (fine schema start w reached) rows live cell unheld
+
+pub commit_leaves_other_cells : CommitLeavesOtherCells
+commit_leaves_other_cells schema w new xid o info h cell free =
+    subst (λ (r : Rows). SameAt schema w.committed r cell) (sym (ap (λ (v : World). v.committed) h))
+    (leaves_free_cell schema w.committed (work xid o) cell free)
 
 -- ---- the line
 

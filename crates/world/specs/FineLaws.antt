@@ -1,5 +1,6 @@
 -- What every world keeps that calls reach.
---     IsFine      valid start; the commits are serial; no two open transactions share a cell; no change clashes; what clashed does so still
+--     IsFine      valid start; the commits are serial; no two open transactions share a cell; no change clashes;
+--         what clashed does so still
 --     fine_start, fine_step, fine_reached      the world before the first call is fine, and calls keep it so
 --     committed_valid, own_valid      the committed rows, and each view, are valid
 use Rattle.std.specs.Prelude.{◌≡◌, ◌≢◌, ℕ, false, List, [], ◌∷◌, ◌++◌, Option, Some, None, Ok, Err, refl, ◌⊎◌}

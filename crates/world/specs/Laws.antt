@@ -1,9 +1,13 @@
 -- The laws of worlds and calls, each as one statement. `src/laws.rt` names them, so that the check proves them.
-use Rattle.std.specs.Prelude.{◌≡◌, ◌≢◌, ℕ, List, [], ◌∷◌, ◌++◌, Some, Result, Ok, flat_map}
+use Rattle.std.specs.Prelude.{◌≡◌, ◌≢◌, ℕ, List, [], ◌∷◌, ◌++◌, Some, Result, Ok, flat_map, false}
 use Rattle.std.specs.FinMap as finite
 use Rattle.std.specs.FinMap.{get, entries}
 use Rattle.model.specs.declared.change.Change as change_type
+use Rattle.model.specs.declared.cell.Cell.{Cell}
 use Rattle.model.specs.declared.item.Item.TheVariants.{Change}
+use Rattle.model.specs.Cells.{overlaps}
+use Rattle.model.specs.CellContents.{SameAt}
+use Rattle.std.specs.List.{list_any}
 use Rattle.model.specs.declared.item.CommitInfo.{CommitInfo}
 use Rattle.model.specs.Rows.{Rows, Schema, IsValid}
 use Rattle.model.specs.Effect.{ClashCause, Clashes, outcome, effect, inverse, serial, inverses, all_back}
@@ -29,7 +33,8 @@ SeesNoOthers =
 abbrev pub ListedInAnyOrder : Type 0
 ListedInAnyOrder =
     (w : World) → IsListing w (entries w.opened)
-    × ((listing more : List (ℕ × Opened)) (t other : ℕ × Opened) → IsListing w (listing ++ t ∷ other ∷ more) → IsListing w (listing ++ other ∷ t ∷ more))
+    × ((listing more : List (ℕ × Opened)) (t other : ℕ × Opened)
+    → IsListing w (listing ++ t ∷ other ∷ more) → IsListing w (listing ++ other ∷ t ∷ more))
 
 -- ---- every world that is reached
 
@@ -102,7 +107,8 @@ DoneComesLast =
     → new ≡ done_with w xid o (Change sub c) → get new.opened xid ≡ Some after
     → (work xid after ≡ work xid o ++ c ∷ [])
     × (holds schema new xid after ≡ holds schema w xid o ++ footprint schema (own_rows schema w xid o) c)
-    × (inverses schema new.committed (work xid after) ≡ inverses schema w.committed (work xid o) ++ inverse schema (own_rows schema w xid o) c ∷ [])
+    × (inverses schema new.committed (work xid after)
+    ≡ inverses schema w.committed (work xid o) ++ inverse schema (own_rows schema w xid o) c ∷ [])
 
 -- a rollback leaves a beginning of its changes
 abbrev pub RollbackLeavesBeginning : Type 0
@@ -163,7 +169,8 @@ LiveAfterTouch =
     → Touches w xid o sub answer new
     → IsLive schema new rows
 
--- a rollback drops the last of the transaction's changes; their inverses, put back past all that others did, give the live rows
+-- a rollback drops the last of the transaction's changes; their inverses, put back past all that others did, give
+-- the live rows
 abbrev pub LiveAfterRollback : Type 0
 LiveAfterRollback =
     (schema : Schema) (start : Rows) (w new : World) → IsReached schema start w → (rows : Rows) → IsLive schema w rows
@@ -194,6 +201,27 @@ CommitMovesNoHolds =
     → (other : ℕ) (p : Opened) → other ≢ xid → get w.opened other ≡ Some p
     → (get new.opened other ≡ Some p) × (holds schema new other p ≡ holds schema w other p)
     × (inverses schema new.committed (work other p) ≡ inverses schema w.committed (work other p))
+
+-- ---- the committed rows, by the live ones
+
+-- no open transaction holds a cell that overlaps this one
+abbrev pub IsUnheld : Schema → World → Cell → Type 0
+IsUnheld schema w cell =
+    (xid : ℕ) (o : Opened) → get w.opened xid ≡ Some o → list_any (overlaps cell) (holds schema w xid o) ≡ false
+
+-- what nobody holds is as committed
+abbrev pub UnheldIsCommitted : Type 0
+UnheldIsCommitted =
+    (schema : Schema) (start : Rows) (w : World) → IsReached schema start w → (rows : Rows) → IsLive schema w rows
+    → (cell : Cell) → IsUnheld schema w cell → SameAt schema w.committed rows cell
+
+-- a commit leaves what its transaction doesn't hold: so the row that stood at a place when it was first held is the
+-- committed one as long as it is held
+abbrev pub CommitLeavesOtherCells : Type 0
+CommitLeavesOtherCells =
+    (schema : Schema) (w new : World) (xid : ℕ) (o : Opened) (info : CommitInfo) → Commits schema w xid o info new
+    → (cell : Cell) → list_any (overlaps cell) (holds schema w xid o) ≡ false
+    → SameAt schema w.committed new.committed cell
 
 -- ---- the line
 

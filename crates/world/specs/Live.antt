@@ -1,7 +1,7 @@
 -- The rows with the work of all open transactions.
 --     in_turn      the rows after lists of changes, one list after the other
 --     Reordered, IsListing      the same items in some order; the open transactions in some order
---     live_rows, IsLive      the committed rows, and then each open transaction's work; the same for every order of them
+--     live_rows, IsLive      the committed rows, and then each open transaction's work; the same for every order
 use Rattle.std.specs.Prelude.{◌≡◌, ℕ, List, [], ◌∷◌, map}
 use Rattle.std.specs.FinMap.{entries}
 use Rattle.model.specs.declared.change.Change.{Change}

@@ -1,6 +1,7 @@
 -- The changes of one transaction, and those of others that share no cell with them.
 --     alone_as_live      in the cells that no other holds, its own view and the live rows are the same
---     outcome_on_live, footprint_on_live, inverse_on_live      a change that meets no other's cell does there what it does on its own view
+--     outcome_on_live, footprint_on_live, inverse_on_live      a change that meets no other's cell does there what it
+--         does on its own view
 --     still_apart, acted, cut_back      its changes with one more, and with the last of them undone
 use Rattle.std.specs.Prelude.{◌≡◌, false, List, [], ◌∷◌, ◌++◌}
 use Rattle.std.proofs.Common.{sym, ◌∙◌, ap, subst}

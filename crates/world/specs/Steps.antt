@@ -1,7 +1,7 @@
 -- What each call does to a world: a relation of the world before, what is asked, what is answered, and the world after.
 --     Opens, Acts, Touches, GoesBack, Commits, Aborts      the calls of a transaction
 --     StopsHeld      the call that stops a world in which all wait
---     TellsStop, ReadsLive, ReadsCommitted, ReadsAfter, TellsJournal, Closes, Watches, Looks      those that alter nothing
+--     TellsStop, ReadsLive, ReadsCommitted, ReadsAfter, TellsJournal, Closes, Watches, Looks      they alter nothing
 --     Step, Reaches      one call, whichever it is; calls one after another
 use Rattle.std.specs.Prelude.{◌≡◌, ℕ, ◌<◌, ◌≤◌, List, [], ◌∷◌, ◌++◌, Option, Some, None, IsSome, Result, Ok, Err, IfOk, take}
 use Rattle.std.specs.FinMap as finite
@@ -84,7 +84,8 @@ IsRefused w TooManyOpen new = ⊥
 IsRefused w Stopped new = IsSome w.stopped × (new ≡ w)
 IsRefused w OutOfMemory new = (w.stopped ≡ None) × (new ≡ w)
 
--- A subtransaction of an open transaction tries a change, on the rows as the transaction sees them. Held goes before all else.
+-- A subtransaction of an open transaction tries a change, on the rows as the transaction sees them. Held goes before
+-- any other outcome.
 abbrev pub Acts : Schema → World → ℕ → Opened → ℕ → change_type.Change → Result Acted Fault → World → Type 0
 Acts schema w xid o sub c (Ok IsDone) new =
     (w.stopped ≡ None) × IsFree schema w xid (footprint schema (own_rows schema w xid o) c)

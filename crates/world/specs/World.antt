@@ -1,6 +1,6 @@
 -- Several open transactions over the committed rows.
 --     Opened      what an open transaction has done, and the change that waits or clashed
---     Past, Entry, journal      a commit with the items done behind it; the commits as they are told, with their changes
+--     Past, Entry, journal      a commit with the items done behind it; the commits as they are told, by changes
 --     Stop, World, starting      what can stop a world; the world; the one before the first call
 --     work, changes_in      the changes of a transaction, and of commits, that survived their rollbacks
 --     own_rows, holds      the rows as an open transaction sees them, and the cells that its changes hold

@@ -1,12 +1,14 @@
 -- The live rows of a world, through its calls.
---     listing_apart, one_live, live_by      no two of a listing share a cell; every listing gives the same rows; so one listing tells the live rows
+--     listing_apart, one_live, live_by      no two of a listing share a cell; every listing gives the same rows;
+--         so one listing tells the live rows
 --     live_valid, live_accepted      they are valid, and no change clashes on the way to them
---     footprint_live, outcome_live, inverse_live      a change that meets no other's cell does on the live rows what it does on its own view
---     live_opened, live_acted, live_touched, live_wanting, live_cut, live_aborted, live_committed      the live rows after each call
+--     footprint_live, outcome_live, inverse_live      a change that meets no other's cell does on the live rows what it
+--         does on its own view
+--     live_opened, live_acted, live_touched, live_wanting, live_cut, live_aborted, live_committed      after each call
 --     live_alone      with no transaction open they are the committed rows
-use Rattle.std.specs.Prelude.{◌≡◌, ◌≢◌, ℕ, List, [], ◌∷◌, ◌++◌, Option, Some, None, flat_map, length, refl}
+use Rattle.std.specs.Prelude.{◌≡◌, ◌≢◌, ℕ, List, [], ◌∷◌, ◌++◌, Option, Some, None, flat_map, length, refl, false}
 use Rattle.std.proofs.Common.{sym, ◌∙◌, ap, subst, inl, inr, append-nil, arith}
-use Rattle.std.specs.List.{AllByRecursion}
+use Rattle.std.specs.List.{AllByRecursion, list_any}
 use Rattle.std.specs.Ordering.{nat_cmp}
 use Rattle.std.specs.FinMap as finite
 use Rattle.std.specs.FinMap.{FinMap, get, entries}
@@ -18,13 +20,14 @@ use Rattle.model.specs.Rows.{Rows, Schema, IsValid}
 use Rattle.model.specs.Effect.{outcome, effect, inverse, serial, inverses, all_back}
 use Rattle.model.specs.Footprint.{looked_up, footprint}
 use Rattle.world.specs.World.{Opened, Stop, World, work, own_rows, holds, IsFree}
-use Rattle.model.specs.CellContents.{AreSame}
+use Rattle.model.specs.CellContents.{AreSame, SameAt}
+use Rattle.model.specs.Cells.{overlaps}
 use Rattle.model.specs.Accepted.{AreAccepted}
 use Rattle.world.specs.Live.{in_turn, Reordered, same, under, swapped, through, IsListing, works, live_rows, IsLive}
 use Rattle.world.specs.Steps.{opened_with, done_with, wanting, committed_with, aborted_with}
 use Rattle.model.specs.AlikeLaws.{footprint_by_looked_up}
 use Rattle.model.specs.SerialLaws.{inverses_past}
-use Rattle.world.specs.LiveLaws.{AreApartFrom, ArePairwiseApart, reordered_pairwise, any_order, in_turn_valid, in_turn_accepted}
+use Rattle.world.specs.LiveLaws.{AreApartFrom, ArePairwiseApart, reordered_pairwise, any_order, in_turn_valid, in_turn_accepted, IsFreeOfAll, leaves_in_turn}
 use Rattle.world.specs.ListingLaws.{got_same, gone_same, gone_other, removed_again, reordered_back, reordered_map, listed_with, listed_first, KeysDiffer, keys_differ, each_found, xid_cases}
 use Rattle.world.specs.OpenLaws.{AreFreeOfAll, alone_as_live_each, outcome_on_live, inverse_on_live, live_with_more, still_apart, cut_back}
 use Rattle.model.specs.SurvivorLaws.{work_with_change, work_with_touch}
@@ -138,6 +141,22 @@ module _ (schema : Schema) (w : World) (fine : IsFine schema w) where
   pub live_alone : w.opened ≡ finite.empty → (rows : Rows) → IsLive schema w rows → rows ≡ w.committed
   live_alone none rows live =
       live [] (subst (λ (es : List (ℕ × Opened)). Reordered [] es) (sym (no_entries w.opened none)) same)
+
+-- what nobody holds is as committed
+free_of_each_listed : (schema : Schema) (w : World) (cell : Cell)
+    → ((xid : ℕ) (o : Opened) → get w.opened xid ≡ Some o → list_any (overlaps cell) (holds schema w xid o) ≡ false)
+    → (listing : List (ℕ × Opened)) → AreOpen w listing → IsFreeOfAll schema w.committed cell (works listing)
+free_of_each_listed schema w cell unheld [] are = tt
+free_of_each_listed schema w cell unheld (t ∷ listing) are =
+    (unheld t.0 t.1 are.0, free_of_each_listed schema w cell unheld listing are.1)
+
+pub unheld_live : (schema : Schema) (w : World) → IsFine schema w → (rows : Rows) → IsLive schema w rows → (cell : Cell)
+    → ((xid : ℕ) (o : Opened) → get w.opened xid ≡ Some o → list_any (overlaps cell) (holds schema w xid o) ≡ false)
+    → SameAt schema w.committed rows cell
+unheld_live schema w fine rows live cell unheld =
+    subst (λ (r : Rows). SameAt schema w.committed r cell) (sym (live (entries w.opened) same))
+    (leaves_in_turn schema w.committed (committed_valid schema w fine) (works (entries w.opened)) (entries_apart schema w fine)
+    cell (free_of_each_listed schema w cell unheld (entries w.opened) (each_found w.opened)))
 
 -- ---- one of them, and the others
 

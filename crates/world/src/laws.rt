@@ -1,6 +1,6 @@
 // The laws of worlds and calls. Each function does nothing: its contract is a law, most of them over
 // every world that calls reach from valid rows, and the check of this crate proves it.
-ghost use Rattle.world.specs.Laws.{SeesNoOthers, ListedInAnyOrder, OneLiveState, LiveIsValid, NoLiveChangeClashes, CommittedIsSerial, AloneIsSerial, NotedClashStands, FootprintOnLive, OutcomeOnLive, DoneComesLast, RollbackKeepsTheRest, LineGrows, LiveAfterOpen, LiveAfterDone, LiveAfterSkip, LiveAfterHeld, LiveAfterClash, LiveAfterTouch, LiveAfterRollback, RollbackLeavesBeginning, LiveAfterAbort, LiveAfterCommit, CommitMovesNoHolds};
+ghost use Rattle.world.specs.Laws.{SeesNoOthers, ListedInAnyOrder, OneLiveState, LiveIsValid, NoLiveChangeClashes, CommittedIsSerial, AloneIsSerial, NotedClashStands, FootprintOnLive, OutcomeOnLive, DoneComesLast, RollbackKeepsTheRest, LineGrows, UnheldIsCommitted, CommitLeavesOtherCells, LiveAfterOpen, LiveAfterDone, LiveAfterSkip, LiveAfterHeld, LiveAfterClash, LiveAfterTouch, LiveAfterRollback, RollbackLeavesBeginning, LiveAfterAbort, LiveAfterCommit, CommitMovesNoHolds};
 
 /// An open transaction sees the same whatever others are open.
 pub fn sees_no_others()
@@ -117,6 +117,16 @@ pub fn live_after_commit()
 /// It moves nobody's holds, nor what takes their changes back.
 pub fn commit_moves_no_holds()
     ensures { CommitMovesNoHolds }
+{}
+
+/// What nobody holds is as committed.
+pub fn unheld_is_committed()
+    ensures { UnheldIsCommitted }
+{}
+
+/// A commit leaves what its transaction doesn't hold.
+pub fn commit_leaves_other_cells()
+    ensures { CommitLeavesOtherCells }
 {}
 
 /// No call takes a commit away.

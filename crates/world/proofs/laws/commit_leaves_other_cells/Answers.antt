@@ -1,0 +1,5 @@
+use Rattle.world.specs.CallLaws.{commit_leaves_other_cells}
+use Rattle.world.proofs.laws.commit_leaves_other_cells.Goals as goal
+
+pub returns : goal.returns
+returns c = commit_leaves_other_cells

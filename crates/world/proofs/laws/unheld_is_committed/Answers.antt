@@ -1,0 +1,5 @@
+use Rattle.world.specs.CallLaws.{unheld_is_committed}
+use Rattle.world.proofs.laws.unheld_is_committed.Goals as goal
+
+pub returns : goal.returns
+returns c = unheld_is_committed
