@@ -26,6 +26,7 @@ pub record ArePlaces (held : ℕ → List Cell) (places : Places) : Type 0 where
 abbrev pub with_cells : (ℕ → List Cell) → ℕ → List Cell → ℕ → List Cell
 with_cells held xid cells other = if other == xid then cells else held other
 
+-- No cell is held.
 pub record HasNoPlaces (places : Places) : Type 0 where
   pub none : (cell : Cell) → tree.get cell_cmp places.places cell ≡ None
   pub zero : (table xid : ℕ) → count_in places.counts.counts table xid ≡ 0
@@ -52,6 +53,7 @@ pub record RemovesPlace (cell : Cell) (xid : ℕ) (old new : Places) : Type 0 wh
   pub beside : (other : Cell) → other ≢ cell → tree.get cell_cmp new.places other ≡ tree.get cell_cmp old.places other
   pub count : SetsCount (table_of cell) xid (count_in old.counts.counts (table_of cell) xid - 1) old.counts.counts new.counts.counts
 
+-- Each cell is held as it was.
 pub record SamePlaces (old new : Places) : Type 0 where
   pub places : (cell : Cell) → tree.get cell_cmp new.places cell ≡ tree.get cell_cmp old.places cell
   pub counts : SameCounts old.counts.counts new.counts.counts

@@ -23,5 +23,6 @@ SameAt schema rows others (Uniq table number values) =
     → are_taken rows table columns values ≡ are_taken others table columns values
 SameAt schema rows others (Whole table) = (key : Key) → get rows (table, key) ≡ get others (table, key)
 
+-- the rows are the same in each of these cells
 abbrev pub AreSame : Schema → Rows → Rows → List Cell → Type 0
 AreSame schema rows others cells = AllByRecursion (SameAt schema rows others) cells

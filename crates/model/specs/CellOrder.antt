@@ -27,6 +27,7 @@ number_in (Row table key) = 0
 number_in (Uniq table number values) = number
 number_in (Whole table) = 0
 
+-- the key or the values of a cell; none of a whole table
 abbrev pub key_in : Cell → Key
 key_in (Row table key) = key
 key_in (Uniq table number values) = values
@@ -36,6 +37,7 @@ key_in (Whole table) = []
 abbrev pub within_table_cmp : Cell → Cell → Ordering
 within_table_cmp = then_cmp (on kind_of nat_cmp) (then_cmp (on number_in nat_cmp) (on key_in key_cmp))
 
+-- by table, and then within it
 abbrev pub cell_cmp : Cell → Cell → Ordering
 cell_cmp = then_cmp (on table_of nat_cmp) within_table_cmp
 

@@ -84,6 +84,7 @@ elsewhere table other key twin apart = other_place table other key twin (ap (λ 
 
 -- ---- each cell of a list
 
+-- it holds of each of these
 abbrev pub Each : (Cell → Type 0) → List Cell → Type 0
 Each P cells = AllByRecursion P cells
 

@@ -13,6 +13,7 @@ use Rattle.model.specs.Rows.{Rows, Schema, keys_at, key_of}
 use Rattle.model.specs.Effect.{Edits, overlay, one_edit, Outcome, Done, Skip, Clashes, ClashCause, Unique, first_taken, unless_taken, row_outcome_at, row_outcome, patch_row, set_outcome, remove_outcome, wipe_edits, outcome}
 use Rattle.model.specs.EditLaws.{overlay_one, overlay_two}
 
+-- Which edits a change makes, by its kind and by the rows that it meets.
 pub data Shape (schema : Schema) (rows : Rows) : Change → Outcome → Type 0 where
   clashes : (c : Change) (cause : ClashCause) → Shape schema rows c (Clashes cause)
   skips : (c : Change) → Shape schema rows c Skip

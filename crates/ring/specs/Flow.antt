@@ -29,6 +29,7 @@ module _ {T : Type 0} where
   abbrev pub tail_of : Course T → ℕ
   tail_of c = c.before + length (c.acked ++ c.left)
 
+-- the number that a word has for a yes or no
 abbrev pub worth : Bool → ℕ
 worth false = 0
 worth true = 1
@@ -50,6 +51,7 @@ pub record Slots {T : Type 0} (n : ℕ) (homes : List (maybe.Option (Option T)))
   pub full : (p : ℕ) (x : T) → get_elem? left p ≡ some x → (reading ≡ true → 0 < p) → get_elem? homes ((head + p) % n) ≡ some (some (Some x))
   pub free : (p : ℕ) → length left ≤ p → p < n → (writing ≡ true → length left < p) → get_elem? homes ((head + p) % n) ≡ some (some None)
 
+-- What the sender knows is true: what was sent, and no more acknowledged than there was.
 pub record SenderSees {T : Type 0} (c : Course T) (before : ℕ) (sent : List T) (counted : ℕ) (dooms writing : Bool) : Type 0 where
   pub before_is : before ≡ c.before
   pub sent_is : sent ≡ c.acked ++ c.left
@@ -62,6 +64,7 @@ abbrev pub Holds : {T : Type 0} → Bool → List T → Option T → Type 0
 Holds reading left None = reading ≡ false
 Holds {T} reading left (Some x) = (reading ≡ true) × ((others : List T) × (left ≡ x ∷ others))
 
+-- What the taker knows is true: what was acknowledged, and no more sent than there was.
 pub record TakerSees {T : Type 0} (c : Course T) (before : ℕ) (acked : List T) (known : ℕ) (doomed : Bool) (taken : Option T) : Type 0 where
   pub before_is : before ≡ c.before
   pub acked_is : acked ≡ c.acked
@@ -83,6 +86,7 @@ pub record Seats {T : Type 0} (views : List (View T)) (c : Course T) : Type 0 wh
   pub of_sender : (i : ℕ) (v : View T) → get_elem? views i ≡ some v → v.sends ≡ true → (i ≡ sender) × SenderKnows c v
   pub of_taker : (i : ℕ) (v : View T) → get_elem? views i ≡ some v → v.takes ≡ true → (i ≡ taker) × TakerKnows c v
 
+-- The words, the slots and the seats agree on one course of the ring.
 pub record Flow {T : Type 0} (s : State (Option T) (View T)) : Type 0 where
   pub course : Course T
   pub count : ℕ

@@ -42,6 +42,7 @@ StillClashes schema w =
     → get w.opened xid ≡ Some o
     → o.wants ≡ Some (sub, c) → IsClashing schema w xid o c cause
 
+-- What every world keeps that calls reach.
 pub record IsFine (schema : Schema) (w : World) : Type 0 where
   pub valid_start : IsValid schema w.start
   pub serial_commits : w.committed ≡ serial schema w.start (changes_in w.line)

@@ -128,6 +128,7 @@ RollbackKeepsTheRest =
 
 -- ---- the live rows after each call
 
+-- an open leaves them
 abbrev pub LiveAfterOpen : Type 0
 LiveAfterOpen =
     (schema : Schema) (start : Rows) (w new : World) → IsReached schema start w → (rows : Rows) → IsLive schema w rows
@@ -141,6 +142,7 @@ LiveAfterDone =
     → Acts schema w xid o sub c (Ok IsDone) new
     → IsLive schema new (effect schema rows c)
 
+-- so does a change that is skipped
 abbrev pub LiveAfterSkip : Type 0
 LiveAfterSkip =
     (schema : Schema) (start : Rows) (w new : World) → IsReached schema start w → (rows : Rows) → IsLive schema w rows
@@ -148,6 +150,7 @@ LiveAfterSkip =
     → Acts schema w xid o sub c (Ok IsSkipped) new
     → IsLive schema new rows
 
+-- so does one that is held
 abbrev pub LiveAfterHeld : Type 0
 LiveAfterHeld =
     (schema : Schema) (start : Rows) (w new : World) → IsReached schema start w → (rows : Rows) → IsLive schema w rows
@@ -155,6 +158,7 @@ LiveAfterHeld =
     → Acts schema w xid o sub c (Ok (Held holder)) new
     → IsLive schema new rows
 
+-- so does one that clashes
 abbrev pub LiveAfterClash : Type 0
 LiveAfterClash =
     (schema : Schema) (start : Rows) (w new : World) → IsReached schema start w → (rows : Rows) → IsLive schema w rows
@@ -162,6 +166,7 @@ LiveAfterClash =
     → Acts schema w xid o sub c (Ok (Clashed cause)) new
     → IsLive schema new rows
 
+-- so does a touch
 abbrev pub LiveAfterTouch : Type 0
 LiveAfterTouch =
     (schema : Schema) (start : Rows) (w new : World) → IsReached schema start w → (rows : Rows) → IsLive schema w rows

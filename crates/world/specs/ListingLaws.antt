@@ -17,6 +17,7 @@ use Rattle.world.specs.Live.{Reordered, same, under, swapped, through}
 
 -- ---- xids
 
+-- the two are one xid
 abbrev pub is_xid : ℕ → ℕ → Bool
 is_xid = eq_by_cmp nat_cmp
 

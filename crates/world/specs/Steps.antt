@@ -135,6 +135,7 @@ StopsHeld schema w sent waiter None new = ((holder : ℕ) → ¬ (IsStuck schema
 
 -- ---- the calls that alter nothing; those that read rows may be refused for memory
 
+-- what stopped the world, if anything did
 abbrev pub TellsStop : World → Option Stop → Type 0
 TellsStop w answer = answer ≡ w.stopped
 
@@ -153,6 +154,7 @@ abbrev pub ReadsAfter : {E : Type 0} → Schema → World → ℕ → ℕ → Re
 ReadsAfter schema w table count answer =
     IfOk answer (λ rows. rows ≡ rows_of_table (serial schema w.start (changes_in (take count w.line))) table)
 
+-- the commits so far
 abbrev pub TellsJournal : World → List Entry → Type 0
 TellsJournal w answer = answer ≡ journal w
 
@@ -170,6 +172,7 @@ Looks w seen now = Watches w seen × (now ≡ journal w)
 
 -- ---- any of them
 
+-- One call, whichever it is, leads from the one world to the other.
 pub data Step (schema : Schema) (w : World) : World → Type 0 where
   opens : (xid : ℕ) (answer : Result (Unit {0}) Fault) (new : World) → Opens w xid answer new → Step schema w new
   acts : (xid : ℕ) (o : Opened) (sub : ℕ) (c : change_type.Change) (answer : Result Acted Fault) (new : World)

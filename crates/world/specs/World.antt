@@ -41,6 +41,7 @@ pub data Stop : Type 0 where
 abbrev pub OpenOnes : Type 0
 OpenOnes = FinMap nat_cmp Opened
 
+-- The committed rows, how they came about, and the transactions that are open over them.
 pub record World : Type 0 where
   -- before the first commit
   pub start : Rows
@@ -76,6 +77,7 @@ pub record Entry : Type 0 where
   pub commit : ℕ
   pub end : ℕ
 
+-- the commit as it is told
 abbrev pub entry_of : Past → Entry
 entry_of p = record { xid = p.xid; changes = work_behind p; commit = p.info.commit; end = p.info.end }
 
