@@ -8,6 +8,7 @@ use Rattle.std.specs.FinMap as map_of
 use Rattle.std.specs.FinMap.{get, insert, remove}
 use Rattle.std.proofs.lemmas.Bool.{cases_Bool}
 use Rattle.std.proofs.lemmas.Map.Views.{tells_apart}
+use Rattle.model.specs.TakenLaws.{number_is, first_true, second_true, same_number, key_is}
 use Rattle.model.specs.declared.key.Key.{Key}
 use Rattle.model.specs.declared.row.Row.{Row as Record}
 use Rattle.model.specs.declared.change.Change.{Change}
@@ -19,12 +20,11 @@ use Rattle.model.specs.Exact.{key_cmp_exact}
 use Rattle.model.specs.Rows.{Place, Rows, Schema, keys_at, values_in, key_of, is_key, are_taken, IsValid}
 use Rattle.model.specs.Effect.{Edits, overlay, rows_under, one_edit, Outcome, Done, Clashes, Unique, are_taken_unless_null, first_taken, unless_taken, row_outcome_at, row_outcome, patch_row, set_outcome, remove_outcome, wipe_edits, outcome, edits_of, effect, inverse}
 use Rattle.model.specs.EditLaws.{is_place, same_edits, get_overlay, overlay_empty, get_remove, rows_under_none, rows_under_one, rows_under_two}
-use Rattle.model.specs.EffectLaws.{is_named, cleared_row, row_before_wipe, get_wiped, get_effect_wipe, get_inverse_wipe}
+use Rattle.model.specs.EffectLaws.{is_named, cleared_row, row_before_wipe, get_wiped, get_effect_wipe, get_inverse_wipe, not_cleared}
 use Rattle.model.specs.Cells.{row_cell, unique_cell}
 use Rattle.model.specs.Footprint.{moved_cell, new_place, replaced_cells, removed_cells, looked_up, footprint}
 use Rattle.model.specs.CellContents.{unique_key, SameAt, AreSame}
-use Rattle.model.specs.OverlapLaws.{number_is, and_first, and_second}
-use Rattle.model.specs.TakenBesideLaws.{same_number, key_is, has_values, taken_insert, taken_without, untaken_without}
+use Rattle.model.specs.TakenBesideLaws.{has_values, taken_insert, taken_without, untaken_without}
 use Rattle.model.specs.OutcomeLaws.{Shape, clashes, skips, puts, sets, removes, wipes, shape, after_put, after_set, after_remove}
 use Rattle.model.specs.FrameLaws.{taken_alike, each_of_first, each_of_second, in_unique_cells, in_moved_cells, left_by_wipe, or_false}
 
@@ -169,8 +169,8 @@ module _ (schema : Schema) (rows others : Rows) (valid : IsValid schema rows) (v
             sym (taken_without rows table key old stands t columns values ∙ or_false _ _ not)
             ∙ same ∙ taken_without others table key old stands_too t columns values ∙ or_false _ _ not
         | inl has ↦
-            let at : table ≡ t = number_is table t (and_first _ _ has) in
-            let found : values_in columns old ≡ Some values = key_is (values_in columns old) values (and_second _ _ has) in
+            let at : table ≡ t = number_is table t (first_true _ _ has) in
+            let found : values_in columns old ≡ Some values = key_is (values_in columns old) values (second_true _ _ has) in
             let is_here : unique_key schema table number ≡ Some columns = ap (λ n. unique_key schema n number) at ∙ is in
             ap (λ n. are_taken (remove rows (table, key)) n columns values) (sym at)
             ∙ untaken_without schema rows valid table key old stands number columns values is_here found
@@ -196,10 +196,6 @@ same_where_named : {X : Type 0} (f : Bool → Option Record → X) (named : Bool
     → ((r s : Option Record) → f false r ≡ f false s) → f named row ≡ f named other
 same_where_named f true row other same beside = ap (f true) (same refl)
 same_where_named f false row other same beside = beside row other
-
-not_cleared : (row : Option Record) → cleared_row false row ≡ None
-not_cleared None = refl
-not_cleared (Some row) = refl
 
 not_standing : (row : Option Record) → row_before_wipe false row ≡ None
 not_standing None = refl

@@ -80,7 +80,7 @@ abbrev pub cleared_row : Bool → Option Row → Option (Option Row)
 cleared_row named None = None
 cleared_row named (Some row) = cond named (Some None) None
 
-not_cleared : (row : Option Row) → cleared_row false row ≡ None
+pub not_cleared : (row : Option Row) → cleared_row false row ≡ None
 not_cleared None = refl
 not_cleared (Some row) = refl
 

@@ -7,6 +7,8 @@ use Rattle.std.specs.List.{list_any}
 use Rattle.std.specs.FinMap.{get}
 use Rattle.std.proofs.lemmas.Bool.{cases_Bool}
 use Rattle.std.proofs.lemmas.List.Folds.{list_any-append}
+use Rattle.model.specs.ValidLaws.{not_none}
+use Rattle.model.specs.TakenLaws.{number_is}
 use Rattle.model.specs.declared.key.Key.{Key}
 use Rattle.model.specs.declared.row.Row.{Row as Record}
 use Rattle.model.specs.declared.change.Change.{Change}
@@ -19,8 +21,8 @@ use Rattle.model.specs.Effect.{patch_row}
 use Rattle.model.specs.Cells.{overlaps, same_key, row_cell, unique_cell}
 use Rattle.model.specs.Footprint.{both_have, moved_cell, moved_cells, new_place, replaced_cells, looked_up, footprint, shares_cell}
 use Rattle.model.specs.CellContents.{unique_key}
-use Rattle.model.specs.OverlapLaws.{neither, number_is}
-use Rattle.model.specs.TakenBesideLaws.{not_none, key_found}
+use Rattle.model.specs.OverlapLaws.{neither}
+use Rattle.model.specs.TakenBesideLaws.{key_found}
 
 no_first : (a b : Bool) → a ≡ false → (a && b) ≡ false
 no_first a b e = ap (λ x. x && b) e

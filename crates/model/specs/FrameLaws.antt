@@ -9,6 +9,7 @@ use Rattle.std.proofs.lemmas.Map.Views.{tells_apart}
 use Rattle.std.specs.FinMap.{get, insert, remove}
 use Rattle.std.specs.Cmp.{eq_by_cmp_equiv}
 use Rattle.std.proofs.lemmas.Bool.{cases_Bool}
+use Rattle.model.specs.ValidLaws.{not_none}
 use Rattle.model.specs.declared.key.Key.{Key}
 use Rattle.model.specs.declared.row.Row.{Row as Record}
 use Rattle.model.specs.declared.change.Change.{Change}
@@ -20,13 +21,13 @@ use Rattle.model.specs.Exact.{key_cmp_exact}
 use Rattle.model.specs.Rows.{Place, Rows, Schema, keys_at, values_in, key_of, is_key, are_taken}
 use Rattle.model.specs.Effect.{overlay, Outcome, edits_of, patch_row, outcome, effect}
 use Rattle.model.specs.EditLaws.{is_place, place_is, overlay_empty, get_insert_other, get_remove_other}
-use Rattle.model.specs.TakenLaws.{taken_by_row, row_of_taken}
+use Rattle.model.specs.TakenLaws.{taken_by_row, row_of_taken, number_is, same_number, key_is}
 use Rattle.model.specs.EffectLaws.{is_named, get_effect_wipe}
 use Rattle.model.specs.Cells.{table_of, overlaps, same_key, row_cell, unique_cell, unique_cells}
 use Rattle.model.specs.Footprint.{both_have, moved_cell, moved_cells, new_place, replaced_cells, removed_cells, footprint}
 use Rattle.model.specs.CellContents.{unique_key, SameAt}
-use Rattle.model.specs.OverlapLaws.{neither_first, neither_second, neither, number_is}
-use Rattle.model.specs.TakenBesideLaws.{not_none, same_answer, same_number, key_is, has_values, taken_insert, taken_without}
+use Rattle.model.specs.OverlapLaws.{neither_first, neither_second, neither}
+use Rattle.model.specs.TakenBesideLaws.{same_answer, has_values, taken_insert, taken_without}
 use Rattle.model.specs.OutcomeLaws.{Shape, clashes, skips, puts, sets, removes, wipes, shape, after_put, after_set, after_remove}
 
 -- ---- the same in a cell

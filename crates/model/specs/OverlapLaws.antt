@@ -13,6 +13,7 @@ use Rattle.model.specs.declared.key.Key.{Key}
 use Rattle.model.specs.declared.cell.Cell.{Cell}
 use Rattle.model.specs.declared.cell.Cell.TheVariants.{Row, Uniq, Whole}
 use Rattle.model.specs.Key.{key_cmp_total}
+use Rattle.model.specs.TakenLaws.{first_true, second_true, both_true, number_is}
 use Rattle.model.specs.Cells.{overlaps, same_key}
 use Rattle.model.specs.Footprint.{shares_cell}
 
@@ -33,24 +34,10 @@ or_second : (a b : Bool) → b ≡ true → (a || b) ≡ true
 or_second true b e = refl
 or_second false b e = e
 
-pub and_first : (a b : Bool) → (a && b) ≡ true → a ≡ true
-and_first true b e = refl
-and_first false b e = e
-
-pub and_second : (a b : Bool) → (a && b) ≡ true → b ≡ true
-and_second true b e = e
-and_second false b e = absurd (true≢false (sym e))
-
-pub and_both : (a b : Bool) → a ≡ true → b ≡ true → (a && b) ≡ true
-and_both a b p q = ap (λ x. x && b) p ∙ q
-
 -- ---- two cells
 
 same_number_back : (n m : ℕ) → (n == m) ≡ (m == n)
 same_number_back n m = search rules
-
-pub number_is : (n m : ℕ) → (n == m) ≡ true → n ≡ m
-number_is n m e = search rules
 
 same_key_back : (k l : Key) → same_key k l ≡ same_key l k
 same_key_back = (eq_by_cmp_equiv key_cmp_total).symm
@@ -78,13 +65,13 @@ overlaps_either_way (Whole t) (Whole u) = same_number_back t u
 meet_at_place : (t : ℕ) (k : Key) (cell other : Cell) → overlaps (Row t k) cell ≡ true
     → overlaps (Row t k) other ≡ true → overlaps cell other ≡ true
 meet_at_place t k (Row u l) (Row v m) p q =
-    and_both (u == v) (same_key l m)
-    (ap (λ n. n == v) (sym (number_is t u (and_first _ _ p))) ∙ and_first _ _ q)
-    (sym (same_keys k l m (and_second _ _ p)) ∙ and_second _ _ q)
+    both_true (u == v) (same_key l m)
+    (ap (λ n. n == v) (sym (number_is t u (first_true _ _ p))) ∙ first_true _ _ q)
+    (sym (same_keys k l m (second_true _ _ p)) ∙ second_true _ _ q)
 meet_at_place t k (Row u l) (Uniq v i w) p q = absurd (true≢false (sym q))
-meet_at_place t k (Row u l) (Whole v) p q = ap (λ n. n == v) (sym (number_is t u (and_first _ _ p))) ∙ q
+meet_at_place t k (Row u l) (Whole v) p q = ap (λ n. n == v) (sym (number_is t u (first_true _ _ p))) ∙ q
 meet_at_place t k (Uniq u i w) other p q = absurd (true≢false (sym p))
-meet_at_place t k (Whole u) (Row v m) p q = ap (λ n. n == v) (sym (number_is t u p)) ∙ and_first _ _ q
+meet_at_place t k (Whole u) (Row v m) p q = ap (λ n. n == v) (sym (number_is t u p)) ∙ first_true _ _ q
 meet_at_place t k (Whole u) (Uniq v i w) p q = absurd (true≢false (sym q))
 meet_at_place t k (Whole u) (Whole v) p q = ap (λ n. n == v) (sym (number_is t u p)) ∙ q
 

@@ -7,11 +7,12 @@ use Rattle.std.specs.Prelude.{◌≡◌, ◌≢◌, ℕ, ◌==◌, Bool, true, f
 use Rattle.std.proofs.Common.{inl, inr, sym, ◌∙◌, ap, subst, append-nil, eq-eqb}
 use Rattle.std.proofs.lemmas.Bool.{cases_Bool}
 use Rattle.std.proofs.lemmas.List.Sums.{take_while-cons}
+use Rattle.model.specs.TakenLaws.{number_is}
 use Rattle.model.specs.declared.change.Change as change_type
 use Rattle.model.specs.declared.item.Item.{Item}
 use Rattle.model.specs.declared.item.Item.TheVariants.{Change, Touch, BackTo, Last}
 use Rattle.model.specs.Cut.{IsCut}
-use Rattle.model.specs.OverlapLaws.{neither, number_is}
+use Rattle.model.specs.OverlapLaws.{neither}
 use Rattle.model.specs.Survivors.{is_of, before_savepoint, after_item, surviving, survivors, changes_of}
 
 surviving_with : (top : ℕ) (kept items : List Item) (item : Item)

@@ -22,7 +22,7 @@ after_item top kept (Touch sub) = kept ++ Touch sub ∷ []
 after_item top kept (BackTo sub) = if sub == top then kept else before_savepoint sub kept
 after_item top kept Last = kept
 
--- what is left of kept items once these have come after them
+-- what is left of the kept items once these have come
 abbrev pub surviving : ℕ → List Item → List Item → List Item
 surviving top kept [] = kept
 surviving top kept (item ∷ items) = surviving top (after_item top kept item) items

@@ -3,20 +3,18 @@
 --     taken_insert, taken_without      what one more row adds, and what one less leaves
 --     untaken_without      in valid rows nobody else has a row's values in a unique key
 use Rattle.std.specs.Prelude.{◌≡◌, ℕ, zero, suc, ◌==◌, Bool, true, false, cond, ◌&&◌, ◌||◌, List, Option, Some, None, refl}
-use Rattle.std.proofs.Common.{sym, ◌∙◌, ap, inl, inr, true≢false, rules}
+use Rattle.std.proofs.Common.{sym, ◌∙◌, ap, inl, inr, true≢false}
 use Rattle.std.specs.FinMap.{get, insert, remove}
 use Rattle.std.specs.Cmp.{eq_by_cmp_equiv}
 use Rattle.std.proofs.lemmas.Bool.{cases_Bool}
-use Rattle.std.proofs.lemmas.Map.Views.{tells_apart}
 use Rattle.model.specs.declared.key.Key.{Key}
 use Rattle.model.specs.declared.row.Row.{Row}
 use Rattle.model.specs.Key.{key_cmp_total}
-use Rattle.model.specs.Exact.{key_cmp_exact}
 use Rattle.model.specs.Rows.{Place, Rows, Schema, values_in, is_key, are_taken, IsValid}
 use Rattle.model.specs.EditLaws.{is_place, same_place, place_is, place_cases, same_rows, get_insert, get_insert_same, get_insert_other, get_remove, get_remove_same, get_remove_other}
-use Rattle.model.specs.TakenLaws.{taken_by_row, row_of_taken}
+use Rattle.model.specs.TakenLaws.{taken_by_row, row_of_taken, first_true, second_true, both_true, same_number, number_is, key_is}
+use Rattle.model.specs.ValidLaws.{not_none}
 use Rattle.model.specs.CellContents.{unique_key}
-use Rattle.model.specs.OverlapLaws.{and_first, and_second, and_both, number_is}
 
 -- two tests that imply each other give one answer
 pub same_answer : (a b : Bool) → (a ≡ true → b ≡ true) → (b ≡ true → a ≡ true) → a ≡ b
@@ -31,18 +29,8 @@ or_true_second : (a b : Bool) → b ≡ true → (a || b) ≡ true
 or_true_second true b e = refl
 or_true_second false b e = e
 
-pub same_number : (n : ℕ) → (n == n) ≡ true
-same_number n = search rules
-
 pub key_found : (found : Option Key) (values : Key) → found ≡ Some values → is_key found values ≡ true
 key_found found values e = ap (λ f. is_key f values) e ∙ (eq_by_cmp_equiv key_cmp_total).refl values
-
-pub key_is : (found : Option Key) (values : Key) → is_key found values ≡ true → found ≡ Some values
-key_is None values e = cc
-key_is (Some found) values e = ap Some (tells_apart key_cmp_exact found values e)
-
-pub not_none : {X : Type 0} (x : X) → ¬ (None ≡ Some x)
-not_none x e = cc
 
 -- the row at the place stands in the table, and has these values in these columns
 abbrev pub has_values : ℕ → Row → ℕ → List ℕ → Key → Bool
@@ -60,7 +48,7 @@ module _ (rows : Rows) (at : ℕ) (key : Key) (row : Row) (table : ℕ) (columns
         | inl same ↦
             let row_is : Some t.row ≡ Some row = sym t.at ∙ ap (get more) same ∙ get_insert_same rows (at, key) row in
             let row_same : t.row ≡ row = cc in
-            or_true_second _ _ (and_both _ _
+            or_true_second _ _ (both_true _ _
             (ap (λ (p : Place). p.0 == table) (sym same) ∙ same_number table)
             (key_found _ values (ap (values_in columns) (sym row_same) ∙ t.has)))
         | inr other ↦
@@ -82,8 +70,8 @@ module _ (rows : Rows) (at : ℕ) (key : Key) (row : Row) (table : ℕ) (columns
         | inr untaken ↦
             let has : has_values at row table columns values ≡ true = ap (λ b. b || has_values at row table columns values) (sym untaken) ∙ is in
             taken_by_row more table columns values key row
-            (ap (λ n. get more (n, key)) (sym (number_is at table (and_first _ _ has))) ∙ get_insert_same rows (at, key) row)
-            (key_is _ values (and_second _ _ has))
+            (ap (λ n. get more (n, key)) (sym (number_is at table (first_true _ _ has))) ∙ get_insert_same rows (at, key) row)
+            (key_is _ values (second_true _ _ has))
       ]
 
   -- a row more, at a place where none stood

@@ -22,29 +22,29 @@ use Rattle.model.specs.EditLaws.{is_place, same_place, place_is}
 
 -- ---- tests of an and
 
-first_true : (a b : Bool) → (a && b) ≡ true → a ≡ true
+pub first_true : (a b : Bool) → (a && b) ≡ true → a ≡ true
 first_true true b e = refl
 first_true false b e = e
 
-second_true : (a b : Bool) → (a && b) ≡ true → b ≡ true
+pub second_true : (a b : Bool) → (a && b) ≡ true → b ≡ true
 second_true true b e = e
 second_true false b e = cc
 
-both_true : (a b : Bool) → a ≡ true → b ≡ true → (a && b) ≡ true
+pub both_true : (a b : Bool) → a ≡ true → b ≡ true → (a && b) ≡ true
 both_true a b p q = ap (λ x. x && b) p ∙ q
 
-first_T : (a b : Bool) → T (a && b) → T a
+pub first_T : (a b : Bool) → T (a && b) → T a
 first_T true b p = tt
 first_T false b p = p
 
-second_T : (a b : Bool) → T (a && b) → T b
+pub second_T : (a b : Bool) → T (a && b) → T b
 second_T true b p = p
 second_T false b p = absurd p
 
-same_number : (n : ℕ) → (n == n) ≡ true
+pub same_number : (n : ℕ) → (n == n) ≡ true
 same_number n = search rules
 
-number_is : (n m : ℕ) → (n == m) ≡ true → n ≡ m
+pub number_is : (n m : ℕ) → (n == m) ≡ true → n ≡ m
 number_is n m e = search rules
 
 -- ---- entries that pass a test
@@ -99,7 +99,7 @@ found_passes test p row holds (e ∷ es) found =
 
 -- ---- taken
 
-key_is : (found : Option Key) (values : Key) → is_key found values ≡ true → found ≡ Some values
+pub key_is : (found : Option Key) (values : Key) → is_key found values ≡ true → found ≡ Some values
 key_is None values e = cc
 key_is (Some found) values e = ap Some (tells_apart key_cmp_exact found values e)
 

@@ -14,7 +14,7 @@ use Rattle.model.specs.EditLaws.{is_place, place_cases, get_insert_same, get_ins
 use Rattle.std.proofs.lemmas.Bool.{cases_Bool}
 use Rattle.model.specs.TakenLaws.{not_taken_row, row_of_taken, first_taken_none, first_taken_free}
 
-not_none : {X : Type 0} (x : X) → ¬ (None ≡ Some x)
+pub not_none : {X : Type 0} (x : X) → ¬ (None ≡ Some x)
 not_none x e = cc
 
 pub valid_empty : (schema : Schema) → IsValid schema map.empty

@@ -19,6 +19,7 @@ use Rattle.model.specs.Effect.{ClashCause, Edits, Done, Skip, Clashes, Outcome, 
 use Rattle.model.specs.EffectLaws.{serial_valid, serial_append}
 use Rattle.model.specs.Cells.{overlaps}
 use Rattle.model.specs.Footprint.{footprint, held_cells, shares_cell}
+use Rattle.model.specs.ValidLaws.{not_none}
 use Rattle.world.specs.World.{Opened, Stop, ByClash, ByHold, World, starting, work, work_behind, changes_in, own_rows, holds, IsFree}
 use Rattle.model.specs.CellContents.{SameAt, AreSame}
 use Rattle.model.specs.Accepted.{AreAccepted}
@@ -64,14 +65,11 @@ pub holds_free : (schema : Schema) (w : World) → IsFine schema w → (xid : �
     → IsFree schema w xid (holds schema w xid o)
 holds_free schema w fine xid o is other p differs at = fine.apart xid other o p (λ s. differs (sym s)) is at
 
-some_is_not_none : {X : Type 0} (x : X) → ¬ (None ≡ Some x)
-some_is_not_none x e = cc
-
 pub same_some : {X : Type 0} (x y : X) → Some x ≡ Some y → x ≡ y
 same_some x y e = cc
 
 not_stopped : (schema : Schema) (w : World) → w.stopped ≡ None → StillClashes schema w
-not_stopped schema w running xid c cause is = absurd (some_is_not_none (ByClash xid c cause) (sym running ∙ is))
+not_stopped schema w running xid c cause is = absurd (not_none (ByClash xid c cause) (sym running ∙ is))
 
 -- ---- with another record of one transaction
 
@@ -261,7 +259,7 @@ module _ (schema : Schema) (w : World) (fine : IsFine schema w) (xid : ℕ) (o :
       (ap (shares_cell cells) (sym holds_were) ∙ free)
 
   none_wanted : (sub : ℕ) (c : change_type.Change) (p : Opened) → p ≡ cut → ¬ (p.wants ≡ Some (sub, c))
-  none_wanted sub c p same wants = some_is_not_none (sub, c) (sym (ap (λ (r : Opened). r.wants) same) ∙ wants)
+  none_wanted sub c p same wants = not_none (sub, c) (sym (ap (λ (r : Opened). r.wants) same) ∙ wants)
 
   noted_cut : StillClashes schema (done_with w xid o (BackTo sub))
   noted_cut other d why stopped p named at wants =
@@ -298,7 +296,7 @@ gone_cases : (m : FinMap nat_cmp Opened) (xid other : ℕ) (p : Opened) → get 
     → (other ≢ xid) × (get m other ≡ Some p)
 gone_cases m xid other p at =
     elim (xid_cases other xid) [
-      | inl is ↦ absurd (some_is_not_none p (sym (gone_same m xid) ∙ ap (get (finite.remove m xid)) (sym is) ∙ at))
+      | inl is ↦ absurd (not_none p (sym (gone_same m xid) ∙ ap (get (finite.remove m xid)) (sym is) ∙ at))
       | inr differs ↦ (differs, sym (gone_other m xid other differs) ∙ at)
     ]
 
@@ -462,7 +460,7 @@ fine_step schema w _ fine (watches seen h) = fine
 fine_step schema w _ fine (looks seen now h) = fine
 
 none_open : (xid : ℕ) (o : Opened) → ¬ (get (finite.empty {X = Opened} {R = nat_cmp}) xid ≡ Some o)
-none_open xid o is = some_is_not_none o (sym (get-empty nat_cmp xid) ∙ is)
+none_open xid o is = not_none o (sym (get-empty nat_cmp xid) ∙ is)
 
 pub fine_start : (schema : Schema) (rows : Rows) → IsValid schema rows → IsFine schema (starting rows)
 fine_start schema rows valid = record {

@@ -3,7 +3,7 @@
 --     reordered_back, reordered_map      lists in another order, the other way round and item by item
 --     listed_with, listed_without      a listing once a transaction is there, and once it is gone
 --     each_found, keys_differ      each item of the entries is in the map, and no two have one xid
-use Rattle.std.specs.Prelude.{◌≡◌, ◌≢◌, ℕ, Bool, true, false, cond, ◌&&◌, T, List, [], ◌∷◌, map, Some, None, refl, ◌⊎◌}
+use Rattle.std.specs.Prelude.{◌≡◌, ◌≢◌, ℕ, Bool, true, false, cond, T, List, [], ◌∷◌, map, Some, None, refl, ◌⊎◌}
 use Rattle.std.proofs.Common.{sym, ◌∙◌, ap, subst, inl, inr, true≢false}
 use Rattle.std.specs.List.{AllByRecursion}
 use Rattle.std.specs.declared.cmp.Ordering.{Ordering}
@@ -13,6 +13,7 @@ use Rattle.std.specs.Cmp.{nat_cmp_total, eq_by_cmp_equiv}
 use Rattle.std.specs.FinMap.{FinMap, get, insert, remove, entries, find, put, is_sorted, entries_sorted, entries-insert, get-entries, get-insert, get-remove, same_map, nat_cmp-IsAntisymmetric}
 use Rattle.std.specs.FinMap.Entries.{below_all, by_order}
 use Rattle.std.proofs.lemmas.Map.Views.{tells_apart}
+use Rattle.model.specs.TakenLaws.{first_T, second_T}
 use Rattle.world.specs.Live.{Reordered, same, under, swapped, through}
 
 -- ---- xids
@@ -132,14 +133,6 @@ module _ {X : Type 0} (m : FinMap nat_cmp X) (xid : ℕ) (x : X) where
           (put_listed xid x (entries (remove m xid)) (sym (get-entries (remove m xid) xid) ∙ gone_same m xid))
 
 -- ---- entries
-
-first_T : (a b : Bool) → T (a && b) → T a
-first_T true b p = tt
-first_T false b p = p
-
-second_T : (a b : Bool) → T (a && b) → T b
-second_T true b p = p
-second_T false b p = absurd p
 
 less_differs : (xid other : ℕ) → T (is_lt (nat_cmp xid other)) → xid ≢ other
 less_differs xid other less e =

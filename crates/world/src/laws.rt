@@ -1,5 +1,5 @@
-// The laws of worlds and calls. Each function does nothing: its contract is a law, most of them over
-// every world that calls reach from valid rows, and the check of this crate proves it.
+// The laws of worlds and calls. Each function does nothing: its contract is a law, mostly over every
+// world that calls reach from valid rows, and the check of this crate proves it.
 ghost use Rattle.world.specs.Laws.{SeesNoOthers, ListedInAnyOrder, OneLiveState, LiveIsValid, NoLiveChangeClashes, CommittedIsSerial, AloneIsSerial, NotedClashStands, FootprintOnLive, OutcomeOnLive, DoneComesLast, RollbackKeepsTheRest, LineGrows, UnheldIsCommitted, CommitLeavesOtherCells, LiveAfterOpen, LiveAfterDone, LiveAfterSkip, LiveAfterHeld, LiveAfterClash, LiveAfterTouch, LiveAfterRollback, RollbackLeavesBeginning, LiveAfterAbort, LiveAfterCommit, CommitMovesNoHolds};
 
 /// An open transaction sees the same whatever others are open.
