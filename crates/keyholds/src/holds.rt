@@ -241,7 +241,9 @@ fn push<S: Drop>(lists: &mut BTreeMap<Xid, Vec<(Cell, S)>>, xid: Xid, hold: (Cel
 // Cuts a transaction's list to so many cells; the others are at no place any more.
 fn release_from<S: Drop>(list: &mut Vec<(Cell, S)>, places: &mut Places, xid: Xid, mark: usize)
     ensures items { list.new.items ≡ take mark list.old.items }
-    ensures places { (held : ℕ → List AnyCell) → held xid ≡ keys_of list.old.items → ArePlaces held places.old → ArePlaces (with_cells held xid (keys_of list.new.items)) places.new }
+    ensures places { (held : ℕ → List AnyCell) → held xid ≡ keys_of list.old.items
+        → ArePlaces held places.old
+        → ArePlaces (with_cells held xid (keys_of list.new.items)) places.new }
 {
     while list.len() > mark {
         if let Some((cell, _)) = list.pop() {

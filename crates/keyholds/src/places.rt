@@ -73,7 +73,8 @@ impl Places {
 
     /// Another transaction that holds a cell which overlaps this one, if there is one.
     pub(crate) fn other_holder(&self, xid: Xid, cell: &Cell) -> Option<Xid>
-        ensures { (held : ℕ → List AnyCell) → ArePlaces held self.now → MatchOption result (IsFree held xid cell.now) (IsHeldBy held xid cell.now) }
+        ensures { (held : ℕ → List AnyCell) → ArePlaces held self.now
+            → MatchOption result (IsFree held xid cell.now) (IsHeldBy held xid cell.now) }
     {
         if let Cell::Whole(table) = cell {
             return self.counts.other(*table, xid);
