@@ -1,4 +1,4 @@
--- What the search of a list of cells answers, and what a cell's place says of its list.
+-- What the search of a list of cells answers, and what a cell's address says of its list.
 use Rattle.std.specs.Prelude.{◌≡◌, ℕ, ◌+◌, ◌<◌, ◌≤◌, false, List, [], Option, Some, None, Vec, refl, slice_get, All, take, length, vec_len, vec_capacity, Result, Ok, Err, OnOk, OnErr, is_some}
 use Rattle.std.proofs.Common.{sym, ◌∙◌, ap, subst, arith, get_or, true≢false}
 use Rattle.std.specs.Ordering.{nat_cmp}
@@ -19,7 +19,7 @@ use Rattle.keyholds.proofs.Ties.{updated_here, same_value}
 use Rattle.keyholds.proofs.Overlaps.{contains_at}
 
 module _ (held : ℕ → List Cell) (xid : ℕ) (cells : List Cell) where
-  -- the cell at a place, which no other has, after those before it
+  -- the cell at an address, which no other has, after those before it
   pub free_so_far : (i : ℕ) (cell : Cell) → i < length cells → cell ≡ get_or cells i cell → All (IsFree held xid) (take i cells) → IsFree held xid cell → All (IsFree held xid) (take (i + 1) cells)
   free_so_far i cell within is before here = All-more (IsFree held xid) cells i cell within before (subst (λ c. IsFree held xid c) is here)
 
@@ -31,14 +31,14 @@ module _ (held : ℕ → List Cell) (xid : ℕ) (cells : List Cell) where
     at = slice_get_read cells (length cells) i cell refl within is
 
     pub first_held : All (IsFree held xid) (take i cells) → IsFirstHeldBy held xid cells other
-    first_held before = record { place = i; cell = cell; at = at; before = before; here = here }
+    first_held before = record { address = i; cell = cell; at = at; before = before; here = here }
 
     pub not_all_free : All (IsFree held xid) cells → ⊥
     not_all_free free =
         let apart = All-contains (IsFree held xid) cells cell free (contains_at cells i cell at) other here.its here.another here.holds in
         true≢false (sym here.overlap ∙ apart)
 
--- ---- a cell's place in a list
+-- ---- a cell's address in a list
 
 module _ {S Z : Type 0} (lists : BTreeMap ℕ (Vec (Cell × S) Z)) (xid index : ℕ) (cell : Cell) (at : slice_get (keys_of (listed lists xid)) index ≡ Some cell) where
   pub no_list : None ≡ tree.get nat_cmp lists xid → ⊥
@@ -48,12 +48,12 @@ module _ {S Z : Type 0} (lists : BTreeMap ℕ (Vec (Cell × S) Z)) (xid index : 
     key_at : slice_get (keys_of list.items) index ≡ Some cell
     key_at = ap (λ o. slice_get (keys_of (items_in o)) index) is ∙ at
 
-    pub place_within : index < length list.items
-    place_within = subst (λ n. index < n) (length-keys_of list.items) (slice_get_within (keys_of list.items) index cell key_at)
+    pub address_within : index < length list.items
+    address_within = subst (λ n. index < n) (length-keys_of list.items) (slice_get_within (keys_of list.items) index cell key_at)
 
     pub stood_there : (holds : FinMap nat_cmp (List (Cell × S))) → holds_of holds xid ≡ listed lists xid → (hold : Cell × S) → hold ≡ get_or list.items index hold → StoodAt holds cell hold.1
     stood_there holds seen hold read =
-        let here = slice_get_read list.items (length list.items) index hold refl place_within read in
+        let here = slice_get_read list.items (length list.items) index hold refl address_within read in
         let same : hold.0 ≡ cell = same_value hold.0 cell (ap (option_map (λ (e : Cell × S). e.0)) (sym here) ∙ sym (slice_get-map (λ (e : Cell × S). e.0) list.items index) ∙ key_at) in
         let there : slice_get (holds_of holds xid) index ≡ Some (cell, hold.1) = ap (λ l. slice_get l index) (seen ∙ ap items_in (sym is)) ∙ here ∙ (λ i. Some (same i, hold.1)) in
         record { holder = xid; among = contains_at (holds_of holds xid) index (cell, hold.1) there }

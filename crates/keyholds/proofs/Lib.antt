@@ -1,7 +1,7 @@
 mod Ties
 mod Counting
 mod Overlaps
-mod Placing
+mod Addressing
 mod Listing
 mod Longer
 mod Seen

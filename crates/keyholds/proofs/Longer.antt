@@ -1,4 +1,4 @@
--- One cell more at the end of a transaction's list: its place, its counts, and what overlaps.
+-- One cell more at the end of a transaction's list: its address, its counts, and what overlaps.
 use Rattle.std.specs.Prelude.{◌≡◌, ◌≢◌, ℕ, zero, suc, ◌+◌, ◌==◌, Bool, true, false, cond, List, [], ◌∷◌, ◌++◌, length, Some, None, refl, ◌⊎◌, slice_get, Contains, if◌then◌else◌}
 use Rattle.std.proofs.Common.{sym, ◌∙◌, ap, subst, inl, inr, arith, zero-add}
 use Rattle.std.specs.Prelude.{◌≤◌, take}
@@ -13,11 +13,11 @@ use Rattle.std.specs.BTreeMap as tree
 use Rattle.model.specs.declared.cell.Cell.{Cell}
 use Rattle.model.specs.Cells.{table_of, overlaps}
 use Rattle.model.specs.CellOrder.{cell_cmp, cell_cmp_total, cell_cmp_exact}
-use Rattle.keyholds.specs.declared.places.Place.{Place}
-use Rattle.keyholds.specs.declared.places.Places.{Places}
+use Rattle.keyholds.specs.declared.addresses.Address.{Address}
+use Rattle.keyholds.specs.declared.addresses.Addresses.{Addresses}
 use Rattle.keyholds.specs.Counts.{count_in}
 use Rattle.keyholds.specs.Holds.{IsFree, AreApart}
-use Rattle.keyholds.specs.Places.{ArePlaces, AddsPlace, RemovesPlace, SamePlaces, HasNoPlaces, count_of_table, with_cells}
+use Rattle.keyholds.specs.Addresses.{AreAddresses, AddsAddress, RemovesAddress, SameAddresses, HasNoAddresses, count_of_table, with_cells}
 use Rattle.keyholds.proofs.Ties.{same_or_apart, same_value}
 use Rattle.keyholds.proofs.Overlaps.{contains_at, at_contains, overlaps_symm}
 
@@ -109,19 +109,19 @@ module _ (held more : ℕ → List Cell) (xid : ℕ) (cell : Cell) (longer : IsL
 
   -- ---- the cell comes
 
-  module _ (old new : Places) (kept : ArePlaces held old) (absent : tree.get cell_cmp old.places cell ≡ None) (free : IsFree held xid cell) (adds : AddsPlace cell (record { xid = xid; index = length (held xid) }) old new) where
-    added_at : (x i : ℕ) (c : Cell) → slice_get (more x) i ≡ Some c → tree.get cell_cmp new.places c ≡ Some (record { xid = x; index = i })
+  module _ (old new : Addresses) (kept : AreAddresses held old) (absent : tree.get cell_cmp old.addresses cell ≡ None) (free : IsFree held xid cell) (adds : AddsAddress cell (record { xid = xid; index = length (held xid) }) old new) where
+    added_at : (x i : ℕ) (c : Cell) → slice_get (more x) i ≡ Some c → tree.get cell_cmp new.addresses c ≡ Some (record { xid = x; index = i })
     added_at x i c e = elim (at_cases x i c e) [
-      | inl at ↦ let stood = kept.at x i c at in adds.beside c (λ is. absurd (let none : tree.get cell_cmp old.places c ≡ None = ap (tree.get cell_cmp old.places) is ∙ absent in cc)) ∙ stood
-      | inr last ↦ ap (tree.get cell_cmp new.places) last.2 ∙ adds.here ∙ (λ j. Some (record { xid = sym last.0 j; index = sym last.1 j }))
+      | inl at ↦ let stood = kept.at x i c at in adds.beside c (λ is. absurd (let none : tree.get cell_cmp old.addresses c ≡ None = ap (tree.get cell_cmp old.addresses) is ∙ absent in cc)) ∙ stood
+      | inr last ↦ ap (tree.get cell_cmp new.addresses) last.2 ∙ adds.here ∙ (λ j. Some (record { xid = sym last.0 j; index = sym last.1 j }))
     ]
 
-    added_found : (c : Cell) (p : Place) → tree.get cell_cmp new.places c ≡ Some p → slice_get (more p.xid) p.index ≡ Some c
+    added_found : (c : Cell) (p : Address) → tree.get cell_cmp new.addresses c ≡ Some p → slice_get (more p.xid) p.index ≡ Some c
     added_found c p e = elim (same_or_apart cell_cmp_total cell_cmp_exact c cell) [
       | inl is ↦
-          let place : Place = record { xid = xid; index = length (held xid) } in
-          let same : place ≡ p = same_value place p (sym adds.here ∙ ap (tree.get cell_cmp new.places) (sym is) ∙ e) in
-          ap (λ (q : Place). slice_get (more q.xid) q.index) (sym same) ∙ at_new ∙ ap Some (sym is)
+          let address : Address = record { xid = xid; index = length (held xid) } in
+          let same : address ≡ p = same_value address p (sym adds.here ∙ ap (tree.get cell_cmp new.addresses) (sym is) ∙ e) in
+          ap (λ (q : Address). slice_get (more q.xid) q.index) (sym same) ∙ at_new ∙ ap Some (sym is)
       | inr apart ↦ at_old p.xid p.index c (kept.found c p (sym (adds.beside c apart) ∙ e))
     ]
 
@@ -146,30 +146,30 @@ module _ (held more : ℕ → List Cell) (xid : ℕ) (cell : Cell) (longer : IsL
       ]
     ]
 
-    pub places_added : ArePlaces more new
-    places_added = record { at = added_at; found = added_found; counted = added_counted; apart = added_apart }
+    pub addresses_added : AreAddresses more new
+    addresses_added = record { at = added_at; found = added_found; counted = added_counted; apart = added_apart }
 
   -- ---- the cell goes
 
-  module _ (old new : Places) (kept : ArePlaces more old) (removes : RemovesPlace cell xid old new) where
-    removed_at : (x i : ℕ) (c : Cell) → slice_get (held x) i ≡ Some c → tree.get cell_cmp new.places c ≡ Some (record { xid = x; index = i })
+  module _ (old new : Addresses) (kept : AreAddresses more old) (removes : RemovesAddress cell xid old new) where
+    removed_at : (x i : ℕ) (c : Cell) → slice_get (held x) i ≡ Some c → tree.get cell_cmp new.addresses c ≡ Some (record { xid = x; index = i })
     removed_at x i c e =
         let stood = kept.at x i c (at_old x i c e) in
         removes.beside c (λ is.
         let last = kept.at xid (length (held xid)) cell at_new in
-        let place : Place = record { xid = x; index = i } in
-        let end : Place = record { xid = xid; index = length (held xid) } in
-        let same : place ≡ end = same_value place end (sym stood ∙ ap (tree.get cell_cmp old.places) is ∙ last) in
+        let address : Address = record { xid = x; index = i } in
+        let end : Address = record { xid = xid; index = length (held xid) } in
+        let same : address ≡ end = same_value address end (sym stood ∙ ap (tree.get cell_cmp old.addresses) is ∙ last) in
         let within = slice_get_within (held x) i c e in
-        let whose : x ≡ xid = ap (λ (q : Place). q.xid) same in
-        let where_at : i ≡ length (held xid) = ap (λ (q : Place). q.index) same in
+        let whose : x ≡ xid = ap (λ (q : Address). q.xid) same in
+        let where_at : i ≡ length (held xid) = ap (λ (q : Address). q.index) same in
         let long : length (held x) ≡ length (held xid) = ap (λ y. length (held y)) whose in
         omega (arith, within, where_at, long))
         ∙ stood
 
-    removed_found : (c : Cell) (p : Place) → tree.get cell_cmp new.places c ≡ Some p → slice_get (held p.xid) p.index ≡ Some c
+    removed_found : (c : Cell) (p : Address) → tree.get cell_cmp new.addresses c ≡ Some p → slice_get (held p.xid) p.index ≡ Some c
     removed_found c p e =
-        let apart : c ≢ cell = λ is. absurd (let none : tree.get cell_cmp new.places c ≡ None = ap (tree.get cell_cmp new.places) is ∙ removes.here in cc) in
+        let apart : c ≢ cell = λ is. absurd (let none : tree.get cell_cmp new.addresses c ≡ None = ap (tree.get cell_cmp new.addresses) is ∙ removes.here in cc) in
         elim (at_cases p.xid p.index c (kept.found c p (sym (removes.beside c apart) ∙ e))) [
           | inl at ↦ at
           | inr last ↦ absurd (apart last.2)
@@ -186,8 +186,8 @@ module _ (held more : ℕ → List Cell) (xid : ℕ) (cell : Cell) (longer : IsL
       | inr apart ↦ removes.count.others table x apart ∙ kept.counted table x ∙ count_of_others table x apart
     ]
 
-    pub places_removed : ArePlaces held new
-    places_removed = record {
+    pub addresses_removed : AreAddresses held new
+    addresses_removed = record {
       at = removed_at;
       found = removed_found;
       counted = removed_counted;
@@ -196,19 +196,19 @@ module _ (held more : ℕ → List Cell) (xid : ℕ) (cell : Cell) (longer : IsL
 
 -- ---- the same lists, and none
 
-pub places_same : (held : ℕ → List Cell) (old new : Places) → SamePlaces old new → ArePlaces held old → ArePlaces held new
-places_same held old new same kept = record {
-  at = λ x i c e. same.places c ∙ kept.at x i c e;
-  found = λ c p e. kept.found c p (sym (same.places c) ∙ e);
+pub addresses_same : (held : ℕ → List Cell) (old new : Addresses) → SameAddresses old new → AreAddresses held old → AreAddresses held new
+addresses_same held old new same kept = record {
+  at = λ x i c e. same.addresses c ∙ kept.at x i c e;
+  found = λ c p e. kept.found c p (sym (same.addresses c) ∙ e);
   counted = λ t x. same.counts t x ∙ kept.counted t x;
   apart = kept.apart;
 }
 
-pub places_alike : (held other : ℕ → List Cell) (places : Places) → ((x : ℕ) → held x ≡ other x) → ArePlaces held places → ArePlaces other places
-places_alike held other places same kept = subst (λ (h : ℕ → List Cell). ArePlaces h places) (λ i x. same x i) kept
+pub addresses_alike : (held other : ℕ → List Cell) (addresses : Addresses) → ((x : ℕ) → held x ≡ other x) → AreAddresses held addresses → AreAddresses other addresses
+addresses_alike held other addresses same kept = subst (λ (h : ℕ → List Cell). AreAddresses h addresses) (λ i x. same x i) kept
 
-pub no_places : (held : ℕ → List Cell) (places : Places) → HasNoPlaces places → ((x : ℕ) → held x ≡ []) → ArePlaces held places
-no_places held places none empty = places_alike (λ _. []) held places (λ x. sym (empty x)) (record {
+pub no_addresses : (held : ℕ → List Cell) (addresses : Addresses) → HasNoAddresses addresses → ((x : ℕ) → held x ≡ []) → AreAddresses held addresses
+no_addresses held addresses none empty = addresses_alike (λ _. []) held addresses (λ x. sym (empty x)) (record {
   at = λ x i c e. absurd cc;
   found = λ c p e. absurd (let absent = none.none c in cc);
   counted = λ t x. none.zero t x;

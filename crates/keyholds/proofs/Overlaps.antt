@@ -14,7 +14,7 @@ use Rattle.model.specs.Exact.{key_cmp_exact}
 use Rattle.model.specs.Cells.{table_of, overlaps, same_key}
 use Rattle.keyholds.proofs.Ties.{tied_self}
 
--- ---- places in a list
+-- ---- addresses in a list
 
 pub contains_at : {X : Type 0} (xs : List X) (i : ℕ) (x : X) → slice_get xs i ≡ Some x → Contains xs x
 contains_at xs i x e = (i, slice_get_within xs i x e, get_or_from_slice_get xs i x x e)

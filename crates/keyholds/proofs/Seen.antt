@@ -7,12 +7,12 @@ use Rattle.std.specs.FinMap.{FinMap}
 use Rattle.std.specs.BTreeMap as tree
 use Rattle.std.specs.BTreeMap.{BTreeMap}
 use Rattle.model.specs.declared.cell.Cell.{Cell}
-use Rattle.keyholds.specs.declared.places.Places.{Places}
+use Rattle.keyholds.specs.declared.addresses.Addresses.{Addresses}
 use Rattle.keyholds.specs.Holds.{holds_of, cells_held, AreApart, HasNoEmptyList}
 use Rattle.keyholds.specs.Lists.{lists_seen, listed, items_in, SetsList, SameLists}
-use Rattle.keyholds.specs.Places.{ArePlaces, with_cells}
+use Rattle.keyholds.specs.Addresses.{AreAddresses, with_cells}
 use Rattle.keyholds.proofs.Listing.{get-lists_seen, lists_seen_filled}
-use Rattle.keyholds.proofs.Longer.{places_alike, with_cells_here, with_cells_beside}
+use Rattle.keyholds.proofs.Longer.{addresses_alike, with_cells_here, with_cells_beside}
 use Rattle.std.proofs.lemmas.Bool.{cases_eq}
 
 module _ {S Z : Type 0} (old : BTreeMap ℕ (Vec (Cell × S) Z)) (holds : FinMap nat_cmp (List (Cell × S))) (seen : lists_seen old ≡ holds) where
@@ -23,11 +23,11 @@ module _ {S Z : Type 0} (old : BTreeMap ℕ (Vec (Cell × S) Z)) (holds : FinMap
   pub seen_filled : HasNoEmptyList holds
   seen_filled xid = subst (λ h. HasNoEmptyList h) seen (lists_seen_filled old) xid
 
-  pub seen_apart : (places : Places) → ArePlaces (cells_held (lists_seen old)) places → AreApart (cells_held holds)
-  seen_apart places kept = subst (λ h. AreApart (cells_held h)) seen kept.apart
+  pub seen_apart : (addresses : Addresses) → AreAddresses (cells_held (lists_seen old)) addresses → AreApart (cells_held holds)
+  seen_apart addresses kept = subst (λ h. AreApart (cells_held h)) seen kept.apart
 
-  pub seen_placed : (places : Places) → ArePlaces (cells_held (lists_seen old)) places → ArePlaces (cells_held holds) places
-  seen_placed places kept = subst (λ h. ArePlaces (cells_held h) places) seen kept
+  pub seen_placed : (addresses : Addresses) → AreAddresses (cells_held (lists_seen old)) addresses → AreAddresses (cells_held holds) addresses
+  seen_placed addresses kept = subst (λ h. AreAddresses (cells_held h) addresses) seen kept
 
   module _ (new : BTreeMap ℕ (Vec (Cell × S) Z)) where
     pub seen_same : SameLists old new → (xid : ℕ) → holds_of (lists_seen new) xid ≡ holds_of holds xid
@@ -46,8 +46,8 @@ module _ {S Z : Type 0} (old : BTreeMap ℕ (Vec (Cell × S) Z)) (holds : FinMap
         | inr apart ↦ with_cells_beside (cells_held (lists_seen old)) xid (keys_of items) x apart ∙ ap keys_of (ap (λ h. holds_of h x) seen ∙ sym (set_others x apart))
       ]
 
-      pub set_placed : (places : Places) → ArePlaces (with_cells (cells_held (lists_seen old)) xid (keys_of items)) places → ArePlaces (cells_held (lists_seen new)) places
-      set_placed places kept = places_alike _ _ places set_cells kept
+      pub set_placed : (addresses : Addresses) → AreAddresses (with_cells (cells_held (lists_seen old)) xid (keys_of items)) addresses → AreAddresses (cells_held (lists_seen new)) addresses
+      set_placed addresses kept = addresses_alike _ _ addresses set_cells kept
 
 take-nothing : {X : Type 0} (n : ℕ) → ◌≡◌ {A = List X} (take n []) []
 take-nothing zero = refl

@@ -21,15 +21,15 @@ use Rattle.std.proofs.lemmas.Map.Views.{IsSome-lookup_from_Contains, Contains-ke
 use Rattle.model.specs.declared.cell.Cell.{Cell}
 use Rattle.model.specs.Cells.{table_of}
 use Rattle.model.specs.CellOrder.{cell_cmp, cell_cmp_total, cell_cmp_exact}
-use Rattle.keyholds.specs.declared.places.Place.{Place}
-use Rattle.keyholds.specs.declared.places.Places.{Places}
+use Rattle.keyholds.specs.declared.addresses.Address.{Address}
+use Rattle.keyholds.specs.declared.addresses.Addresses.{Addresses}
 use Rattle.keyholds.specs.Counts.{count_in}
 use Rattle.keyholds.specs.Holds.{holds_of, cells_held, has_cell, with_hold, with_holds, IsFree}
 use Rattle.keyholds.specs.Lists.{lists_seen, listed, SetsList}
-use Rattle.keyholds.specs.Places.{ArePlaces, AddsPlace, count_of_table}
+use Rattle.keyholds.specs.Addresses.{AreAddresses, AddsAddress, count_of_table}
 use Rattle.keyholds.proofs.Overlaps.{contains_at, at_contains, overlaps_itself}
 use Rattle.keyholds.proofs.Listing.{get-lists_seen}
-use Rattle.keyholds.proofs.Longer.{IsLonger, places_added, keys_of-push}
+use Rattle.keyholds.proofs.Longer.{IsLonger, addresses_added, keys_of-push}
 
 -- ---- one hold more
 
@@ -40,20 +40,20 @@ module _ {S : Type 0} (held : List (Cell × S)) (cell : Cell) (stood : S) where
   pub held_newly : has_cell cell held ≡ false → with_hold held (cell, stood) ≡ held ++ (cell, stood) ∷ []
   held_newly e = ap (λ b. if b then held else held ++ (cell, stood) ∷ []) e
 
-module _ {S : Type 0} (holds : FinMap nat_cmp (List (Cell × S))) (places : Places) (kept : ArePlaces (cells_held holds) places) (xid : ℕ) (cell : Cell) where
-  -- a cell at a place that no other transaction has is one of its own
-  pub own_cell : IsFree (cells_held holds) xid cell → (place : Place) → tree.get cell_cmp places.places cell ≡ Some place → has_cell cell (holds_of holds xid) ≡ true
-  own_cell free place e = elim (cases_eq place.xid xid) [
-    | inl is ↦ IsSome-lookup_from_Contains (eq_by_cmp_equiv cell_cmp_total) cell (holds_of holds xid) (subst (λ x. Contains (cells_held holds x) cell) is (contains_at (cells_held holds place.xid) place.index cell (kept.found cell place e)))
-    | inr apart ↦ absurd (true≢false (sym (overlaps_itself cell) ∙ free place.xid cell apart (contains_at (cells_held holds place.xid) place.index cell (kept.found cell place e))))
+module _ {S : Type 0} (holds : FinMap nat_cmp (List (Cell × S))) (addresses : Addresses) (kept : AreAddresses (cells_held holds) addresses) (xid : ℕ) (cell : Cell) where
+  -- a cell at an address that no other transaction has is one of its own
+  pub own_cell : IsFree (cells_held holds) xid cell → (address : Address) → tree.get cell_cmp addresses.addresses cell ≡ Some address → has_cell cell (holds_of holds xid) ≡ true
+  own_cell free address e = elim (cases_eq address.xid xid) [
+    | inl is ↦ IsSome-lookup_from_Contains (eq_by_cmp_equiv cell_cmp_total) cell (holds_of holds xid) (subst (λ x. Contains (cells_held holds x) cell) is (contains_at (cells_held holds address.xid) address.index cell (kept.found cell address e)))
+    | inr apart ↦ absurd (true≢false (sym (overlaps_itself cell) ∙ free address.xid cell apart (contains_at (cells_held holds address.xid) address.index cell (kept.found cell address e))))
   ]
 
-  pub own_cell_some : IsFree (cells_held holds) xid cell → (o : Option Place) → o ≡ tree.get cell_cmp places.places cell → is_some o ≡ true → has_cell cell (holds_of holds xid) ≡ true
+  pub own_cell_some : IsFree (cells_held holds) xid cell → (o : Option Address) → o ≡ tree.get cell_cmp addresses.addresses cell → is_some o ≡ true → has_cell cell (holds_of holds xid) ≡ true
   own_cell_some free None e some = absurd cc
-  own_cell_some free (Some place) e some = own_cell free place (sym e)
+  own_cell_some free (Some address) e some = own_cell free address (sym e)
 
-  -- a cell at no place is none of its own
-  pub new_cell : tree.get cell_cmp places.places cell ≡ None → has_cell cell (holds_of holds xid) ≡ false
+  -- a cell at no address is none of its own
+  pub new_cell : tree.get cell_cmp addresses.addresses cell ≡ None → has_cell cell (holds_of holds xid) ≡ false
   new_cell absent = by (has_cell cell (holds_of holds xid)) refl
     where
       by : (b : Bool) → has_cell cell (holds_of holds xid) ≡ b → b ≡ false
@@ -61,15 +61,15 @@ module _ {S : Type 0} (holds : FinMap nat_cmp (List (Cell × S))) (places : Plac
       by false e = refl
 
   -- no table counts more cells than are held
-  pub counts_within : (length (keys_of (holds_of holds xid)) ≡ length (holds_of holds xid)) → count_in places.counts.counts (table_of cell) xid ≤ length (holds_of holds xid)
+  pub counts_within : (length (keys_of (holds_of holds xid)) ≡ length (holds_of holds xid)) → count_in addresses.counts.counts (table_of cell) xid ≤ length (holds_of holds xid)
   counts_within long = subst (λ n. n ≤ length (holds_of holds xid)) (sym (kept.counted (table_of cell) xid)) (subst (λ n. count_of_table (table_of cell) (cells_held holds xid) ≤ n) long (count_by-le-length (λ c. table_of cell == table_of c) (cells_held holds xid)))
 
--- everything has its place once the cell was added
-pub taken_placed : {S Z : Type 0} (old new : BTreeMap ℕ (Vec (Cell × S) Z)) (places after : Places) (xid : ℕ) (hold : Cell × S) → ArePlaces (cells_held (lists_seen old)) places → IsFree (cells_held (lists_seen old)) xid hold.0 → tree.get cell_cmp places.places hold.0 ≡ None
-    → SetsList xid (listed old xid ++ hold ∷ []) old new → AddsPlace hold.0 (record { xid = xid; index = length (listed old xid) }) places after → ArePlaces (cells_held (lists_seen new)) after
-taken_placed old new places after xid hold kept free absent sets adds =
-    places_added (cells_held (lists_seen old)) (cells_held (lists_seen new)) xid hold.0 longer places after kept absent free
-    (subst (λ n. AddsPlace hold.0 (record { xid = xid; index = n }) places after) long adds)
+-- everything has its address once the cell was added
+pub taken_placed : {S Z : Type 0} (old new : BTreeMap ℕ (Vec (Cell × S) Z)) (addresses after : Addresses) (xid : ℕ) (hold : Cell × S) → AreAddresses (cells_held (lists_seen old)) addresses → IsFree (cells_held (lists_seen old)) xid hold.0 → tree.get cell_cmp addresses.addresses hold.0 ≡ None
+    → SetsList xid (listed old xid ++ hold ∷ []) old new → AddsAddress hold.0 (record { xid = xid; index = length (listed old xid) }) addresses after → AreAddresses (cells_held (lists_seen new)) after
+taken_placed old new addresses after xid hold kept free absent sets adds =
+    addresses_added (cells_held (lists_seen old)) (cells_held (lists_seen new)) xid hold.0 longer addresses after kept absent free
+    (subst (λ n. AddsAddress hold.0 (record { xid = xid; index = n }) addresses after) long adds)
   where
     longer : IsLonger (cells_held (lists_seen old)) (cells_held (lists_seen new)) xid hold.0
     longer = record {

@@ -52,10 +52,10 @@ pub record IsHeldBy (held : ℕ → List Cell) (xid : ℕ) (cell : Cell) (holder
 
 -- the holder has the first cell of a list that another transaction has
 pub record IsFirstHeldBy (held : ℕ → List Cell) (xid : ℕ) (cells : List Cell) (holder : ℕ) : Type 0 where
-  pub place : ℕ
+  pub address : ℕ
   pub cell : Cell
-  pub at : slice_get cells place ≡ Some cell
-  pub before : All (IsFree held xid) (take place cells)
+  pub at : slice_get cells address ≡ Some cell
+  pub before : All (IsFree held xid) (take address cells)
   pub here : IsHeldBy held xid cell holder
 
 -- no two transactions hold cells that overlap

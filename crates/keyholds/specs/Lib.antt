@@ -1,5 +1,5 @@
 pub mod Holds
 pub mod Counts
-pub mod Places
+pub mod Addresses
 pub mod Lists
 pub mod Laws

@@ -7,11 +7,11 @@ ghost use Rattle.model.specs.CellOrder.{cell_cmp};
 ghost use Rattle.model.specs.Cells.{table_of};
 ghost use Rattle.std.specs.BTreeMap.{get};
 ghost use Rattle.keyholds.specs.Counts.{count_in};
-ghost use Rattle.keyholds.specs.Places.{ArePlaces, with_cells, AddsPlace, SamePlaces};
+ghost use Rattle.keyholds.specs.Addresses.{AreAddresses, with_cells, AddsAddress, SameAddresses};
 ghost use Rattle.keyholds.specs.Lists.{listed, SameLists, SetsList, HasRoom};
 
 use crate::Xid;
-use crate::places::{Place, Places};
+use crate::addresses::{Address, Addresses};
 use model::{Cell, OutOfMemory};
 use std::alloc::Global;
 use std::collections::BTreeMap;
@@ -25,7 +25,7 @@ use std::marker::Model;
 #[derive(Drop)]
 pub struct Holds<S> {
     lists: BTreeMap<Xid, Vec<(Cell, S)>>,
-    places: Places,
+    addresses: Addresses,
     alloc: Global,
 }
 
@@ -43,11 +43,11 @@ impl<S> Model for Holds<S> {
 
     ghost use Rattle.keyholds.specs.Lists.{lists_seen};
     ghost use Rattle.keyholds.specs.Holds.{cells_held};
-    ghost use Rattle.keyholds.specs.Places.{ArePlaces};
+    ghost use Rattle.keyholds.specs.Addresses.{AreAddresses};
 
     ghost view = { λ h. lists_seen h.lists };
 
-    ghost invariant = { λ h. ArePlaces (cells_held (lists_seen h.lists)) h.places };
+    ghost invariant = { λ h. AreAddresses (cells_held (lists_seen h.lists)) h.addresses };
 }
 
 impl<S: Drop> Holds<S> {
@@ -57,7 +57,7 @@ impl<S: Drop> Holds<S> {
     {
         Holds {
             lists: BTreeMap::new(alloc),
-            places: Places::new(alloc),
+            addresses: Addresses::new(alloc),
             alloc,
         }
     }
@@ -71,9 +71,9 @@ impl<S: Drop> Holds<S> {
         // No two transactions hold cells that overlap.
         ensures apart { AreApart (cells_held self.now) }
     {
-        let places = &self.places;
+        let addresses = &self.addresses;
         for cell in cells {
-            if let Some(other) = places.other_holder(xid, cell) {
+            if let Some(other) = addresses.other_holder(xid, cell) {
                 return Some(other);
             }
         }
@@ -86,7 +86,7 @@ impl<S: Drop> Holds<S> {
         ensures held { IfSome result (IsHeldBy (cells_held self.now) xid cell.now) }
         ensures apart { AreApart (cells_held self.now) }
     {
-        self.places.other_holder(xid, cell)
+        self.addresses.other_holder(xid, cell)
     }
 
     /// What stood at a cell when it was first held, if it is held. It takes no memory.
@@ -94,9 +94,9 @@ impl<S: Drop> Holds<S> {
         ensures held { IfSome result (λ stood. StoodAt self.now cell.now stood.now) }
         ensures free { IfNone result ((xid : ℕ) → Contains (cells_held self.now xid) cell.now → ⊥) }
     {
-        let place = self.places.find(cell)?;
-        let list = self.lists.get(&place.xid)?;
-        let (_, stood) = &list[place.index];
+        let address = self.addresses.find(cell)?;
+        let list = self.lists.get(&address.xid)?;
+        let (_, stood) = &list[address.index];
         Some(stood)
     }
 
@@ -138,12 +138,12 @@ impl<S: Drop> Holds<S> {
         ensures others { (other : ℕ) → other ≢ xid → holds_of self.new other ≡ holds_of self.old other }
         ensures err { OnErr result (holds_of self.new xid ≡ holds_of self.old xid) }
     {
-        if self.places.find(&cell).is_some() {
+        if self.addresses.find(&cell).is_some() {
             return Ok(());
         }
         hold_cell(
             &mut self.lists,
-            &mut self.places,
+            &mut self.addresses,
             self.alloc,
             xid,
             (cell, stood),
@@ -169,7 +169,7 @@ impl<S: Drop> Holds<S> {
         ensures filled { HasNoEmptyList self.new }
     {
         if let Some(list) = self.lists.get_mut(&xid) {
-            release_from(list, &mut self.places, xid, mark);
+            release_from(list, &mut self.addresses, xid, mark);
         }
     }
 
@@ -180,7 +180,7 @@ impl<S: Drop> Holds<S> {
         ensures filled { HasNoEmptyList self.new }
     {
         if let Some(mut list) = self.lists.remove(&xid) {
-            release_from(&mut list, &mut self.places, xid, 0);
+            release_from(&mut list, &mut self.addresses, xid, 0);
         }
     }
 }
@@ -188,21 +188,21 @@ impl<S: Drop> Holds<S> {
 // One cell more for a transaction, which isn't held yet. Refused for memory, nothing changes.
 fn hold_cell<S: Drop>(
     lists: &mut BTreeMap<Xid, Vec<(Cell, S)>>,
-    places: &mut Places,
+    addresses: &mut Addresses,
     alloc: Global,
     xid: Xid,
     hold: (Cell, S),
 ) -> Result<(), OutOfMemory>
-    requires absent { get cell_cmp places.old.places hold.0 ≡ None }
-    requires counted { count_in places.old.counts.counts (table_of hold.0) xid ≤ length (listed lists.old xid) }
+    requires absent { get cell_cmp addresses.old.addresses hold.0 ≡ None }
+    requires counted { count_in addresses.old.counts.counts (table_of hold.0) xid ≤ length (listed lists.old xid) }
     ensures list { OnOk result (SetsList xid (listed lists.old xid ++ hold ∷ []) lists.old lists.new) }
-    ensures place { OnOk result (AddsPlace hold.0 (record { xid = xid; index = length (listed lists.old xid) }) places.old places.new) }
+    ensures address { OnOk result (AddsAddress hold.0 (record { xid = xid; index = length (listed lists.old xid) }) addresses.old addresses.new) }
     ensures same_lists { OnErr result (SameLists lists.old lists.new) }
-    ensures same_places { OnErr result (SamePlaces places.old places.new) }
+    ensures same_addresses { OnErr result (SameAddresses addresses.old addresses.new) }
 {
     let cell = hold.0.copy()?;
     let index = make_room(lists, alloc, xid)?;
-    places.add(cell, Place { xid, index })?;
+    addresses.add(cell, Address { xid, index })?;
     push(lists, xid, hold);
     Ok(())
 }
@@ -238,16 +238,21 @@ fn push<S: Drop>(lists: &mut BTreeMap<Xid, Vec<(Cell, S)>>, xid: Xid, hold: (Cel
     }
 }
 
-// Cuts a transaction's list to so many cells; the others are at no place any more.
-fn release_from<S: Drop>(list: &mut Vec<(Cell, S)>, places: &mut Places, xid: Xid, mark: usize)
+// Cuts a transaction's list to so many cells; the others are at no address any more.
+fn release_from<S: Drop>(
+    list: &mut Vec<(Cell, S)>,
+    addresses: &mut Addresses,
+    xid: Xid,
+    mark: usize,
+)
     ensures items { list.new.items ≡ take mark list.old.items }
-    ensures places { (held : ℕ → List AnyCell) → held xid ≡ keys_of list.old.items
-        → ArePlaces held places.old
-        → ArePlaces (with_cells held xid (keys_of list.new.items)) places.new }
+    ensures addresses { (held : ℕ → List AnyCell) → held xid ≡ keys_of list.old.items
+        → AreAddresses held addresses.old
+        → AreAddresses (with_cells held xid (keys_of list.new.items)) addresses.new }
 {
     while list.len() > mark {
         if let Some((cell, _)) = list.pop() {
-            places.remove(&cell, xid);
+            addresses.remove(&cell, xid);
         }
     }
 }

@@ -13,29 +13,26 @@
 // which it was first held, with what the caller says stood there then. So a mark is a number, how
 // many cells are held, and a release to it leaves just those held before it.
 //
-// Each cell that is held lies in an ordered map with the transaction that holds it and its place in
+// Each cell that is held lies in an ordered map with the transaction that holds it and its address in
 // that transaction's list, so a cell is looked up with the work of a search in a tree, whatever the
 // values are, and so is the table that it lies in as a whole. For a whole table a second map counts
 // the cells that each transaction holds in each table: who stands before and who behind the asker
 // there. To let go takes a search for each cell that goes. Room is made when a cell is taken:
 // no other call takes memory.
 //
-//   counts     how many cells each transaction holds in each table
-//   places     where each cell that is held stands, and who holds one that overlaps
-//   holds      `Holds`
-//   laws       what is held once cells are taken: as a set, from the front, and apart from others
+//   counts      how many cells each transaction holds in each table
+//   addresses   where each cell that is held stands, and who holds one that overlaps
+//   holds       `Holds`
+//   laws        what is held once cells are taken: as a set, from the front, and apart from others
 //
 // It stands on `model` for cells and their overlap.
+mod addresses;
 mod counts;
 mod holds;
 pub mod laws;
-mod places;
 
 pub use holds::Holds;
-pub use model::Cell;
+pub use model::{Cell, Xid};
 
 #[cfg(test)]
 mod tests;
-
-/// A transaction's number.
-pub type Xid = u32;

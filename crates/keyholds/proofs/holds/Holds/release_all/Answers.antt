@@ -2,7 +2,7 @@ use Rattle.std.proofs.Common.{None, sym, ◌∙◌, ap, [], subst}
 use Rattle.std.specs.Map.{keys_of}
 use Rattle.keyholds.specs.Holds.{cells_held}
 use Rattle.keyholds.specs.Lists.{items_in, lists_seen}
-use Rattle.keyholds.specs.Places.{ArePlaces, with_cells}
+use Rattle.keyholds.specs.Addresses.{AreAddresses, with_cells}
 use Rattle.keyholds.proofs.Listing.{sets_list, get-lists_seen, lists_seen_filled}
 use Rattle.keyholds.proofs.Seen.{set_own, set_others, set_placed}
 use Rattle.keyholds.proofs.holds.Holds.release_all.Goals as goal
@@ -11,9 +11,9 @@ pub invariant_of-self : goal.invariant_of-self
 invariant_of-self g c =
     let lists = c.self.inside.lists in
     let sets = sets_list lists c.remove.new.self c.args.xid None c.remove.ensures.updates in
-    set_placed lists c.args.self.now c.self.view_is c.remove.new.self c.args.xid [] sets c.release_from.new.places
-    (subst (λ l. ArePlaces (with_cells (cells_held (lists_seen lists)) c.args.xid (keys_of l)) c.release_from.new.places) c.release_from.ensures.items
-    (c.release_from.ensures.places (cells_held (lists_seen lists)) (ap keys_of (get-lists_seen lists c.args.xid ∙ ap items_in (sym c.in-Some.ensures.value))) c.self.invariant))
+    set_placed lists c.args.self.now c.self.view_is c.remove.new.self c.args.xid [] sets c.release_from.new.addresses
+    (subst (λ l. AreAddresses (with_cells (cells_held (lists_seen lists)) c.args.xid (keys_of l)) c.release_from.new.addresses) c.release_from.ensures.items
+    (c.release_from.ensures.addresses (cells_held (lists_seen lists)) (ap keys_of (get-lists_seen lists c.args.xid ∙ ap items_in (sym c.in-Some.ensures.value))) c.self.invariant))
 
 pub returns-in-Some-clause-own : goal.returns-in-Some-clause-own
 returns-in-Some-clause-own g c =

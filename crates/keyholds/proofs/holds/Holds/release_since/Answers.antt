@@ -13,8 +13,8 @@ invariant_of-self g c =
     let left = c.release_from.new.list in
     let after = c.get_mut.follows.lender left in
     let sets = sets_list lists after c.args.xid (Some left) ((c.get_mut.follows.holds left).3 (ap is_some (sym c.in-Some.ensures.value))) in
-    set_placed lists c.args.self.now c.self.view_is after c.args.xid left.items sets c.release_from.new.places
-    (c.release_from.ensures.places (cells_held (lists_seen lists)) (ap keys_of (get-lists_seen lists c.args.xid ∙ ap items_in (sym c.in-Some.ensures.value))) c.self.invariant)
+    set_placed lists c.args.self.now c.self.view_is after c.args.xid left.items sets c.release_from.new.addresses
+    (c.release_from.ensures.addresses (cells_held (lists_seen lists)) (ap keys_of (get-lists_seen lists c.args.xid ∙ ap items_in (sym c.in-Some.ensures.value))) c.self.invariant)
 
 pub returns-in-Some-clause-own : goal.returns-in-Some-clause-own
 returns-in-Some-clause-own g c =

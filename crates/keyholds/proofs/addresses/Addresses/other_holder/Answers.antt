@@ -1,9 +1,9 @@
 use Rattle.std.specs.Prelude.{MatchOption}
 use Rattle.std.proofs.Common.{subst}
 use Rattle.model.specs.declared.cell.Cell.TheVariants.{Whole}
-use Rattle.keyholds.specs.Places.{IsAlone, IsHeldAt}
-use Rattle.keyholds.proofs.Placing.{answered_whole, answered_here, answered_above}
-use Rattle.keyholds.proofs.places.Places.other_holder.Goals as goal
+use Rattle.keyholds.specs.Addresses.{IsAlone, IsHeldAt}
+use Rattle.keyholds.proofs.Addressing.{answered_whole, answered_here, answered_above}
+use Rattle.keyholds.proofs.addresses.Addresses.other_holder.Goals as goal
 
 pub returns-in-Whole : goal.returns-in-Whole
 returns-in-Whole c =

@@ -1,0 +1,59 @@
+-- Where each cell that is held stands.
+--     AreAddresses      each cell of each list, and no other, has its address, and each table its counts
+--     with_cells      the lists, with another one for a transaction
+use Rattle.std.specs.Prelude.{◌≡◌, ◌≢◌, ℕ, ◌+◌, ◌-◌, ◌==◌, List, Some, None, if◌then◌else◌, slice_get, count_by}
+use Rattle.std.specs.BTreeMap as tree
+use Rattle.model.specs.declared.cell.Cell.{Cell}
+use Rattle.model.specs.Cells.{table_of}
+use Rattle.model.specs.CellOrder.{cell_cmp}
+use Rattle.keyholds.specs.declared.addresses.Address.{Address}
+use Rattle.keyholds.specs.declared.addresses.Addresses.{Addresses}
+use Rattle.keyholds.specs.Counts.{count_in, SetsCount, SameCounts}
+use Rattle.keyholds.specs.Holds.{AreApart}
+
+-- how many cells of a list lie in a table
+abbrev pub count_of_table : ℕ → List Cell → ℕ
+count_of_table table cells = count_by (λ c. table == table_of c) cells
+
+-- each cell of each transaction's list stands at its address, and nothing else does
+pub record AreAddresses (held : ℕ → List Cell) (addresses : Addresses) : Type 0 where
+  pub at : (xid index : ℕ) (cell : Cell) → slice_get (held xid) index ≡ Some cell → tree.get cell_cmp addresses.addresses cell ≡ Some (record { xid = xid; index = index })
+  pub found : (cell : Cell) (address : Address) → tree.get cell_cmp addresses.addresses cell ≡ Some address → slice_get (held address.xid) address.index ≡ Some cell
+  pub counted : (table xid : ℕ) → count_in addresses.counts.counts table xid ≡ count_of_table table (held xid)
+  pub apart : AreApart held
+
+-- the lists, with another one for a transaction
+abbrev pub with_cells : (ℕ → List Cell) → ℕ → List Cell → ℕ → List Cell
+with_cells held xid cells other = if other == xid then cells else held other
+
+-- No cell is held.
+pub record HasNoAddresses (addresses : Addresses) : Type 0 where
+  pub none : (cell : Cell) → tree.get cell_cmp addresses.addresses cell ≡ None
+  pub zero : (table xid : ℕ) → count_in addresses.counts.counts table xid ≡ 0
+
+-- no other transaction has just this cell
+abbrev pub IsAlone : ℕ → Cell → Addresses → Type 0
+IsAlone xid cell addresses = (address : Address) → tree.get cell_cmp addresses.addresses cell ≡ Some address → address.xid ≡ xid
+
+-- another transaction has just this cell
+pub record IsHeldAt (xid : ℕ) (cell : Cell) (addresses : Addresses) (holder : ℕ) : Type 0 where
+  pub another : holder ≢ xid
+  pub index : ℕ
+  pub at : tree.get cell_cmp addresses.addresses cell ≡ Some (record { xid = holder; index = index })
+
+-- a cell is at an address, and the transaction's count in its table is one more
+pub record AddsAddress (cell : Cell) (address : Address) (old new : Addresses) : Type 0 where
+  pub here : tree.get cell_cmp new.addresses cell ≡ Some address
+  pub beside : (other : Cell) → other ≢ cell → tree.get cell_cmp new.addresses other ≡ tree.get cell_cmp old.addresses other
+  pub count : SetsCount (table_of cell) address.xid (count_in old.counts.counts (table_of cell) address.xid + 1) old.counts.counts new.counts.counts
+
+-- a cell is at no address, and the transaction's count in its table is one less
+pub record RemovesAddress (cell : Cell) (xid : ℕ) (old new : Addresses) : Type 0 where
+  pub here : tree.get cell_cmp new.addresses cell ≡ None
+  pub beside : (other : Cell) → other ≢ cell → tree.get cell_cmp new.addresses other ≡ tree.get cell_cmp old.addresses other
+  pub count : SetsCount (table_of cell) xid (count_in old.counts.counts (table_of cell) xid - 1) old.counts.counts new.counts.counts
+
+-- Each cell is held as it was.
+pub record SameAddresses (old new : Addresses) : Type 0 where
+  pub addresses : (cell : Cell) → tree.get cell_cmp new.addresses cell ≡ tree.get cell_cmp old.addresses cell
+  pub counts : SameCounts old.counts.counts new.counts.counts
