@@ -98,7 +98,9 @@ pub record Describes (doc : Members) (ts : List Draft) : Type 0 where
 
 -- two elements in different places of the list are so
 abbrev pub SomeTwo : {A : Type 0} → List A → (A → A → Type 0) → Type 0
-SomeTwo {A} xs R = (place : ℕ) × (later : ℕ) × (x : A) × (y : A) × (place < later) × (slice_get xs place ≡ Some x) × (slice_get xs later ≡ Some y) × R x y
+SomeTwo {A} xs R =
+    (place : ℕ) × (later : ℕ) × (x : A) × (y : A)
+    × (place < later) × (slice_get xs place ≡ Some x) × (slice_get xs later ≡ Some y) × R x y
 
 -- some element of the list is so
 abbrev pub SomeOne : {A : Type 0} → List A → (A → Type 0) → Type 0
@@ -117,7 +119,8 @@ IsOfType Truth value = (b : Bool) × (value ≡ TruthValue b)
 
 -- the default is of another kind, or a value that is none of the column's type
 abbrev pub IsWrongDefault : ColumnType → DefaultDraft → Type 0
-IsWrongDefault kind default = (default ≡ OtherKind) ⊎ ((value : Value) × (default ≡ Given value) × (¬ (IsOfType kind value)))
+IsWrongDefault kind default =
+    (default ≡ OtherKind) ⊎ ((value : Value) × (default ≡ Given value) × (¬ (IsOfType kind value)))
 
 -- what is wrong with the tables that a document describes
 abbrev pub IsTablesFault : List Draft → CatalogFault → Type 0
@@ -125,7 +128,8 @@ IsTablesFault ts DuplicateTable = SomeTwo ts (λ t u. (t.namespace ≡ u.namespa
 IsTablesFault ts DuplicateColumn = SomeOne ts (λ t. SomeTwo t.columns (λ c d. c.name ≡ d.name))
 IsTablesFault ts NoPrimaryKey = SomeOne ts (λ t. t.primary ≡ [])
 IsTablesFault ts KeyColumnUnknown =
-    SomeOne ts (λ t. IsUnknownKey t.columns t.primary ⊎ SomeOne t.uniques (λ key. (key ≡ []) ⊎ IsUnknownKey t.columns key))
+    SomeOne ts (λ t. IsUnknownKey t.columns t.primary
+    ⊎ SomeOne t.uniques (λ key. (key ≡ []) ⊎ IsUnknownKey t.columns key))
 IsTablesFault ts BadDefault = SomeOne ts (λ t. SomeOne t.columns (λ c. IsWrongDefault c.kind c.default))
 IsTablesFault ts OverLimit = (1024 < length ts) ⊎ SomeOne ts (λ t. (1600 < length t.columns) ⊎ (16 < length t.uniques))
 IsTablesFault ts NotToml = ⊥
@@ -136,8 +140,10 @@ IsTablesFault ts OutOfMemory = ⊥
 -- is wrong with the tables that it describes.
 abbrev pub IsTextFault : List ℕ → CatalogFault → Type 0
 IsTextFault text NotToml = parse_document text ≡ None
-IsTextFault text UnknownField = (doc : Members) × (parse_document text ≡ Some doc) × ((ts : List Draft) → ¬ (Describes doc ts))
-IsTextFault text fault = (doc : Members) × (ts : List Draft) × (parse_document text ≡ Some doc) × Describes doc ts × IsTablesFault ts fault
+IsTextFault text UnknownField =
+    (doc : Members) × (parse_document text ≡ Some doc) × ((ts : List Draft) → ¬ (Describes doc ts))
+IsTextFault text fault =
+    (doc : Members) × (ts : List Draft) × (parse_document text ≡ Some doc) × Describes doc ts × IsTablesFault ts fault
 
 -- the order of faults: the first that applies is answered
 abbrev pub order : CatalogFault → ℕ
@@ -157,7 +163,8 @@ order OutOfMemory = 9
 pub record NamesKey (columns : List Column) (names : List (List ℕ)) (key : List ℕ) : Type 0 where
   pub width : length key ≡ length names
   pub columns_named : (k : ℕ) (name : List ℕ) → slice_get names k ≡ Some name
-      → (number : ℕ) × (c : Column) × (slice_get key k ≡ Some number) × (slice_get columns number ≡ Some c) × (c.name ≡ name)
+      → (number : ℕ) × (c : Column)
+      × (slice_get key k ≡ Some number) × (slice_get columns number ≡ Some c) × (c.name ≡ name)
 
 -- the default that a column has: the one given, or null
 abbrev pub HasDefault : DefaultDraft → Option Value → Type 0
@@ -183,4 +190,5 @@ pub record Defines (t : Draft) (d : Definition) : Type 0 where
 -- the catalog has the tables that the document describes, one by one
 pub record DefinesAll (ts : List Draft) (catalog : List Definition) : Type 0 where
   pub count : length catalog ≡ length ts
-  pub each : (place : ℕ) (t : Draft) → slice_get ts place ≡ Some t → (d : Definition) × (slice_get catalog place ≡ Some d) × Defines t d
+  pub each : (place : ℕ) (t : Draft) → slice_get ts place ≡ Some t
+      → (d : Definition) × (slice_get catalog place ≡ Some d) × Defines t d

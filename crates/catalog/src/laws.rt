@@ -22,6 +22,7 @@ pub fn texts_are_refused_first()
 
 /// A catalog has, table by table and column by column, the names, types, defaults and keys of the document.
 pub fn catalogs_have_what_is_described()
-    ensures { (text : List ℕ) (catalog : List Definition) → catalog_of text ≡ Ok catalog → (doc : Members) × (ts : List Draft)
-        × (parse_document text ≡ Some doc) × Describes doc ts × DefinesAll ts catalog }
+    ensures { (text : List ℕ) (catalog : List Definition) → catalog_of text ≡ Ok catalog
+        → (doc : Members) × (ts : List Draft) × (parse_document text ≡ Some doc) × Describes doc ts
+        × DefinesAll ts catalog }
 {}

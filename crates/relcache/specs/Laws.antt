@@ -67,7 +67,8 @@ HasNoTable tables r = (place : ℕ) (t : Definition) → slice_get tables place 
 pub record IsTableOf (tables : List Definition) (r : Published) (place : ℕ) (t : Definition) : Type 0 where
   pub stands : slice_get tables place ≡ Some t
   pub named : IsNamedBy t r
-  pub first : (before : ℕ) (other : Definition) → before < place → slice_get tables before ≡ Some other → ¬ (IsNamedBy other r)
+  pub first : (before : ℕ) (other : Definition) → before < place → slice_get tables before ≡ Some other
+      → ¬ (IsNamedBy other r)
 
 -- ---- columns
 
@@ -89,7 +90,9 @@ PublishesOther sent columns = (place : ℕ) × (name : List ℕ) × Publishes se
 
 -- one name is published in two places
 abbrev pub PublishesTwice : List PublishedColumn → Type 0
-PublishesTwice sent = (place : ℕ) × (later : ℕ) × (name : List ℕ) × (place < later) × Publishes sent place name × Publishes sent later name
+PublishesTwice sent =
+    (place : ℕ) × (later : ℕ) × (name : List ℕ)
+    × (place < later) × Publishes sent place name × Publishes sent later name
 
 -- the column is the primary key's k-th
 abbrev pub IsKeyColumn : Definition → ℕ → Column → Type 0
@@ -106,7 +109,8 @@ IsKeyUnsent sent t =
 -- what applies to a relation that is used
 abbrev pub IsRelationFault : List Definition → Published → RelFault → Type 0
 IsRelationFault tables r TableMissing = HasNoTable tables r
-IsRelationFault tables r ColumnMissing = (place : ℕ) × (t : Definition) × IsTableOf tables r place t × PublishesOther r.columns t.columns
+IsRelationFault tables r ColumnMissing =
+    (place : ℕ) × (t : Definition) × IsTableOf tables r place t × PublishesOther r.columns t.columns
 IsRelationFault tables r ColumnCount = PublishesTwice r.columns
 IsRelationFault tables r UnknownRelation = ⊥
 IsRelationFault tables r KeyNotSent = ⊥
@@ -117,7 +121,8 @@ IsRelationFault tables r OutOfMemory = ⊥
 -- what applies to an OID that is used: no relation was learnt for it, or what applies to that relation
 abbrev pub IsUseFault : List Definition → Relations → ℕ → RelFault → Type 0
 IsUseFault tables relations oid UnknownRelation = relation_of relations oid ≡ None
-IsUseFault tables relations oid fault = (r : Published) × (relation_of relations oid ≡ Some r) × IsRelationFault tables r fault
+IsUseFault tables relations oid fault =
+    (r : Published) × (relation_of relations oid ≡ Some r) × IsRelationFault tables r fault
 
 -- Each column of the table takes its value from the published column of its name, wherever that stands, and
 -- otherwise from its default. So does the k-th column of the primary key, where all of them are flagged as key.
@@ -134,8 +139,8 @@ pub record Maps (sent : List PublishedColumn) (t : Definition) (m : Mapped) : Ty
       → slice_get m.columns number ≡ Some (Default None)
   pub unsent : (m.key ≡ None) ↔ IsKeyUnsent sent t
   pub key_width : (fields : List Field) → m.key ≡ Some fields → length fields ≡ length t.primary
-  pub key : (fields : List Field) (k place : ℕ) (c : Column) → m.key ≡ Some fields → IsKeyColumn t k c → Flags sent place c.name
-      → slice_get fields k ≡ Some (record { place = place; kind = c.kind })
+  pub key : (fields : List Field) (k place : ℕ) (c : Column) → m.key ≡ Some fields
+      → IsKeyColumn t k c → Flags sent place c.name → slice_get fields k ≡ Some (record { place = place; kind = c.kind })
 
 -- ---- values
 
@@ -158,7 +163,8 @@ Spells TextType text value = value ≡ Text text
 -- the field's column of the tuple tells this value: a null, or the one that its text spells
 abbrev pub Tells : List SentColumn → Field → Option Value → Type 0
 Tells tuple field None = slice_get tuple field.place ≡ Some Null
-Tells tuple field (Some value) = (text : List ℕ) × (slice_get tuple field.place ≡ Some (SentText text)) × Spells field.kind text value
+Tells tuple field (Some value) =
+    (text : List ℕ) × (slice_get tuple field.place ≡ Some (SentText text)) × Spells field.kind text value
 
 -- what the field's column asks of an update: to keep what is sent as unchanged, and else to set what it tells
 abbrev pub Patches : List SentColumn → Field → ColumnPatch → Type 0
@@ -211,9 +217,11 @@ IsNew (Delete old) tuple = ⊥
 -- a column of the new row can't be read, or is sent as unchanged in an insert
 abbrev pub IsBadRow : Mapped → RowMessage → Type 0
 IsBadRow m (Insert new) =
-    (number : ℕ) × (field : Field) × (slice_get m.columns number ≡ Some (Sent field)) × ((value : Option Value) → ¬ (Tells new field value))
+    (number : ℕ) × (field : Field) × (slice_get m.columns number ≡ Some (Sent field))
+    × ((value : Option Value) → ¬ (Tells new field value))
 IsBadRow m (Update old new) =
-    (number : ℕ) × (field : Field) × (slice_get m.columns number ≡ Some (Sent field)) × ((column : ColumnPatch) → ¬ (Patches new field column))
+    (number : ℕ) × (field : Field) × (slice_get m.columns number ≡ Some (Sent field))
+    × ((column : ColumnPatch) → ¬ (Patches new field column))
 IsBadRow m (Delete old) = ⊥
 
 -- this holds of a column of the primary key, in the tuple that a row is looked up by
@@ -225,8 +233,10 @@ AtKey m row P =
 -- what applies to a row message
 abbrev pub IsRowFault : Mapped → RowMessage → RelFault → Type 0
 IsRowFault m row KeyNotSent = (tuple : List SentColumn) × LooksUp row tuple × (m.key ≡ None)
-IsRowFault m row ColumnCount = (tuple : List SentColumn) × (LooksUp row tuple ⊎ IsNew row tuple) × (length tuple ≢ m.published)
-IsRowFault m row BadValue = IsBadRow m row ⊎ AtKey m row (λ tuple field. (value : Option Value) → ¬ (Tells tuple field value))
+IsRowFault m row ColumnCount =
+    (tuple : List SentColumn) × (LooksUp row tuple ⊎ IsNew row tuple) × (length tuple ≢ m.published)
+IsRowFault m row BadValue =
+    IsBadRow m row ⊎ AtKey m row (λ tuple field. (value : Option Value) → ¬ (Tells tuple field value))
 IsRowFault m row NullKey = AtKey m row (λ tuple field. Tells tuple field None)
 IsRowFault m row UnknownRelation = ⊥
 IsRowFault m row TableMissing = ⊥
@@ -237,8 +247,8 @@ IsRowFault m row OutOfMemory = ⊥
 abbrev pub Asks : Mapped → RowMessage → Change → Type 0
 Asks m (Insert new) change = (row : List (Option Value)) × (change ≡ Put m.table row) × IsRowOf m new row
 Asks m (Update old new) change =
-    (lookup : List SentColumn) × (fields : List Field) × (key : List Value) × (patch : List ColumnPatch) × (change ≡ Set m.table key patch)
-    × LooksUp (Update old new) lookup × (m.key ≡ Some fields) × IsKeyOf fields lookup key × IsPatchOf m new patch
+    (lookup : List SentColumn) × (fields : List Field) × (key : List Value) × (patch : List ColumnPatch)
+    × (change ≡ Set m.table key patch) × LooksUp (Update old new) lookup × (m.key ≡ Some fields) × IsKeyOf fields lookup key × IsPatchOf m new patch
 Asks m (Delete old) change =
     (lookup : List SentColumn) × (fields : List Field) × (key : List Value) × (change ≡ Remove m.table key)
     × LooksUp (Delete old) lookup × (m.key ≡ Some fields) × IsKeyOf fields lookup key
