@@ -10,7 +10,8 @@ module _ {A : Type 0} where
   within (x ∷ xs) (suc i) a e = let h = within xs i a e in omega arith
 
   -- in a list with one more at its end
-  pub at_end : (l : List A) (x : A) (i : ℕ) (a : A) → get_elem? (l ++ x ∷ []) i ≡ some a → (get_elem? l i ≡ some a) ⊎ ((i ≡ length l) × (x ≡ a))
+  pub at_end : (l : List A) (x : A) (i : ℕ) (a : A) → get_elem? (l ++ x ∷ []) i ≡ some a
+      → (get_elem? l i ≡ some a) ⊎ ((i ≡ length l) × (x ≡ a))
   at_end [] x zero a e = inr (refl, some-injective x a e)
   at_end [] x (suc i) a e = absurd (some-ne-none a (sym e))
   at_end (y ∷ ys) x zero a e = inl e

@@ -1,29 +1,35 @@
 -- Both ends in one seat: they join, compare, and part to begin anew; and a new ring's table.
-use Rattle.std.proofs.Common.{◌≡◌, ℕ, zero, suc, ◌+◌, ◌%◌, ◌^◌, ◌<◌, ◌≤◌, ◌≢◌, ◌⊎◌, Bool, true, false, List, [], ◌∷◌, ◌++◌, map, length, get_or, set, sym, refl, ap, ◌∙◌, subst, inl, inr, ⊎_elim, arith, le_refl, mod-lt, length-append, append_assoc, append-nil, replicate, Option, Some, None, MatchOption}
+use Rattle.std.proofs.Common.{◌≡◌, ℕ, zero, suc, ◌+◌, ◌%◌, ◌^◌, ◌<◌, ◌≤◌, ◌≢◌, ◌⊎◌, Bool, true, false, List, [], ◌∷◌, ◌++◌, map, length, get_or, set, sym, refl, ap, ◌∙◌, subst, inl, inr, ⊎_elim, arith, le_refl, mod-lt, length-append, replicate, Option, Some, None, MatchOption}
 use Rattle.std.proofs.lemmas.List.{nil_from_length, length-replicate, length-map}
 use mathlib.Core.Option.{none, some}
-use mathlib.Core.Option as maybe
 use lib.ListN.{get_elem?}
-use Rattle.atomic_table.specs.Table.{State, Me, step, keeps, opening, Allows, Splits, Joins}
+use Rattle.atomic_table.specs.Table.{Me, step, keeps, opening, Allows, Splits, Joins}
 use Rattle.atomic_table.proofs.Lists.{at_set}
 use Rattle.ring.specs.declared.protocol.View.{View}
-use Rattle.ring.specs.declared.protocol.TheConstants.{HEAD, TAIL, DOOM}
+use Rattle.ring.specs.declared.protocol.TheConstants.{HEAD, TAIL, DOOM, WORDS}
 use Rattle.ring.specs.Flow.{Course, Slots, SenderKnows, TakerKnows, Holds, Flow, head_of, tail_of, worth}
-use Rattle.ring.specs.Steps.{Agrees, compared, undoomed, opened, sender_of, taker_of, met, spent}
+use Rattle.ring.specs.Steps.{compared, undoomed, opened, sender_of, taker_of, met, spent}
 use Rattle.ring.proofs.Lists.{within, at_end}
 use Rattle.ring.proofs.Words.{loaded, doom_stored}
 use Rattle.ring.proofs.TakerSteps.{not_reading}
 use Rattle.ring.proofs.Seats.{reseats, sends_alone, takes_alone, sender_steps, slots_of}
 
 module _ {T : Type 0} where
-  next_of : (reading : Bool) (left : List T) (taken : Option T) → Holds reading left taken → MatchOption taken (Unit {0}) (λ x. (others : List T) × (left ≡ x ∷ others))
+  next_of : (reading : Bool) (left : List T) (taken : Option T) → Holds reading left taken
+      → MatchOption taken (Unit {0}) (λ x. (others : List T) × (left ≡ x ∷ others))
   next_of reading left None h = tt
   next_of reading left (Some x) h = h.1
 
-  pub compares : (n id : ℕ) (me : Me (Option T) (View T)) → me.0.sends ≡ true → me.0.takes ≡ true → Allows Flow n id me HEAD (λ m. m) (compared (step n HEAD 0 0 none) me)
-  compares n id me on takes s law wide at _ = let c = law.course in let v : View T = me.0 in let a = (law.seats.of_sender id v at on).1 in let b = (law.seats.of_taker id v at takes).1 in let sl = slots_of s law n wide in
-      let long : length v.acked ≡ length c.acked = ap length b.acked_is in let all : length v.sent ≡ length (c.acked ++ c.left) = ap length a.sent_is in let base : v.sent_before ≡ c.before = a.before_is in
-      let far : tail_of c ≤ 2 ^ 63 = law.counts.far in let seen : v.counted ≤ length c.acked = a.counted_is in let known : v.known ≤ length (c.acked ++ c.left) = b.known_is in (
+  pub compares : (n id : ℕ) (me : Me (Option T) (View T)) → me.0.sends ≡ true → me.0.takes ≡ true
+      → Allows Flow n id me HEAD (λ m. m) (compared (step n HEAD 0 0 none) me)
+  compares n id me on takes s law wide at _ = let c = law.course in let v : View T = me.0 in
+      let a = (law.seats.of_sender id v at on).1 in let b = (law.seats.of_taker id v at takes).1 in
+      let sl = slots_of s law n wide in
+      let long : length v.acked ≡ length c.acked = ap length b.acked_is in
+      let all : length v.sent ≡ length (c.acked ++ c.left) = ap length a.sent_is in
+      let base : v.sent_before ≡ c.before = a.before_is in
+      let far : tail_of c ≤ 2 ^ 63 = law.counts.far in let seen : v.counted ≤ length c.acked = a.counted_is in
+      let known : v.known ≤ length (c.acked ++ c.left) = b.known_is in (
         v,
         keeps,
         tt,
@@ -50,9 +56,12 @@ module _ {T : Type 0} where
         ),
       )
 
-  pub undooms : (n id : ℕ) (me : Me (Option T) (View T)) → me.0.sends ≡ true → me.0.takes ≡ true → Allows Flow n id me DOOM (λ _. 0) (λ _ m. undoomed (step n DOOM 0 0 none) me 0 m)
-  undooms n id me on takes s law wide at _ = let c = law.course in let v : View T = me.0 in let a = (law.seats.of_sender id v at on).1 in let b = (law.seats.of_taker id v at takes).1 in
-      let w : View T = record v { dooms = false; doomed = false } in let c' : Course T = record c { dooms = false } in (
+  pub undooms : (n id : ℕ) (me : Me (Option T) (View T)) → me.0.sends ≡ true → me.0.takes ≡ true
+      → Allows Flow n id me DOOM (λ _. 0) (λ _ m. undoomed (step n DOOM 0 0 none) me 0 m)
+  undooms n id me on takes s law wide at _ = let c = law.course in let v : View T = me.0 in
+      let a = (law.seats.of_sender id v at on).1 in let b = (law.seats.of_taker id v at takes).1 in
+      let w : View T = record v { dooms = false; doomed = false } in
+      let c' : Course T = record c { dooms = false } in (
         w,
         keeps,
         tt,
@@ -71,8 +80,10 @@ module _ {T : Type 0} where
       )
 
   -- the seat id takes in what the seat other knows
-  pub joins : (id other : ℕ) (v w : View T) → v.takes ≡ true → w.sends ≡ true → Joins Flow id v other w (met v w) spent
-  joins id other v w takes sends s law at apart there = let c = law.course in let views = s.views in let m : View T = met v w in
+  pub joins : (id other : ℕ) (v w : View T) → v.takes ≡ true → w.sends ≡ true
+      → Joins Flow id v other w (met v w) spent
+  joins id other v w takes sends s law at apart there = let c = law.course in let views = s.views in
+      let m : View T = met v w in
       let was : get_elem? views other ≡ some w = ⊎_elim (λ e. absurd (apart e.0)) (λ e. e.1) (at_set views id other m w there) in
       let b = (law.seats.of_taker id v at takes) in let a = (law.seats.of_sender other w was sends) in
       let old : (i : ℕ) (u : View T) → get_elem? (set (set views id m) other spent) i ≡ some u → ((i ≡ id) × (m ≡ u)) ⊎ (((i ≡ other) × (spent ≡ u)) ⊎ ((i ≢ other) × (get_elem? views i ≡ some u))) =
@@ -93,13 +104,22 @@ module _ {T : Type 0} where
       }
 
   -- the seat id keeps the taker's part and a new seat has the sender's; both begin behind all that was sent
-  pub parts : (id : ℕ) (v : View T) → v.sends ≡ true → v.takes ≡ true → v.sent ≡ v.acked → v.taken ≡ None → v.writing ≡ false → v.dooms ≡ false → Splits Flow id v (taker_of v) (sender_of v)
-  parts id v on takes done idle quiet spared s law at = let c = law.course in let a = (law.seats.of_sender id v at on).1 in let b = (law.seats.of_taker id v at takes).1 in let h = law.counts in
-      let same : length (c.acked ++ c.left) ≡ length c.acked = ap length (sym a.sent_is ∙ done ∙ b.acked_is) in let split : length (c.acked ++ c.left) ≡ length c.acked + length c.left = length-append c.acked c.left in
-      let none' : c.left ≡ [] = nil_from_length c.left (omega arith) in let free : c.reading ≡ false = not_reading c.reading c.left v.taken b.taken_is idle in let shut : c.writing ≡ false = sym a.writing_is ∙ quiet in
+  pub parts : (id : ℕ) (v : View T) → v.sends ≡ true → v.takes ≡ true → v.sent ≡ v.acked → v.taken ≡ None
+      → v.writing ≡ false → v.dooms ≡ false → Splits Flow id v (taker_of v) (sender_of v)
+  parts id v on takes done idle quiet spared s law at = let c = law.course in
+      let a = (law.seats.of_sender id v at on).1 in let b = (law.seats.of_taker id v at takes).1 in
+      let h = law.counts in
+      let same : length (c.acked ++ c.left) ≡ length c.acked = ap length (sym a.sent_is ∙ done ∙ b.acked_is) in
+      let split : length (c.acked ++ c.left) ≡ length c.acked + length c.left = length-append c.acked c.left in
+      let none' : c.left ≡ [] = nil_from_length c.left (omega arith) in
+      let free : c.reading ≡ false = not_reading c.reading c.left v.taken b.taken_is idle in
+      let shut : c.writing ≡ false = sym a.writing_is ∙ quiet in
       let begin : Course T = record { before = tail_of c; acked = []; left = []; dooms = false; writing = false; reading = false } in let head : get_or s.words HEAD 0 ≡ head_of c = h.head_is in let tail : get_or s.words TAIL 0 ≡ tail_of c = h.tail_is in
-      let base : v.sent_before ≡ c.before = a.before_is in let long : length v.sent ≡ length (c.acked ++ c.left) = ap length a.sent_is in let far : tail_of c ≤ 2 ^ 63 = h.far in
-      let there : v.sent_before + length v.sent ≡ tail_of c = omega arith in let l : View T = taker_of v in let r : View T = sender_of v in record {
+      let base : v.sent_before ≡ c.before = a.before_is in
+      let long : length v.sent ≡ length (c.acked ++ c.left) = ap length a.sent_is in
+      let far : tail_of c ≤ 2 ^ 63 = h.far in
+      let there : v.sent_before + length v.sent ≡ tail_of c = omega arith in let l : View T = taker_of v in
+      let r : View T = sender_of v in record {
         course = begin;
         count = law.count;
         counts = record { wide = h.wide; head_is = omega arith; tail_is = omega arith; doom_is = h.doom_is ∙ ap worth (sym a.dooms_is ∙ spared); far = omega arith };
@@ -124,7 +144,7 @@ module _ {T : Type 0} where
   free_at (suc n) (suc p) h = free_at n p (omega arith)
 
   -- a new ring: every slot is free, and one seat has both ends
-  pub opens : (n : ℕ) → 0 < n → Flow (opening (0 ∷ 0 ∷ 0 ∷ []) (replicate n None) (opened {T = T}))
+  pub opens : (n : ℕ) → 0 < n → Flow (opening (replicate WORDS 0) (replicate n None) (opened {T = T}))
   opens n some' = let begin : Course T = record { before = 0; acked = []; left = []; dooms = false; writing = false; reading = false } in record {
     course = begin;
     count = n;

@@ -1,5 +1,5 @@
 -- The view of one seat changes, and what has gone through the ring with it.
-use Rattle.std.proofs.Common.{◌≡◌, ℕ, ◌≢◌, Bool, true, List, length, get_or, set, sym, ◌∙◌, subst, ⊎_elim, Option}
+use Rattle.std.proofs.Common.{◌≡◌, ℕ, ◌≢◌, true, List, length, get_or, set, sym, ◌∙◌, subst, ⊎_elim, Option}
 use mathlib.Core.Option.{some}
 use lib.ListN.{get_elem?}
 use Rattle.atomic_table.specs.Table.{State, Me, Act, Valid, stepped, carried_after}
@@ -8,18 +8,22 @@ use Rattle.ring.specs.declared.protocol.View.{View}
 use Rattle.ring.specs.Flow.{Course, Slots, Seats, SenderKnows, TakerKnows, Flow, head_of}
 
 module _ {T : Type 0} where
-  pub slots_of : (s : State (Option T) (View T)) (law : Flow s) (n : ℕ) → length s.homes ≡ n → Slots n s.homes (head_of law.course) law.course.left law.course.writing law.course.reading
+  pub slots_of : (s : State (Option T) (View T)) (law : Flow s) (n : ℕ) → length s.homes ≡ n
+      → Slots n s.homes (head_of law.course) law.course.left law.course.writing law.course.reading
   slots_of s law n wide = subst (λ m. Slots m s.homes (head_of law.course) law.course.left law.course.writing law.course.reading) (sym law.slots.wide ∙ wide) law.slots
 
   -- a word is loaded, and the seat sees this
-  abbrev pub Loads : (s : State (Option T) (View T)) → ℕ → ℕ → Me (Option T) (View T) → (ℕ → Me (Option T) (View T) → Type 0) → Type 0
+  abbrev pub Loads : (s : State (Option T) (View T)) → ℕ → ℕ → Me (Option T) (View T)
+      → (ℕ → Me (Option T) (View T) → Type 0) → Type 0
   Loads s i id me then = (w : View T) × (a : Act (Option T)) × Valid s.homes me.1 a × Flow (stepped s i (get_or s.words i 0) id me.1 w a) × then (get_or s.words i 0) (w, carried_after me.1 a)
 
   -- what each seat is owed
-  pub reseats : (views : List (View T)) (c c' : Course T) (id : ℕ) (v w : View T) (s : Seats views c) → get_elem? views id ≡ some v
+  pub reseats : (views : List (View T)) (c c' : Course T) (id : ℕ) (v w : View T) (s : Seats views c)
+      → get_elem? views id ≡ some v
       → (w.sends ≡ true → (v.sends ≡ true) × SenderKnows c' w) → (w.takes ≡ true → (v.takes ≡ true) × TakerKnows c' w)
       → ((i : ℕ) (u : View T) → i ≢ id → get_elem? views i ≡ some u → u.sends ≡ true → SenderKnows c' u)
-      → ((i : ℕ) (u : View T) → i ≢ id → get_elem? views i ≡ some u → u.takes ≡ true → TakerKnows c' u) → Seats (set views id w) c'
+      → ((i : ℕ) (u : View T) → i ≢ id → get_elem? views i ≡ some u → u.takes ≡ true → TakerKnows c' u)
+      → Seats (set views id w) c'
   reseats views c c' id v w s at sends takes senders takers = record {
     sender = s.sender;
     taker = s.taker;
@@ -34,22 +38,28 @@ module _ {T : Type 0} where
   }
 
   -- no other seat sends, and no other takes
-  pub sends_alone : (views : List (View T)) (c : Course T) (id : ℕ) (v : View T) (s : Seats views c) → get_elem? views id ≡ some v → v.sends ≡ true
+  pub sends_alone : (views : List (View T)) (c : Course T) (id : ℕ) (v : View T) (s : Seats views c)
+      → get_elem? views id ≡ some v → v.sends ≡ true
       → (i : ℕ) (u : View T) → get_elem? views i ≡ some u → u.sends ≡ true → i ≡ id
   sends_alone views c id v s at on i u there sends = (s.of_sender i u there sends).0 ∙ sym (s.of_sender id v at on).0
 
-  pub takes_alone : (views : List (View T)) (c : Course T) (id : ℕ) (v : View T) (s : Seats views c) → get_elem? views id ≡ some v → v.takes ≡ true
+  pub takes_alone : (views : List (View T)) (c : Course T) (id : ℕ) (v : View T) (s : Seats views c)
+      → get_elem? views id ≡ some v → v.takes ≡ true
       → (i : ℕ) (u : View T) → get_elem? views i ≡ some u → u.takes ≡ true → i ≡ id
   takes_alone views c id v s at on i u there takes = (s.of_taker i u there takes).0 ∙ sym (s.of_taker id v at on).0
 
   -- a step of the sender
-  pub sender_steps : (views : List (View T)) (c c' : Course T) (id : ℕ) (v w : View T) (s : Seats views c) → get_elem? views id ≡ some v → v.sends ≡ true
-      → SenderKnows c' w → w.takes ≡ v.takes → (TakerKnows c v → TakerKnows c' w) → ((u : View T) → TakerKnows c u → TakerKnows c' u) → Seats (set views id w) c'
+  pub sender_steps : (views : List (View T)) (c c' : Course T) (id : ℕ) (v w : View T) (s : Seats views c)
+      → get_elem? views id ≡ some v → v.sends ≡ true
+      → SenderKnows c' w → w.takes ≡ v.takes → (TakerKnows c v → TakerKnows c' w)
+      → ((u : View T) → TakerKnows c u → TakerKnows c' u) → Seats (set views id w) c'
   sender_steps views c c' id v w s at on knows same mine others = reseats views c c' id v w s at (λ _. (on, knows)) (λ e. let takes = sym same ∙ e in (takes, mine (s.of_taker id v at takes).1))
       (λ i u other there sends. absurd (other (sends_alone views c id v s at on i u there sends))) (λ i u _ there takes. others u (s.of_taker i u there takes).1)
 
   -- a step of the taker
-  pub taker_steps : (views : List (View T)) (c c' : Course T) (id : ℕ) (v w : View T) (s : Seats views c) → get_elem? views id ≡ some v → v.takes ≡ true
-      → TakerKnows c' w → w.sends ≡ v.sends → (SenderKnows c v → SenderKnows c' w) → ((u : View T) → SenderKnows c u → SenderKnows c' u) → Seats (set views id w) c'
+  pub taker_steps : (views : List (View T)) (c c' : Course T) (id : ℕ) (v w : View T) (s : Seats views c)
+      → get_elem? views id ≡ some v → v.takes ≡ true
+      → TakerKnows c' w → w.sends ≡ v.sends → (SenderKnows c v → SenderKnows c' w)
+      → ((u : View T) → SenderKnows c u → SenderKnows c' u) → Seats (set views id w) c'
   taker_steps views c c' id v w s at on knows same mine others = reseats views c c' id v w s at (λ e. let sends = sym same ∙ e in (sends, mine (s.of_sender id v at sends).1)) (λ _. (on, knows))
       (λ i u _ there sends. others u (s.of_sender i u there sends).1) (λ i u other there takes. absurd (other (takes_alone views c id v s at on i u there takes)))

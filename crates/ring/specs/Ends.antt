@@ -5,7 +5,7 @@
 --     Looked, Acknowledged, Heard, Waited      the same for the taker
 --     Meets, HandsOut      where both ends meet; an item that was left is handed out
 --     AtStart      a ring that is new or reopened
-use Rattle.std.specs.Prelude.{◌≡◌, ℕ, ◌+◌, ◌^◌, ◌<◌, ◌≤◌, ◌⊎◌, Bool, true, false, List, [], ◌∷◌, ◌++◌, length, Option, None, Some, MatchOption, IsSome, IsTrue}
+use Rattle.std.specs.Prelude.{◌≡◌, ℕ, ◌+◌, ◌^◌, ◌<◌, ◌≤◌, ◌⊎◌, Bool, true, false, List, [], ◌∷◌, ◌++◌, length, Option, None, Some, MatchOption}
 use Rattle.atomic_table.specs.Seated.{TableId}
 
 -- the items that were sent since the ring was made or reopened, oldest first

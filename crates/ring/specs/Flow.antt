@@ -5,7 +5,7 @@
 --     Counts, Slots      the words; the slots
 --     SenderKnows, TakerKnows, Seats      what a seat's view says
 --     Flow      the rule
-use Rattle.std.specs.Prelude.{◌≡◌, ℕ, ◌+◌, ◌%◌, ◌^◌, ◌<◌, ◌≤◌, Bool, true, false, List, [], ◌∷◌, ◌++◌, length, slice_index, Option, Some, None}
+use Rattle.std.specs.Prelude.{◌≡◌, ℕ, ◌+◌, ◌%◌, ◌^◌, ◌<◌, ◌≤◌, Bool, true, false, List, ◌∷◌, ◌++◌, length, slice_index, Option, Some, None}
 use mathlib.Core.Option.{some}
 use mathlib.Core.Option as maybe
 use lib.ListN.{get_elem?}
@@ -43,16 +43,20 @@ pub record Counts {T : Type 0} (words : List ℕ) (c : Course T) : Type 0 where
   pub far : tail_of c ≤ 2 ^ 63
 
 -- from the slot of the head on, round the ring: the items that are left, and behind them free slots
-pub record Slots {T : Type 0} (n : ℕ) (homes : List (maybe.Option (Option T))) (head : ℕ) (left : List T) (writing reading : Bool) : Type 0 where
+pub record Slots {T : Type 0} (n : ℕ) (homes : List (maybe.Option (Option T))) (head : ℕ) (left : List T)
+    (writing reading : Bool) : Type 0 where
   pub wide : length homes ≡ n
   pub some_slot : 0 < n
   pub fits : length left ≤ n
   pub room : writing ≡ true → length left < n
-  pub full : (p : ℕ) (x : T) → get_elem? left p ≡ some x → (reading ≡ true → 0 < p) → get_elem? homes ((head + p) % n) ≡ some (some (Some x))
-  pub free : (p : ℕ) → length left ≤ p → p < n → (writing ≡ true → length left < p) → get_elem? homes ((head + p) % n) ≡ some (some None)
+  pub full : (p : ℕ) (x : T) → get_elem? left p ≡ some x → (reading ≡ true → 0 < p)
+      → get_elem? homes ((head + p) % n) ≡ some (some (Some x))
+  pub free : (p : ℕ) → length left ≤ p → p < n → (writing ≡ true → length left < p)
+      → get_elem? homes ((head + p) % n) ≡ some (some None)
 
 -- What the sender knows is true: what was sent, and no more acknowledged than there was.
-pub record SenderSees {T : Type 0} (c : Course T) (before : ℕ) (sent : List T) (counted : ℕ) (dooms writing : Bool) : Type 0 where
+pub record SenderSees {T : Type 0} (c : Course T) (before : ℕ) (sent : List T) (counted : ℕ)
+    (dooms writing : Bool) : Type 0 where
   pub before_is : before ≡ c.before
   pub sent_is : sent ≡ c.acked ++ c.left
   pub counted_is : counted ≤ length c.acked
@@ -65,7 +69,8 @@ Holds reading left None = reading ≡ false
 Holds {T} reading left (Some x) = (reading ≡ true) × ((others : List T) × (left ≡ x ∷ others))
 
 -- What the taker knows is true: what was acknowledged, and no more sent than there was.
-pub record TakerSees {T : Type 0} (c : Course T) (before : ℕ) (acked : List T) (known : ℕ) (doomed : Bool) (taken : Option T) : Type 0 where
+pub record TakerSees {T : Type 0} (c : Course T) (before : ℕ) (acked : List T) (known : ℕ)
+    (doomed : Bool) (taken : Option T) : Type 0 where
   pub before_is : before ≡ c.before
   pub acked_is : acked ≡ c.acked
   pub known_is : known ≤ length (c.acked ++ c.left)

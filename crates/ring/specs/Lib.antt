@@ -4,3 +4,4 @@ pub mod Steps
 pub mod SenderKeeps
 pub mod TakerKeeps
 pub mod EndsKeep
+pub mod Lends

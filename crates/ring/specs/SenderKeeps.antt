@@ -1,5 +1,5 @@
 -- The fields of a `Sender`.
-use Rattle.std.specs.Prelude.{◌≡◌, ℕ, ◌+◌, ◌^◌, ◌<◌, ◌≤◌, true, false, [], length}
+use Rattle.std.specs.Prelude.{◌≡◌, ◌+◌, ◌^◌, ◌<◌, ◌≤◌, true, false, [], length}
 use Rattle.std.specs.Arc.{arc_value}
 use Rattle.ring.specs.declared.sender.Sender.TheInside.{Inside}
 use Rattle.ring.specs.declared.protocol.TheConstants.{WORDS}
@@ -7,7 +7,13 @@ use Rattle.ring.specs.Ends.{Sending}
 
 module _ {T : Type 0} where
   abbrev pub sending : Inside T → Sending T
-  sending a = let v = a.seat.me.0 in record { ring = a.seat.table_id; before = v.sent_before; sent = v.sent; counted = v.counted; dooms = v.dooms }
+  sending a = let v = a.seat.me.0 in record {
+    ring = a.seat.table_id;
+    before = v.sent_before;
+    sent = v.sent;
+    counted = v.counted;
+    dooms = v.dooms;
+  }
 
   -- its seat is at its table and sends, no slot is out with it, and its counts are those of its view
   pub record IsSender (a : Inside T) : Type 0 where

@@ -42,9 +42,17 @@ module _ {T : Type 0} where
 
   -- a taker's view v takes in a sender's view w
   abbrev pub met : View T → View T → View T
-  met v w = record w { takes = true; acked_before = v.acked_before; acked = v.acked; known = v.known; doomed = v.doomed; taken = v.taken }
+  met v w = record w {
+    takes = true;
+    acked_before = v.acked_before;
+    acked = v.acked;
+    known = v.known;
+    doomed = v.doomed;
+    taken = v.taken;
+  }
 
-  -- the head shows a acknowledged items: no fewer than before, no more than were sent, and at most the capacity behind them
+  -- the head shows `a` acknowledged items: no fewer than before, no more than were sent, and at most
+  -- the capacity behind them
   pub record SeesHead (st : Step (Option T)) (v : View T) (n a : ℕ) : Type 0 where
     pub shows : n ≡ v.sent_before + a
     pub grows : v.counted ≤ a
@@ -59,16 +67,21 @@ module _ {T : Type 0} where
   sought st m n m' =
       (a : ℕ) × SeesHead st m.0 n a
       × (length m.0.sent < a + st.slots → m.0.sent_before + length m.0.sent < 2 ^ 63
-      → m' ≡ (record m.0 { counted = a; writing = true }, ((m.0.sent_before + length m.0.sent) % st.slots, None) ∷ m.1))
-      × ((length m.0.sent ≡ a + st.slots) ⊎ (2 ^ 63 ≤ m.0.sent_before + length m.0.sent) → m' ≡ (record m.0 { counted = a }, m.1))
+      → m' ≡ (
+        record m.0 { counted = a; writing = true },
+        ((m.0.sent_before + length m.0.sent) % st.slots, None) ∷ m.1,
+      ))
+      × ((length m.0.sent ≡ a + st.slots) ⊎ (2 ^ 63 ≤ m.0.sent_before + length m.0.sent)
+      → m' ≡ (record m.0 { counted = a }, m.1))
 
   abbrev pub sent_next : Told T
-  sent_next st m n m' = (x : T) × (k : ℕ) × (m.1 ≡ (k, Some x) ∷ rest m.1) × (m' ≡ (record m.0 { sent = m.0.sent ++ x ∷ []; writing = false }, rest m.1))
+  sent_next st m n m' = (x : T) × (k : ℕ) × (m.1 ≡ (k, Some x) ∷ rest m.1)
+      × (m' ≡ (record m.0 { sent = m.0.sent ++ x ∷ []; writing = false }, rest m.1))
 
   abbrev pub dooms_now : Told T
   dooms_now st m n m' = m' ≡ (record m.0 { dooms = true }, m.1)
 
-  -- the tail shows b sent items, and where one of them is not acknowledged the first such is taken
+  -- the tail shows `b` sent items, and where one of them is not acknowledged the first such is taken
   pub record SeesTail (st : Step (Option T)) (v : View T) (n b : ℕ) : Type 0 where
     pub shows : n ≡ v.acked_before + b
     pub grows : v.known ≤ b
@@ -81,15 +94,20 @@ module _ {T : Type 0} where
       (b : ℕ) × SeesTail st m.0 n b
       × (length m.0.acked < b
       → (x : T) × (others : List T) × (m.0.sends ≡ true → m.0.sent ≡ m.0.acked ++ x ∷ others)
-      × (m' ≡ (record m.0 { known = b; taken = Some x }, ((m.0.acked_before + length m.0.acked) % st.slots, Some x) ∷ m.1)))
+      × (m' ≡ (
+        record m.0 { known = b; taken = Some x },
+        ((m.0.acked_before + length m.0.acked) % st.slots, Some x) ∷ m.1,
+      )))
       × (b ≤ length m.0.acked → (m' ≡ (record m.0 { known = b }, m.1)) × (m.0.sends ≡ true → m.0.sent ≡ m.0.acked))
 
   abbrev pub acked_next : Told T
-  acked_next st m n m' = (x : T) × (m.0.taken ≡ Some x) × (m' ≡ (record m.0 { acked = m.0.acked ++ x ∷ []; taken = None }, rest m.1))
+  acked_next st m n m' = (x : T) × (m.0.taken ≡ Some x)
+      × (m' ≡ (record m.0 { acked = m.0.acked ++ x ∷ []; taken = None }, rest m.1))
 
   -- once it has heard of its doom, it hears of it again
   abbrev pub heard : Told T
-  heard st m n m' = (b : Bool) × (n ≡ worth b) × (m.0.doomed ≡ true → b ≡ true) × (m' ≡ (record m.0 { doomed = b }, m.1))
+  heard st m n m' = (b : Bool) × (n ≡ worth b) × (m.0.doomed ≡ true → b ≡ true)
+      × (m' ≡ (record m.0 { doomed = b }, m.1))
 
   -- what was acknowledged and what is left are what was sent, and neither end has seen more than there was
   pub record Agrees (st : Step (Option T)) (v : View T) : Type 0 where

@@ -1,5 +1,5 @@
 -- The fields of a `Taker`.
-use Rattle.std.specs.Prelude.{◌≡◌, ℕ, ◌+◌, ◌%◌, ◌^◌, ◌<◌, ◌≤◌, true, false, List, [], ◌∷◌, length, Option, None, Some, MatchOption}
+use Rattle.std.specs.Prelude.{◌≡◌, ℕ, ◌+◌, ◌%◌, ◌^◌, ◌<◌, ◌≤◌, true, List, [], ◌∷◌, length, Option, None, Some}
 use Rattle.std.specs.Arc.{arc_value}
 use Rattle.ring.specs.declared.taker.Taker.TheInside.{Inside}
 use Rattle.ring.specs.declared.protocol.TheConstants.{WORDS}
@@ -17,7 +17,13 @@ MayAck (Some x) head acked known = (acked < known) × (head < 2 ^ 63)
 
 module _ {T : Type 0} where
   abbrev pub taking : Inside T → Taking T
-  taking a = let v = a.seat.me.0 in record { ring = a.seat.table_id; acked = v.acked; taken = v.taken; known = v.known; doomed = v.doomed }
+  taking a = let v = a.seat.me.0 in record {
+    ring = a.seat.table_id;
+    acked = v.acked;
+    taken = v.taken;
+    known = v.known;
+    doomed = v.doomed;
+  }
 
   -- its seat is at its table and takes, and the item that it took lies in its field
   pub record IsTaker (a : Inside T) : Type 0 where

@@ -31,11 +31,11 @@
 //
 // It stands on `atomic_table` for the steps, on `crossbeam_utils` for the taker's sleep, and on
 // `model` for `OutOfMemory`.
-pub mod ends;
-pub mod pair;
-pub mod protocol;
-pub mod sender;
-pub mod taker;
+mod ends;
+mod pair;
+mod protocol;
+mod sender;
+mod taker;
 
 pub use ends::{Ends, meet};
 pub use pair::Ring;

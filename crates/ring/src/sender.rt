@@ -1,5 +1,5 @@
 // The end that sends.
-ghost use Rattle.std.specs.Prelude.{◌≡◌, ◌≤◌, ◌+◌, ◌++◌, ◌∷◌, [], true, length, OnOk, IfErr};
+ghost use Rattle.std.specs.Prelude.{◌≡◌, ◌≤◌, ◌+◌, ◌++◌, ◌∷◌, [], true, length, OnOk, OnErr, IfErr};
 ghost use Rattle.ring.specs.Ends.{SentThrough, HasNoRoom};
 
 use crate::protocol::{Count, DOOM, Doom, HEAD, Put, RingSeat, RingTable, Seek, TAIL};
@@ -9,7 +9,7 @@ use std::marker::Model;
 use std::sync::Arc;
 
 /// Over its whole life a ring takes no more items than this.
-pub const MOST: u64 = 1 << 63;
+const MOST: u64 = 1 << 63;
 
 /// The ring was full. The item comes back.
 #[derive(Debug, PartialEq, Eq, Drop)]
@@ -43,7 +43,8 @@ impl<T> Sender<T> {
     /// acknowledged items that it finds leave no room, or after 2^63 items.
     pub fn try_send(&mut self, item: T) -> Result<(), Full<T>>
         ensures ok { OnOk result (SentThrough self.old self.new (self.old.sent ++ item ∷ [])) }
-        ensures err { IfErr result (λ full. (full.0 ≡ item) × SentThrough self.old self.new self.old.sent × HasNoRoom self.new) }
+        ensures same { OnErr result (SentThrough self.old self.new self.old.sent × HasNoRoom self.new) }
+        ensures back { IfErr result (λ full. full.0 ≡ item) }
     {
         let head = self.table.shared.load::<Seek>(&mut self.seat, HEAD);
         if self.tail - head == self.slots || self.tail == MOST {

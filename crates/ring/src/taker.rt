@@ -34,9 +34,7 @@ impl<T> Model for Taker<T> {
 
 impl<T> Taker<T> {
     ghost use Rattle.std.specs.Borrow.{sem};
-    ghost use denote.Follow.{follows_so};
-    ghost use mathlib.Core.Option.{none};
-    ghost use Rattle.ring.specs.contracts.taker.Taker.{the_row};
+    ghost use Rattle.ring.specs.Lends.{LendsFirst};
 
     // Takes the first item that is left out of its slot, if there is one.
     fn look(&mut self)
@@ -58,7 +56,7 @@ impl<T> Taker<T> {
     /// The first item that was not acknowledged, and the same one again until `ack`. None where no
     /// more were sent when it looked.
     pub fn take(&mut self) -> Option<&T>
-        ensures* after { sem 𝓛 (follows_so (the_row T.row) (the_row T.row) self.entry.ghost_name none (λ _ _. Unit {0}) (λ n. Looked self.old n × MatchOption result (n.taken ≡ None) (λ x. n.taken ≡ Some x.now))) }
+        ensures* after { sem 𝓛 (LendsFirst T.row self.entry result) }
     {
         if self.item.is_none() {
             self.look();

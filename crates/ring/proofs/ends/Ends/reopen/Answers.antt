@@ -7,7 +7,8 @@ pub store-requires : goal.store-requires
 store-requires g c = (search rules, search rules, undooms _ _ _ c.self.invariant.sends c.self.invariant.takes)
 
 pub split_seat-other-requires : goal.split_seat-other-requires
-split_seat-other-requires g c = let inv = c.self.invariant in let v = c.self.inside.seat.me.0 in let now = ap (λ m. m.0) c.store.ensures.2 in
+split_seat-other-requires g c = let inv = c.self.invariant in let v = c.self.inside.seat.me.0 in
+    let now = ap (λ m. m.0) c.store.ensures.2 in
     let none' : drop (length v.acked) v.sent ≡ [] = ap (λ m. m.left) c.self.view_is ∙ c.requires in (
       search rules,
       search rules,

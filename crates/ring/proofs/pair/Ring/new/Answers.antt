@@ -1,4 +1,4 @@
-use Rattle.std.proofs.Common.{rules, arith, ◌≡◌, ◌∙◌, ap, sym}
+use Rattle.std.proofs.Common.{rules, arith, ◌∙◌, ap, sym}
 use Rattle.ring.proofs.MetSteps.{opens, parts}
 use Rattle.ring.proofs.pair.Ring.new.Goals as goal
 
