@@ -22,3 +22,7 @@ IsNumbered slots = (key other : Key) (number : ℕ) → get slots key ≡ Some n
 -- each row lies in a slot
 abbrev pub IsSlotted : Kept → Type 0
 IsSlotted kept = (key : Key) (row : Row) → get kept.rows key ≡ Some row → (number : ℕ) × (get kept.slots key ≡ Some number)
+
+-- some key's slot has this number
+abbrev pub HasNumber : FinMap key_cmp ℕ → ℕ → Type 0
+HasNumber slots number = (key : Key) × (get slots key ≡ Some number)

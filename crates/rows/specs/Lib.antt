@@ -2,5 +2,9 @@ pub mod KeyLaws
 pub mod Kept
 pub mod KeptCode
 pub mod View
+pub mod Block
+pub mod Hashing
 pub mod Slots
 pub mod Ordered
+pub mod Blocked
+pub mod Walking

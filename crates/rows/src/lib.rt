@@ -12,15 +12,26 @@
 // number, and needs no memory to do so.
 //
 //   store      the trait `RowStore`: what an index asks of a store, whichever way rows are kept
-//   ordered    `OrderedRows`, the first form: an ordered map of lists of values
+//   ordered    `OrderedRows`, the first form: an ordered map of lists of values; tables use it
+//   block_rows `BlockRows`, the second form: blocks in slots that are found by a hash of the key,
+//              beside the keys in key order; tables don't use it yet
+//   block      `Block`: a row as one block of texts, and a cut for each column
+//   hashing    keys as a table of hashes sees them
 //   view       a row as it is read: column by column
 //   walk       `Walk`: the rows one after another
+pub mod block;
+pub mod block_rows;
+mod hashing;
 pub mod ordered;
 pub mod store;
+#[cfg(test)]
+mod tests;
 pub mod view;
 pub mod walk;
 
+pub use block::Block;
+pub use block_rows::BlockRows;
 pub use ordered::OrderedRows;
-pub use store::RowStore;
+pub use store::{RowStore, StoredRow};
 pub use view::{RowView, ValueRef};
 pub use walk::Walk;

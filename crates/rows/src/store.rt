@@ -1,16 +1,80 @@
 // What tables ask of a store of rows, whichever way it keeps them.
-ghost use Rattle.std.specs.Prelude.{◌≡◌, OnOk, OnErr, IsSome, is_some, if◌then◌else◌, length, ◌<◌, ◌^◌};
+ghost use Rattle.std.specs.Prelude.{◌≡◌, ◌≢◌, OnOk, OnErr, IfOk, IfSome, IfNone, IsSome, Some, is_some, if◌then◌else◌, length, ◌<◌, ◌^◌};
 ghost use Rattle.std.specs.FinMap as map;
-ghost use Rattle.rows.specs.Kept.{Kept, KeepsSlots};
+ghost use Rattle.std.specs.Option.{option_map};
+ghost use Rattle.model.specs.declared.key.Key.{Key as Values};
+ghost use Rattle.model.specs.declared.row.Row.{Row as List};
+ghost use Rattle.rows.specs.Kept.{Kept, KeepsSlots, IsNumbered, IsSlotted};
 
+use crate::block::Block;
+use crate::block_rows::BlockRows;
 use crate::ordered::OrderedRows;
 use crate::view::RowView;
 use crate::walk::Walk;
 use model::{Key, OutOfMemory, Row};
+use std::alloc::Global;
+use std::hash::BuildHasher;
 
-/// A store of rows by primary key. `put` alone may be refused, and then changes no row; the other
-/// calls take no memory and succeed.
+/// A row as a store keeps it.
+pub trait StoredRow: Drop {
+    /// The row's values.
+    ghost values: { Self → List };
+
+    /// The row with the values of a list.
+    fn from_row(alloc: Global, row: &Row) -> Result<Self, OutOfMemory>
+    where
+        Self: Sized,
+        ensures { IfOk result (λ stored. values stored ≡ row.now) };
+
+    /// The row as it is read.
+    fn view(&self) -> RowView<'_>
+        ensures { result ≡ values self.now };
+
+    /// An equal row, which shares what it keeps.
+    fn copy(&self) -> Result<Self, OutOfMemory>
+    where
+        Self: Sized,
+        ensures { IfOk result (λ copy. values copy ≡ values self.now) };
+}
+
+impl StoredRow for Row {
+    ghost values = { λ row. row };
+
+    fn from_row(_alloc: Global, row: &Row) -> Result<Row, OutOfMemory> {
+        row.copy()
+    }
+
+    fn view(&self) -> RowView<'_> {
+        RowView::of_row(self)
+    }
+
+    fn copy(&self) -> Result<Row, OutOfMemory> {
+        Row::copy(self)
+    }
+}
+
+impl StoredRow for Block {
+    ghost values = { λ block. block };
+
+    fn from_row(alloc: Global, row: &Row) -> Result<Block, OutOfMemory> {
+        Block::from_row(alloc, row)
+    }
+
+    fn view(&self) -> RowView<'_> {
+        RowView::of_block(self)
+    }
+
+    fn copy(&self) -> Result<Block, OutOfMemory> {
+        Block::copy(self)
+    }
+}
+
+/// A store of rows by primary key. `reserve` and `put` alone may be refused, and then change no
+/// row; the other calls take no memory and succeed.
 pub trait RowStore: Drop {
+    /// A row as it keeps it.
+    type Stored: StoredRow;
+
     /// The rows by their keys, and the slots.
     ghost kept: { Self → Kept };
 
@@ -18,23 +82,48 @@ pub trait RowStore: Drop {
     fn get(&self, key: &Key) -> Option<RowView<'_>>
         ensures { result ≡ map.get (kept self.now).rows key.now };
 
+    /// The number of a key's slot, if it has one.
+    fn slot(&self, key: &Key) -> Option<usize>
+        ensures number { result ≡ map.get (kept self.now).slots key.now }
+        ensures numbered { IsNumbered (kept self.now).slots }
+        ensures slotted { IsSlotted (kept self.now) };
+
+    /// The key whose slot has this number.
+    fn key_at(&self, number: usize) -> Option<&Key>
+        ensures found { IfSome result (λ key. map.get (kept self.now).slots key.now ≡ Some number) }
+        ensures missed { IfNone result ((key : Values) → map.get (kept self.now).slots key ≢ Some number) };
+
+    /// Makes a slot for a key that has none.
+    fn reserve(&mut self, key: &Key) -> Result<usize, OutOfMemory>
+        ensures rows { (kept self.new).rows ≡ (kept self.old).rows }
+        ensures slots { KeepsSlots (kept self.old).slots (kept self.new).slots }
+        ensures ok { IfOk result (λ number. map.get (kept self.new).slots key.now ≡ Some number) }
+        ensures numbered { IsNumbered (kept self.new).slots };
+
     /// Puts a row at a key.
-    fn put(&mut self, key: &Key, row: Row) -> Result<(), OutOfMemory>
-        ensures ok { OnOk result ((kept self.new).rows ≡ map.insert (kept self.old).rows key.now row) }
+    fn put(&mut self, key: &Key, row: Self::Stored) -> Result<(), OutOfMemory>
+        ensures ok { OnOk result ((kept self.new).rows ≡ map.insert (kept self.old).rows key.now (Self.Stored.values row)) }
         ensures slots { KeepsSlots (kept self.old).slots (kept self.new).slots }
         ensures slot { OnOk result (IsSome (map.get (kept self.new).slots key.now)) }
         ensures err { OnErr result ((kept self.new).rows ≡ (kept self.old).rows) };
 
+    /// Puts a row into its key's slot, and answers the one that was there.
+    fn replace(&mut self, key: &Key, row: Self::Stored) -> Option<Self::Stored>
+        requires { IsSome (map.get (kept self.old).slots key.now) }
+        ensures stood { option_map Self.Stored.values result ≡ map.get (kept self.old).rows key.now }
+        ensures rows { (kept self.new).rows ≡ map.insert (kept self.old).rows key.now (Self.Stored.values row) }
+        ensures slots { (kept self.new).slots ≡ (kept self.old).slots };
+
     /// Takes the row out of its slot. The slot stays.
-    fn take(&mut self, key: &Key) -> Option<Row>
-        ensures row { result ≡ map.get (kept self.old).rows key.now }
+    fn take(&mut self, key: &Key) -> Option<Self::Stored>
+        ensures row { option_map Self.Stored.values result ≡ map.get (kept self.old).rows key.now }
         ensures rows { (kept self.new).rows ≡ map.remove (kept self.old).rows key.now }
         ensures slots { (kept self.new).slots ≡ (kept self.old).slots };
 
     /// Puts a row into its key's slot.
-    fn restore(&mut self, key: &Key, row: Row)
+    fn restore(&mut self, key: &Key, row: Self::Stored)
         requires { IsSome (map.get (kept self.old).slots key.now) }
-        ensures rows { (kept self.new).rows ≡ map.insert (kept self.old).rows key.now row }
+        ensures rows { (kept self.new).rows ≡ map.insert (kept self.old).rows key.now (Self.Stored.values row) }
         ensures slots { (kept self.new).slots ≡ (kept self.old).slots };
 
     /// Drops the slot of a key where no row is in it.
@@ -56,14 +145,32 @@ pub trait RowStore: Drop {
 }
 
 impl RowStore for OrderedRows {
+    type Stored = Row;
+
     ghost kept = { λ rows. rows };
 
     fn get(&self, key: &Key) -> Option<RowView<'_>> {
         OrderedRows::get(self, key)
     }
 
+    fn slot(&self, key: &Key) -> Option<usize> {
+        OrderedRows::slot(self, key)
+    }
+
+    fn key_at(&self, number: usize) -> Option<&Key> {
+        OrderedRows::key_at(self, number)
+    }
+
+    fn reserve(&mut self, key: &Key) -> Result<usize, OutOfMemory> {
+        OrderedRows::reserve(self, key)
+    }
+
     fn put(&mut self, key: &Key, row: Row) -> Result<(), OutOfMemory> {
         OrderedRows::put(self, key, row)
+    }
+
+    fn replace(&mut self, key: &Key, row: Row) -> Option<Row> {
+        OrderedRows::replace(self, key, row)
     }
 
     fn take(&mut self, key: &Key) -> Option<Row> {
@@ -84,5 +191,55 @@ impl RowStore for OrderedRows {
 
     fn wipe(&mut self) -> OrderedRows {
         OrderedRows::wipe(self)
+    }
+}
+
+impl<H: BuildHasher + Drop + Copy> RowStore for BlockRows<H> {
+    type Stored = Block;
+
+    ghost kept = { λ rows. rows };
+
+    fn get(&self, key: &Key) -> Option<RowView<'_>> {
+        BlockRows::get(self, key)
+    }
+
+    fn slot(&self, key: &Key) -> Option<usize> {
+        BlockRows::slot(self, key)
+    }
+
+    fn key_at(&self, number: usize) -> Option<&Key> {
+        BlockRows::key_at(self, number)
+    }
+
+    fn reserve(&mut self, key: &Key) -> Result<usize, OutOfMemory> {
+        BlockRows::reserve(self, key)
+    }
+
+    fn put(&mut self, key: &Key, row: Block) -> Result<(), OutOfMemory> {
+        BlockRows::put(self, key, row)
+    }
+
+    fn replace(&mut self, key: &Key, row: Block) -> Option<Block> {
+        BlockRows::replace(self, key, row)
+    }
+
+    fn take(&mut self, key: &Key) -> Option<Block> {
+        BlockRows::take(self, key)
+    }
+
+    fn restore(&mut self, key: &Key, row: Block) {
+        BlockRows::restore(self, key, row);
+    }
+
+    fn settle(&mut self, key: &Key) {
+        BlockRows::settle(self, key);
+    }
+
+    fn walk(&self) -> Walk<'_> {
+        BlockRows::walk(self)
+    }
+
+    fn wipe(&mut self) -> BlockRows<H> {
+        BlockRows::wipe(self)
     }
 }

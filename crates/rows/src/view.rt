@@ -4,7 +4,7 @@ ghost use Rattle.std.specs.Option.{option_map};
 ghost use Rattle.model.specs.Rows.{value_at};
 ghost use Rattle.rows.specs.View.{read_value};
 
-use bytes::ByteStr;
+use crate::block::Block;
 use model::{OutOfMemory, Row, Value};
 use std::marker::Model;
 
@@ -12,14 +12,21 @@ use std::marker::Model;
 #[derive(Clone, Copy)]
 pub enum ValueRef<'a> {
     Int(i64),
-    Text(&'a ByteStr),
+    Text(&'a str),
     Bool(bool),
 }
 
 /// A row of a store. A clause sees its values in the table's column order; none is null.
 #[derive(Drop)]
 pub struct RowView<'a> {
-    row: &'a Row,
+    row: Form<'a>,
+}
+
+/// A row, whichever way it is kept.
+#[derive(Clone, Copy)]
+pub(crate) enum Form<'a> {
+    List(&'a Row),
+    Block(&'a Block),
 }
 
 impl<'a> Model for RowView<'a> {
@@ -28,7 +35,9 @@ impl<'a> Model for RowView<'a> {
 
     ghost Value = { List (Option Single) };
 
-    ghost view = { λ v. v.row.now };
+    ghost use Rattle.rows.specs.View.{row_in};
+
+    ghost view = { λ v. row_in v.row };
 }
 
 impl<'a> RowView<'a> {
@@ -36,14 +45,28 @@ impl<'a> RowView<'a> {
     pub fn of_row(row: &'a Row) -> RowView<'a>
         ensures { result ≡ row.now }
     {
-        RowView { row }
+        RowView {
+            row: Form::List(row),
+        }
+    }
+
+    /// The view of a row that lies as a block.
+    pub fn of_block(block: &'a Block) -> RowView<'a>
+        ensures { result ≡ block.now }
+    {
+        RowView {
+            row: Form::Block(block),
+        }
     }
 
     /// How many columns it has.
     pub fn len(&self) -> usize
         ensures { result ≡ length self.now }
     {
-        self.row.values().len()
+        match self.row {
+            Form::List(row) => row.values().len(),
+            Form::Block(block) => block.len(),
+        }
     }
 
     /// The value in a column, from 0; `None` is null.
@@ -51,18 +74,33 @@ impl<'a> RowView<'a> {
         requires { number < length self.now }
         ensures { option_map read_value result ≡ value_at self.now number }
     {
-        match &self.row.values()[number] {
-            None => None,
-            Some(Value::Int(value)) => Some(ValueRef::Int(*value)),
-            Some(Value::Text(text)) => Some(ValueRef::Text(text)),
-            Some(Value::Bool(truth)) => Some(ValueRef::Bool(*truth)),
+        match self.row {
+            Form::List(row) => listed_value(row, number),
+            Form::Block(block) => block.column(number),
         }
     }
 
-    /// An equal row of its own. A text's bytes are shared, and not copied.
+    /// An equal row of its own. Of a row that lies as a list the texts are shared, of a block they
+    /// are copied.
     pub fn to_row(&self) -> Result<Row, OutOfMemory>
         ensures { IfOk result (λ row. row ≡ self.now) }
     {
-        self.row.copy()
+        match self.row {
+            Form::List(row) => row.copy(),
+            Form::Block(block) => block.to_row(),
+        }
+    }
+}
+
+// The value in a column of a row that lies as a list.
+fn listed_value(row: &Row, number: usize) -> Option<ValueRef<'_>>
+    requires { number < length row.now }
+    ensures { option_map read_value result ≡ value_at row.now number }
+{
+    match &row.values()[number] {
+        None => None,
+        Some(Value::Int(value)) => Some(ValueRef::Int(*value)),
+        Some(Value::Text(text)) => Some(ValueRef::Text(text.as_str())),
+        Some(Value::Bool(truth)) => Some(ValueRef::Bool(*truth)),
     }
 }

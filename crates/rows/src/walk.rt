@@ -1,11 +1,15 @@
 // The rows of a store, one after another.
-ghost use Rattle.std.specs.Prelude.{◌≡◌};
+ghost use Rattle.std.specs.Prelude.{◌≡◌, map};
 ghost use Rattle.std.specs.Iterator.{YieldsFirst, item_count};
+ghost use Rattle.rows.specs.Blocked.{slot_by};
 ghost use Rattle.rows.specs.Slots.{rows_among};
+ghost use Rattle.rows.specs.Walking.{YieldsRow, rows_by};
 
+use crate::block_rows::{BlockSlot, view_at};
 use crate::ordered::Slot;
 use crate::view::RowView;
 use model::Key;
+use slab::Slab;
 use std::collections::btree_map::Values;
 use std::iter::FusedIterator;
 use std::marker::Model;
@@ -14,7 +18,21 @@ use std::marker::Model;
 /// are left.
 #[derive(Drop)]
 pub struct Walk<'a> {
-    slots: Values<'a, Key, Slot>,
+    left: Left<'a>,
+}
+
+// The slots that are left, or their numbers.
+#[derive(Drop)]
+pub(crate) enum Left<'a> {
+    Slots(Values<'a, Key, Slot>),
+    Numbers(Numbers<'a>),
+}
+
+// The numbers that are left, and the slots that have them.
+#[derive(Drop)]
+pub(crate) struct Numbers<'a> {
+    numbers: Values<'a, Key, usize>,
+    slots: &'a Slab<BlockSlot>,
 }
 
 impl<'a> Model for Walk<'a> {
@@ -23,9 +41,9 @@ impl<'a> Model for Walk<'a> {
 
     ghost Value = { List Row };
 
-    ghost use Rattle.rows.specs.Slots.{rows_among};
+    ghost use Rattle.rows.specs.Walking.{rows_left};
 
-    ghost view = { λ w. rows_among w.slots };
+    ghost view = { λ w. rows_left w.left };
 }
 
 impl<'a> Walk<'a> {
@@ -33,7 +51,21 @@ impl<'a> Walk<'a> {
     pub(crate) fn over(slots: Values<'a, Key, Slot>) -> Walk<'a>
         ensures { result ≡ rows_among slots.entry }
     {
-        Walk { slots }
+        Walk {
+            left: Left::Slots(slots),
+        }
+    }
+
+    // Over the slots with these numbers.
+    pub(crate) fn over_numbers(
+        numbers: Values<'a, Key, usize>,
+        slots: &'a Slab<BlockSlot>,
+    ) -> Walk<'a>
+        ensures { result ≡ rows_among (map (slot_by slots.now) numbers.entry) }
+    {
+        Walk {
+            left: Left::Numbers(Numbers { numbers, slots }),
+        }
     }
 }
 
@@ -45,13 +77,47 @@ impl<'a> Iterator for Walk<'a> {
     ghost remaining = { item_count (λ rows. rows) };
 
     fn next(&mut self) -> Option<RowView<'a>> {
-        while let Some(slot) = self.slots.next() {
-            if let Some(row) = slot.view() {
-                return Some(row);
-            }
+        match &mut self.left {
+            Left::Slots(slots) => next_row(slots),
+            Left::Numbers(numbers) => numbers.next_row(),
         }
-        None
     }
 }
 
 impl<'a> FusedIterator for Walk<'a> {}
+
+impl<'a> Numbers<'a> {
+    // The row of the next number whose slot is filled.
+    fn next_row(&mut self) -> Option<RowView<'a>>
+        ensures { YieldsRow (rows_by self.old) result (rows_by self.new) }
+    {
+        next_block(&mut self.numbers, self.slots)
+    }
+}
+
+// The row of the next slot that is filled.
+fn next_row<'a>(slots: &mut Values<'a, Key, Slot>) -> Option<RowView<'a>>
+    ensures { YieldsRow (rows_among slots.old) result (rows_among slots.new) }
+{
+    while let Some(slot) = slots.next() {
+        if let Some(row) = slot.view() {
+            return Some(row);
+        }
+    }
+    None
+}
+
+// The row of the next number whose slot is filled.
+fn next_block<'a>(
+    numbers: &mut Values<'a, Key, usize>,
+    slots: &'a Slab<BlockSlot>,
+) -> Option<RowView<'a>>
+    ensures { YieldsRow (rows_among (map (slot_by slots.now) numbers.old)) result (rows_among (map (slot_by slots.now) numbers.new)) }
+{
+    while let Some(number) = numbers.next() {
+        if let Some(row) = view_at(slots, Some(*number)) {
+            return Some(row);
+        }
+    }
+    None
+}

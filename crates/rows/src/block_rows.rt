@@ -1,0 +1,370 @@
+// Rows as blocks, in slots that are found by a hash of the key.
+ghost use Rattle.std.specs.Prelude.{◌≡◌, ◌≢◌, ℕ, OnOk, OnErr, IfOk, IfSome, IfNone, IsSome, Some, None, is_some, if◌then◌else◌, length, ◌<◌, ◌^◌};
+ghost use Rattle.std.specs.FinMap as map;
+ghost use Rattle.std.specs.HashMap as hash;
+ghost use Rattle.std.specs.Ordering.{eq_by_cmp};
+ghost use Rattle.std.specs.Option.{option_copied};
+ghost use Rattle.slab.specs.Slab as slab;
+ghost use Rattle.slab.specs.Slab.{SameValues};
+ghost use Rattle.model.specs.Key.{key_cmp};
+ghost use Rattle.model.specs.declared.key.Key.{Key as Values};
+ghost use Rattle.rows.specs.Kept.{HasNumber, KeepsSlots, IsNumbered, IsSlotted};
+ghost use Rattle.rows.specs.Blocked.{row_for, key_of, number_for, number_to_drop, SetsRow, AddsSlot, DropsSlot, Renumbers, SameNumbers, Unnumbers};
+
+use crate::block::Block;
+use crate::hashing::{HashedKey, SoughtKey};
+use crate::view::RowView;
+use crate::walk::Walk;
+use model::{Key, OutOfMemory};
+use slab::Slab;
+use std::alloc::{AllocError, Global};
+use std::collections::{BTreeMap, HashMap};
+use std::hash::{BuildHasher, BuildHasherDefault, FoldHasher};
+use std::marker::Model;
+use std::mem;
+
+/// A place for a row, with its key. It keeps its number while it is there, filled or empty.
+#[derive(Drop)]
+pub(crate) struct BlockSlot {
+    key: Key,
+    row: Option<Block>,
+}
+
+/// The rows of one table by primary key, each a block in a slot that is found by a hash of its key.
+///
+/// Beside the slots lie the keys in key order, so that `walk` needs no memory. Whatever the hasher,
+/// the answers are the same; one with a fixed seed, as the default, is not for keys that somebody
+/// else chooses.
+#[derive(Drop)]
+pub struct BlockRows<H: BuildHasher = BuildHasherDefault<FoldHasher>> {
+    // The number of each key's slot, by the key's hash, and in key order.
+    numbers: HashMap<HashedKey, usize, H>,
+    order: BTreeMap<Key, usize>,
+    slots: Slab<BlockSlot>,
+    alloc: Global,
+}
+
+impl<H: BuildHasher> Model for BlockRows<H> {
+    ghost use Rattle.rows.specs.Kept.{Kept};
+
+    ghost Value = { Kept };
+
+    ghost use Rattle.rows.specs.KeptCode.{kept_code};
+
+    ghost coded = { kept_code };
+
+    ghost use Rattle.rows.specs.Blocked.{kept_by, IsFound};
+
+    ghost view = { λ a. kept_by a.slots a.order.entries };
+
+    ghost invariant = { λ a. IsFound a.numbers a.order.entries a.slots };
+}
+
+impl BlockSlot {
+    // The row in it, as it is read.
+    fn view(&self) -> Option<RowView<'_>>
+        ensures { result ≡ self.now.row }
+    {
+        match &self.row {
+            Some(row) => Some(RowView::of_block(row)),
+            None => None,
+        }
+    }
+}
+
+impl<H: BuildHasher + Drop> BlockRows<H> {
+    /// No rows, and no slots.
+    pub fn with_hasher(alloc: Global, hasher: H) -> BlockRows<H>
+        ensures { result ≡ record { rows = map.empty; slots = map.empty } }
+    {
+        BlockRows {
+            numbers: HashMap::with_hasher(alloc, hasher),
+            order: BTreeMap::new(alloc),
+            slots: Slab::new(alloc),
+            alloc,
+        }
+    }
+
+    /// The row at a key.
+    pub fn get(&self, key: &Key) -> Option<RowView<'_>>
+        ensures { result ≡ map.get self.now.rows key.now }
+    {
+        view_at(&self.slots, number_of(&self.numbers, key))
+    }
+
+    /// The number of a key's slot, if it has one.
+    pub fn slot(&self, key: &Key) -> Option<usize>
+        ensures number { result ≡ map.get self.now.slots key.now }
+
+        // No two slots have one number, and each row lies in a slot.
+        ensures numbered { IsNumbered self.now.slots }
+        ensures slotted { IsSlotted self.now }
+    {
+        number_of(&self.numbers, key)
+    }
+
+    /// The key whose slot has this number.
+    pub fn key_at(&self, number: usize) -> Option<&Key>
+        ensures found { IfSome result (λ key. map.get self.now.slots key.now ≡ Some number) }
+        ensures missed { IfNone result ((key : Values) → map.get self.now.slots key ≢ Some number) }
+    {
+        key_in(&self.slots, number)
+    }
+
+    /// The row in the slot of a number, if one is in it.
+    pub fn row_at(&self, number: usize) -> Option<RowView<'_>>
+        ensures { (key : Values) → map.get self.now.slots key ≡ Some number → result ≡ map.get self.now.rows key }
+    {
+        view_at(&self.slots, Some(number))
+    }
+
+    /// Puts a row into the slot of a number, and answers the one that was there. It takes no
+    /// memory, and looks for no key.
+    pub fn replace_at(&mut self, number: usize, row: Block) -> Option<Block>
+        requires { HasNumber self.old.slots number }
+        ensures stood { (key : Values) → map.get self.old.slots key ≡ Some number → result ≡ map.get self.old.rows key }
+        ensures rows { (key : Values) → map.get self.old.slots key ≡ Some number → self.new.rows ≡ map.insert self.old.rows key row }
+        ensures slots { self.new.slots ≡ self.old.slots }
+    {
+        set_row(&mut self.slots, Some(number), Some(row))
+    }
+
+    /// Takes the row out of the slot of a number. The slot stays. It takes no memory, and looks for
+    /// no key.
+    pub fn take_at(&mut self, number: usize) -> Option<Block>
+        requires { HasNumber self.old.slots number }
+        ensures row { (key : Values) → map.get self.old.slots key ≡ Some number → result ≡ map.get self.old.rows key }
+        ensures rows { (key : Values) → map.get self.old.slots key ≡ Some number → self.new.rows ≡ map.remove self.old.rows key }
+        ensures slots { self.new.slots ≡ self.old.slots }
+    {
+        set_row(&mut self.slots, Some(number), None)
+    }
+
+    /// Puts a row into its key's slot. It takes no memory.
+    pub fn restore(&mut self, key: &Key, row: Block)
+        requires { IsSome (map.get self.old.slots key.now) }
+        ensures rows { self.new.rows ≡ map.insert self.old.rows key.now row }
+        ensures slots { self.new.slots ≡ self.old.slots }
+    {
+        self.replace(key, row);
+    }
+
+    /// Puts a row into its key's slot, and answers the one that was there. It takes no memory.
+    pub fn replace(&mut self, key: &Key, row: Block) -> Option<Block>
+        requires { IsSome (map.get self.old.slots key.now) }
+        ensures stood { result ≡ map.get self.old.rows key.now }
+        ensures rows { self.new.rows ≡ map.insert self.old.rows key.now row }
+        ensures slots { self.new.slots ≡ self.old.slots }
+    {
+        let number = number_of(&self.numbers, key);
+        set_row(&mut self.slots, number, Some(row))
+    }
+
+    /// Takes the row out of its slot. The slot stays, and it takes no memory.
+    pub fn take(&mut self, key: &Key) -> Option<Block>
+        ensures row { result ≡ map.get self.old.rows key.now }
+        ensures rows { self.new.rows ≡ map.remove self.old.rows key.now }
+        ensures slots { self.new.slots ≡ self.old.slots }
+    {
+        let number = number_of(&self.numbers, key);
+        set_row(&mut self.slots, number, None)
+    }
+
+    /// Makes a slot for a key that has none. A refusal changes no row and no slot.
+    pub fn reserve(&mut self, key: &Key) -> Result<usize, OutOfMemory>
+        ensures rows { self.new.rows ≡ self.old.rows }
+        ensures slots { KeepsSlots self.old.slots self.new.slots }
+        ensures ok { IfOk result (λ number. map.get self.new.slots key.now ≡ Some number) }
+        ensures numbered { IsNumbered self.new.slots }
+    {
+        match self.slot(key) {
+            Some(number) => Ok(number),
+            None => self.make_slot(key),
+        }
+    }
+
+    // The slot of a key that has none.
+    fn make_slot(&mut self, key: &Key) -> Result<usize, OutOfMemory>
+        requires { map.get self.old.slots key.now ≡ None }
+        ensures rows { self.new.rows ≡ self.old.rows }
+        ensures slots { KeepsSlots self.old.slots self.new.slots }
+        ensures ok { IfOk result (λ number. map.get self.new.slots key.now ≡ Some number) }
+        ensures numbered { IsNumbered self.new.slots }
+    {
+        add_slot(&mut self.numbers, &mut self.order, &mut self.slots, key)
+    }
+
+    /// Puts a row at a key. A refusal changes no row and no slot.
+    pub fn put(&mut self, key: &Key, row: Block) -> Result<(), OutOfMemory>
+        ensures ok { OnOk result (self.new.rows ≡ map.insert self.old.rows key.now row) }
+        ensures slots { KeepsSlots self.old.slots self.new.slots }
+        ensures slot { OnOk result (IsSome (map.get self.new.slots key.now)) }
+        ensures err { OnErr result (self.new.rows ≡ self.old.rows) }
+    {
+        let number = self.reserve(key)?;
+        self.replace_at(number, row);
+        Ok(())
+    }
+
+    /// Drops the slot of a key where no row is in it. It takes no memory.
+    pub fn settle(&mut self, key: &Key)
+        ensures rows { self.new.rows ≡ self.old.rows }
+        ensures slots { self.new.slots ≡ (if is_some (map.get self.old.rows key.now) then self.old.slots else map.remove self.old.slots key.now) }
+    {
+        drop_slot(&mut self.numbers, &mut self.order, &mut self.slots, key);
+    }
+
+    /// The rows, in key order. It takes no memory.
+    pub fn walk(&self) -> Walk<'_>
+        ensures rows { result ≡ map.values self.now.rows }
+        ensures fits { length result < 2 ^ 63 }
+    {
+        Walk::over_numbers(self.order.values(), &self.slots)
+    }
+}
+
+impl<H: BuildHasher + Drop + Copy> BlockRows<H> {
+    /// The same rows in the same slots. The blocks are shared, and not copied.
+    pub fn copy(&self) -> Result<BlockRows<H>, OutOfMemory>
+        ensures { IfOk result (λ copy. copy ≡ self.now) }
+    {
+        Ok(BlockRows {
+            numbers: self.numbers.clone()?,
+            order: self.order.clone()?,
+            slots: self.slots.clone()?,
+            alloc: self.alloc,
+        })
+    }
+
+    /// Moves all rows and slots out. No row is copied, and it takes no memory.
+    pub fn wipe(&mut self) -> BlockRows<H>
+        ensures out { result ≡ self.old }
+        ensures left { self.new ≡ record { rows = map.empty; slots = map.empty } }
+    {
+        let alloc = self.alloc;
+        let hasher = *self.numbers.hasher();
+        mem::replace(self, BlockRows::with_hasher(alloc, hasher))
+    }
+}
+
+impl BlockRows {
+    /// No rows, and no slots, with the hasher of fixed seed.
+    pub fn new(alloc: Global) -> BlockRows
+        ensures { result ≡ record { rows = map.empty; slots = map.empty } }
+    {
+        BlockRows::with_hasher(alloc, BuildHasherDefault::new())
+    }
+}
+
+impl Clone for BlockSlot {
+    ghost is_clone = { λ slot other. other ≡ slot };
+
+    fn clone(&self) -> Result<BlockSlot, AllocError> {
+        Ok(BlockSlot {
+            key: self.key.clone()?,
+            row: self.row.clone()?,
+        })
+    }
+}
+
+// The number of a key's slot, if it has one.
+fn number_of<H: BuildHasher + Drop>(
+    numbers: &HashMap<HashedKey, usize, H>,
+    key: &Key,
+) -> Option<usize>
+    ensures { result ≡ hash.get (eq_by_cmp key_cmp) numbers.now key.now }
+{
+    numbers.get(SoughtKey::of(key)).copied()
+}
+
+// The key of the slot of a number, if there is one.
+fn key_in(slots: &Slab<BlockSlot>, number: usize) -> Option<&Key>
+    ensures { option_copied result ≡ key_of (slab.get slots.now number) }
+{
+    match slots.get(number) {
+        Some(slot) => Some(&slot.key),
+        None => None,
+    }
+}
+
+// The row in the slot of a number, as it is read.
+pub(crate) fn view_at(slots: &Slab<BlockSlot>, number: Option<usize>) -> Option<RowView<'_>>
+    ensures { result ≡ row_for slots.now number }
+{
+    slots.get(number?)?.view()
+}
+
+// A row or none into the slot of a number, if there is one. The answer is what was in it.
+fn set_row(slots: &mut Slab<BlockSlot>, number: Option<usize>, row: Option<Block>) -> Option<Block>
+    ensures row { result ≡ row_for slots.old number }
+    ensures set { SetsRow slots.old slots.new number row }
+{
+    match slots.get_mut(number?) {
+        Some(slot) => mem::replace(&mut slot.row, row),
+        None => None,
+    }
+}
+
+// An empty slot for a key that has none. The answer is its number, which no slot had.
+fn add_slot<H: BuildHasher + Drop>(
+    numbers: &mut HashMap<HashedKey, usize, H>,
+    order: &mut BTreeMap<Key, usize>,
+    slots: &mut Slab<BlockSlot>,
+    key: &Key,
+) -> Result<usize, OutOfMemory>
+    ensures slots { IfOk result (λ number. AddsSlot slots.old slots.new number key.now) }
+    ensures order { IfOk result (λ number. Renumbers (number_for order.old.entries) (number_for order.new.entries) key.now (Some number)) }
+    ensures hashed { IfOk result (λ number. Renumbers (hash.get (eq_by_cmp key_cmp) numbers.old) (hash.get (eq_by_cmp key_cmp) numbers.new) key.now (Some number)) }
+    ensures same_slots { OnErr result ((number : ℕ) → slab.get slots.new number ≡ slab.get slots.old number) }
+    ensures same_order { OnErr result (SameNumbers (number_for order.old.entries) (number_for order.new.entries)) }
+    ensures same_hashed { OnErr result (SameNumbers (hash.get (eq_by_cmp key_cmp) numbers.old) (hash.get (eq_by_cmp key_cmp) numbers.new)) }
+{
+    let own = key.copy()?;
+    let name = HashedKey::of(key.copy()?);
+    let slot = BlockSlot {
+        key: key.copy()?,
+        row: None,
+    };
+    numbers.reserve(1)?;
+    slots.reserve(1)?;
+    let number = slots.vacant_key();
+    order.insert(own, number)?;
+    // There is room for it, so it is not refused.
+    let _stood = numbers.insert(name, number);
+    slots.insert_reserved(slot);
+    Ok(number)
+}
+
+// No slot of a key, where no row is in it.
+fn drop_slot<H: BuildHasher + Drop>(
+    numbers: &mut HashMap<HashedKey, usize, H>,
+    order: &mut BTreeMap<Key, usize>,
+    slots: &mut Slab<BlockSlot>,
+    key: &Key,
+)
+    ensures slots { DropsSlot slots.old slots.new (number_to_drop slots.old (hash.get (eq_by_cmp key_cmp) numbers.old key.now)) }
+    ensures order { Unnumbers (number_for order.old.entries) (number_for order.new.entries) key.now (number_to_drop slots.old (hash.get (eq_by_cmp key_cmp) numbers.old key.now)) }
+    ensures hashed { Unnumbers (hash.get (eq_by_cmp key_cmp) numbers.old) (hash.get (eq_by_cmp key_cmp) numbers.new) key.now (number_to_drop slots.old (hash.get (eq_by_cmp key_cmp) numbers.old key.now)) }
+{
+    let Some(number) = number_of_empty(numbers, slots, key) else {
+        return;
+    };
+    numbers.remove(SoughtKey::of(key));
+    order.remove(key);
+    slots.try_remove(number);
+}
+
+// The number of a key's slot, if no row is in it.
+fn number_of_empty<H: BuildHasher + Drop>(
+    numbers: &HashMap<HashedKey, usize, H>,
+    slots: &Slab<BlockSlot>,
+    key: &Key,
+) -> Option<usize>
+    ensures { result ≡ number_to_drop slots.now (hash.get (eq_by_cmp key_cmp) numbers.now key.now) }
+{
+    let number = number_of(numbers, key);
+    match view_at(slots, number) {
+        Some(_) => None,
+        None => number,
+    }
+}
