@@ -31,7 +31,7 @@ mark_at-other : {M : Type 0} (sub : ℕ) (m : ℕ × M) (marks : List (ℕ × M)
 mark_at-other sub m marks e = rw e
 
 -- what a mark before it is, it is among all
-marked_before : {M : Type 0} (sub other : ℕ) (marks : List (ℕ × M)) (q : M) → mark_at other (before_mark sub marks) ≡ Some q → mark_at other marks ≡ Some q
+pub marked_before : {M : Type 0} (sub other : ℕ) (marks : List (ℕ × M)) (q : M) → mark_at other (before_mark sub marks) ≡ Some q → mark_at other marks ≡ Some q
 marked_before sub other [] q e = absurd cc
 marked_before {M} sub other (m ∷ marks) q e =
     ⊎_elim
@@ -45,7 +45,7 @@ marked_before {M} sub other (m ∷ marks) q e =
     (cases_Bool (m.0 == sub))
 
 -- and those before it are the same
-before_before : {M : Type 0} (sub other : ℕ) (marks : List (ℕ × M)) (q : M) → mark_at other (before_mark sub marks) ≡ Some q → before_mark other (before_mark sub marks) ≡ before_mark other marks
+pub before_before : {M : Type 0} (sub other : ℕ) (marks : List (ℕ × M)) (q : M) → mark_at other (before_mark sub marks) ≡ Some q → before_mark other (before_mark sub marks) ≡ before_mark other marks
 before_before sub other [] q e = refl
 before_before {M} sub other (m ∷ marks) q e =
     ⊎_elim
@@ -116,7 +116,7 @@ before-more sub (i ∷ items) y other all =
     (cases_Bool (is_of sub i))
 
 -- one more of the same
-before-last : (sub : ℕ) (items : List Item) (y : Item) → is_of sub y ≡ true → before_savepoint sub (items ++ y ∷ []) ≡ before_savepoint sub items
+pub before-last : (sub : ℕ) (items : List Item) (y : Item) → is_of sub y ≡ true → before_savepoint sub (items ++ y ∷ []) ≡ before_savepoint sub items
 before-last sub [] y here = before-named sub y [] here
 before-last sub (i ∷ items) y here =
     ⊎_elim
@@ -125,7 +125,7 @@ before-last sub (i ∷ items) y here =
     (cases_Bool (is_of sub i))
 
 -- more behind one of it
-before-behind : (sub : ℕ) (items more : List Item) → list_any (is_of sub) items ≡ true → before_savepoint sub (items ++ more) ≡ before_savepoint sub items
+pub before-behind : (sub : ℕ) (items more : List Item) → list_any (is_of sub) items ≡ true → before_savepoint sub (items ++ more) ≡ before_savepoint sub items
 before-behind sub [] more any = absurd cc
 before-behind sub (i ∷ items) more any =
     ⊎_elim
@@ -192,7 +192,7 @@ any-last sub (j ∷ items) i here = ⊎_elim (λ named. rw named) (λ past. rw p
 -- ---- the savepoints of a record
 
 -- a mark among those with one noted is the noted one, or was there
-noted_or_old : {M : Type 0} (sub other : ℕ) (point p : M) (marks : List (ℕ × M)) → mark_at other (with_mark sub point marks) ≡ Some p
+pub noted_or_old : {M : Type 0} (sub other : ℕ) (point p : M) (marks : List (ℕ × M)) → mark_at other (with_mark sub point marks) ≡ Some p
     → ((sub ≡ other) × (is_some (mark_at sub marks) ≡ false) × (point ≡ p)) ⊎ (mark_at other marks ≡ Some p)
 noted_or_old sub other point p marks e =
     ⊎_elim

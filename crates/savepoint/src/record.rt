@@ -1,12 +1,13 @@
 // What an open transaction has done and can take back.
-ghost use Rattle.std.specs.Prelude.{◌≡◌, ℕ, [], ◌∷◌, ◌++◌, ◌<◌, ◌≤◌, length, map, None, IfSome, OnOk, OnErr, Contains, option_to_list};
+ghost use Rattle.std.specs.Prelude.{◌≡◌, ◌≢◌, ℕ, [], ◌∷◌, ◌++◌, ◌<◌, ◌≤◌, length, map, slice_get, None, IfSome, IfNone, OnOk, OnErr, Contains, option_to_list};
+ghost use Rattle.std.specs.Option.{option_map};
 ghost use Rattle.model.specs.declared.cell.Cell.{Cell};
 ghost use Rattle.model.specs.Effect.{all_back};
 ghost use Rattle.indexes.specs.Content.{Keeps};
 ghost use Rattle.change.specs.Inverse.{edits_of};
 ghost use Rattle.undo.specs.Undo.{content_undone, CanUndo, AreKnownAll, all_settled, AreSettled};
 ghost use Rattle.model.specs.declared.item.Item.TheVariants.{Change as ChangeItem, Touch, BackTo};
-ghost use Rattle.model.specs.Survivors.{after_item};
+ghost use Rattle.model.specs.Survivors.{before_savepoint, after_item};
 ghost use Rattle.savepoint.specs.Savepoints.{mark_at, before_mark};
 ghost use Rattle.savepoint.specs.Record.{with_mark_unless_top, HasMark, OthersAreNamed, AllAreNamed, inverses_since, inverses_before};
 
@@ -92,6 +93,9 @@ impl TxRecord {
         // There is as much to undo as it says, and the top transaction has none.
         ensures within { IfSome result (λ mark. mark.undo ≤ length self.now.log.inverses) }
         ensures top { mark_at self.now.top self.now.marks ≡ None }
+
+        // A subtransaction that has none is named by no item.
+        ensures unmarked { sub ≢ self.now.top → IfNone result (before_savepoint sub self.now.survivors ≡ self.now.survivors) }
     {
         let point = self.savepoints.mark_of(sub)?;
         Some(point.mark)
@@ -186,6 +190,20 @@ impl TxRecord {
         ensures { result.now ≡ self.now.survivors }
     {
         self.survivors.as_slice()
+    }
+
+    /// The inverse of its changes with this number, the oldest being 0; none past the end.
+    pub fn inverse_at(&self, number: usize) -> Option<&Inverse>
+        ensures { option_map (λ inverse. inverse.now) result ≡ slice_get self.now.log.inverses number }
+    {
+        self.undo.get(number)
+    }
+
+    /// How many inverses its changes have.
+    pub fn inverse_count(&self) -> usize
+        ensures { result ≡ length self.now.log.inverses }
+    {
+        self.undo.mark()
     }
 
     /// Undoes all changes, the newest first. It is for an abort, and takes no memory.

@@ -4,4 +4,8 @@ pub mod LogCode
 pub use Rattle.change.specs.Inverse
 pub use Rattle.change.specs.InverseLaws
 pub use Rattle.indexes.specs.Content
+pub mod Others
+pub mod OthersLaws
+pub mod LogOf
+pub mod LogLaws
 pub mod Laws

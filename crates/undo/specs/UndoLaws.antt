@@ -3,6 +3,7 @@
 --     CanUndo_keeps      with more room
 --     CanUndo_applied      what was just applied can be undone, and then what could be before it
 --     rows_undone      the rows of tables that are undone
+--     content_undone_both, CanUndo_both      the last inverses of a list, and then the first
 use Rattle.std.specs.Prelude.{◌≡◌, List, [], ◌∷◌, ◌++◌, map, refl}
 use Rattle.std.proofs.Common.{sym, ◌∙◌, ap, subst}
 use Rattle.model.specs.Rows.{Rows}
@@ -61,3 +62,16 @@ pub CanUndo_applied : (old new : Content) (is : List Inverse) (i : Inverse) → 
     → Keeps old.room (room_back new.room i) → CanPutBack new i → CanUndo old is → CanUndo new (is ++ i ∷ [])
 CanUndo_applied old new is i schema rows keeps can before =
     CanUndo_more new is i can (CanUndo_keeps old (content_back new i) (sym schema) (sym rows) keeps is before)
+
+-- ---- the last inverses of a list
+
+pub content_undone_both : (t : Content) (first rest : List Inverse) → content_undone t (first ++ rest) ≡ content_undone (content_undone t rest) first
+content_undone_both t [] rest = refl
+content_undone_both t (i ∷ first) rest = ap (λ (u : Content). content_back u i) (content_undone_both t first rest)
+
+-- the last of them can be undone, and then the first
+pub CanUndo_both : (t : Content) (first rest : List Inverse) → CanUndo t (first ++ rest) → CanUndo t rest × CanUndo (content_undone t rest) first
+CanUndo_both t [] rest can = (can, tt)
+CanUndo_both t (i ∷ first) rest can =
+    let parts = CanUndo_both t first rest can.0 in
+    (parts.0, (parts.1, subst (λ (u : Content). CanPutBack u i) (content_undone_both t first rest) can.1))

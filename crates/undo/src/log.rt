@@ -1,5 +1,6 @@
 // The log of a transaction's inverses.
-ghost use Rattle.std.specs.Prelude.{◌≡◌, ◌+◌, ◌-◌, ◌<◌, ◌≤◌, [], ◌∷◌, ◌++◌, length, take, drop, map, OnOk, vec_len, vec_capacity, Contains};
+ghost use Rattle.std.specs.Prelude.{◌≡◌, ◌+◌, ◌-◌, ◌<◌, ◌≤◌, [], ◌∷◌, ◌++◌, length, take, drop, map, slice_get, OnOk, vec_len, vec_capacity, Contains};
+ghost use Rattle.std.specs.Option.{option_map};
 ghost use Rattle.model.specs.declared.cell.Cell.{Cell};
 ghost use Rattle.model.specs.Effect.{all_back};
 ghost use Rattle.indexes.specs.Content.{Keeps};
@@ -67,6 +68,13 @@ impl UndoLog {
         ensures { result ≡ length self.now.inverses }
     {
         self.inverses.len()
+    }
+
+    /// The inverse with this number, the oldest being 0; none past the end.
+    pub fn get(&self, number: usize) -> Option<&Inverse>
+        ensures { option_map (λ inverse. inverse.now) result ≡ slice_get self.now.inverses number }
+    {
+        self.inverses.get(number)
     }
 
     /// Takes back the changes since a mark, the newest first. It takes no memory.

@@ -287,6 +287,31 @@ fn a_log_that_is_settled_leaves_the_rows(rt: HostRuntime) -> Result<(), Fail> {
     Ok(())
 }
 
+// Whether the inverse with this number keeps a row at a key.
+fn keeps_row(alloc: Global, log: &UndoLog, number: usize, id: i64) -> Result<bool, OutOfMemory> {
+    let key = key(alloc, Value::Int(id))?;
+    match log.get(number) {
+        Some(inverse) => Ok(inverse.row_at(ACCOUNTS, &key).is_some()),
+        None => Ok(false),
+    }
+}
+
+#[test]
+fn a_log_lends_the_rows_that_went(rt: HostRuntime) -> Result<(), Fail> {
+    let alloc = rt.alloc();
+    let mut t = filled(&rt, alloc)?;
+    let mut log = UndoLog::new(alloc);
+    run_all(&rt, alloc, &mut log, &mut t, CHANGES.as_slice())?;
+    assert!(rt; keeps_row(alloc, &log, 0, 1)?);
+    assert!(rt; !keeps_row(alloc, &log, 1, 3)?);
+    assert!(rt; keeps_row(alloc, &log, 2, 2)?);
+    assert!(rt; !keeps_row(alloc, &log, 2, 4)?);
+    assert!(rt; keeps_row(alloc, &log, 5, 4)?);
+    assert!(rt; !keeps_row(alloc, &log, 5, 1)?);
+    assert!(rt; !keeps_row(alloc, &log, 7, 4)?);
+    Ok(())
+}
+
 // Whichever call memory is refused in, the undo of those before it succeeds.
 #[test]
 fn an_undo_where_memory_is_refused(rt: HostRuntime) {

@@ -1,0 +1,5 @@
+use Rattle.undo.specs.LogLaws.{settled_filled}
+use Rattle.undo.proofs.laws.needed_is_filled.Goals as goal
+
+pub returns : goal.returns
+returns c = settled_filled

@@ -1,0 +1,5 @@
+use Rattle.undo.specs.LogLaws.{log_past}
+use Rattle.undo.proofs.laws.past_others_is_log.Goals as goal
+
+pub returns : goal.returns
+returns c = log_past

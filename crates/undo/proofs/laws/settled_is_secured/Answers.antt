@@ -1,0 +1,5 @@
+use Rattle.undo.specs.LogLaws.{secured}
+use Rattle.undo.proofs.laws.settled_is_secured.Goals as goal
+
+pub returns : goal.returns
+returns c = secured
