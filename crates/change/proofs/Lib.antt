@@ -3,3 +3,7 @@ pub mod Outcomes
 pub mod Clashes
 pub mod Patched
 pub mod Wiping
+pub mod Altering
+pub mod Numbered
+pub mod PatchedColumns
+pub mod Searching

@@ -24,6 +24,9 @@ use Rattle.change.specs.Inverse.{rows_held, HasNoRows, is_elsewhere, room_with, 
 use Rattle.change.specs.InverseLaws.{rows_held_last, unwiped_last, room_unwiped_last, known_more, empty_more, contains_filter, room_unwiped_keeps}
 use Rattle.change.specs.Applied.{IsSound}
 use Rattle.change.proofs.Outcomes.{can_put_back}
+use Rattle.change.proofs.Altering.{wipe_alters}
+use Rattle.change.specs.Altered.{cells_altered}
+use Rattle.model.specs.Footprint.{footprint}
 
 -- ---- the edits of one more
 
@@ -94,6 +97,7 @@ pub record IsWiped (start t : Content) (named : List ℕ) (ws : List Wiped) : Ty
   pub can : CanUnwipe t ws
   pub undone : all_back t.rows (map rows_held ws) ≡ start.rows
   pub room : Keeps start.room (room_unwiped t.room ws)
+  pub tables : map (λ (w : Wiped). w.table) ws ≡ named
 
 pub nothing_wiped : (start : Content) → IsWiped start start [] []
 nothing_wiped start = record {
@@ -103,6 +107,7 @@ nothing_wiped start = record {
   can = record { known = tt; empty = tt };
   undone = refl;
   room = λ cell is. is;
+  tables = refl;
 }
   where
     none_standing : (row : Option Row) → None ≡ row_before_wipe false row
@@ -160,7 +165,14 @@ module _ (start t new : Content) (tables : List ℕ) (i : ℕ) (ws : List Wiped)
     undone = unwiped_last new.rows ws w ∙ ap (λ (r : Rows). all_back r (map rows_held ws)) (sym was) ∙ far.undone;
     room = λ cell is. subst (λ (r : List Cell). Contains r cell) (sym (room_unwiped_last new.room ws w))
         (room_unwiped_keeps t.room (room_with new.room w) ws kept cell (far.room cell is));
+    tables = tables_last ws ∙ ap (λ (ts : List ℕ). ts ++ w.table ∷ []) far.tables
+        ∙ ap (λ n. take i tables ++ n ∷ []) (item)
+        ∙ sym (ap (λ n. take n tables) (add-one i) ∙ take-suc tables i w.table below);
   }
+    where
+      tables_last : (vs : List Wiped) → map (λ (v : Wiped). v.table) (vs ++ w ∷ []) ≡ map (λ (v : Wiped). v.table) vs ++ w.table ∷ []
+      tables_last [] = refl
+      tables_last (v ∷ vs) = ap (λ (ts : List ℕ). v.table ∷ ts) (tables_last vs)
 
 -- ---- all of them are emptied
 
@@ -175,6 +187,9 @@ module _ (start t : Content) (tables : List ℕ) (i : ℕ) (wiped : Vec Wiped Gl
   pub wipe_inverse : laid_together (map rows_held wiped.items) ≡ inverse start.schema start.rows (Wipe tables)
   wipe_inverse = same_edits _ _ (λ p.
       far.edits p ∙ ap (λ ts. row_before_wipe (is_named ts p.0) (get start.rows p)) all_named ∙ sym (get_inverse_wipe start.schema start.rows tables p))
+
+  pub wipe_altered : Keeps (cells_altered (Unwipe wiped)) (footprint start.schema start.rows (Wipe tables))
+  wipe_altered = wipe_alters start.schema start.rows tables wiped.items (far.tables ∙ all_named)
 
   pub wipe_can : CanPutBack t (Unwipe wiped)
   wipe_can =

@@ -3,17 +3,14 @@
 --     Answers      an answer tells the outcome
 --     IfDone, room_after      what holds of the inverse, if the change was done; the room that is there once it is put back
 --     without      the rows but the one at a key
-use Rattle.std.specs.Prelude.{◌≡◌, ℕ, ◌<◌, List, Option, Some, None, Result, Ok, Err, length}
-use Rattle.std.specs.List.{All}
+use Rattle.std.specs.Prelude.{◌≡◌, ℕ, List, Option, Some, None, Result, Ok, Err}
 use Rattle.std.specs.Borrow.{Bor}
 use Rattle.std.specs.FinMap.{get, remove}
 use Rattle.model.specs.declared.row.Row.{Row}
 use Rattle.indexes.specs.Content.{Content, HasRoom}
 use Rattle.model.specs.declared.key.Key.{Key}
 use Rattle.model.specs.declared.cell.Cell.{Cell}
-use Rattle.model.specs.declared.change.Change.{Change}
-use Rattle.model.specs.declared.change.Change.TheVariants.{Put, Set, Remove, Wipe}
-use Rattle.model.specs.Rows.{Rows, Schema, IsValid}
+use Rattle.model.specs.Rows.{Rows, IsValid}
 use Rattle.model.specs.Effect.{Outcome, Done, Skip, Clashes, Unique, NullKey}
 use Rattle.change.specs.declared.inverse.Inverse.{Inverse}
 use Rattle.change.specs.declared.outcome.Applied.{Applied}

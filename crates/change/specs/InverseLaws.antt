@@ -1,6 +1,7 @@
 -- The laws of inverses.
 --     rows_held_last, unwiped_last, ..      the last table that was emptied, apart from those before it
 --     room_unwiped_keeps, room_back_keeps, CanPutBack_keeps      with more room
+--     contains_first, contains_here, contains_later, contains_one      the elements of a list, the first apart
 --     back_unwipe      what stood where a wipe altered the tables, put back
 use Rattle.std.specs.Prelude.{◌≡◌, Bool, true, false, cond, List, [], ◌∷◌, ◌++◌, map, Contains, filter, refl}
 use Rattle.std.proofs.Common.{sym, ◌∙◌, ap, subst, inl, inr, ◌⊎◌, arith}
@@ -65,7 +66,7 @@ Keeps_append a b c d front rear cell is =
       | inr in_rear ↦ Contains-append_right c d cell (rear cell in_rear)
     ]
 
-contains_first : {X : Type 0} (x : X) (xs : List X) (y : X) → Contains (x ∷ xs) y → (x ≡ y) ⊎ Contains xs y
+pub contains_first : {X : Type 0} (x : X) (xs : List X) (y : X) → Contains (x ∷ xs) y → (x ≡ y) ⊎ Contains xs y
 contains_first x xs y is =
     elim (Contains-append_cases (x ∷ []) xs y is) [
       | inl here ↦ elim (Contains-push_cases [] x y here) [
@@ -75,11 +76,19 @@ contains_first x xs y is =
       | inr later ↦ inr later
     ]
 
-contains_here : {X : Type 0} (x : X) (xs : List X) → Contains (x ∷ xs) x
+pub contains_here : {X : Type 0} (x : X) (xs : List X) → Contains (x ∷ xs) x
 contains_here x xs = Contains-append_left (x ∷ []) xs x (Contains-push [] x)
 
-contains_later : {X : Type 0} (x : X) (xs : List X) (y : X) → Contains xs y → Contains (x ∷ xs) y
+pub contains_later : {X : Type 0} (x : X) (xs : List X) (y : X) → Contains xs y → Contains (x ∷ xs) y
 contains_later x xs y is = Contains-append_right (x ∷ []) xs y is
+
+-- a list of one has that alone
+pub contains_one : {X : Type 0} (x y : X) → Contains (x ∷ []) y → x ≡ y
+contains_one x y is =
+    elim (contains_first x [] y is) [
+      | inl same ↦ same
+      | inr none ↦ absurd (omega (arith, none.1))
+    ]
 
 pub contains_filter : {X : Type 0} (p : X → Bool) (xs : List X) (y : X) → Contains xs y → p y ≡ true → Contains (filter p xs) y
 contains_filter p [] y is passes = absurd (omega (arith, is.1))

@@ -1,12 +1,15 @@
 // What takes a change back.
-ghost use Rattle.std.specs.Prelude.{◌≡◌, ◌++◌, [], ◌∷◌, length, map};
+ghost use Rattle.std.specs.Prelude.{◌≡◌, ◌++◌, [], ◌∷◌, Some, None, if◌then◌else◌, length, map};
 ghost use Rattle.std.specs.FinMap.{get, insert, remove};
 ghost use Rattle.model.specs.Effect.{back, all_back};
 ghost use Rattle.indexes.specs.Content.{Keeps};
+ghost use Rattle.model.specs.EditLaws.{is_place};
+ghost use Rattle.change.specs.KeptRow.{row_kept, first_emptied};
 ghost use Rattle.change.specs.Inverse.{edits_of, room_back, CanPutBack, CanUnwipe, rows_held, room_unwiped};
 
 use indexes::{Contents, Tables};
 use model::{Key, Row, TableId};
+use rows::RowView;
 
 /// What takes a change back: what stood where it altered the tables.
 #[derive(Drop)]
@@ -40,6 +43,61 @@ pub enum Inverse {
 pub struct Wiped {
     pub table: TableId,
     pub contents: Contents,
+}
+
+impl Inverse {
+    /// The row that it keeps for a place: the one that its change took from there, or that an emptied
+    /// table held there. It takes no memory.
+    pub fn row_at(&self, table: TableId, key: &Key) -> Option<RowView<'_>>
+        ensures { result ≡ row_kept self.now table key.now }
+    {
+        match self {
+            Inverse::Take { .. } => None,
+            Inverse::Put {
+                table: other,
+                key: values,
+                row,
+            } => row_if(is_at(table, key, *other, values), row),
+            Inverse::Replace {
+                table: other,
+                key: values,
+                row,
+                ..
+            } => row_if(is_at(table, key, *other, values), row),
+            Inverse::Unwipe { wiped } => row_emptied(wiped.as_slice(), table, key),
+        }
+    }
+}
+
+// Whether two places are the same.
+fn is_at(table: TableId, key: &Key, other: TableId, values: &Key) -> bool
+    ensures { result ≡ is_place (table, key.now) (other, values.now) }
+{
+    table == other && key == values
+}
+
+// The row, if it is asked for.
+fn row_if(is: bool, row: &Row) -> Option<RowView<'_>>
+    ensures { result ≡ (if is then Some row.now else None) }
+{
+    if is {
+        return Some(RowView::of_row(row));
+    }
+    None
+}
+
+// The row at the key of the first emptied table of this number that held one there.
+fn row_emptied<'a>(wiped: &'a [Wiped], table: TableId, key: &Key) -> Option<RowView<'a>>
+    ensures { result ≡ first_emptied wiped.now table key.now }
+{
+    for emptied in wiped {
+        if emptied.table == table {
+            if let Some(row) = emptied.contents.get(key) {
+                return Some(row);
+            }
+        }
+    }
+    None
 }
 
 /// Puts back what stood before the change. It takes no memory.

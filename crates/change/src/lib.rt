@@ -18,14 +18,31 @@
 // inverse keeps the row that went, as it was handed out; a wipe moves whole tables out, and no row
 // is copied.
 //
+// Where transactions share live tables, `footprint` tells the cells that a change looks up or alters,
+// to be held before it is made, and `any_cell` whether one of them passes a test: it reads each where
+// it lies, and takes no memory.
+//
+//   footprint    the cells that a change looks up or alters
+//   search       `any_cell`: whether one of them passes a test
+//   cell_ref     `CellRef`: a cell that is read in place, and its order
+//   reading      `PatchedRow`: a row as a patch leaves it, read in place
 //   outcome      `apply`, its answers, and the four changes
 //   inverse      `Inverse` and `put_back`
+pub mod cell_ref;
+pub mod footprint;
 pub mod inverse;
 pub mod outcome;
+pub mod reading;
+pub mod search;
 
+pub use cell_ref::{CellRef, KeyRef};
 pub use inverse::{Inverse, Wiped, put_back};
 pub use model::{Change, ColumnPatch, Patch, TableIds};
 pub use outcome::{Applied, Clash, apply};
+pub use reading::PatchedRow;
+pub use search::{CellTest, any_cell};
 
+#[cfg(test)]
+mod cell_tests;
 #[cfg(test)]
 mod tests;

@@ -5,6 +5,8 @@ ghost use Rattle.model.specs.declared.change.Change.TheVariants.{Put, Set, Remov
 ghost use Rattle.model.specs.Rows.{IsValid, keys_at, values_in};
 ghost use Rattle.model.specs.Effect.{first_taken, are_taken_unless_null, patch_row, patch_value, outcome, effect, inverse};
 ghost use Rattle.indexes.specs.Content.{Keeps, unique_columns};
+ghost use Rattle.model.specs.Footprint.{footprint};
+ghost use Rattle.change.specs.Altered.{cells_altered};
 ghost use Rattle.change.specs.Inverse.{edits_of, CanPutBack};
 ghost use Rattle.model.specs.Named.{NamesTables};
 ghost use Rattle.change.specs.Applied.{Answers, IsSound, IfDone, room_after, without};
@@ -56,13 +58,14 @@ impl From<AllocError> for Clash {
     }
 }
 
-/// Applies a change to the tables.
+/// Applies a change to the tables. What its inverse alters is in the change's footprint.
 pub fn apply(alloc: Global, t: &mut Tables, c: &Change) -> Result<Applied, Clash>
     requires { NamesTables (length t.old.schema) c.now }
     ensures answer { Answers (outcome t.old.schema t.old.rows c.now) result }
     ensures ok { OnOk result (t.new.rows ≡ effect t.old.schema t.old.rows c.now) }
     ensures err { OnErr result (t.new.rows ≡ t.old.rows) }
     ensures inverse { IfDone result (λ i. edits_of i ≡ inverse t.old.schema t.old.rows c.now) }
+    ensures altered { IfDone result (λ i. Keeps (cells_altered i) (footprint t.old.schema t.old.rows c.now)) }
     ensures can_put_back { IfDone result (λ i. CanPutBack t.new i) }
     ensures room { Keeps t.old.room (room_after t.new.room result) }
     ensures schema { t.new.schema ≡ t.old.schema }
@@ -85,6 +88,7 @@ fn put(t: &mut Tables, table: TableId, row: &Row) -> Result<Applied, Clash>
     ensures ok { OnOk result (t.new.rows ≡ effect t.old.schema t.old.rows (Put table row.now)) }
     ensures err { OnErr result (t.new.rows ≡ t.old.rows) }
     ensures inverse { IfDone result (λ i. edits_of i ≡ inverse t.old.schema t.old.rows (Put table row.now)) }
+    ensures altered { IfDone result (λ i. Keeps (cells_altered i) (footprint t.old.schema t.old.rows (Put table row.now))) }
     ensures can_put_back { IfDone result (λ i. CanPutBack t.new i) }
     ensures room { Keeps t.old.room (room_after t.new.room result) }
     ensures schema { t.new.schema ≡ t.old.schema }
@@ -120,6 +124,7 @@ fn set(
     ensures ok { OnOk result (t.new.rows ≡ effect t.old.schema t.old.rows (Set table key.now patch.now)) }
     ensures err { OnErr result (t.new.rows ≡ t.old.rows) }
     ensures inverse { IfDone result (λ i. edits_of i ≡ inverse t.old.schema t.old.rows (Set table key.now patch.now)) }
+    ensures altered { IfDone result (λ i. Keeps (cells_altered i) (footprint t.old.schema t.old.rows (Set table key.now patch.now))) }
     ensures can_put_back { IfDone result (λ i. CanPutBack t.new i) }
     ensures room { Keeps t.old.room (room_after t.new.room result) }
     ensures schema { t.new.schema ≡ t.old.schema }
@@ -156,6 +161,7 @@ fn remove(t: &mut Tables, table: TableId, key: &Key) -> Result<Applied, Clash>
     ensures ok { OnOk result (t.new.rows ≡ effect t.old.schema t.old.rows (Remove table key.now)) }
     ensures err { OnErr result (t.new.rows ≡ t.old.rows) }
     ensures inverse { IfDone result (λ i. edits_of i ≡ inverse t.old.schema t.old.rows (Remove table key.now)) }
+    ensures altered { IfDone result (λ i. Keeps (cells_altered i) (footprint t.old.schema t.old.rows (Remove table key.now))) }
     ensures can_put_back { IfDone result (λ i. CanPutBack t.new i) }
     ensures room { Keeps t.old.room (room_after t.new.room result) }
     ensures schema { t.new.schema ≡ t.old.schema }
@@ -176,6 +182,7 @@ fn wipe(alloc: Global, t: &mut Tables, tables: &[TableId]) -> Result<Applied, Cl
     ensures ok { OnOk result (t.new.rows ≡ effect t.old.schema t.old.rows (Wipe tables.now)) }
     ensures err { OnErr result (t.new.rows ≡ t.old.rows) }
     ensures inverse { IfDone result (λ i. edits_of i ≡ inverse t.old.schema t.old.rows (Wipe tables.now)) }
+    ensures altered { IfDone result (λ i. Keeps (cells_altered i) (footprint t.old.schema t.old.rows (Wipe tables.now))) }
     ensures can_put_back { IfDone result (λ i. CanPutBack t.new i) }
     ensures room { Keeps t.old.room (room_after t.new.room result) }
     ensures schema { t.new.schema ≡ t.old.schema }

@@ -16,11 +16,11 @@ use std::test::Fail;
 
 // Tables of an int, which is the primary key, and two texts: with one unique key over the first
 // text, with none, and with one over each text.
-const ONE_UNIQUE: TableId = 0;
+pub(crate) const ONE_UNIQUE: TableId = 0;
 
-const NO_UNIQUE: TableId = 1;
+pub(crate) const NO_UNIQUE: TableId = 1;
 
-const TWO_UNIQUES: TableId = 2;
+pub(crate) const TWO_UNIQUES: TableId = 2;
 
 const UNIQUES: [&[usize]; 3] = [&[1], &[], &[1, 2]];
 
@@ -29,7 +29,7 @@ const ROWS: [&str; 3] = [r"1|a|n", r"2|b|m", r"3|\N|\N"];
 
 /// A change, with a row or a patch as a text: columns divided by `|`, `\N` for null, `-` for kept.
 #[derive(Clone, Copy, Debug)]
-enum Call {
+pub(crate) enum Call {
     Put(TableId, &'static str),
     Set(TableId, i64, &'static str),
     Remove(TableId, i64),
@@ -68,7 +68,7 @@ fn row(alloc: Global, text: &'static str) -> Result<Row, OutOfMemory> {
     Row::from_values(values)
 }
 
-fn key(alloc: Global, value: Value) -> Result<Key, OutOfMemory> {
+pub(crate) fn key(alloc: Global, value: Value) -> Result<Key, OutOfMemory> {
     Key::from_value(alloc, value)
 }
 
@@ -90,7 +90,7 @@ fn patch(alloc: Global, text: &'static str) -> Result<Patch, OutOfMemory> {
     Ok(Patch::from_columns(columns))
 }
 
-fn change(alloc: Global, call: &Call) -> Result<Change, OutOfMemory> {
+pub(crate) fn change(alloc: Global, call: &Call) -> Result<Change, OutOfMemory> {
     match call {
         Call::Put(table, text) => Ok(Change::Put {
             table: *table,
@@ -112,7 +112,7 @@ fn change(alloc: Global, call: &Call) -> Result<Change, OutOfMemory> {
 }
 
 /// Whether the tables of a change are there.
-fn are_there(t: &Tables, c: &Change) -> bool
+pub(crate) fn are_there(t: &Tables, c: &Change) -> bool
     ensures { IsTrue result → NamesTables (length t.now.schema) c.now }
 {
     match c {
@@ -151,7 +151,7 @@ fn empty_tables(alloc: Global) -> Result<Tables, OutOfMemory> {
 }
 
 /// Each table with its rows.
-fn filled(rt: &impl Abort, alloc: Global) -> Result<Tables, Clash> {
+pub(crate) fn filled(rt: &impl Abort, alloc: Global) -> Result<Tables, Clash> {
     let mut t = empty_tables(alloc)?;
     for table in 0..UNIQUES.len() {
         for row in ROWS {
@@ -181,7 +181,7 @@ fn rows_of(
             match row.column(column) {
                 None => out.push_str(r"\N")?,
                 Some(ValueRef::Int(number)) => write!(out, "{number}")?,
-                Some(ValueRef::Text(text)) => out.push_str(text.as_str())?,
+                Some(ValueRef::Text(text)) => out.push_str(text)?,
                 Some(ValueRef::Bool(truth)) => write!(out, "{truth}")?,
             }
         }

@@ -62,6 +62,15 @@ impl Model for Contents {
     ghost invariant = { λ a. IsSound a.table };
 }
 
+impl Contents {
+    /// The row that the table held at a key. It takes no memory.
+    pub fn get(&self, key: &Key) -> Option<RowView<'_>>
+        ensures { result ≡ finite.get self.now.rows key.now }
+    {
+        self.table.get(key)
+    }
+}
+
 impl Table {
     /// The empty table of a definition.
     pub fn of_definition(alloc: Global, definition: &TableDef) -> Result<Table, OutOfMemory>
@@ -148,6 +157,29 @@ impl Table {
         ensures { IfOk result (λ key. key ≡ values_in self.now.keys.primary row.now) }
     {
         values_of(self.alloc, self.primary.as_slice(), row)
+    }
+
+    /// The columns of its primary key. It takes no memory.
+    pub fn primary_columns(&self) -> &[usize]
+        ensures { result.now ≡ self.now.keys.primary }
+    {
+        self.primary.as_slice()
+    }
+
+    /// The columns of a unique key, by its number from 1. It takes no memory.
+    pub fn unique_columns(&self, number: usize) -> &[usize]
+        requires { (1 ≤ number) × (number ≤ length self.now.keys.uniques) }
+        ensures { result.now ≡ unique_at self.now.keys number }
+    {
+        self.uniques[number - 1].columns.as_slice()
+    }
+
+    /// A row's values in a unique key, by the key's number from 1; none if one of them is null.
+    pub fn unique_of(&self, number: usize, row: &Row) -> Result<Option<Key>, OutOfMemory>
+        requires { (1 ≤ number) × (number ≤ length self.now.keys.uniques) }
+        ensures { IfOk result (λ key. key ≡ values_in (unique_at self.now.keys number) row.now) }
+    {
+        values_of(self.alloc, self.unique_columns(number), row)
     }
 
     /// The key of the row that has these values in a unique key, by the key's number from 1. It

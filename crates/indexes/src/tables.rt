@@ -113,6 +113,37 @@ impl Tables {
         self.tables[table].key_of(row)
     }
 
+    /// The columns of a table's primary key. It takes no memory.
+    pub fn primary_columns(&self, table: usize) -> &[usize]
+        requires { table < length self.now.schema }
+        ensures { result.now ≡ (keys_at self.now.schema table).primary }
+    {
+        self.tables[table].primary_columns()
+    }
+
+    /// The columns of a unique key, by its number from 1. It takes no memory.
+    pub fn unique_columns(&self, table: usize, number: usize) -> &[usize]
+        requires known { table < length self.now.schema }
+        requires number { (1 ≤ number) × (number ≤ length (keys_at self.now.schema table).uniques) }
+        ensures { result.now ≡ unique_columns self.now.schema table number }
+    {
+        self.tables[table].unique_columns(number)
+    }
+
+    /// A row's values in a unique key, by the key's number from 1; none if one of them is null.
+    pub fn unique_of(
+        &self,
+        table: usize,
+        number: usize,
+        row: &Row,
+    ) -> Result<Option<Key>, OutOfMemory>
+        requires known { table < length self.now.schema }
+        requires number { (1 ≤ number) × (number ≤ length (keys_at self.now.schema table).uniques) }
+        ensures { IfOk result (λ key. key ≡ values_in (unique_columns self.now.schema table number) row.now) }
+    {
+        self.tables[table].unique_of(number, row)
+    }
+
     /// The row at a key. It takes no memory.
     pub fn get(&self, table: usize, key: &Key) -> Option<RowView<'_>>
         requires { table < length self.now.schema }

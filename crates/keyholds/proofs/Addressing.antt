@@ -1,6 +1,10 @@
 -- What a look-up among the addresses says of the cells that transactions hold.
-use Rattle.std.specs.Prelude.{◌≡◌, ◌≢◌, ℕ, ◌+◌, ◌-◌, ◌<◌, true, false, List, Option, Some, None, refl, Contains, MatchOption, IfSome, IfNone}
-use Rattle.std.proofs.Common.{sym, ◌∙◌, subst, inl, inr}
+use Rattle.std.specs.Prelude.{◌≡◌, ◌≢◌, ℕ, ◌+◌, ◌-◌, ◌<◌, ◌||◌, zero, suc, Bool, true, false, List, [], ◌∷◌, slice_get, Option, Some, None, refl, Contains, MatchOption, IfSome, IfNone}
+use Rattle.std.proofs.Common.{sym, ◌∙◌, ap, subst, inl, inr, true≢false, arith, nat_lt}
+use Rattle.std.specs.Ordering.{eq_by_cmp}
+use Rattle.std.specs.List.{list_any}
+use Rattle.std.proofs.lemmas.Bool.{ltb-true, ltb-false}
+use Rattle.std.proofs.lemmas.Map.Views.{tells_apart}
 use Rattle.std.specs.BTreeMap.{Updates}
 use Rattle.std.specs.Prelude.{Result, Ok, Err, OnOk, OnErr, is_err}
 use Rattle.model.specs.declared.cell.Cell.{Cell}
@@ -11,8 +15,8 @@ use Rattle.keyholds.specs.declared.addresses.Address.{Address}
 use Rattle.keyholds.specs.declared.addresses.Addresses.{Addresses}
 use Rattle.keyholds.specs.Counts.{count_in, SetsCount}
 use Rattle.keyholds.specs.Holds.{IsFree, IsHeldBy}
-use Rattle.keyholds.specs.Addresses.{AreAddresses, IsAlone, IsHeldAt, AddsAddress, RemovesAddress}
-use Rattle.keyholds.proofs.Ties.{updated_here, updated_beside}
+use Rattle.keyholds.specs.Addresses.{AreAddresses, IsAlone, IsHeldAt, TellsAt, AddsAddress, RemovesAddress}
+use Rattle.keyholds.proofs.Ties.{tied_self, updated_here, updated_beside, same_value}
 use Rattle.keyholds.proofs.Overlaps.{contains_at, at_contains, some_counted, none_counted_at, overlaps_itself, overlaps_whole, overlap_cases}
 
 module _ (held : ℕ → List Cell) (addresses : Addresses) (kept : AreAddresses held addresses) (xid : ℕ) where
@@ -69,6 +73,15 @@ module _ (held : ℕ → List Cell) (addresses : Addresses) (kept : AreAddresses
   pub answered_here : (cell : Cell) (other : ℕ) → IsHeldAt xid cell addresses other → IsHeldBy held xid cell other
   answered_here cell other there = held_there cell cell other (overlaps_itself cell) there
 
+-- a cell that ties with its table as a whole is that, and one that doesn't is not
+pub whole_or_not : (cell : Cell) → eq_by_cmp cell_cmp cell (Whole (table_of cell)) ≡ true → cell ≡ Whole (table_of cell)
+whole_or_not cell = tells_apart cell_cmp_exact cell (Whole (table_of cell))
+
+pub no_whole : (cell : Cell) → eq_by_cmp cell_cmp cell (Whole (table_of cell)) ≡ false → (table : ℕ) → cell ≢ Whole table
+no_whole cell apart table is =
+    true≢false
+    (sym (tied_self cell_cmp_total cell) ∙ ap (eq_by_cmp cell_cmp cell) (is ∙ ap Whole (sym (ap table_of is))) ∙ apart)
+
 -- a clause on `Ok`, where the call was no error
 pub at_ok : {T E : Type 0} (r : Result T E) (P : Type 0) → is_err r ≡ false → OnOk r P → P
 at_ok (Ok x) P e h = h
@@ -92,3 +105,61 @@ module _ (cell : Cell) (table : ℕ) (is : table ≡ table_of cell) (old new : A
     beside = updated_beside old.addresses new.addresses cell None step cell_cmp_exact;
     count = subst (λ t. SetsCount t xid (count_in old.counts.counts t xid - 1) old.counts.counts new.counts.counts) is count;
   }
+
+-- ---- whether a transaction holds a cell that overlaps
+
+any_true : (p : Cell → Bool) (xs : List Cell) (x : Cell) → Contains xs x → p x ≡ true → list_any p xs ≡ true
+any_true p xs x has is = at_index p xs has.0 x (at_contains xs x has) is
+  where
+    or_true : (a b : Bool) → b ≡ true → (a || b) ≡ true
+    or_true true b e = refl
+    or_true false b e = e
+
+    at_index : (p : Cell → Bool) (xs : List Cell) (i : ℕ) (x : Cell) → slice_get xs i ≡ Some x → p x ≡ true → list_any p xs ≡ true
+    at_index p [] i x at is = absurd cc
+    at_index p (y ∷ ys) zero x at is = ap (λ b. b || list_any p ys) (ap p (same_value y x at) ∙ is)
+    at_index p (y ∷ ys) (suc i) x at is = or_true (p y) (list_any p ys) (at_index p ys i x at is)
+
+any_false : (p : Cell → Bool) (xs : List Cell) → ((i : ℕ) (x : Cell) → slice_get xs i ≡ Some x → p x ≡ false) → list_any p xs ≡ false
+any_false p [] none = refl
+any_false p (y ∷ ys) none = ap (λ b. b || list_any p ys) (none 0 y refl) ∙ any_false p ys (λ i x at. none (suc i) x at)
+
+-- whether a number is above 0
+abbrev pub IsPositive : ℕ → Bool → Type 0
+IsPositive n true = 0 < n
+IsPositive n false = n ≡ 0
+
+pub positive : (n : ℕ) → IsPositive n (nat_lt 0 n)
+positive n = by (nat_lt 0 n) refl
+  where
+    by : (b : Bool) → nat_lt 0 n ≡ b → IsPositive n b
+    by true e = ltb-true 0 n e
+    by false e = let least = ltb-false 0 n e in omega (arith, least)
+
+module _ (held : ℕ → List Cell) (addresses : Addresses) (kept : AreAddresses held addresses) (holder : ℕ) where
+  pub whole_overlaps_one : (table n : ℕ) → n ≡ count_in addresses.counts.counts table holder → (b : Bool) → IsPositive n b
+      → b ≡ list_any (overlaps (Whole table)) (held holder)
+  whole_overlaps_one table n is true some =
+      let found = some_counted (overlaps (Whole table)) (held holder) (subst (λ m. 0 < m) (is ∙ kept.counted table holder) some) in
+      sym (any_true (overlaps (Whole table)) (held holder) found.0 found.1 found.2)
+  whole_overlaps_one table n is false none =
+      sym (any_false (overlaps (Whole table)) (held holder) (none_counted_at (overlaps (Whole table)) (held holder) (sym (kept.counted table holder) ∙ sym is ∙ none)))
+
+  pub held_overlaps_one : (cell its : Cell) → overlaps cell its ≡ true → TellsAt holder its addresses true → true ≡ list_any (overlaps cell) (held holder)
+  held_overlaps_one cell its meets at =
+      sym (any_true (overlaps cell) (held holder) its (contains_at (held holder) at.0 its (kept.found its (record { xid = holder; index = at.0 }) at.1)) meets)
+
+  not_at : (cell : Cell) → TellsAt holder cell addresses false → (i : ℕ) → ¬ (slice_get (held holder) i ≡ Some cell)
+  not_at cell none i at = none (record { xid = holder; index = i }) (kept.at holder i cell at) refl
+
+  pub above_overlaps_one : (cell : Cell) → ((table : ℕ) → cell ≢ Whole table) → TellsAt holder cell addresses false → (b : Bool)
+      → TellsAt holder (Whole (table_of cell)) addresses b → b ≡ list_any (overlaps cell) (held holder)
+  above_overlaps_one cell partial none true at = held_overlaps_one cell (Whole (table_of cell)) (overlaps_whole cell) at
+  above_overlaps_one cell partial none false above =
+      sym (any_false (overlaps cell) (held holder) (λ i d at. elim (overlaps cell d) as (λ b. overlaps cell d ≡ b → b ≡ false) [
+        | true ↦ λ e. absurd (elim (overlap_cases cell d partial e) [
+          | inl is ↦ not_at cell none i (at ∙ ap Some is)
+          | inr is ↦ not_at (Whole (table_of cell)) above i (at ∙ ap Some is)
+        ])
+        | false ↦ λ e. refl
+      ] refl))

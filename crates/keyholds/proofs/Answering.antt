@@ -1,5 +1,5 @@
 -- What the search of a list of cells answers, and what a cell's address says of its list.
-use Rattle.std.specs.Prelude.{◌≡◌, ℕ, ◌+◌, ◌<◌, ◌≤◌, false, List, [], Option, Some, None, Vec, refl, slice_get, All, take, length, vec_len, vec_capacity, Result, Ok, Err, OnOk, OnErr, is_some}
+use Rattle.std.specs.Prelude.{◌≡◌, ℕ, ◌+◌, ◌<◌, ◌≤◌, false, List, [], Option, Some, None, Vec, refl, slice_get, All, Contains, take, length, vec_len, vec_capacity, Result, Ok, Err, OnOk, OnErr, is_some}
 use Rattle.std.proofs.Common.{sym, ◌∙◌, ap, subst, arith, get_or, true≢false}
 use Rattle.std.specs.Ordering.{nat_cmp}
 use Rattle.std.specs.Option.{option_map}
@@ -13,7 +13,7 @@ use Rattle.std.proofs.lemmas.Option.{slice_get_read, slice_get_within, slice_get
 use Rattle.std.proofs.lemmas.List.Elements.{All-more, All-contains}
 use Rattle.std.proofs.lemmas.Map.Entries.{length-keys_of}
 use Rattle.model.specs.declared.cell.Cell.{Cell}
-use Rattle.keyholds.specs.Holds.{holds_of, IsFree, IsHeldBy, IsFirstHeldBy, StoodAt}
+use Rattle.keyholds.specs.Holds.{holds_of, IsFree, IsHeldBy, IsFirstHeldBy}
 use Rattle.keyholds.specs.Lists.{listed, items_in, HasRoom}
 use Rattle.keyholds.proofs.Ties.{updated_here, same_value}
 use Rattle.keyholds.proofs.Overlaps.{contains_at}
@@ -51,12 +51,12 @@ module _ {S Z : Type 0} (lists : BTreeMap ℕ (Vec (Cell × S) Z)) (xid index : 
     pub address_within : index < length list.items
     address_within = subst (λ n. index < n) (length-keys_of list.items) (slice_get_within (keys_of list.items) index cell key_at)
 
-    pub stood_there : (holds : FinMap nat_cmp (List (Cell × S))) → holds_of holds xid ≡ listed lists xid → (hold : Cell × S) → hold ≡ get_or list.items index hold → StoodAt holds cell hold.1
-    stood_there holds seen hold read =
+    pub among_holds : (holds : FinMap nat_cmp (List (Cell × S))) → holds_of holds xid ≡ listed lists xid → (hold : Cell × S) → hold ≡ get_or list.items index hold → Contains (holds_of holds xid) (cell, hold.1)
+    among_holds holds seen hold read =
         let here = slice_get_read list.items (length list.items) index hold refl address_within read in
         let same : hold.0 ≡ cell = same_value hold.0 cell (ap (option_map (λ (e : Cell × S). e.0)) (sym here) ∙ sym (slice_get-map (λ (e : Cell × S). e.0) list.items index) ∙ key_at) in
         let there : slice_get (holds_of holds xid) index ≡ Some (cell, hold.1) = ap (λ l. slice_get l index) (seen ∙ ap items_in (sym is)) ∙ here ∙ (λ i. Some (same i, hold.1)) in
-        record { holder = xid; among = contains_at (holds_of holds xid) index (cell, hold.1) there }
+        contains_at (holds_of holds xid) index (cell, hold.1) there
 
 -- a list with room, once it is in the map
 pub has_room : {X Z : Type 0} (old new : BTreeMap ℕ (Vec X Z)) (xid : ℕ) (list : Vec X Z) → Updates nat_cmp old new xid (Some list) → vec_len list < vec_capacity list → HasRoom new xid

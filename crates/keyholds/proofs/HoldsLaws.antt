@@ -1,18 +1,20 @@
 -- What is held once cells were taken: as a set, from the front, and apart from others.
-use Rattle.std.specs.Prelude.{◌≡◌, ◌≢◌, ℕ, zero, suc, Bool, true, false, List, [], ◌∷◌, ◌++◌, Some, refl, ◌⊎◌, Contains, slice_get, if◌then◌else◌}
-use Rattle.std.proofs.Common.{sym, ◌∙◌, ap, subst, inl, inr, arith}
+use Rattle.std.specs.Prelude.{◌≡◌, ◌≢◌, ℕ, ◌≤◌, zero, suc, Bool, true, false, List, [], ◌∷◌, ◌++◌, Some, refl, ◌⊎◌, Contains, slice_get, length, take, if◌then◌else◌}
+use Rattle.std.proofs.Common.{sym, ◌∙◌, ap, subst, inl, inr, arith, true≢false}
+use Rattle.std.specs.Cmp.{eq_by_cmp_equiv}
+use Rattle.std.proofs.Math.Seq.{take-length}
 use Rattle.std.specs.Map.{keys_of}
 use Rattle.std.proofs.lemmas.Bool.{cases_eq}
 use Rattle.std.proofs.lemmas.List.{map-append}
 use Rattle.std.proofs.lemmas.List.Elements.{All-contains, Contains-append_left, Contains-push, Contains-push_cases}
-use Rattle.std.proofs.lemmas.Map.Views.{Contains-keys_from_lookup, tells_apart}
+use Rattle.std.proofs.lemmas.Map.Views.{IsSome-lookup_from_Contains, Contains-keys_from_lookup, tells_apart}
 use Rattle.model.specs.declared.cell.Cell.{Cell}
-use Rattle.model.specs.CellOrder.{cell_cmp_exact}
+use Rattle.model.specs.CellOrder.{cell_cmp_total, cell_cmp_exact}
 use Rattle.keyholds.specs.Holds.{has_cell, with_hold, with_holds, IsFree}
-use Rattle.keyholds.specs.Laws.{TakingAddsCells, TakingKeepsHeld, TakingKeepsApart}
+use Rattle.keyholds.specs.Laws.{TakingAddsCells, TakingKeepsHeld, TakingAddsEach, TakingKeepsApart}
 use Rattle.keyholds.proofs.Overlaps.{contains_at, at_contains, contains_next, overlaps_symm}
 use Rattle.keyholds.proofs.Ties.{same_value}
-use Rattle.keyholds.proofs.Taking.{held_first}
+use Rattle.keyholds.proofs.Taking.{held_first, front_of_hold, front_of_holds}
 
 head_or_rest : {X : Type 0} (y : X) (ys : List X) (x : X) → Contains (y ∷ ys) x → (y ≡ x) ⊎ Contains ys x
 head_or_rest {X} y ys x has = by has.0 (at_contains (y ∷ ys) x has)
@@ -20,6 +22,13 @@ head_or_rest {X} y ys x has = by has.0 (at_contains (y ∷ ys) x has)
     by : (i : ℕ) → slice_get (y ∷ ys) i ≡ Some x → (y ≡ x) ⊎ Contains ys x
     by zero e = inl (same_value y x e)
     by (suc i) e = inr (contains_at ys i x e)
+
+-- what stands in a list with one more at its end
+push_cases : {X : Type 0} (xs : List X) (x : X) (i : ℕ) (y : X) → slice_get (xs ++ x ∷ []) i ≡ Some y → (slice_get xs i ≡ Some y) ⊎ ((i ≡ length xs) × (x ≡ y))
+push_cases [] x zero y e = inr (refl, same_value x y e)
+push_cases [] x (suc i) y e = absurd cc
+push_cases (z ∷ xs) x zero y e = inl e
+push_cases (z ∷ xs) x (suc i) y e = elim (push_cases xs x i y e) [ inl was ↦ inl was | inr last ↦ inr (omega (arith, last.0), last.1) ]
 
 module _ {S : Type 0} where
   hold_cases : (held : List (Cell × S)) (hold : Cell × S) (cell : Cell) → Contains (keys_of (with_hold held hold)) cell → Contains (keys_of held) cell ⊎ (hold.0 ≡ cell)
@@ -69,6 +78,35 @@ module _ {S : Type 0} where
 
   pub taking_keeps_held : TakingKeepsHeld S
   taking_keeps_held = held_first
+
+  -- ---- each by itself
+
+  newly_at : (held : List (Cell × S)) (first : Cell × S) (more : List (Cell × S)) → has_cell first.0 held ≡ false → (index : ℕ) (hold : Cell × S)
+      → index ≡ length held → first ≡ hold → Contains (keys_of (take index (with_holds (with_hold held first) more))) hold.0 → ⊥
+  newly_at held first more e index hold here is has =
+      let front : take index (with_holds (with_hold held first) more) ≡ held =
+      ap (λ n. take n (with_holds (with_hold held first) more)) here
+      ∙ front_of_holds (with_hold held first) more (length held) (front_of_hold held first (length held) (omega arith)).1
+      ∙ (front_of_hold held first (length held) (omega arith)).0 ∙ take-length held in
+      let there : Contains (keys_of held) first.0 = subst (λ c. Contains (keys_of held) c) (sym (ap (λ h. h.0) is)) (subst (λ l. Contains (keys_of l) hold.0) front has) in
+      true≢false (sym (IsSome-lookup_from_Contains (eq_by_cmp_equiv cell_cmp_total) first.0 held there) ∙ e)
+
+  pub taking_adds_each : TakingAddsEach S
+  taking_adds_each held [] index hold at = inl at
+  taking_adds_each held (first ∷ more) index hold at = elim (taking_adds_each (with_hold held first) more index hold at) [
+    | inl there ↦ by (has_cell first.0 held) refl there
+    | inr later ↦ inr (omega (arith, later.0, (front_of_hold held first (length held) (omega arith)).1), contains_next first more hold later.1, later.2)
+  ]
+    where
+      by : (b : Bool) → has_cell first.0 held ≡ b → slice_get (if b then held else held ++ first ∷ []) index ≡ Some hold
+          → (slice_get held index ≡ Some hold)
+          ⊎ ((length held ≤ index) × Contains (first ∷ more) hold × (Contains (keys_of (take index (with_holds (with_hold held first) more))) hold.0 → ⊥))
+      by true e there = inl there
+      by false e there = elim (push_cases held first index hold there) [
+        | inl was ↦ inl was
+        | inr last ↦
+            inr (omega (arith, last.0), contains_at (first ∷ more) 0 hold (ap Some last.1), newly_at held first more e index hold last.0 last.1)
+      ]
 
 pub taking_keeps_apart : TakingKeepsApart
 taking_keeps_apart held new xid cells apart free adds same x y c d differs has_c has_d = elim (cases_eq x xid) [

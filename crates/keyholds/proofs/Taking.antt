@@ -84,7 +84,7 @@ taken_placed old new addresses after xid hold kept free absent sets adds =
 
 module _ {S : Type 0} where
   -- what was held stays, at the front
-  front_of_hold : (held : List (Cell × S)) (hold : Cell × S) → (n : ℕ) → n ≤ length held → (take n (with_hold held hold) ≡ take n held) × (length held ≤ length (with_hold held hold))
+  pub front_of_hold : (held : List (Cell × S)) (hold : Cell × S) → (n : ℕ) → n ≤ length held → (take n (with_hold held hold) ≡ take n held) × (length held ≤ length (with_hold held hold))
   front_of_hold held hold n within = by (has_cell hold.0 held) refl
     where
       by : (b : Bool) → has_cell hold.0 held ≡ b → (take n (if b then held else held ++ hold ∷ []) ≡ take n held) × (length held ≤ length (if b then held else held ++ hold ∷ []))

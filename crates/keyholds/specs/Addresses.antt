@@ -1,7 +1,7 @@
 -- Where each cell that is held stands.
 --     AreAddresses      each cell of each list, and no other, has its address, and each table its counts
 --     with_cells      the lists, with another one for a transaction
-use Rattle.std.specs.Prelude.{◌≡◌, ◌≢◌, ℕ, ◌+◌, ◌-◌, ◌==◌, List, Some, None, if◌then◌else◌, slice_get, count_by}
+use Rattle.std.specs.Prelude.{◌≡◌, ◌≢◌, ℕ, ◌+◌, ◌-◌, ◌==◌, Bool, true, false, List, Some, None, if◌then◌else◌, slice_get, count_by}
 use Rattle.std.specs.BTreeMap as tree
 use Rattle.model.specs.declared.cell.Cell.{Cell}
 use Rattle.model.specs.Cells.{table_of}
@@ -40,6 +40,11 @@ pub record IsHeldAt (xid : ℕ) (cell : Cell) (addresses : Addresses) (holder : 
   pub another : holder ≢ xid
   pub index : ℕ
   pub at : tree.get cell_cmp addresses.addresses cell ≡ Some (record { xid = holder; index = index })
+
+-- whether this transaction has just this cell
+abbrev pub TellsAt : ℕ → Cell → Addresses → Bool → Type 0
+TellsAt holder cell addresses true = (index : ℕ) × (tree.get cell_cmp addresses.addresses cell ≡ Some (record { xid = holder; index = index }))
+TellsAt holder cell addresses false = (address : Address) → tree.get cell_cmp addresses.addresses cell ≡ Some address → address.xid ≢ holder
 
 -- a cell is at an address, and the transaction's count in its table is one more
 pub record AddsAddress (cell : Cell) (address : Address) (old new : Addresses) : Type 0 where

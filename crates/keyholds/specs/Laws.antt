@@ -1,5 +1,5 @@
 -- The laws of what is held once cells are taken, which `laws` promises.
-use Rattle.std.specs.Prelude.{◌≡◌, ◌≢◌, ℕ, ◌↔◌, ◌⊎◌, List, take, length, All, Contains}
+use Rattle.std.specs.Prelude.{◌≡◌, ◌≢◌, ℕ, ◌≤◌, ◌↔◌, ◌⊎◌, List, Some, take, length, slice_get, All, Contains}
 use Rattle.std.specs.Map.{keys_of}
 use Rattle.model.specs.declared.cell.Cell.{Cell}
 use Rattle.keyholds.specs.Holds.{with_holds, IsFree, AreApart}
@@ -12,6 +12,13 @@ TakingAddsCells S =
 -- what was held before is the front of what is held then
 abbrev pub TakingKeepsHeld : Type 0 → Type 0
 TakingKeepsHeld S = (held more : List (Cell × S)) → take (length held) (with_holds held more) ≡ held
+
+-- what is held then was held before, or is one of those taken, behind all that was held, and no cell before it is the same
+abbrev pub TakingAddsEach : Type 0 → Type 0
+TakingAddsEach S =
+    (held more : List (Cell × S)) (index : ℕ) (hold : Cell × S) → slice_get (with_holds held more) index ≡ Some hold
+    → (slice_get held index ≡ Some hold)
+    ⊎ ((length held ≤ index) × Contains more hold × (Contains (keys_of (take index (with_holds held more))) hold.0 → ⊥))
 
 -- all stay apart where a transaction takes cells that are free for it, and no other changes
 abbrev pub TakingKeepsApart : Type 0

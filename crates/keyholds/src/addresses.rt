@@ -3,14 +3,18 @@ ghost use Rattle.std.specs.Prelude.{◌≡◌, ◌≢◌, ℕ, ◌+◌, ◌<◌,
 ghost use Rattle.std.specs.Option.{option_copied};
 ghost use Rattle.std.specs.BTreeMap.{get};
 ghost use Rattle.model.specs.declared.cell.Cell.{Cell as AnyCell};
+ghost use Rattle.std.specs.Ordering.{eq_by_cmp};
+ghost use Rattle.model.specs.declared.cell.Cell.TheVariants.{Whole};
 ghost use Rattle.model.specs.CellOrder.{cell_cmp};
-ghost use Rattle.model.specs.Cells.{table_of};
+ghost use Rattle.model.specs.Cells.{table_of, overlaps};
+ghost use Rattle.std.specs.List.{list_any};
 ghost use Rattle.keyholds.specs.Counts.{count_in};
 ghost use Rattle.keyholds.specs.Holds.{IsFree, IsHeldBy};
-ghost use Rattle.keyholds.specs.Addresses.{AreAddresses, IsAlone, IsHeldAt, AddsAddress, RemovesAddress, SameAddresses, HasNoAddresses};
+ghost use Rattle.keyholds.specs.Addresses.{AreAddresses, IsAlone, IsHeldAt, TellsAt, AddsAddress, RemovesAddress, SameAddresses, HasNoAddresses};
 
 use crate::Xid;
 use crate::counts::Counts;
+use crate::sought::{Asked, SoughtCell};
 use model::{Cell, OutOfMemory};
 use std::alloc::Global;
 use std::collections::BTreeMap;
@@ -41,10 +45,10 @@ impl Addresses {
     }
 
     /// Where a cell stands, if it is held.
-    pub(crate) fn find(&self, cell: &Cell) -> Option<Address>
-        ensures { result ≡ get cell_cmp self.now.addresses cell.now }
+    pub(crate) fn find<C: SoughtCell>(&self, cell: &C) -> Option<Address>
+        ensures { result ≡ get cell_cmp self.now.addresses (C.cell cell.now) }
     {
-        self.addresses.get(cell).copied()
+        self.addresses.get(Asked(cell)).copied()
     }
 
     /// One cell more, which isn't held yet. Refused for memory, nothing changes.
@@ -72,26 +76,59 @@ impl Addresses {
     }
 
     /// Another transaction that holds a cell which overlaps this one, if there is one.
-    pub(crate) fn other_holder(&self, xid: Xid, cell: &Cell) -> Option<Xid>
+    pub(crate) fn other_holder<C: SoughtCell>(&self, xid: Xid, cell: &C) -> Option<Xid>
         ensures { (held : ℕ → List AnyCell) → AreAddresses held self.now
-            → MatchOption result (IsFree held xid cell.now) (IsHeldBy held xid cell.now) }
+            → MatchOption result (IsFree held xid (C.cell cell.now)) (IsHeldBy held xid (C.cell cell.now)) }
     {
-        if let Cell::Whole(table) = cell {
-            return self.counts.other(*table, xid);
+        let table = cell.table();
+        if is_whole(cell) {
+            return self.counts.other(table, xid);
         }
         match self.other_at(xid, cell) {
             Some(other) => Some(other),
-            None => self.other_at(xid, &Cell::Whole(cell.table())),
+            None => self.other_at(xid, &Cell::Whole(table)),
+        }
+    }
+
+    /// Whether this transaction holds a cell that overlaps another one.
+    pub(crate) fn overlaps_one<C: SoughtCell>(&self, holder: Xid, cell: &C) -> bool
+        ensures { (held : ℕ → List AnyCell) → AreAddresses held self.now
+            → result ≡ list_any (overlaps (C.cell cell.now)) (held holder) }
+    {
+        let table = cell.table();
+        if is_whole(cell) {
+            return self.counts.count(table, holder) > 0;
+        }
+        if self.is_at(holder, cell) {
+            return true;
+        }
+        self.is_at(holder, &Cell::Whole(table))
+    }
+
+    // Whether this transaction holds just this cell.
+    fn is_at<C: SoughtCell>(&self, holder: Xid, cell: &C) -> bool
+        ensures { TellsAt holder (C.cell cell.now) self.now result }
+    {
+        match self.addresses.get(Asked(cell)) {
+            Some(address) if address.xid == holder => true,
+            _ => false,
         }
     }
 
     // The transaction that holds just this cell, if it is another.
-    fn other_at(&self, xid: Xid, cell: &Cell) -> Option<Xid>
-        ensures { MatchOption result (IsAlone xid cell.now self.now) (IsHeldAt xid cell.now self.now) }
+    fn other_at<C: SoughtCell>(&self, xid: Xid, cell: &C) -> Option<Xid>
+        ensures { MatchOption result (IsAlone xid (C.cell cell.now) self.now) (IsHeldAt xid (C.cell cell.now) self.now) }
     {
-        match self.addresses.get(cell) {
+        match self.addresses.get(Asked(cell)) {
             Some(address) if address.xid != xid => Some(address.xid),
             _ => None,
         }
     }
+}
+
+// Whether it is a table as a whole.
+fn is_whole<C: SoughtCell>(cell: &C) -> bool
+    ensures { result ≡ eq_by_cmp cell_cmp (C.cell cell.now) (Whole (table_of (C.cell cell.now))) }
+{
+    cell.compare(&Cell::Whole(cell.table())).is_eq()
 }

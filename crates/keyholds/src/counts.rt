@@ -51,6 +51,13 @@ impl Counts {
         }
     }
 
+    /// How many cells of a table a transaction holds.
+    pub(crate) fn count(&self, table: TableId, xid: Xid) -> usize
+        ensures { result ≡ count_in self.now.counts table xid }
+    {
+        self.counts.get(&(table, xid)).copied().unwrap_or(0)
+    }
+
     /// Another transaction with a cell in the table, if there is one.
     pub(crate) fn other(&self, table: TableId, xid: Xid) -> Option<Xid>
         ensures found { IfSome result (λ other. (other ≢ xid) × (0 < count_in self.now.counts table other)) }

@@ -4,7 +4,8 @@ ghost use Rattle.std.specs.Map.{keys_of};
 ghost use Rattle.model.specs.declared.cell.Cell.{Cell as AnyCell};
 ghost use Rattle.keyholds.specs.Holds.{holds_of, cells_held, with_hold, with_holds, HasNoEmptyList, IsFree, IsHeldBy, IsFirstHeldBy, AreApart, StoodAt};
 ghost use Rattle.model.specs.CellOrder.{cell_cmp};
-ghost use Rattle.model.specs.Cells.{table_of};
+ghost use Rattle.model.specs.Cells.{table_of, overlaps};
+ghost use Rattle.std.specs.List.{list_any};
 ghost use Rattle.std.specs.BTreeMap.{get};
 ghost use Rattle.keyholds.specs.Counts.{count_in};
 ghost use Rattle.keyholds.specs.Addresses.{AreAddresses, with_cells, AddsAddress, SameAddresses};
@@ -12,6 +13,7 @@ ghost use Rattle.keyholds.specs.Lists.{listed, SameLists, SetsList, HasRoom};
 
 use crate::Xid;
 use crate::addresses::{Address, Addresses};
+use crate::sought::SoughtCell;
 use model::{Cell, OutOfMemory};
 use std::alloc::Global;
 use std::collections::BTreeMap;
@@ -86,7 +88,36 @@ impl<S: Drop> Holds<S> {
         ensures held { IfSome result (IsHeldBy (cells_held self.now) xid cell.now) }
         ensures apart { AreApart (cells_held self.now) }
     {
-        self.addresses.other_holder(xid, cell)
+        self.other_holder_of(xid, cell)
+    }
+
+    /// The same for a cell that nobody has made: what stands for it is compared in place.
+    pub fn other_holder_of<C: SoughtCell>(&self, xid: Xid, sought: &C) -> Option<Xid>
+        ensures free { IfNone result (IsFree (cells_held self.now) xid (C.cell sought.now)) }
+        ensures held { IfSome result (IsHeldBy (cells_held self.now) xid (C.cell sought.now)) }
+        ensures apart { AreApart (cells_held self.now) }
+    {
+        self.addresses.other_holder(xid, sought)
+    }
+
+    /// Whether this transaction holds a cell that overlaps one that nobody has made. It takes no
+    /// memory.
+    pub fn overlaps_one<C: SoughtCell>(&self, holder: Xid, sought: &C) -> bool
+        ensures { result ≡ list_any (overlaps (C.cell sought.now)) (cells_held self.now holder) }
+    {
+        self.addresses.overlaps_one(holder, sought)
+    }
+
+    /// Who holds a cell, and what stood there when it was first held, if it is held. It takes no
+    /// memory.
+    pub fn held_at<C: SoughtCell>(&self, sought: &C) -> Option<(Xid, &S)>
+        ensures held { IfSome result (λ found. Contains (holds_of self.now found.0) (C.cell sought.now, found.1.now)) }
+        ensures free { IfNone result ((xid : ℕ) → Contains (cells_held self.now xid) (C.cell sought.now) → ⊥) }
+    {
+        let address = self.addresses.find(sought)?;
+        let list = self.lists.get(&address.xid)?;
+        let (_, stood) = &list[address.index];
+        Some((address.xid, stood))
     }
 
     /// What stood at a cell when it was first held, if it is held. It takes no memory.
@@ -94,9 +125,7 @@ impl<S: Drop> Holds<S> {
         ensures held { IfSome result (λ stood. StoodAt self.now cell.now stood.now) }
         ensures free { IfNone result ((xid : ℕ) → Contains (cells_held self.now xid) cell.now → ⊥) }
     {
-        let address = self.addresses.find(cell)?;
-        let list = self.lists.get(&address.xid)?;
-        let (_, stood) = &list[address.index];
+        let (_, stood) = self.held_at(cell)?;
         Some(stood)
     }
 

@@ -22,6 +22,7 @@
 //
 //   counts      how many cells each transaction holds in each table
 //   addresses   where each cell that is held stands, and who holds one that overlaps
+//   sought      what stands for a cell that is looked for, so that nobody has to make one
 //   holds       `Holds`
 //   laws        what is held once cells are taken: as a set, from the front, and apart from others
 //
@@ -30,9 +31,11 @@ mod addresses;
 mod counts;
 mod holds;
 pub mod laws;
+mod sought;
 
 pub use holds::Holds;
 pub use model::{Cell, Xid};
+pub use sought::{SoughtCell, SoughtRow};
 
 #[cfg(test)]
 mod tests;

@@ -1,5 +1,5 @@
 // That the calls succeed with ample memory, what they then answer, and that a refusal changes nothing.
-use crate::{Cell, Holds, Xid};
+use crate::{Cell, Holds, SoughtRow, Xid};
 use model::{Key, OutOfMemory, TableId, Value};
 use std::alloc::Global;
 use std::process::Abort;
@@ -108,6 +108,34 @@ fn a_release_to_a_mark_leaves_what_was_held_before(rt: HostRuntime) -> Result<()
     }
     holds.release_all(700);
     assert_eq!(rt; holds.mark(700), 0);
+    Ok(())
+}
+
+// A row is looked for by a key that its owner keeps.
+#[test]
+fn a_row_is_found_by_a_borrowed_key(rt: HostRuntime) -> Result<(), Fail> {
+    let alloc = rt.alloc();
+    let mut holds = Holds::new(alloc);
+    let cell = row(alloc, ACCOUNTS, 1)?;
+    hold(alloc, &mut holds, 700, cell, 10)?;
+    hold(alloc, &mut holds, 701, Cell::Whole(BRANCHES), 20)?;
+    for (table, key, found) in [
+        (ACCOUNTS, 1i64, Some((700u32, &10i64))),
+        (ACCOUNTS, 2, None),
+        (BRANCHES, 1, None),
+    ] {
+        let key = Key::from_value(alloc, Value::Int(key))?;
+        let sought = SoughtRow { table, key: &key };
+        assert_eq!(rt; holds.held_at(&sought), found, "in {table}");
+    }
+    let key = Key::from_value(alloc, Value::Int(1))?;
+    for (table, holder) in [(ACCOUNTS, 700u32), (BRANCHES, 701)] {
+        let sought = SoughtRow { table, key: &key };
+        assert_eq!(rt; holds.other_holder_of(702, &sought), Some(holder));
+        assert_eq!(rt; holds.other_holder_of(holder, &sought), None);
+        assert!(rt; holds.overlaps_one(holder, &sought));
+        assert!(rt; !holds.overlaps_one(702, &sought));
+    }
     Ok(())
 }
 

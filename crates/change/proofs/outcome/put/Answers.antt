@@ -2,6 +2,7 @@ use Rattle.std.proofs.Common.{sym, ◌∙◌, ap}
 use Rattle.std.proofs.lemmas.Result.{err_from_is_err_and}
 use Rattle.std.specs.FinMap.{insert}
 use Rattle.change.proofs.Outcomes.{none_is_some, put_ok, put_inverse, put_can}
+use Rattle.change.proofs.Altering.{put_alters}
 use Rattle.change.proofs.outcome.put.Goals as goal
 
 pub returns-in_err-put-clause-room : goal.returns-in_err-put-clause-room
@@ -26,3 +27,8 @@ returns-clause-can_put_back c =
     put_can c.args.t.now c.put.new.self c.args.table c.args.row.now c.in-Some.key c.in_ok-stands_at.stands_at c.in_ok-stands_at.ensures c.requires.sound.valid c.requires.known
     (sym c.in_ok-key.ensures ∙ c.in-Some.is) (none_is_some _ _ _ c.get.ensures c.is_some.ensures c.if-is_some.false) (sym c.first_clash.ensures ∙ c.in_default-first_clash.is)
     c.put.ensures.schema (c.in_ok-put.ensures.ok ∙ ap (insert c.args.t.now.rows (c.args.table, c.in-Some.key)) c.in_ok-copy.ensures)
+
+pub returns-clause-altered : goal.returns-clause-altered
+returns-clause-altered c =
+    put_alters c.args.t.now.schema c.args.t.now.rows c.args.table c.in-Some.key c.in_ok-stands_at.stands_at c.args.row.now c.in_ok-stands_at.ensures
+    (sym c.in_ok-key.ensures ∙ c.in-Some.is)

@@ -4,6 +4,7 @@ use Rattle.model.specs.Effect.{remove_outcome}
 use Rattle.model.specs.EffectLaws.{effect_skipped}
 use Rattle.std.proofs.Common.{ap}
 use Rattle.change.proofs.Outcomes.{nothing_there, remove_ok, remove_inverse, remove_can}
+use Rattle.change.proofs.Altering.{remove_alters}
 use Rattle.change.proofs.outcome.remove.Goals as goal
 
 pub returns-then-is_none-clause-ok : goal.returns-then-is_none-clause-ok
@@ -25,3 +26,6 @@ pub returns-clause-can_put_back : goal.returns-clause-can_put_back
 returns-clause-can_put_back c =
     remove_can c.args.t.now c.remove-row.new.self c.args.table c.args.key.now c.in_ok-key.key c.remove-row.result c.in_ok-key.ensures c.requires.sound
     c.requires.known c.remove-row.ensures.stood c.remove-row.ensures.schema c.remove-row.ensures.rows c.remove-row.ensures.kept
+
+pub returns-clause-altered : goal.returns-clause-altered
+returns-clause-altered c = remove_alters c.args.t.now.schema c.args.t.now.rows c.args.table c.args.key.now c.in_ok-key.key c.in_ok-key.ensures

@@ -9,6 +9,8 @@ use Rattle.change.specs.declared.inverse.Inverse.TheVariants.{Replace}
 use Rattle.change.specs.Inverse.{CanPutBack}
 use Rattle.change.specs.Applied.{IsDone}
 use Rattle.change.proofs.Outcomes.{set_as_placed, placed_held, none_of, same_there, set_done, set_ok, set_inverse, set_can}
+use Rattle.model.specs.Rows.{key_of}
+use Rattle.change.proofs.Altering.{set_alters}
 use Rattle.change.proofs.outcome.set.Goals as goal
 
 pub returns-in-None-clause-ok : goal.returns-in-None-clause-ok
@@ -75,3 +77,9 @@ returns-clause-can_put_back c =
     c.in_ok-stood_at.ensures c.in_ok-stands_at.ensures c.requires.sound c.requires.known (sym c.get.ensures ∙ c.in-Some.is) c.in_ok-row-in-Some.ensures
     (sym c.in_ok-new_key.ensures ∙ c.in-Some-2.is) (none_of _ (sym c.is_key_held.ensures ∙ c.if-is_key_held.false)) (sym c.first_clash.ensures ∙ c.in_default-first_clash.is)
     c.replace.ensures.schema stored c.replace.ensures.kept)
+
+pub returns-clause-altered : goal.returns-clause-altered
+returns-clause-altered c =
+    set_alters c.args.t.now.schema c.args.t.now.rows c.args.table c.args.key.now c.in_ok-stood_at.stood_at c.in-Some-2.new_key c.in_ok-stands_at.stands_at c.args.patch.now c.in-Some.old
+    c.in_ok-stood_at.ensures c.in_ok-stands_at.ensures (sym c.get.ensures ∙ c.in-Some.is)
+    (ap (λ (r : Record). key_of c.args.t.now.schema c.args.table r) (sym c.in_ok-row-in-Some.ensures) ∙ sym c.in_ok-new_key.ensures ∙ c.in-Some-2.is)

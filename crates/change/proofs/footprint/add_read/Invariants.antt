@@ -1,0 +1,11 @@
+use Rattle.std.proofs.Common.{◌≡◌, ◌+◌, ◌++◌, drop}
+use Rattle.model.specs.Rows.{keys_at}
+use Rattle.model.specs.Cells.{unique_cells}
+use Rattle.change.specs.Reading.{read_row}
+use Rattle.change.proofs.footprint.add_read.Given as goal
+
+-- the cells so far, and those of the unique keys that are left
+abbrev pub invariant-loop-index : goal.invariant-loop-index
+invariant-loop-index l =
+    l.cells.items ++ unique_cells l.table (read_row l.row) (l.index + 1) (drop l.index (keys_at l.t.schema l.table).uniques)
+    ≡ l.fn.cells.items ++ unique_cells l.table (read_row l.row) 1 (keys_at l.t.schema l.table).uniques

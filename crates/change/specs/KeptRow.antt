@@ -1,0 +1,25 @@
+-- The row that an inverse keeps for a place.
+--     first_emptied      of emptied tables
+--     row_kept      of an inverse
+use Rattle.std.specs.Prelude.{ℕ, List, [], ◌∷◌, Option, Some, None, ◌==◌, if◌then◌else◌}
+use Rattle.std.specs.FinMap.{get}
+use Rattle.model.specs.declared.key.Key.{Key}
+use Rattle.model.specs.declared.row.Row.{Row}
+use Rattle.model.specs.EditLaws.{is_place}
+use Rattle.change.specs.declared.inverse.Inverse.{Inverse}
+use Rattle.change.specs.declared.inverse.Inverse.TheVariants.{Take, Put, Replace, Unwipe}
+use Rattle.change.specs.declared.inverse.Wiped.{Wiped}
+use Rattle.change.specs.EditsLaws.{or_else}
+
+-- the row at the key of the first emptied table of this number that held one there, or none
+abbrev pub first_emptied : List Wiped → ℕ → Key → Option Row
+first_emptied [] table key = None
+first_emptied (w ∷ wiped) table key =
+    if table == w.table then or_else (get w.contents.rows key) (first_emptied wiped table key) else first_emptied wiped table key
+
+-- the row that an inverse keeps for a place: the one that its change took from there, or that an emptied table held there
+abbrev pub row_kept : Inverse → ℕ → Key → Option Row
+row_kept (Take other values) table key = None
+row_kept (Put other values row) table key = if is_place (table, key) (other, values) then Some row else None
+row_kept (Replace other new_values values row) table key = if is_place (table, key) (other, values) then Some row else None
+row_kept (Unwipe wiped) table key = first_emptied wiped.items table key

@@ -1,0 +1,201 @@
+// A row as a patch leaves it, read in place.
+ghost use Rattle.std.specs.Prelude.{◌≡◌, IfOk, is_some};
+ghost use Rattle.std.specs.Option.{option_map};
+ghost use Rattle.std.specs.Ordering.{eq_by_cmp};
+ghost use Rattle.model.specs.Value.{value_cmp};
+ghost use Rattle.model.specs.Key.{key_cmp};
+ghost use Rattle.model.specs.Rows.{is_key, value_at, values_in};
+ghost use Rattle.model.specs.Effect.{patch_row};
+ghost use Rattle.model.specs.Footprint.{both_have};
+ghost use Rattle.rows.specs.View.{read_value};
+ghost use Rattle.indexes.specs.Columns.{present};
+ghost use Rattle.change.specs.Reading.{read_row};
+
+use bytes::ByteStr;
+use model::{ColumnPatch, Key, KeyValues, OutOfMemory, Patch, Value};
+use rows::{RowView, ValueRef};
+use std::alloc::Global;
+use std::cmp::Ordering;
+use std::slice;
+
+/// A row, and a patch of it. It is read as the row that the patch leaves, and nothing is copied.
+#[derive(Clone, Copy)]
+pub struct PatchedRow<'a> {
+    row: &'a RowView<'a>,
+    patch: &'a [ColumnPatch],
+}
+
+impl<'a> PatchedRow<'a> {
+    /// The row itself, which nothing patches.
+    pub fn of_row(row: &'a RowView<'a>) -> PatchedRow<'a>
+        ensures { read_row result ≡ row.now }
+    {
+        PatchedRow { row, patch: &[] }
+    }
+
+    /// The row as the patch leaves it.
+    pub fn new(row: &'a RowView<'a>, patch: &'a Patch) -> PatchedRow<'a>
+        ensures { read_row result ≡ patch_row patch.now row.now }
+    {
+        PatchedRow {
+            row,
+            patch: patch.columns(),
+        }
+    }
+
+    /// The value in a column, from 0; `None` is null, and past the row's end.
+    pub fn column(self, number: usize) -> Option<ValueRef<'a>>
+        ensures { option_map read_value result ≡ value_at (read_row self.entry) number }
+    {
+        if number >= self.row.len() {
+            return None;
+        }
+        if number >= self.patch.len() {
+            return self.row.column(number);
+        }
+        match &self.patch[number] {
+            ColumnPatch::Keep => self.row.column(number),
+            ColumnPatch::Null => None,
+            ColumnPatch::Value(value) => Some(lent_value(value)),
+        }
+    }
+}
+
+// A value, as it is read.
+fn lent_value(value: &Value) -> ValueRef<'_>
+    ensures { read_value result ≡ value.now }
+{
+    match value {
+        Value::Int(number) => ValueRef::Int(*number),
+        Value::Text(text) => ValueRef::Text(text.as_str()),
+        Value::Bool(truth) => ValueRef::Bool(*truth),
+    }
+}
+
+// Whether none of these columns is null.
+pub(crate) fn has_values(columns: &[usize], row: PatchedRow<'_>) -> bool
+    ensures { result ≡ is_some (values_in columns.now (read_row row.entry)) }
+{
+    for column in columns {
+        if row.column(*column).is_none() {
+            return false;
+        }
+    }
+    true
+}
+
+// Whether both rows have the same values in these columns, none of them null.
+pub(crate) fn has_same(columns: &[usize], old: PatchedRow<'_>, new: PatchedRow<'_>) -> bool
+    ensures { result ≡ both_have (values_in columns.now (read_row old.entry)) (values_in columns.now (read_row new.entry)) }
+{
+    for column in columns {
+        match (old.column(*column), new.column(*column)) {
+            (Some(before), Some(after)) if is_same(before, after) => {}
+            _ => return false,
+        }
+    }
+    true
+}
+
+// Whether the values in these columns are those of a key, none of them null.
+pub(crate) fn has_key(columns: &[usize], row: PatchedRow<'_>, key: &Key) -> bool
+    ensures { result ≡ is_key (values_in columns.now (read_row row.entry)) key.now }
+{
+    has_values(columns, row) && compare_key(columns, row, key).is_eq()
+}
+
+// The values in these columns as a key of its own; none if one of them is null. Texts are copied.
+pub(crate) fn key_of(
+    alloc: Global,
+    columns: &[usize],
+    row: PatchedRow<'_>,
+) -> Result<Option<Key>, OutOfMemory>
+    ensures { IfOk result (λ key. key ≡ values_in columns.now (read_row row.entry)) }
+{
+    if let [column] = columns {
+        return match row.column(*column) {
+            Some(value) => Ok(Some(Key::from_value(alloc, own_value(alloc, value)?)?)),
+            None => Ok(None),
+        };
+    }
+    let mut values = Vec::new(alloc);
+    for column in columns {
+        match row.column(*column) {
+            Some(value) => values.push(own_value(alloc, value)?)?,
+            None => return Ok(None),
+        }
+    }
+    Ok(Some(Key::from_values(values)?))
+}
+
+// A value of its own, of one that is read. A text is copied.
+fn own_value(alloc: Global, value: ValueRef<'_>) -> Result<Value, OutOfMemory>
+    ensures { IfOk result (λ own. own ≡ read_value value.entry) }
+{
+    match value {
+        ValueRef::Int(number) => Ok(Value::Int(number)),
+        ValueRef::Text(text) => Ok(Value::Text(ByteStr::copy_from_str(alloc, text)?)),
+        ValueRef::Bool(truth) => Ok(Value::Bool(truth)),
+    }
+}
+
+// The order of the values that a row has in some columns, nulls left out, and a key.
+pub(crate) fn compare_key(columns: &[usize], row: PatchedRow<'_>, key: &Key) -> Ordering
+    ensures { result ≡ key_cmp (present columns.now (read_row row.entry)) key.now }
+{
+    match key.values() {
+        KeyValues::Int(number) => {
+            let value = Value::Int(number);
+            compare_values(columns, row, slice::from_ref(&value))
+        }
+        KeyValues::List(values) => compare_values(columns, row, values),
+    }
+}
+
+fn compare_values(columns: &[usize], row: PatchedRow<'_>, key: &[Value]) -> Ordering
+    ensures { result ≡ key_cmp (present columns.now (read_row row.entry)) key.now }
+{
+    let mut rest = key;
+    for column in columns {
+        let Some(value) = row.column(*column) else {
+            continue;
+        };
+        let Some((first, tail)) = rest.split_first() else {
+            return Ordering::Greater;
+        };
+        match compare_value(value, first) {
+            Ordering::Equal => rest = tail,
+            other => return other,
+        }
+    }
+    if rest.is_empty() {
+        Ordering::Equal
+    } else {
+        Ordering::Less
+    }
+}
+
+// The order of a value as it is read and one that is kept.
+fn compare_value(value: ValueRef<'_>, other: &Value) -> Ordering
+    ensures { result ≡ value_cmp (read_value value.entry) other.now }
+{
+    match (value, other) {
+        (ValueRef::Int(own), Value::Int(others)) => own.cmp(others),
+        (ValueRef::Text(own), Value::Text(others)) => own.cmp(others.as_str()),
+        (ValueRef::Bool(own), Value::Bool(others)) => own.cmp(others),
+        (ValueRef::Int(_), _) | (ValueRef::Text(_), Value::Bool(_)) => Ordering::Less,
+        (ValueRef::Bool(_), _) | (ValueRef::Text(_), Value::Int(_)) => Ordering::Greater,
+    }
+}
+
+// Whether two values are equal, as they are read.
+fn is_same(value: ValueRef<'_>, other: ValueRef<'_>) -> bool
+    ensures { result ≡ eq_by_cmp value_cmp (read_value value.entry) (read_value other.entry) }
+{
+    match (value, other) {
+        (ValueRef::Int(own), ValueRef::Int(others)) => own == others,
+        (ValueRef::Text(own), ValueRef::Text(others)) => own.cmp(others).is_eq(),
+        (ValueRef::Bool(own), ValueRef::Bool(others)) => own == others,
+        _ => false,
+    }
+}

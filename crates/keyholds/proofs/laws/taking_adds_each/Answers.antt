@@ -1,0 +1,5 @@
+use Rattle.keyholds.proofs.HoldsLaws.{taking_adds_each}
+use Rattle.keyholds.proofs.laws.taking_adds_each.Goals as goal
+
+pub returns : goal.returns
+returns g c = taking_adds_each
