@@ -292,7 +292,7 @@ module _ (schema : Schema) (w : World) (fine : IsFine schema w) (xid : ℕ) (o :
 
 -- ---- once a transaction is gone
 
-gone_cases : (m : FinMap nat_cmp Opened) (xid other : ℕ) (p : Opened) → get (finite.remove m xid) other ≡ Some p
+pub gone_cases : (m : FinMap nat_cmp Opened) (xid other : ℕ) (p : Opened) → get (finite.remove m xid) other ≡ Some p
     → (other ≢ xid) × (get m other ≡ Some p)
 gone_cases m xid other p at =
     elim (xid_cases other xid) [

@@ -1,9 +1,11 @@
 -- The laws of worlds and calls, each as one statement. `src/laws.rt` names them, so that the check proves them.
-use Rattle.std.specs.Prelude.{◌≡◌, ◌≢◌, ℕ, List, [], ◌∷◌, ◌++◌, Some, Result, Ok, flat_map, false}
+use Rattle.std.specs.Prelude.{◌≡◌, ◌≢◌, ℕ, List, [], ◌∷◌, ◌++◌, Some, Result, Ok, flat_map, true, false}
 use Rattle.std.specs.FinMap as finite
 use Rattle.std.specs.FinMap.{get, entries}
 use Rattle.model.specs.declared.change.Change as change_type
+use Rattle.model.specs.declared.key.Key.{Key}
 use Rattle.model.specs.declared.cell.Cell.{Cell}
+use Rattle.model.specs.declared.cell.Cell.TheVariants.{Row}
 use Rattle.model.specs.declared.item.Item.TheVariants.{Change}
 use Rattle.model.specs.Cells.{overlaps}
 use Rattle.model.specs.CellContents.{SameAt}
@@ -233,3 +235,21 @@ CommitLeavesOtherCells =
 -- no call takes a commit away
 abbrev pub LineGrows : Type 0
 LineGrows = (schema : Schema) (w new : World) → Step schema w new → (more : List Past) × (new.line ≡ w.line ++ more)
+
+-- ---- the way back
+
+-- the live rows with the last changes of a transaction undone are valid
+abbrev pub BackIsValid : Type 0
+BackIsValid =
+    (schema : Schema) (start : Rows) (w : World) → IsReached schema start w → (xid : ℕ) (o : Opened)
+    → get w.opened xid ≡ Some o → (rows : Rows) → IsLive schema w rows
+    → (kept gone : List change_type.Change) → work xid o ≡ kept ++ gone
+    → IsValid schema (all_back rows (inverses schema (serial schema w.committed kept) gone))
+
+-- a row whose place a transaction holds stands on the live rows as on its own view
+abbrev pub HeldIsLive : Type 0
+HeldIsLive =
+    (schema : Schema) (start : Rows) (w : World) → IsReached schema start w → (xid : ℕ) (o : Opened)
+    → get w.opened xid ≡ Some o → (rows : Rows) → IsLive schema w rows
+    → (table : ℕ) (key : Key) → list_any (overlaps (Row table key)) (holds schema w xid o) ≡ true
+    → get rows (table, key) ≡ get (own_rows schema w xid o) (table, key)

@@ -9,3 +9,4 @@ pub mod OpenLaws
 pub mod FineLaws
 pub mod WorldLaws
 pub mod CallLaws
+pub mod BackLaws

@@ -74,7 +74,7 @@ no_items : {X : Type 0} (es : List X) → length es ≡ 0 → es ≡ []
 no_items [] e = refl
 no_items (x ∷ es) e = absurd (omega (arith, e))
 
-no_entries : (m : FinMap nat_cmp Opened) → m ≡ finite.empty → entries m ≡ []
+pub no_entries : (m : FinMap nat_cmp Opened) → m ≡ finite.empty → entries m ≡ []
 no_entries m none =
     no_items (entries m)
     (sym (finite.len-entries m) ∙ ap (λ (n : FinMap nat_cmp Opened). finite.len n) none ∙ finite.len-empty nat_cmp Opened)

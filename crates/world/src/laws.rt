@@ -1,6 +1,6 @@
 // The laws of worlds and calls. Each function does nothing: its contract is a law, mostly over every
 // world that calls reach from valid rows, and the check of this crate proves it.
-ghost use Rattle.world.specs.Laws.{SeesNoOthers, ListedInAnyOrder, OneLiveState, LiveIsValid, NoLiveChangeClashes, CommittedIsSerial, AloneIsSerial, NotedClashStands, FootprintOnLive, OutcomeOnLive, DoneComesLast, RollbackKeepsTheRest, LineGrows, UnheldIsCommitted, CommitLeavesOtherCells, LiveAfterOpen, LiveAfterDone, LiveAfterSkip, LiveAfterHeld, LiveAfterClash, LiveAfterTouch, LiveAfterRollback, RollbackLeavesBeginning, LiveAfterAbort, LiveAfterCommit, CommitMovesNoHolds};
+ghost use Rattle.world.specs.Laws.{SeesNoOthers, ListedInAnyOrder, OneLiveState, LiveIsValid, NoLiveChangeClashes, CommittedIsSerial, AloneIsSerial, NotedClashStands, FootprintOnLive, OutcomeOnLive, DoneComesLast, RollbackKeepsTheRest, LineGrows, UnheldIsCommitted, CommitLeavesOtherCells, LiveAfterOpen, LiveAfterDone, LiveAfterSkip, LiveAfterHeld, LiveAfterClash, LiveAfterTouch, LiveAfterRollback, RollbackLeavesBeginning, LiveAfterAbort, LiveAfterCommit, CommitMovesNoHolds, BackIsValid, HeldIsLive};
 
 /// An open transaction sees the same whatever others are open.
 pub fn sees_no_others()
@@ -132,4 +132,15 @@ pub fn commit_leaves_other_cells()
 /// No call takes a commit away.
 pub fn line_grows()
     ensures { LineGrows }
+{}
+
+/// The live rows with the last changes of a transaction undone are valid: so they are at each step
+/// of a rollback.
+pub fn back_is_valid()
+    ensures { BackIsValid }
+{}
+
+/// A row whose place a transaction holds stands on the live rows as on its own view.
+pub fn held_is_live()
+    ensures { HeldIsLive }
 {}

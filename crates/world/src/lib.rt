@@ -24,6 +24,7 @@
 //   specs/CallLaws      the same as lemmas, for the layers above
 //   specs/FineLaws      what every world keeps that calls reach
 //   specs/WorldLaws     the live rows through each call, of a world that keeps it
+//   specs/BackLaws      the way back of one transaction past the others
 //
 // It has no code but the laws, and stands on `model` for rows, changes, footprints and survivors.
 pub mod laws;

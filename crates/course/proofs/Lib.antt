@@ -1,0 +1,4 @@
+mod Telling
+mod Alone
+mod Reaching
+mod Running

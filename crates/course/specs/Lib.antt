@@ -1,0 +1,4 @@
+pub mod Begun
+pub mod Course
+pub mod Runs
+pub mod Laws

@@ -1,0 +1,101 @@
+-- A run in the words of a world.
+--     told_of, end_of      a world's commit in the words of a journal; where its commits end
+--     IsAtMostOne, TellsRun      no two transactions are open; the world has just what the run leaves
+--     conflict      the conflict that ended a run
+--     IsTurnOf, IsStoppedBy      whose turn it is, and with which items; one of its changes clashes
+--         so in the world
+use Rattle.std.specs.Prelude.{◌≡◌, ℕ, List, [], ◌∷◌, ◌++◌, map, Option, Some, None, Ok, ◌⊎◌}
+use Rattle.std.specs.FinMap.{get}
+use Rattle.model.specs.declared.change.Change.{Change}
+use Rattle.model.specs.declared.item.Item.{Item}
+use Rattle.model.specs.declared.item.Item.TheVariants.{Change as ItemChange}
+use Rattle.model.specs.Rows.{Rows, Schema}
+use Rattle.model.specs.Effect.{ClashCause, NullKey, Unique}
+use Rattle.model.specs.Survivors.{survivors}
+use Rattle.messages.specs.declared.message.Message.{Message}
+use Rattle.frames.specs.declared.item.CopyItem.{CopyItem}
+use Rattle.session.specs.Sized.{item_of}
+use Rattle.session.specs.State.{Committed, State, Setting}
+use Rattle.session.specs.Lawful.{Admits}
+use Rattle.leader.specs.declared.end.End.{End}
+use Rattle.leader.specs.declared.end.End.TheVariants as ends
+use Rattle.leader.specs.declared.outcome.Outcome.{Outcome}
+use Rattle.leader.specs.Commits.{Transaction, transaction_of}
+use Rattle.leader.specs.Cause.{schema_of, IsNext}
+use Rattle.world.specs.World.{Opened, OpenOnes, Past, Entry, World, starting, journal}
+use Rattle.world.specs.Steps.{Clashed, Acts, Reaches}
+use Rattle.course.specs.Begun.{begun}
+use Rattle.course.specs.Course.{past_of}
+
+-- a commit of a world, as a run's journal has it
+abbrev pub told_of : Entry → Transaction
+told_of e = record { xid = e.xid; changes = e.changes; commit = e.commit; end = e.end }
+
+-- the end of the last commit, or 0 before the first
+abbrev pub end_of : List Past → ℕ
+end_of [] = 0
+end_of (p ∷ []) = p.info.end
+end_of (p ∷ q ∷ line) = end_of (q ∷ line)
+
+-- No two of these transactions are open.
+abbrev pub IsAtMostOne : OpenOnes → Type 0
+IsAtMostOne opened =
+    (xid other : ℕ) (o p : Opened) → get opened xid ≡ Some o → get opened other ≡ Some p
+    → xid ≡ other
+
+-- Calls reach the world from these rows; it has the commits that the state tells of, which are the
+-- journal, and whose end is the position; its committed rows are the tables; at most one
+-- transaction is open in it, and nothing has stopped it.
+pub record TellsRun (g : Setting) (rows : Rows) (s : State) (o : Outcome) (w : World) : Type 0 where
+  pub reached : Reaches (schema_of g) (starting rows) w
+  pub line : w.line ≡ map past_of s.past
+  pub entries : map transaction_of o.journal.items ≡ map told_of (journal w)
+  pub position : o.position ≡ end_of w.line
+  pub tables : o.tables.rows ≡ w.committed
+  pub alone : IsAtMostOne w.opened
+  pub running : w.stopped ≡ None
+
+-- the conflict of a change that ended a run, if one did
+abbrev pub conflict : End → Option ClashCause
+conflict ends.Clean = None
+conflict (ends.Frame fault) = None
+conflict (ends.Msg fault) = None
+conflict (ends.Session fault) = None
+conflict (ends.Rel fault) = None
+conflict (ends.Unique table key) = Some (Unique table key)
+conflict (ends.NullKey table) = Some (NullKey table)
+conflict (ends.HeldKey xid holder) = None
+conflict ends.OutOfMemory = None
+
+-- ---- a conflict
+
+-- The payload commits a transaction that does these items at its commit.
+pub record DoesAtCommit (g : Setting) (s : State) (payload : List ℕ) (xid : ℕ) (work : List Item)
+    : Type 0 where
+  pub message : Message
+  pub state : State
+  pub admits : Admits g s payload message state
+  pub committed : Committed
+  pub past : state.past ≡ s.past ++ committed ∷ []
+  pub xid_is : committed.xid ≡ xid
+  pub work_is : survivors xid (map item_of committed.items) ≡ work
+
+-- It is a transaction's turn to do these items: it is the one that was begun, or the next message
+-- commits it.
+abbrev pub IsTurnOf : Setting → State → List CopyItem → ℕ → List Item → Type 0
+IsTurnOf g s rest xid work =
+    ((items : List Item) × (begun s ≡ Some (xid, items)) × (survivors xid items ≡ work))
+    ⊎ IsNext rest (λ payload. DoesAtCommit g s payload xid work)
+
+-- The transaction has done the first of these items, and tries the next, a change, which clashes
+-- so: that call stops the world.
+pub record IsStoppedBy (schema : Schema) (w : World) (xid : ℕ) (work : List Item) (cause : ClashCause)
+    : Type 0 where
+  pub transaction : Opened
+  pub present : get w.opened xid ≡ Some transaction
+  pub subtransaction : ℕ
+  pub change : Change
+  pub after : List Item
+  pub in_turn : transaction.items ++ ItemChange subtransaction change ∷ after ≡ work
+  pub new : World
+  pub acts : Acts schema w xid transaction subtransaction change (Ok (Clashed cause)) new

@@ -1,0 +1,23 @@
+#![tactic(auto)]
+
+// What a run is in the words of a world.
+//
+// Each message that the session table admits tells one of five things, and that says too what
+// becomes of the transaction that was begun: this is known of the table itself, for whoever follows
+// a stream by what is told. So the state that the items of a stream lead to is a world that calls
+// reach, if no change clashed: its commits so far, each applied alone in commit order, and then the
+// transaction that was begun. A streamed transaction opens, does what survived of it and commits,
+// all at its commit; so no two transactions are open at once, and nothing is held.
+//
+// So is a whole run, whatever ended it: a world that calls reach has just the commits that the run
+// leaves, as journal and as rows. Where a conflict ended the run, the call of the one transaction
+// that is open there clashes for the same cause, which stops the world.
+//
+//   specs/Begun         the transaction that was begun, and what each message does to it
+//   specs/Course        the world that a state is
+//   specs/Runs          a run in the words of a world
+//   specs/Laws          the laws as statements, which `laws` promises
+//
+// It has no code but the laws, and stands on `session` for the table, on `leader` for items and
+// what they lead to, and on `world` for calls.
+pub mod laws;

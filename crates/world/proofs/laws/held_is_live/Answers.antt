@@ -1,0 +1,5 @@
+use Rattle.world.specs.BackLaws.{held_is_live}
+use Rattle.world.proofs.laws.held_is_live.Goals as goal
+
+pub returns : goal.returns
+returns c = held_is_live
