@@ -1,0 +1,5 @@
+use Rattle.engine.specs.CallLaws.{touch_is_kept}
+use Rattle.engine.proofs.laws.touch_is_kept.Goals as goal
+
+pub returns : goal.returns
+returns c = touch_is_kept

@@ -1,0 +1,145 @@
+use Rattle.std.proofs.Common.{◌≡◌, ◌<◌, ℕ, true, false, Bool, Some, length, refl, sym, ap, subst, ◌∙◌}
+use Rattle.std.specs.Prelude.{All, Result, Ok, Err}
+use Rattle.std.specs.Result.{IsErrAnd}
+use Rattle.std.specs.FinMap.{get}
+use Rattle.model.specs.declared.cell.Cell.{Cell}
+use Rattle.model.specs.Cells.{table_of}
+use Rattle.model.specs.declared.change.Change as change_type
+use Rattle.model.specs.declared.item.Item.TheVariants.{Change}
+use Rattle.model.specs.Rows.{Schema}
+use Rattle.keyholds.specs.Holds.{cells_held, IsFree}
+use Rattle.world.specs.World.{Opened, World}
+use Rattle.world.specs.Steps.{Fault, OutOfMemory, Acted, Acts, IsDone, IsSkipped, done_with}
+use Rattle.engine.specs.declared.answers.Acted as acted_type
+use Rattle.engine.specs.declared.answers.EngineFault as fault_type
+use Rattle.engine.specs.declared.answers.EngineFault.TheVariants.{OutOfMemory as NoMemory}
+use Rattle.engine.specs.declared.live.Live.{Live}
+use Rattle.engine.specs.Answers.{told, after_act}
+use Rattle.engine.specs.CellLaws.{cells_are_known}
+use Rattle.engine.specs.Stood.{AreToStand, cells_of_each}
+use Rattle.engine.specs.Transactions.{HasApplied}
+use Rattle.engine.specs.Tied.{IsTied}
+use Rattle.engine.specs.TiedBasics.{its_names, writes_by_borrow, released_again}
+use Rattle.engine.specs.TiedActs.{free_again, tied_taken, tied_refused}
+use Rattle.engine.proofs.live.Live.act_on_free.Goals as goal
+
+pub with_what_stood-requires : goal.with_what_stood-requires
+with_what_stood-requires c = record {
+  known =
+      subst (All (λ (cell : Cell). table_of cell < length c.args.self.now.tables.schema)) (sym c.requires.cells)
+      (cells_are_known c.args.self.now.tables.schema c.args.self.now.tables.rows c.args.tried.change c.requires.names);
+}
+
+pub take-requires : goal.take-requires
+take-requires c =
+    subst (All (IsFree (cells_held c.args.self.now.holds) c.args.xid)) (sym (c.in_ok-cells.ensures.cells ∙ c.requires.cells)) c.requires.free.all
+
+-- a call that memory was refused to
+told_refused : (r : Result acted_type.Acted fault_type.EngineFault) → IsErrAnd r (λ (fault : fault_type.EngineFault). fault ≡ NoMemory) → told r ≡ Err OutOfMemory
+told_refused (Ok acted) refused = absurd refused
+told_refused (Err fault) refused = ap (λ (f : fault_type.EngineFault). told (Err f)) refused
+
+pub returns-in_err-cells-clause-tied : goal.returns-in_err-cells-clause-tied
+returns-in_err-cells-clause-tied c = λ w o tied is.
+    subst (λ (answer : Result Acted Fault). IsTied (after_act w c.args.xid o c.args.tried.sub c.args.tried.change answer) c.args.self.now)
+    (sym (told_refused c.from_residual.result c.from_residual.ensures.1)) tied
+
+pub returns-in_err-take-clause-tied : goal.returns-in_err-take-clause-tied
+returns-in_err-take-clause-tied c = λ w o tied is.
+    subst (λ (answer : Result Acted Fault). IsTied (after_act w c.args.xid o c.args.tried.sub c.args.tried.change answer)
+    (record { tables = c.args.self.now.tables; holds = c.take.new.self; transactions = c.args.self.now.transactions; stopped = c.args.self.now.stopped }))
+    (sym (told_refused c.from_residual-in_err-take.result c.from_residual-in_err-take.ensures.1))
+    (subst (λ (l : Live). IsTied w l)
+    (ap (λ holds. record { tables = c.args.self.now.tables; holds = holds; transactions = c.args.self.now.transactions; stopped = c.args.self.now.stopped }) (sym c.in_err-take.ensures.err)) tied)
+
+pub apply-requires-clause-named : goal.apply-requires-clause-named
+apply-requires-clause-named c =
+    let there = c.requires.tied in
+    its_names there.0 c.args.self.now there.2 c.args.xid there.1 there.3 c.in-Some.transaction.now (sym c.in-Some.ensures.value)
+
+-- ---- it is an item
+
+done : (c : goal.In-Ok-true) (w : World) (o : Opened) → IsTied w c.args.self.now → get w.opened c.args.xid ≡ Some o
+    → Acts c.args.self.now.tables.schema w c.args.xid o c.args.tried.sub c.args.tried.change (Ok IsDone) (done_with w c.args.xid o (Change c.args.tried.sub c.args.tried.change))
+    × IsTied (done_with w c.args.xid o (Change c.args.tried.sub c.args.tried.change))
+    (record { tables = c.apply.new.tables; holds = c.take.new.self; transactions = c.get_mut.follows.lender c.apply.new.self; stopped = c.args.self.now.stopped })
+done c w o tied is =
+    tied_taken w c.args.self.now tied c.args.xid o is c.in-Some.transaction.now c.apply.new.self
+    (record { tables = c.apply.new.tables; holds = c.take.new.self; transactions = c.get_mut.follows.lender c.apply.new.self; stopped = c.args.self.now.stopped })
+    (writes_by_borrow c.args.xid c.in-Some.transaction.now c.apply.new.self c.args.self.now.transactions (c.get_mut.follows.lender c.apply.new.self) (sym c.in-Some.ensures.value)
+    (c.get_mut.follows.holds c.apply.new.self))
+    c.args.tried.sub c.args.tried.change c.requires.running c.requires.free c.mark-mark.result c.in_ok-cells.cells.items c.mark-mark.ensures.count (c.in_ok-cells.ensures.cells ∙ c.requires.cells)
+    (subst (λ (count : ℕ). AreToStand c.args.self.now.tables.rows count (cells_held c.args.self.now.holds c.args.xid) c.in_ok-cells.cells.items)
+    (c.inverse_count-count.ensures c.in-Some.transaction.now (sym c.in-Some.ensures.value))
+    (c.in_ok-cells.ensures.stand c.args.xid (subst (All (IsFree (cells_held c.args.self.now.holds) c.args.xid)) (sym c.requires.cells) c.requires.free.all)))
+    c.in_ok-take.ensures.ok c.in_ok-take.ensures.others true
+    (subst (λ (done : Bool). HasApplied done c.args.tried.sub c.args.tried.change c.mark-mark.result c.args.self.now.tables c.apply.new.tables c.in-Some.transaction.now c.apply.new.self)
+    c.in-Ok-true.field-0-test c.in-Ok-true.ensures.ok) refl
+
+pub returns-in-Ok-true-clause-acts : goal.returns-in-Ok-true-clause-acts
+returns-in-Ok-true-clause-acts c = λ w o tied is. (done c w o tied is).0
+
+pub returns-in-Ok-true-clause-tied : goal.returns-in-Ok-true-clause-tied
+returns-in-Ok-true-clause-tied c = λ w o tied is. (done c w o tied is).1
+
+skipped : (c : goal.In-Ok-false) (w : World) (o : Opened) → IsTied w c.args.self.now → get w.opened c.args.xid ≡ Some o
+    → Acts c.args.self.now.tables.schema w c.args.xid o c.args.tried.sub c.args.tried.change (Ok IsSkipped) (done_with w c.args.xid o (Change c.args.tried.sub c.args.tried.change))
+    × IsTied (done_with w c.args.xid o (Change c.args.tried.sub c.args.tried.change))
+    (record { tables = c.apply.new.tables; holds = c.take.new.self; transactions = c.get_mut.follows.lender c.apply.new.self; stopped = c.args.self.now.stopped })
+skipped c w o tied is =
+    tied_taken w c.args.self.now tied c.args.xid o is c.in-Some.transaction.now c.apply.new.self
+    (record { tables = c.apply.new.tables; holds = c.take.new.self; transactions = c.get_mut.follows.lender c.apply.new.self; stopped = c.args.self.now.stopped })
+    (writes_by_borrow c.args.xid c.in-Some.transaction.now c.apply.new.self c.args.self.now.transactions (c.get_mut.follows.lender c.apply.new.self) (sym c.in-Some.ensures.value)
+    (c.get_mut.follows.holds c.apply.new.self))
+    c.args.tried.sub c.args.tried.change c.requires.running c.requires.free c.mark-mark.result c.in_ok-cells.cells.items c.mark-mark.ensures.count (c.in_ok-cells.ensures.cells ∙ c.requires.cells)
+    (subst (λ (count : ℕ). AreToStand c.args.self.now.tables.rows count (cells_held c.args.self.now.holds c.args.xid) c.in_ok-cells.cells.items)
+    (c.inverse_count-count.ensures c.in-Some.transaction.now (sym c.in-Some.ensures.value))
+    (c.in_ok-cells.ensures.stand c.args.xid (subst (All (IsFree (cells_held c.args.self.now.holds) c.args.xid)) (sym c.requires.cells) c.requires.free.all)))
+    c.in_ok-take.ensures.ok c.in_ok-take.ensures.others false
+    (subst (λ (done : Bool). HasApplied done c.args.tried.sub c.args.tried.change c.mark-mark.result c.args.self.now.tables c.apply.new.tables c.in-Some.transaction.now c.apply.new.self)
+    c.in-Ok-false.field-0-test c.in-Ok-false.ensures.ok) refl
+
+pub returns-in-Ok-false-clause-acts : goal.returns-in-Ok-false-clause-acts
+returns-in-Ok-false-clause-acts c = λ w o tied is. (skipped c w o tied is).0
+
+pub returns-in-Ok-false-clause-tied : goal.returns-in-Ok-false-clause-tied
+returns-in-Ok-false-clause-tied c = λ w o tied is. (skipped c w o tied is).1
+
+-- ---- it was refused
+
+pub refuse-requires-clause-free : goal.refuse-requires-clause-free
+refuse-requires-clause-free c =
+    let told_of = c.in-Err.ensures.err in
+    free_again c.args.self.now.tables.schema c.args.self.now.tables.rows (cells_held c.args.self.now.holds) c.args.xid c.args.tried.change c.requires.free
+    c.apply.new.tables.schema c.apply.new.tables.rows (cells_held c.release_since.new.self) c.in-Err.refused.change
+    told_of.tables.schema_is told_of.tables.rows
+    (ap cells_of_each
+    (released_again c.args.self.now.holds c.take.new.self c.release_since.new.self c.args.xid c.mark-mark.result c.in_ok-cells.cells.items c.mark-mark.ensures.count c.in_ok-take.ensures.ok
+    c.in_ok-take.ensures.others c.release_since.ensures.own c.release_since.ensures.others))
+    told_of.change_is
+
+-- the store before the refusal is told
+released : (c : goal.After-refuse) (w : World) (o : Opened) → IsTied w c.args.self.now → get w.opened c.args.xid ≡ Some o
+    → IsTied w (record { tables = c.apply.new.tables; holds = c.release_since.new.self; transactions = c.get_mut.follows.lender c.apply.new.self; stopped = c.args.self.now.stopped })
+released c w o tied is =
+    tied_refused w c.args.self.now tied c.args.xid o is c.in-Some.transaction.now c.apply.new.self
+    (record { tables = c.apply.new.tables; holds = c.release_since.new.self; transactions = c.get_mut.follows.lender c.apply.new.self; stopped = c.args.self.now.stopped })
+    (writes_by_borrow c.args.xid c.in-Some.transaction.now c.apply.new.self c.args.self.now.transactions (c.get_mut.follows.lender c.apply.new.self) (sym c.in-Some.ensures.value)
+    (c.get_mut.follows.holds c.apply.new.self))
+    c.in-Err.ensures.err.tables c.in-Err.ensures.err.kept
+    (released_again c.args.self.now.holds c.take.new.self c.release_since.new.self c.args.xid c.mark-mark.result c.in_ok-cells.cells.items c.mark-mark.ensures.count c.in_ok-take.ensures.ok
+    c.in_ok-take.ensures.others c.release_since.ensures.own c.release_since.ensures.others)
+    refl
+
+pub returns-in-Err-clause-acts : goal.returns-in-Err-clause-acts
+returns-in-Err-clause-acts c = λ w o tied is.
+    subst (λ (schema : Schema). Acts schema w c.args.xid o c.args.tried.sub c.args.tried.change (told c.refuse.result)
+    (after_act w c.args.xid o c.args.tried.sub c.args.tried.change (told c.refuse.result))) c.in-Err.ensures.err.tables.schema_is
+    (subst (λ (change : change_type.Change). Acts c.apply.new.tables.schema w c.args.xid o c.args.tried.sub change (told c.refuse.result)
+    (after_act w c.args.xid o c.args.tried.sub change (told c.refuse.result))) c.in-Err.ensures.err.change_is
+    (c.refuse.ensures.acts w o (released c w o tied is) is))
+
+pub returns-in-Err-clause-tied : goal.returns-in-Err-clause-tied
+returns-in-Err-clause-tied c = λ w o tied is.
+    subst (λ (change : change_type.Change). IsTied (after_act w c.args.xid o c.args.tried.sub change (told c.refuse.result)) c.refuse.new.self) c.in-Err.ensures.err.change_is
+    (c.refuse.ensures.tied w o (released c w o tied is) is)

@@ -1,0 +1,25 @@
+use Rattle.std.proofs.Common.{◌≡◌, sym, ap, ◌∙◌}
+use Rattle.indexes.specs.Content.{Content}
+use Rattle.world.specs.World.{starting}
+use Rattle.engine.specs.declared.store.Store.TheInside.{Inside}
+use Rattle.engine.specs.Engine.{world_in, IsStore}
+use Rattle.engine.specs.StoreLaws.{store_started}
+use Rattle.engine.proofs.store.Store.new.Goals as goal
+
+module _ (c : goal.After-new-2) where
+  -- the new store's parts
+  abbrev parts : Inside
+  parts = record { live = c.new.result; start = c.in-Ok.first; journal = c.new-2.result; book = c.in-Ok-new_tokens.book; line = c.in-Ok-new_tokens.line }
+
+  started : (world_in parts ≡ starting c.args.start.rows) × IsStore parts
+  started =
+      store_started parts c.args.start.rows c.new.ensures.tied
+      (ap (λ (t : Content). t.schema) c.in-Ok.ensures ∙ ap (λ (t : Content). t.schema) (sym c.new.ensures.tables))
+      (ap (λ (t : Content). t.rows) c.in-Ok.ensures)
+      c.in-Ok-new_tokens.ensures.line.1 c.in-Ok-new_tokens.ensures.book c.new-2.ensures.items c.new-2.ensures.len
+
+pub invariant_of-store : goal.invariant_of-store
+invariant_of-store c = (started c).1
+
+pub returns-clause-world : goal.returns-clause-world
+returns-clause-world c = (started c).0

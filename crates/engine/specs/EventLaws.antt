@@ -1,0 +1,179 @@
+-- What the lists of tickets and of the line tell, once they are longer.
+--     get_values, values_insert, values_remove      a finite map whose values are altered
+--     opened_more      an open transaction once one more event has come
+--     same_insert      a map into which what it has is inserted
+--     world_acted      the world once a call that tried a change is in its transaction's list
+--     world_done      the world once an item is in it
+--     world_opened, world_aborted, world_committed      the world once the line has one more event
+use Rattle.std.proofs.Common.{◌≡◌, ℕ, Bool, true, false, List, [], ◌∷◌, ◌++◌, Option, Some, None, refl, sym, ap, ◌∙◌, inl, inr, append-nil}
+use Rattle.std.specs.Prelude.{Result, Ok, Err, map, option_map, cond}
+use Rattle.std.specs.Ordering.{nat_cmp, eq_by_cmp}
+use Rattle.std.specs.Cmp.{nat_cmp_total}
+use Rattle.std.specs.FinMap as finite
+use Rattle.std.specs.FinMap.{FinMap, get}
+use Rattle.std.proofs.lemmas.Grind.{flat_map-append, fold-append}
+use Rattle.model.specs.declared.change.Change as change_type
+use Rattle.model.specs.declared.item.Item.{Item}
+use Rattle.model.specs.declared.item.Item.TheVariants.{Change}
+use Rattle.model.specs.declared.item.CommitInfo.{CommitInfo}
+use Rattle.model.specs.Rows.{Rows, Schema}
+use Rattle.model.specs.Effect.{serial}
+use Rattle.model.specs.EffectLaws.{serial_append}
+use Rattle.tokens.specs.Lists.{ListMap}
+use Rattle.world.specs.World.{Past, OpenOnes, Stop, changes_in, work_behind}
+use Rattle.world.specs.ListingLaws.{xid_cases, got_same, got_other, same_by_xid}
+use Rattle.world.specs.Steps.{Fault, Acted, IsDone, IsSkipped, Held, Clashed, opened_with, done_with, committed_with, aborted_with}
+use Rattle.engine.specs.declared.events.Event.{Event}
+use Rattle.engine.specs.declared.events.Event.TheVariants.{Done, Wants}
+use Rattle.engine.specs.declared.events.LineEvent.{LineEvent}
+use Rattle.engine.specs.declared.events.LineEvent.TheVariants.{Opened as WasOpened, Committed as WasCommitted, Aborted as WasAborted}
+use Rattle.engine.specs.Answers.{after_act}
+use Rattle.engine.specs.Events.{after_event, opened_by, map_values, opened_in, past_of, commits_in, world_of, events_of}
+
+-- ---- a finite map whose values are altered
+
+module _ {X Y : Type 0} (g : X → Y) where
+  altered_if : (b : Bool) (x : X) (o : Option X) → cond b (Some (g x)) (option_map g o) ≡ option_map g (cond b (Some x) o)
+  altered_if true x o = refl
+  altered_if false x o = refl
+
+  none_if : (b : Bool) (o : Option X) → cond b None (option_map g o) ≡ option_map g (cond b None o)
+  none_if true o = refl
+  none_if false o = refl
+
+  find_values : (q : ℕ) (es : List (ℕ × X)) → finite.find nat_cmp q (map (λ (e : ℕ × X). (e.0, g e.1)) es) ≡ option_map g (finite.find nat_cmp q es)
+  find_values q [] = refl
+  find_values q (e ∷ es) =
+      ap (cond (eq_by_cmp nat_cmp q e.0) (Some (g e.1))) (find_values q es) ∙ altered_if (eq_by_cmp nat_cmp q e.0) e.1 (finite.find nat_cmp q es)
+
+  pub get_values : (m : FinMap nat_cmp X) (q : ℕ) → get (map_values g m) q ≡ option_map g (get m q)
+  get_values m q =
+      finite.get-from_entries nat_cmp_total (map (λ (e : ℕ × X). (e.0, g e.1)) (finite.entries m)) q ∙ find_values q (finite.entries m)
+      ∙ ap (option_map g) (sym (finite.get-entries m q))
+
+  pub values_insert : (m : FinMap nat_cmp X) (k : ℕ) (v : X) → map_values g (finite.insert m k v) ≡ finite.insert (map_values g m) k (g v)
+  values_insert m k v = same_by_xid (map_values g (finite.insert m k v)) (finite.insert (map_values g m) k (g v)) (λ q.
+      get_values (finite.insert m k v) q ∙ ap (option_map g) (finite.get-insert nat_cmp_total m k v q)
+      ∙ sym (altered_if (eq_by_cmp nat_cmp q k) v (get m q)) ∙ ap (cond (eq_by_cmp nat_cmp q k) (Some (g v))) (sym (get_values m q))
+      ∙ sym (finite.get-insert nat_cmp_total (map_values g m) k (g v) q))
+
+  pub values_remove : (m : FinMap nat_cmp X) (k : ℕ) → map_values g (finite.remove m k) ≡ finite.remove (map_values g m) k
+  values_remove m k = same_by_xid (map_values g (finite.remove m k)) (finite.remove (map_values g m) k) (λ q.
+      get_values (finite.remove m k) q ∙ ap (option_map g) (finite.get-remove nat_cmp_total m k q)
+      ∙ sym (none_if (eq_by_cmp nat_cmp q k) (get m q)) ∙ ap (cond (eq_by_cmp nat_cmp q k) None) (sym (get_values m q))
+      ∙ sym (finite.get-remove nat_cmp_total (map_values g m) k q))
+
+  pub values_empty : map_values g finite.empty ≡ finite.empty
+  values_empty = same_by_xid (map_values g finite.empty) finite.empty (λ q.
+      get_values finite.empty q ∙ ap (option_map g) (finite.get-empty nat_cmp q) ∙ sym (finite.get-empty nat_cmp q))
+
+-- a map into which what it has is inserted
+pub same_insert : {X : Type 0} (m : FinMap nat_cmp X) (k : ℕ) (v : X) → get m k ≡ Some v → finite.insert m k v ≡ m
+same_insert m k v is = same_by_xid (finite.insert m k v) m (λ q.
+    elim (xid_cases q k) [
+      | inl at ↦ ap (get (finite.insert m k v)) at ∙ got_same m k v ∙ sym is ∙ ap (get m) (sym at)
+      | inr apart ↦ got_other m k v q apart
+    ])
+
+-- ---- the events of a ticket
+
+-- an open transaction once one more event has come
+pub opened_more : (events : List Event) (e : Event) → opened_by (events ++ e ∷ []) ≡ after_event (opened_by events) e
+opened_more events e = fold-append after_event (record { items = []; wants = None }) events (e ∷ [])
+
+-- the open transactions once a list has one more event
+pub opened_event : (lists : ListMap Event) (xid : ℕ) (events : List Event) (e : Event)
+    → opened_in (finite.insert lists xid (events ++ e ∷ [])) ≡ finite.insert (opened_in lists) xid (after_event (opened_by events) e)
+opened_event lists xid events e =
+    values_insert opened_by lists xid (events ++ e ∷ []) ∙ ap (finite.insert (opened_in lists) xid) (opened_more events e)
+
+-- an open transaction is in the world what its list tells
+pub opened_stands : (lists : ListMap Event) (xid : ℕ) (events : List Event) → get lists xid ≡ Some events
+    → get (opened_in lists) xid ≡ Some (opened_by events)
+opened_stands lists xid events is = get_values opened_by lists xid ∙ ap (option_map opened_by) is
+
+-- a list that is longer by nothing
+pub same_lists : (lists : ListMap Event) (xid : ℕ) (events : List Event) → get lists xid ≡ Some events → finite.insert lists xid (events ++ []) ≡ lists
+same_lists lists xid events is = ap (finite.insert lists xid) (append-nil events) ∙ same_insert lists xid events is
+
+module _ (schema : Schema) (start : Rows) (line : List LineEvent) (lists : ListMap Event) (xid : ℕ) (events : List Event) (is : get lists xid ≡ Some events) where
+  -- the world once an item is in its transaction's list
+  pub world_done : (stopped : Option Stop) (item : Item)
+      → world_of schema start line (finite.insert lists xid (events ++ Done item ∷ [])) stopped
+      ≡ done_with (world_of schema start line lists stopped) xid (opened_by events) item
+  world_done stopped item =
+      ap (λ (o : OpenOnes). record (world_of schema start line lists stopped) { opened = o }) (opened_event lists xid events (Done item))
+
+  -- the world once a call that tried a change is in its transaction's list
+  pub world_acted : (stopped later : Option Stop) (sub : ℕ) (c : change_type.Change) (answer : Result Acted Fault)
+      → later ≡ (after_act (world_of schema start line lists stopped) xid (opened_by events) sub c answer).stopped
+      → world_of schema start line (finite.insert lists xid (events ++ events_of sub c answer)) later
+      ≡ after_act (world_of schema start line lists stopped) xid (opened_by events) sub c answer
+  world_acted stopped later sub c (Ok IsDone) e =
+      ap (world_of schema start line (finite.insert lists xid (events ++ Done (Change sub c) ∷ []))) e ∙ world_done stopped (Change sub c)
+  world_acted stopped later sub c (Ok IsSkipped) e =
+      ap (world_of schema start line (finite.insert lists xid (events ++ Done (Change sub c) ∷ []))) e ∙ world_done stopped (Change sub c)
+  world_acted stopped later sub c (Ok (Held holder)) e =
+      λ i. record (world_of schema start line lists (e i)) { opened = opened_event lists xid events (Wants sub c) i }
+  world_acted stopped later sub c (Ok (Clashed cause)) e =
+      λ i. record (world_of schema start line lists (e i)) { opened = opened_event lists xid events (Wants sub c) i }
+  world_acted stopped later sub c (Err fault) e =
+      λ i. world_of schema start line (same_lists lists xid events is i) (e i)
+
+-- ---- the events of the line
+
+-- an event that is no commit leaves the commits
+same_commits : (line : List LineEvent) (e : LineEvent) → past_of e ≡ [] → commits_in (line ++ e ∷ []) ≡ commits_in line
+same_commits line e none = flat_map-append past_of line (e ∷ []) ∙ ap (λ (ps : List Past). commits_in line ++ (ps ++ [])) none ∙ append-nil (commits_in line)
+
+-- the world once a transaction is opened
+pub world_opened : (schema : Schema) (start : Rows) (line : List LineEvent) (lists : ListMap Event) (stopped : Option Stop) (xid : ℕ)
+    → world_of schema start (line ++ WasOpened xid ∷ []) (finite.insert lists xid []) stopped ≡ opened_with (world_of schema start line lists stopped) xid
+world_opened schema start line lists stopped xid =
+    λ i. record {
+      start = start;
+      committed = serial schema start (changes_in (same_commits line (WasOpened xid) refl i));
+      line = same_commits line (WasOpened xid) refl i;
+      opened = values_insert opened_by lists xid [] i;
+      stopped = stopped;
+    }
+
+-- the world once a transaction is aborted
+pub world_aborted : (schema : Schema) (start : Rows) (line : List LineEvent) (lists : ListMap Event) (stopped : Option Stop) (xid : ℕ)
+    → world_of schema start (line ++ WasAborted xid ∷ []) (finite.remove lists xid) stopped ≡ aborted_with (world_of schema start line lists stopped) xid
+world_aborted schema start line lists stopped xid =
+    λ i. record {
+      start = start;
+      committed = serial schema start (changes_in (same_commits line (WasAborted xid) refl i));
+      line = same_commits line (WasAborted xid) refl i;
+      opened = values_remove opened_by lists xid i;
+      stopped = stopped;
+    }
+
+-- one commit more
+more_commits : (line : List LineEvent) (xid : ℕ) (items : List Item) (info : CommitInfo)
+    → commits_in (line ++ WasCommitted xid items info ∷ []) ≡ commits_in line ++ record { xid = xid; items = items; info = info } ∷ []
+more_commits line xid items info = flat_map-append past_of line (WasCommitted xid items info ∷ [])
+
+-- the committed rows after one commit more
+more_committed : (schema : Schema) (start : Rows) (pasts : List Past) (p : Past)
+    → serial schema start (changes_in (pasts ++ p ∷ [])) ≡ serial schema (serial schema start (changes_in pasts)) (work_behind p)
+more_committed schema start pasts p =
+    ap (serial schema start) (flat_map-append work_behind pasts (p ∷ []) ∙ ap (λ (cs : List change_type.Change). changes_in pasts ++ cs) (append-nil (work_behind p)))
+    ∙ serial_append schema start (changes_in pasts) (work_behind p)
+
+-- the world once a transaction is committed
+pub world_committed : (schema : Schema) (start : Rows) (line : List LineEvent) (lists : ListMap Event) (stopped : Option Stop) (xid : ℕ)
+    (events : List Event) (info : CommitInfo)
+    → world_of schema start (line ++ WasCommitted xid (opened_by events).items info ∷ []) (finite.remove lists xid) stopped
+    ≡ committed_with schema (world_of schema start line lists stopped) xid (opened_by events) info
+world_committed schema start line lists stopped xid events info =
+    let p : Past = record { xid = xid; items = (opened_by events).items; info = info } in
+    let committed = ap (λ (ps : List Past). serial schema start (changes_in ps)) (more_commits line xid (opened_by events).items info) ∙ more_committed schema start (commits_in line) p in
+    λ i. record {
+      start = start;
+      committed = committed i;
+      line = more_commits line xid (opened_by events).items info i;
+      opened = values_remove opened_by lists xid i;
+      stopped = stopped;
+    }

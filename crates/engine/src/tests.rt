@@ -1,0 +1,8 @@
+// That a store answers what its definitions say: the worked calls, the refusals, and many calls of up
+// to eight transactions, each compared with a model that has no live tables and no holds.
+mod by_hand;
+mod calls;
+mod refusals;
+mod scene;
+mod seeded;
+mod worked;
