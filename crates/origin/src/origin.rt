@@ -1,0 +1,119 @@
+// The cell of a position, and the tokens of those who publish and load it.
+ghost use Rattle.std.specs.Prelude.{◌≡◌, ◌+◌, ◌++◌, [], ◌∷◌, length, IfOk};
+ghost use Rattle.origin.specs.Commits.{Begins, commits_of, position_after};
+
+use crate::position::Position;
+use crate::protocol::{Compare, InOrder, Load, Met, Publish, Seen, View};
+use crossbeam_utils::atomic::seq_cell::{Pass, RuledSeqCell};
+use model::OutOfMemory;
+use std::alloc::Global;
+use std::marker::Model;
+use std::sync::Wait;
+
+/// The position of the last commit that was published.
+#[derive(Drop)]
+pub struct Origin {
+    cell: RuledSeqCell<Position, View, InOrder, 2>,
+}
+
+impl Model for Origin {
+    ghost use Rattle.atomic_table.specs.Seated.{TableId};
+
+    ghost Value = { TableId };
+
+    ghost view = { λ o. o.cell.table.shared.table_id };
+}
+
+/// Who publishes. There is one to an origin. It has no bytes.
+#[derive(Drop)]
+pub struct Publisher {
+    pass: Pass<Position, View>,
+}
+
+impl Model for Publisher {
+    ghost use Rattle.crossbeam_utils.specs.Seq.{cell_view};
+    ghost use Rattle.origin.specs.Commits.{Commits, commits_of};
+    ghost use Rattle.origin.specs.Rule.{HasPublished, published_by};
+
+    ghost Value = { Commits };
+
+    ghost view = { λ t. commits_of t.pass.table_id (published_by (cell_view t.pass)) };
+
+    ghost invariant = { λ t. HasPublished (cell_view t.pass) };
+}
+
+/// Who loads. It loads no position that is older than what it has seen, and neither do those that
+/// it is split into. It has no bytes.
+#[derive(Drop)]
+pub struct Loader {
+    pass: Pass<Position, View>,
+}
+
+impl Model for Loader {
+    ghost use Rattle.crossbeam_utils.specs.Seq.{cell_view};
+    ghost use Rattle.origin.specs.Commits.{Commits, commits_of};
+
+    ghost Value = { Commits };
+
+    ghost view = { λ t. commits_of t.pass.table_id (cell_view t.pass).seen };
+}
+
+impl Origin {
+    /// An origin at the start: no commit, and position 0.
+    pub fn new(alloc: Global) -> Result<(Origin, Publisher, Loader), OutOfMemory>
+        ensures publisher { IfOk result (λ made. made.1 ≡ commits_of made.0 []) }
+        ensures loader { IfOk result (λ made. made.2 ≡ commits_of made.0 []) }
+    {
+        let start = Position {
+            commits: 0,
+            end_lsn: 0,
+        };
+        let (cell, mut pass) = RuledSeqCell::ruled(alloc, start)?;
+        let other = cell.split_pass::<Seen>(&mut pass);
+        Ok((Origin { cell }, Publisher { pass }, Loader { pass: other }))
+    }
+
+    /// Publishes the position behind one more commit. The caller counts: it has one commit more
+    /// than the position that was published before.
+    pub fn publish<R: Wait>(&self, rt: &R, by: &mut Publisher, p: Position)
+        requires own { by.old.origin ≡ self.now }
+        requires next { p.commits ≡ length by.old.ends + 1 }
+        ensures { by.new ≡ record by.old { ends = by.old.ends ++ p.end_lsn ∷ [] } }
+    {
+        self.cell.swap_as::<Publish, R>(rt, &mut by.pass, p);
+    }
+
+    /// The position that was published last. The loader then has seen all commits up to it: those
+    /// that it had seen before, and maybe more.
+    pub fn load<R: Wait>(&self, rt: &R, by: &mut Loader) -> Position
+        requires own { by.old.origin ≡ self.now }
+        ensures same { by.new.origin ≡ by.old.origin }
+        ensures later { Begins by.old.ends by.new.ends }
+        ensures position { result ≡ position_after by.new.ends }
+    {
+        self.cell.load_as::<Load, R>(rt, &mut by.pass)
+    }
+
+    /// Learns that what a loader has seen was published.
+    pub fn meet<R: Wait>(&self, rt: &R, publisher: &mut Publisher, loader: &mut Loader)
+        requires publisher { publisher.old.origin ≡ self.now }
+        requires loader { loader.old.origin ≡ self.now }
+        ensures published { Begins loader.old.ends publisher.old.ends }
+        ensures same { (publisher.new ≡ publisher.old) × (loader.new ≡ loader.old) }
+    {
+        let seen = self.cell.split_pass::<Seen>(&mut loader.pass);
+        self.cell.join_pass::<Met>(&mut publisher.pass, seen);
+        self.cell.load_as::<Compare, R>(rt, &mut publisher.pass);
+    }
+}
+
+impl Loader {
+    /// Two tokens in place of one, for two threads. Each has seen what this one had.
+    pub fn split(mut self, origin: &Origin) -> (Loader, Loader)
+        requires own { self.origin ≡ origin.now }
+        ensures { (result.0 ≡ self) × (result.1 ≡ self) }
+    {
+        let pass = origin.cell.split_pass::<Seen>(&mut self.pass);
+        (self, Loader { pass })
+    }
+}
