@@ -1,0 +1,138 @@
+// Makes inputs for `pgapply` from a live PostgreSQL server: a catalog of a publication's tables, and the
+// bytes of its stream. The program has the crate's name, publisher: it talks to the publisher.
+//
+//     publisher catalog --publication P [--text]
+//     publisher capture --publication P --slot S [--create] --out F [--until LSN] [--seconds N]
+//     publisher serve   --publication P --slot S [--create] --listen A [--once]
+//
+// Each takes --host, --port, --user and --dbname, or libpq's PGHOST, PGPORT, PGUSER and PGDATABASE, and
+// --timeout, the seconds that the server may be silent. A password is taken from PGPASSWORD alone. There
+// is no TLS: a password in clear text and the rows go over the wire as they are, so go through a tunnel
+// (ssh -L 5433:localhost:5432 HOST, then --host localhost --port 5433) or a Unix socket.
+//
+// What is promised: it is safe and total, whatever the server sends, and each refusal has a name on
+// standard error and status 1. It writes only whole frames.
+//
+// This crate reads the command line and the environment; `server` and `publication` do the work. Their tests
+// stand here too, so that those two are proved once.
+#![tactic(auto)]
+
+mod settings;
+#[cfg(test)]
+mod tests;
+
+use server::capture::{Destination, capture};
+use server::fault::Fault;
+use server::host::Server;
+use server::relay::Bounds;
+use server::serve::serve;
+use server::stream::Subscription;
+use settings::{Job, Options, Variables};
+use std::env::VarError;
+use std::io;
+use std::io::Write;
+use std::process::ExitCode;
+
+fn main(rt: HostRuntime) -> anyhow::Result<ExitCode> {
+    let words: Vec<String> = std::env::args(&rt)?.collect(rt.alloc())?;
+    match settings::parse(rt.alloc(), words.as_slice()) {
+        Ok(options) => Ok(ExitCode::from(run(&rt, &options)?)),
+        Err(error) => {
+            error.print(&rt)?;
+            Ok(ExitCode::from(if error.use_stderr() { 1 } else { 0 }))
+        }
+    }
+}
+
+/// Runs a command. It answers the exit status.
+fn run(rt: &HostRuntime, options: &Options<'_>) -> io::Result<u8> {
+    let variables = read_variables(rt);
+    let Some(server) = settings::choose_server(rt.alloc(), options, &variables)? else {
+        eprintln!(rt; "publisher: NoUser: give --user, or set PGUSER")?;
+        return Ok(1);
+    };
+    match run_job(rt, options, &server) {
+        Ok(()) => Ok(0),
+        Err(fault) => {
+            eprintln!(rt; "publisher: {fault}")?;
+            Ok(1)
+        }
+    }
+}
+
+fn run_job(rt: &HostRuntime, options: &Options<'_>, server: &Server) -> Result<(), Fault> {
+    let publication = options.publication;
+    match &options.job {
+        Job::Catalog { text } => print_catalog(rt, publication, server, *text),
+        Job::Capture {
+            slot,
+            out,
+            until,
+            millis,
+        } => {
+            let destination = if *out == "-" {
+                Destination::Stdout(rt.stdout())
+            } else {
+                Destination::File(*out)
+            };
+            let bounds = Bounds {
+                until: *until,
+                millis: *millis,
+            };
+            let asked = Subscription {
+                server,
+                publication,
+                slot: *slot,
+            };
+            capture(rt.alloc(), rt, &asked, destination, bounds)
+        }
+        Job::Serve { slot, listen, once } => {
+            let asked = Subscription {
+                server,
+                publication,
+                slot: *slot,
+            };
+            serve(rt.alloc(), rt, &asked, *listen, *once)
+        }
+    }
+}
+
+/// libpq's variables. One that is empty, or is not UTF-8, counts as not set.
+fn read_variables(rt: &HostRuntime) -> Variables {
+    Variables {
+        host: read_variable(rt, "PGHOST"),
+        port: read_variable(rt, "PGPORT"),
+        user: read_variable(rt, "PGUSER"),
+        database: read_variable(rt, "PGDATABASE"),
+        password: read_variable(rt, "PGPASSWORD"),
+        login: read_variable(rt, "USER"),
+    }
+}
+
+fn read_variable(rt: &HostRuntime, name: &str) -> Option<String> {
+    let value: Result<String, VarError> = std::env::var(rt, name);
+    match value {
+        Ok(value) if !value.is_empty() => Some(value),
+        _ => None,
+    }
+}
+
+/// `catalog`: the catalog goes to standard output, what it leaves out to standard error.
+fn print_catalog(
+    rt: &HostRuntime,
+    publication: &str,
+    server: &Server,
+    text: bool,
+) -> Result<(), Fault> {
+    let mut connection = server.connect(rt.alloc(), rt, false)?;
+    let answers = publication::catalog::ask(&mut connection, publication)?;
+    let printed = publication::catalog::print(rt.alloc(), &answers, text)?;
+    for note in &printed.notes {
+        eprintln!(rt; "publisher: {note}").map_err(Fault::CannotWrite)?;
+    }
+    let mut stdout = rt.stdout();
+    stdout
+        .write_all(printed.toml.as_bytes())
+        .map_err(Fault::CannotWrite)?;
+    stdout.flush().map_err(Fault::CannotWrite)
+}

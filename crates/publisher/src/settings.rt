@@ -1,0 +1,300 @@
+// The command line, and libpq's variables.
+use clap::error::ErrorKind;
+use clap::{Arg, ArgAction, ArgMatches, Command, Error};
+use server::host::Server;
+use server::stream::Slot;
+use std::alloc::{AllocError, Global};
+
+/// What a command line asks for.
+#[derive(Drop)]
+pub struct Options<'a> {
+    pub job: Job<'a>,
+    pub publication: &'a str,
+    host: Option<&'a str>,
+    port: Option<&'a str>,
+    user: Option<&'a str>,
+    database: Option<&'a str>,
+    /// How many milliseconds the server may be silent.
+    limit: u64,
+}
+
+/// A command, with what it alone takes.
+#[derive(Drop)]
+pub enum Job<'a> {
+    Catalog {
+        /// Whether columns of other types are kept as text.
+        text: bool,
+    },
+    Capture {
+        slot: Slot<'a>,
+        /// A file that isn't there yet, or `-` for standard output.
+        out: &'a str,
+        /// The place in the server's log where the capture ends.
+        until: Option<u64>,
+        /// How many milliseconds the capture lasts.
+        millis: Option<u64>,
+    },
+    Serve {
+        slot: Slot<'a>,
+        /// The address at which a follower connects.
+        listen: &'a str,
+        /// Whether it ends with the first follower.
+        once: bool,
+    },
+}
+
+const DEFAULT_SECONDS: u64 = 30;
+
+const MOST_SECONDS: u64 = 1_000_000_000;
+
+/// An option of a command: its name, what its value is called, and its help.
+#[derive(Clone, Copy)]
+enum Choice {
+    /// One that has a value and must be given.
+    Required(&'static str, &'static str, &'static str),
+    /// One that has a value.
+    Named(&'static str, &'static str, &'static str),
+    /// One without a value.
+    Flag(&'static str, &'static str),
+}
+
+/// What all commands take.
+static COMMON: [Choice; 6] = [
+    Choice::Required("publication", "P", "The publication"),
+    Choice::Named(
+        "host",
+        "H",
+        "Host, or directory of the Unix socket [PGHOST]",
+    ),
+    Choice::Named("port", "N", "Port [PGPORT]"),
+    Choice::Named("user", "U", "User [PGUSER]"),
+    Choice::Named("dbname", "D", "Database [PGDATABASE]"),
+    Choice::Named(
+        "timeout",
+        "N",
+        "Seconds that the server may be silent [default: 30]",
+    ),
+];
+
+/// What a command takes that reads a slot's stream.
+static STREAMING: [Choice; 2] = [
+    Choice::Required("slot", "S", "The replication slot"),
+    Choice::Flag("create", "Make the slot first"),
+];
+
+static CATALOG: [Choice; 1] = [Choice::Flag(
+    "text",
+    "Keep columns of other types as text where their text stands for the value",
+)];
+
+static CAPTURE: [Choice; 3] = [
+    Choice::Required(
+        "out",
+        "F",
+        "A file that is not there yet, - for standard output",
+    ),
+    Choice::Named(
+        "until",
+        "LSN",
+        "End at this place of the server's log, as 1/2A",
+    ),
+    Choice::Named("seconds", "N", "End after N seconds"),
+];
+
+static SERVE: [Choice; 2] = [
+    Choice::Required("listen", "A", "The address to listen at, HOST:PORT"),
+    Choice::Flag("once", "End with the first follower"),
+];
+
+/// The commands and their options.
+fn command<'a>(alloc: Global) -> Result<Command<'a>, AllocError> {
+    let catalog = Command::new(alloc, "catalog").about(
+        "Print the catalog of a publication's tables as TOML",
+    );
+    let capture = Command::new(alloc, "capture").about(
+        "Write the bytes of a publication's stream to a file (PostgreSQL 16 or later)",
+    );
+    let serve = Command::new(alloc, "serve").about(
+        "Give the stream to one follower at a time (PostgreSQL 16 or later)",
+    );
+    Command::new(alloc, "publisher")
+        .about(
+            "Makes inputs for pgapply from a live PostgreSQL server, 14 or later. The password is \
+                taken from PGPASSWORD. There is no TLS: go through a tunnel, as ssh -L.",
+        )
+        .subcommand_required(true)
+        .subcommand(with_choices(alloc, catalog, &[&COMMON, &CATALOG])?)?
+        .subcommand(with_choices(alloc, capture, &[&COMMON, &STREAMING, &CAPTURE])?)?
+        .subcommand(with_choices(alloc, serve, &[&COMMON, &STREAMING, &SERVE])?)
+}
+
+/// The command with these options, in order.
+fn with_choices<'a>(
+    alloc: Global,
+    command: Command<'a>,
+    lists: &[&[Choice]],
+) -> Result<Command<'a>, AllocError> {
+    let mut command = command;
+    for choices in lists {
+        for choice in *choices {
+            command = command.arg(argument(alloc, *choice))?;
+        }
+    }
+    Ok(command)
+}
+
+fn argument<'a>(alloc: Global, choice: Choice) -> Arg<'a> {
+    match choice {
+        Choice::Required(name, value, help) => {
+            value_argument(alloc, name, value, help).required(true)
+        }
+        Choice::Named(name, value, help) => value_argument(alloc, name, value, help),
+        Choice::Flag(name, help) => Arg::new(alloc, name)
+            .long(name)
+            .help(help)
+            .action(ArgAction::SetTrue),
+    }
+}
+
+fn value_argument<'a>(alloc: Global, name: &'a str, value: &'a str, help: &'a str) -> Arg<'a> {
+    Arg::new(alloc, name)
+        .long(name)
+        .value_name(value)
+        .help(help)
+        .action(ArgAction::Set)
+}
+
+/// What the words ask for, or the text of a usage fault or of help.
+pub fn parse<'a>(alloc: Global, words: &'a [String]) -> Result<Options<'a>, Error> {
+    let mut program = command(alloc)?;
+    let matches = program.try_get_matches_from_mut(words)?;
+    match given_options(&matches) {
+        Some(options) => Ok(options),
+        None => Err(program.error(
+            ErrorKind::InvalidValue,
+            "a number is not decimal, is 0 or is past its limit, or an LSN is not H/L",
+        )?),
+    }
+}
+
+fn given_options<'a>(matches: &ArgMatches<'a>) -> Option<Options<'a>> {
+    let (name, given) = matches.subcommand()?;
+    Some(Options {
+        job: given_job(name, given)?,
+        publication: given.get_str("publication")?,
+        host: given.get_str("host"),
+        port: given.get_str("port"),
+        user: given.get_str("user"),
+        database: given.get_str("dbname"),
+        limit: seconds(given.get_str("timeout"))?.unwrap_or(DEFAULT_SECONDS * 1000),
+    })
+}
+
+fn given_job<'a>(name: &str, given: &ArgMatches<'a>) -> Option<Job<'a>> {
+    match name {
+        "catalog" => Some(Job::Catalog {
+            text: given.get_flag("text"),
+        }),
+        "capture" => Some(Job::Capture {
+            slot: given_slot(given)?,
+            out: given.get_str("out")?,
+            until: place(given.get_str("until"))?,
+            millis: seconds(given.get_str("seconds"))?,
+        }),
+        _ => Some(Job::Serve {
+            slot: given_slot(given)?,
+            listen: given.get_str("listen")?,
+            once: given.get_flag("once"),
+        }),
+    }
+}
+
+fn given_slot<'a>(given: &ArgMatches<'a>) -> Option<Slot<'a>> {
+    Some(Slot {
+        name: given.get_str("slot")?,
+        create: given.get_flag("create"),
+    })
+}
+
+/// Milliseconds of a number of seconds, if one was given.
+fn seconds(text: Option<&str>) -> Option<Option<u64>> {
+    let Some(text) = text else {
+        return Some(None);
+    };
+    if !text.bytes().all(|byte| byte.is_ascii_digit()) {
+        return None;
+    }
+    let number = text.parse::<u64>().ok()?;
+    if 1 <= number && number <= MOST_SECONDS {
+        Some(Some(number * 1000))
+    } else {
+        None
+    }
+}
+
+/// A place in the log, if one was given.
+fn place(text: Option<&str>) -> Option<Option<u64>> {
+    match text {
+        None => Some(None),
+        Some(text) => {
+            let (high, low) = text.split_once('/')?;
+            Some(Some(u64::from(half(high)?) << 32 | u64::from(half(low)?)))
+        }
+    }
+}
+
+/// The half of a place: one to eight hexadecimal digits.
+fn half(text: &str) -> Option<u32> {
+    if !text.bytes().all(|byte| byte.is_ascii_hexdigit()) {
+        return None;
+    }
+    u32::from_str_radix(text, 16).ok()
+}
+
+/// libpq's variables that are set.
+#[derive(Drop)]
+pub struct Variables {
+    pub host: Option<String>,
+    pub port: Option<String>,
+    pub user: Option<String>,
+    pub database: Option<String>,
+    pub password: Option<String>,
+    /// The name of who is logged in, `USER`.
+    pub login: Option<String>,
+}
+
+/// Where Debian's server has its Unix socket.
+const SOCKETS: &str = "/var/run/postgresql";
+
+/// The options that were given, else the variables that are set, else libpq's defaults. None where
+/// no user is named.
+pub fn choose_server(
+    alloc: Global,
+    options: &Options<'_>,
+    variables: &Variables,
+) -> Result<Option<Server>, AllocError> {
+    let login = variables.login.as_deref();
+    let Some(user) = options.user.or(variables.user.as_deref()).or(login) else {
+        return Ok(None);
+    };
+    let host = options
+        .host
+        .or(variables.host.as_deref())
+        .unwrap_or(SOCKETS);
+    let port = options.port.or(variables.port.as_deref()).unwrap_or("5432");
+    let database = options
+        .database
+        .or(variables.database.as_deref())
+        .unwrap_or(user);
+    Ok(Some(Server {
+        host: String::from_str(alloc, host)?,
+        port: String::from_str(alloc, port)?,
+        user: String::from_str(alloc, user)?,
+        database: String::from_str(alloc, database)?,
+        password: match &variables.password {
+            Some(password) => Some(password.clone()?),
+            None => None,
+        },
+        limit: options.limit,
+    }))
+}

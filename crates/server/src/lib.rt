@@ -1,0 +1,32 @@
+// The side of a live PostgreSQL server: a connection that logs in, asks, and hands on a replication stream.
+//
+// What is promised: every call is safe and total, whatever the server sends, and each refusal has a name
+// (`fault`). Whoever takes a stream is handed whole frames alone (`specs/Frames.antt`, `relay::Output`).
+//
+// How it works. `wire` has the messages of the frontend/backend protocol as bytes, `line` a socket and a
+// clock, `connection` whole messages within a time limit; `scram` and `auth` say who connects, and `host`
+// opens a connection that has logged in. `query` asks for rows, and `quoting` spells the names in a question.
+// `stream` starts replication and says what a frame is; `relay` hands the frames to whoever takes them:
+// `capture` to a file or to standard output, `serve` to one follower after another.
+//
+// There is no TLS: a password in clear text and the rows go over the wire as they are.
+//
+// It stands on `md5`, `sha2` and `base64` for the ways to log in, `thiserror` for the texts of faults, and
+// std's sockets. What needs no socket is tried by scripted servers, in the crate `publisher`.
+#![tactic(auto)]
+
+pub mod auth;
+pub mod capture;
+pub mod connection;
+pub mod fault;
+pub mod host;
+pub mod line;
+pub mod query;
+pub mod quoting;
+pub mod relay;
+pub mod report;
+pub mod scram;
+pub mod serve;
+pub mod stream;
+mod summary;
+pub mod wire;

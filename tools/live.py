@@ -1,0 +1,263 @@
+#!/usr/bin/env python3
+"""Compares pgapply's rows with those of a real PostgreSQL server, table by table.
+
+Sets up a server of its own in a temporary folder (PostgreSQL 16 or later), captures the stream of a
+publication with `publisher capture` while sessions work on its tables side by side: large transactions
+that are streamed, savepoints, rollbacks, truncates, changes of keys, long texts that stay, odd texts.
+Then it shuts the server down, which ends the capture, replays the file with `pgapply replay`, and prints
+a line for each table. A second capture, of a slot that was made before the work and is read after it,
+is replayed too. It exits with 0 where all rows are right.
+
+Needs: python3 (3.11), PostgreSQL's programs (Debian: postgresql-16 or later) in --bin, and the built
+programs `publisher` and `pgapply` (`rt run` or `rt ci` leave them in crates/NAME/out).
+"""
+import argparse, json, os, random, shutil, subprocess, sys, tempfile, threading, time, tomllib
+
+FORMS = ("-c datestyle=ISO -c intervalstyle=postgres -c extra_float_digits=3 -c timezone=UTC "
+         "-c bytea_output=hex")
+
+TABLES = r'''
+CREATE DOMAIN positive AS int CHECK (value > 0);
+CREATE TYPE mood AS ENUM ('sad', 'ok', 'a|b\c');
+CREATE TABLE accounts (id int PRIMARY KEY, email text UNIQUE, note text DEFAULT 'x', ok boolean,
+    amount positive);
+CREATE TABLE "Odd ""table"" \ |" ("k 1" text, k2 varchar(40), v text, PRIMARY KEY ("k 1", k2));
+CREATE TABLE whole (id bigint PRIMARY KEY, body text, n smallint);
+ALTER TABLE whole REPLICA IDENTITY FULL;
+CREATE TABLE large (id bigint PRIMARY KEY, session int, body text);
+CREATE TABLE emptied (id int PRIMARY KEY, body text);
+CREATE TABLE other (id int PRIMARY KEY, price numeric(20,4) UNIQUE, at timestamptz, face mood,
+    tags text[], doc jsonb, bin bytea, f float8, gap interval);
+CREATE PUBLICATION live FOR ALL TABLES;
+'''
+
+ODD = ["", "|", "\\", "\\N", "\\p|\\", "a\nb", "a\rb", "\r\n", "\t", "'", '"', "\u00e4\u00f6\u20ac", "\U0001f600",
+       "\x01\x7f", "x" * 5000, "t", "NULL", "  ", "e\u0301"]
+
+
+def quote(text):
+    return "NULL" if text is None else "E'" + text.replace("\\", "\\\\").replace("'", "\\'") + "'"
+
+
+class Server:
+    def __init__(self, options):
+        self.bin, self.user, self.port = options.bin, options.run_as, options.port
+        self.folder = tempfile.mkdtemp(prefix="live-", dir=options.folder)
+        os.chmod(self.folder, 0o777)
+        self.data = os.path.join(self.folder, "data")
+        self.runs = False
+
+    def program(self, name, *words, **more):
+        prefix = ["runuser", "-u", self.user, "--"] if self.user else []
+        return subprocess.run(prefix + [os.path.join(self.bin, name), *words], check=True,
+                              stdout=subprocess.DEVNULL, **more)
+
+    def start(self):
+        self.program("initdb", "-D", self.data, "-U", "postgres", "-A", "trust", "--no-sync", "-E", "UTF8",
+                     "--locale=C")
+        settings = (f"-c port={self.port} -c listen_addresses=127.0.0.1 -c unix_socket_directories={self.folder} "
+                    "-c wal_level=logical -c logical_decoding_work_mem=64kB -c fsync=off")
+        self.program("pg_ctl", "-D", self.data, "-l", os.path.join(self.folder, "log"), "-w", "-o", settings,
+                     "start")
+        self.runs = True
+
+    def stop(self):
+        self.runs = False
+        self.program("pg_ctl", "-D", self.data, "-m", "fast", "-w", "stop")
+
+    def sql(self, text):
+        words = ["psql", "-X", "-q", "-At", "-v", "ON_ERROR_STOP=1", "-h", "127.0.0.1", "-p", str(self.port), "-U",
+                 "postgres", "-d", "postgres"]
+        done = subprocess.run(words, input=text, text=True, capture_output=True,
+                              env={**os.environ, "PGOPTIONS": FORMS, "PGCLIENTENCODING": "UTF8"})
+        return done.stdout, done.stderr
+
+
+def large_work(session, turn, chance):
+    """A transaction that is streamed: some thousand rows, savepoints, some rolled back."""
+    base = session * 100_000_000 + turn * 100_000
+    lines = ["BEGIN;"]
+    for part in range(chance.randint(2, 6)):
+        first = base + part * 10_000
+        lines.append(f"SAVEPOINT s{part};")
+        lines.append(f"INSERT INTO large SELECT i, {session}, repeat(md5(i::text), 4) FROM "
+                     f"generate_series({first}, {first + chance.randint(100, 1500)}) i;")
+        if chance.random() < 0.4:
+            lines.append(f"SAVEPOINT t{part}; UPDATE large SET body = {quote(chance.choice(ODD))} "
+                         f"WHERE id >= {first} AND id % 3 = 0 AND session = {session};")
+            if chance.random() < 0.5:
+                lines.append(f"ROLLBACK TO t{part};")
+        if chance.random() < 0.3:
+            lines.append(f"DELETE FROM large WHERE id >= {first} AND id % 7 = 0 AND session = {session};")
+        if chance.random() < 0.35:
+            lines.append(f"ROLLBACK TO s{part};")
+    lines.append("COMMIT;" if chance.random() < 0.8 else "ROLLBACK;")
+    return lines
+
+
+def small_work(session, turn, chance):
+    """Short transactions on rows of this session's own."""
+    own = session * 1000 + chance.randint(0, 60)
+    odd = quote(chance.choice(ODD + [None]))
+    key = quote(f"{session}{chance.choice(ODD)[:30]}")
+    return [chance.choice([
+        f"INSERT INTO accounts VALUES ({own}, 'e{own}-{turn}', {odd}, {chance.choice(['true', 'false', 'NULL'])}, "
+        f"{own + 1}) ON CONFLICT (id) DO UPDATE SET note = {odd}, amount = NULL;",
+        f"UPDATE accounts SET id = id + 100 WHERE id = {own} AND NOT EXISTS "
+        f"(SELECT FROM accounts WHERE id = {own + 100});",
+        f"DELETE FROM accounts WHERE id = {own};",
+        f"INSERT INTO \"Odd \"\"table\"\" \\ |\" VALUES ({key}, 'v{session}', {odd}) ON CONFLICT DO NOTHING;",
+        f"UPDATE \"Odd \"\"table\"\" \\ |\" SET v = {odd} WHERE \"k 1\" = {key};",
+        f"UPDATE \"Odd \"\"table\"\" \\ |\" SET k2 = k2 || 'x' WHERE \"k 1\" = {key} AND length(k2) < 20;",
+        f"INSERT INTO whole VALUES ({own}, (SELECT string_agg(md5(i::text), '') FROM generate_series(1, 400) i), "
+        f"{turn % 100}) ON CONFLICT (id) DO UPDATE SET n = whole.n + 1;",
+        f"DELETE FROM whole WHERE id = {own};",
+        f"INSERT INTO emptied VALUES ({own}, {odd}) ON CONFLICT DO NOTHING;",
+        "TRUNCATE emptied;",
+        f"INSERT INTO other VALUES ({own}, {own}.5, now(), {quote(chance.choice(['sad', 'ok', 'a|b' + chr(92) + 'c']))}, "
+        f"ARRAY[{odd}, 'b'], '{{\"a\": [1, null]}}', '\\x00ff', {own} / 3.0, '1 day 2 hours') "
+        f"ON CONFLICT (id) DO UPDATE SET tags = NULL, f = 'NaN';",
+    ])]
+
+
+def session_work(server, session, turns, seed, failures):
+    chance = random.Random(seed * 100 + session)
+    lines = []
+    for turn in range(turns):
+        lines += large_work(session, turn, chance) if chance.random() < 0.15 else small_work(session, turn, chance)
+    _, errors = server.sql("\n".join(lines))
+    if errors:
+        failures.append(errors.splitlines()[0])
+
+
+def escape(text):
+    return text.replace("\\", "\\\\").replace("|", "\\p").replace("\n", "\\n").replace("\r", "\\r")
+
+
+def shown(kind, text):
+    """A value in pgapply's report."""
+    if text is None:
+        return "\\N"
+    if kind == "bool":
+        return text[0]
+    return escape(text) if kind == "text" else text
+
+
+def expected(server, catalog):
+    """What pgapply has to print of the server's own rows."""
+    lines = {}
+    for table in catalog["table"]:
+        named = lambda name: '"' + name.replace('"', '""') + '"'
+        columns = table["column"]
+        texts = ", ".join(named(column["name"]) + "::text" for column in columns)
+        output, errors = server.sql(
+            f"SELECT json_build_array({texts}) FROM {named(table['namespace'])}.{named(table['name'])};")
+        if errors:
+            sys.exit(errors)
+        places = [next(i for i, c in enumerate(columns) if c["name"] == key) for key in table["primary"]]
+        kinds = [column["type"] for column in columns]
+
+        def order(row):
+            return [int(row[p]) if kinds[p] == "int" else row[p].encode() for p in places]
+
+        rows = sorted((json.loads(line) for line in output.split("\n") if line), key=order)
+        label = escape(table["namespace"]) + "." + escape(table["name"])
+        lines[label] = ["|".join(shown(kind, value) for kind, value in zip(kinds, row)) for row in rows]
+    return lines
+
+
+def reported(text):
+    """A report by its tables, and its last lines."""
+    lines, tables, at = text.split("\n"), {}, 0
+    while lines[at].startswith("table "):
+        label, count = lines[at][6:].rsplit(" ", 1)
+        tables[label] = lines[at + 1:at + 1 + int(count)]
+        at += 1 + int(count)
+    return tables, lines[at:]
+
+
+def compare(name, options, catalog_file, stream, wanted):
+    began = time.monotonic()
+    words = [options.pgapply, "replay", "--config", catalog_file, "--stream", stream]
+    done = subprocess.run(words, capture_output=True)
+    seconds = time.monotonic() - began
+    tables, rest = reported(done.stdout.decode())
+    right = done.returncode == 0
+    for label, rows in wanted.items():
+        same = tables.get(label) == rows
+        right = right and same
+        print(f"{name}: {label}: {len(rows)} rows {'right' if same else 'WRONG'}")
+    size = os.path.getsize(stream)
+    print(f"{name}: {size} bytes, {sum(map(len, wanted.values()))} rows, {rest[0]}, {rest[1]}, status "
+          f"{done.returncode}, replayed in {seconds:.2f} s ({size / 1e6 / seconds:.1f} MB/s)")
+    return right
+
+
+def main():
+    parser = argparse.ArgumentParser(description=__doc__, formatter_class=argparse.RawDescriptionHelpFormatter)
+    parser.add_argument("--bin", default="/usr/lib/postgresql/16/bin")
+    parser.add_argument("--publisher", default="crates/publisher/out/publisher")
+    parser.add_argument("--pgapply", default="crates/pgapply/out/pgapply")
+    parser.add_argument("--run-as", default="postgres" if os.geteuid() == 0 else "",
+                        help="who runs the server, as PostgreSQL refuses root; empty: who runs this")
+    parser.add_argument("--folder", default=None, help="where the temporary folder is made")
+    parser.add_argument("--port", type=int, default=5499)
+    parser.add_argument("--sessions", type=int, default=4)
+    parser.add_argument("--turns", type=int, default=300)
+    parser.add_argument("--seed", type=int, default=1)
+    options = parser.parse_args()
+    server = Server(options)
+    try:
+        server.start()
+        sys.exit(0 if run(server, options) else 1)
+    finally:
+        if server.runs:
+            server.stop()
+        shutil.rmtree(server.folder, ignore_errors=True)
+
+
+def run(server, options):
+    _, errors = server.sql(TABLES)
+    if errors:
+        sys.exit(errors)
+    where = ["--host", "127.0.0.1", "--port", str(server.port), "--user", "postgres", "--dbname", "postgres",
+             "--publication", "live"]
+    place = lambda name: os.path.join(server.folder, name)
+    catalog = subprocess.run([options.publisher, "catalog", "--text", *where], capture_output=True, check=True)
+    with open(place("catalog.toml"), "wb") as file:
+        file.write(catalog.stdout)
+    late = [options.publisher, "capture", *where, "--slot", "late"]
+    subprocess.run([*late, "--create", "--out", place("none"), "--seconds", "1"], check=True)
+    live = subprocess.Popen([options.publisher, "capture", *where, "--slot", "live", "--create", "--out",
+                             place("live.stream")])
+    while not server.sql("SELECT 1 FROM pg_replication_slots WHERE slot_name = 'live' AND active;")[0]:
+        time.sleep(0.1)
+        if live.poll() is not None:
+            sys.exit("the capture ended before the work")
+    failures = []
+    began = time.monotonic()
+    threads = [threading.Thread(target=session_work, args=(server, s, options.turns, options.seed, failures))
+               for s in range(1, options.sessions + 1)]
+    for thread in threads:
+        thread.start()
+    for thread in threads:
+        thread.join()
+    if failures:
+        sys.exit("a session failed: " + failures[0])
+    print(f"work: {options.sessions} sessions, {options.turns} turns each, {time.monotonic() - began:.1f} s")
+    until = server.sql("SELECT pg_current_wal_lsn();")[0].strip()
+    began = time.monotonic()
+    subprocess.run([*late, "--out", place("late.stream"), "--until", until], check=True)
+    seconds = time.monotonic() - began
+    size = os.path.getsize(place("late.stream"))
+    print(f"late: captured up to {until} in {seconds:.2f} s ({size / 1e6 / seconds:.1f} MB/s)")
+    wanted = expected(server, tomllib.loads(catalog.stdout.decode()))
+    server.stop()
+    if live.wait(timeout=60) != 0:
+        sys.exit("the capture failed")
+    return all([compare("live", options, place("catalog.toml"), place("live.stream"), wanted),
+                compare("late", options, place("catalog.toml"), place("late.stream"), wanted)])
+
+
+if __name__ == "__main__":
+    main()
