@@ -56,13 +56,15 @@ struct Pieces<'a> {
 }
 
 impl Source for Pieces<'_> {
-    ghost use Rattle.std.specs.Prelude.{length, Some};
+    ghost use Rattle.std.specs.Prelude.{length, Some, false};
 
     ghost remaining = { λ s. Some s.unread.now };
 
     ghost reads_left = { λ s. length s.unread.now };
 
     ghost failures = { λ _. 0 };
+
+    ghost failed_last = { λ _. false };
 
     fn read_some(&mut self, buf: &mut [u8]) -> Result<usize, Failed> {
         let unread = self.unread;

@@ -1,5 +1,5 @@
 // Where the bytes come from and where they go.
-ghost use Rattle.std.specs.Prelude.{◌≡◌, ℕ, ◌<◌, ◌≤◌, List, Option, IfOk, OnOk, OnErr, take, length};
+ghost use Rattle.std.specs.Prelude.{◌≡◌, ℕ, ◌<◌, ◌≤◌, Bool, false, List, Option, IfOk, OnOk, OnErr, is_err, take, length};
 ghost use Rattle.std.specs.Io.KnownBytes.{Consumes, Keeps, Appends, IsAtEnd};
 ghost use Rattle.frames.specs.Device.{HasFailed};
 
@@ -17,6 +17,8 @@ pub trait Source {
     ghost reads_left: { Self → ℕ };
     /// How often it has failed, up to `u64::MAX`.
     ghost failures: { Self → ℕ };
+    /// Whether its last call failed.
+    ghost failed_last: { Self → Bool };
 
     /// Reads some bytes into the front of `buf`, and answers how many: 0 only at the end of the input, or where `buf`
     /// is empty.
@@ -27,6 +29,7 @@ pub trait Source {
         ensures falls { IfOk result (λ n. 0 < n → reads_left self.new < reads_left self.old) }
         ensures works { OnOk result (failures self.new ≡ failures self.old) }
         ensures failed { OnErr result (HasFailed (failures self.old) (failures self.new)) }
+        ensures last { failed_last self.new ≡ is_err result }
         ensures kept { OnErr result (Keeps (remaining self.old) (remaining self.new)) };
 }
 
@@ -36,6 +39,8 @@ pub trait Sink {
     ghost contents: { Self → Option (List ℕ) };
     /// How often it has failed, up to `u64::MAX`.
     ghost failures: { Self → ℕ };
+    /// Whether its last call failed.
+    ghost failed_last: { Self → Bool };
 
     /// Takes some bytes off the front of `buf`, and answers how many: at least one, unless `buf` is empty.
     fn write_some(&mut self, buf: &[u8]) -> Result<usize, Failed>
@@ -44,6 +49,7 @@ pub trait Sink {
         ensures bytes { IfOk result (λ n. Appends (contents self.old) (contents self.new) (take n buf.now)) }
         ensures works { OnOk result (failures self.new ≡ failures self.old) }
         ensures failed { OnErr result (HasFailed (failures self.old) (failures self.new)) }
+        ensures last { failed_last self.new ≡ is_err result }
         ensures kept { OnErr result (Keeps (contents self.old) (contents self.new)) };
 }
 
@@ -53,6 +59,7 @@ pub struct ReadSource<R> {
     reader: R,
     reads_left: u64,
     failures: u64,
+    failed_last: bool,
 }
 
 impl<R: Read> ReadSource<R> {
@@ -61,11 +68,13 @@ impl<R: Read> ReadSource<R> {
         ensures bytes { ⟦<ReadSource<R> as Source>⟧.remaining result ≡ R.remaining reader }
         ensures reads { ⟦<ReadSource<R> as Source>⟧.reads_left result ≡ u64.MAX }
         ensures failures { ⟦<ReadSource<R> as Source>⟧.failures result ≡ 0 }
+        ensures last { ⟦<ReadSource<R> as Source>⟧.failed_last result ≡ false }
     {
         ReadSource {
             reader,
             reads_left: u64::MAX,
             failures: 0,
+            failed_last: false,
         }
     }
 }
@@ -77,21 +86,19 @@ impl<R: Read> Source for ReadSource<R> {
 
     ghost failures = { λ s. s.failures };
 
+    ghost failed_last = { λ s. s.failed_last };
+
     fn read_some(&mut self, buf: &mut [u8]) -> Result<usize, Failed> {
-        if self.reads_left == 0 {
-            self.failures = self.failures.saturating_add(1);
-            return Err(Failed);
-        }
-        match self.reader.read(buf) {
-            Ok(count) => {
+        if self.reads_left > 0 {
+            if let Ok(count) = self.reader.read(buf) {
                 self.reads_left -= 1;
-                Ok(count)
-            }
-            Err(_) => {
-                self.failures = self.failures.saturating_add(1);
-                Err(Failed)
+                self.failed_last = false;
+                return Ok(count);
             }
         }
+        self.failures = self.failures.saturating_add(1);
+        self.failed_last = true;
+        Err(Failed)
     }
 }
 
@@ -102,6 +109,7 @@ pub struct WriteSink<W> {
     writer: W,
     writes_left: u64,
     failures: u64,
+    failed_last: bool,
 }
 
 impl<W: Write> WriteSink<W> {
@@ -109,11 +117,13 @@ impl<W: Write> WriteSink<W> {
     pub fn new(writer: W) -> WriteSink<W>
         ensures bytes { ⟦<WriteSink<W> as Sink>⟧.contents result ≡ W.contents writer }
         ensures failures { ⟦<WriteSink<W> as Sink>⟧.failures result ≡ 0 }
+        ensures last { ⟦<WriteSink<W> as Sink>⟧.failed_last result ≡ false }
     {
         WriteSink {
             writer,
             writes_left: u64::MAX,
             failures: 0,
+            failed_last: false,
         }
     }
 }
@@ -123,18 +133,21 @@ impl<W: Write> Sink for WriteSink<W> {
 
     ghost failures = { λ s. s.failures };
 
+    ghost failed_last = { λ s. s.failed_last };
+
     fn write_some(&mut self, buf: &[u8]) -> Result<usize, Failed> {
-        if self.writes_left == 0 {
-            self.failures = self.failures.saturating_add(1);
-            return Err(Failed);
-        }
-        self.writes_left -= 1;
-        match self.writer.write(buf) {
-            Ok(count) if count > 0 || buf.is_empty() => Ok(count),
-            Ok(_) | Err(_) => {
-                self.failures = self.failures.saturating_add(1);
-                Err(Failed)
+        if self.writes_left > 0 {
+            self.writes_left -= 1;
+            match self.writer.write(buf) {
+                Ok(count) if count > 0 || buf.is_empty() => {
+                    self.failed_last = false;
+                    return Ok(count);
+                }
+                Ok(_) | Err(_) => {}
             }
         }
+        self.failures = self.failures.saturating_add(1);
+        self.failed_last = true;
+        Err(Failed)
     }
 }

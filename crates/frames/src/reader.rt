@@ -141,7 +141,8 @@ impl Frames {
             ⊎ (IsStreamFault fault ⊎ (fault ≡ FrameFault.Device))) }
         ensures falls { result ≡ Ok true → R.reads_left r.new < R.reads_left r.old }
         ensures device { result ≡ Err FrameFault.Device → (self.old.ending ≡ Broken FrameFault.Device)
-            ⊎ HasFailed (R.failures r.old) (R.failures r.new) }
+            ⊎ (HasFailed (R.failures r.old) (R.failures r.new) × (R.failed_last r.new ≡ true)) }
+        ensures kept { result ≡ Err FrameFault.Device → self.new.items ≡ self.old.items }
         ensures works { result ≢ Err FrameFault.Device → R.failures r.new ≡ R.failures r.old }
 
         // A reader that was refused or closed asks for nothing.

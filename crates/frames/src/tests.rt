@@ -68,6 +68,7 @@ struct Failing<'a> {
     bytes: &'a [u8],
     fails_at: usize,
     failures: u64,
+    failed_last: bool,
 }
 
 impl Source for Failing<'_> {
@@ -79,8 +80,11 @@ impl Source for Failing<'_> {
 
     ghost failures = { λ s. s.failures };
 
+    ghost failed_last = { λ s. s.failed_last };
+
     fn read_some(&mut self, buf: &mut [u8]) -> Result<usize, Failed> {
-        if self.fails_at == 0 {
+        self.failed_last = self.fails_at == 0;
+        if self.failed_last {
             self.failures = self.failures.saturating_add(1);
             return Err(Failed);
         }
@@ -186,6 +190,7 @@ fn a_source_that_fails_at_each_read(rt: HostRuntime) -> Result<(), Fail> {
             bytes: STREAM,
             fails_at,
             failures: 0,
+            failed_last: false,
         };
         let (items, end) = read_all(rt.alloc(), &mut source)?;
         assert_eq!(rt; end, Err(FrameFault::Device), "read {fails_at}");
@@ -280,6 +285,7 @@ struct Narrow {
     taken: Vec<u8>,
     fails_at: usize,
     failures: u64,
+    failed_last: bool,
 }
 
 impl Sink for Narrow {
@@ -289,9 +295,13 @@ impl Sink for Narrow {
 
     ghost failures = { λ s. s.failures };
 
+    ghost failed_last = { λ s. s.failed_last };
+
     fn write_some(&mut self, buf: &[u8]) -> Result<usize, Failed> {
         let count = buf.len().min(3);
-        if self.fails_at == 0 || self.taken.extend_from_slice(&buf[..count]).is_err() {
+        self.failed_last = self.fails_at == 0
+            || self.taken.extend_from_slice(&buf[..count]).is_err();
+        if self.failed_last {
             self.failures = self.failures.saturating_add(1);
             return Err(Failed);
         }
@@ -329,6 +339,7 @@ fn status_updates(rt: HostRuntime) -> Result<(), Fail> {
                 taken: Vec::new(rt.alloc()),
                 fails_at,
                 failures: 0,
+                failed_last: false,
             };
             let answer = if fails_at < 13 {
                 Err(FrameFault::Device)

@@ -1,5 +1,5 @@
 // Status updates, which tell the server how far its log was written, flushed and applied here.
-ghost use Rattle.std.specs.Prelude.{ℕ, List, ◌≡◌, ◌≢◌, ◌⊎◌, ◌++◌, Err, IsOkUnless, IfErr, IfOk, OnOk, OnErr};
+ghost use Rattle.std.specs.Prelude.{ℕ, List, ◌≡◌, ◌≢◌, ◌⊎◌, ◌++◌, true, Err, IsOkUnless, IfErr, IfOk, OnOk, OnErr};
 ghost use Rattle.std.specs.Io.KnownBytes.{Appends, Keeps};
 ghost use Rattle.frames.specs.Status.{status_frame};
 ghost use Rattle.frames.specs.Wire.{spelled32, spelled64};
@@ -65,8 +65,10 @@ pub fn send_status<W: Sink>(alloc: Global, s: &Status, w: &mut W) -> Result<(), 
         (Appends (W.contents w.old) (W.contents w.new) (status_frame s.now)) }
     ensures only { IfErr result
         (λ fault. (fault ≡ FrameFault.Device) ⊎ (fault ≡ FrameFault.OutOfMemory)) }
-    ensures device { result ≡ Err FrameFault.Device → HasFailed (W.failures w.old) (W.failures w.new) }
-    ensures part { result ≡ Err FrameFault.Device → (sent : List ℕ) × (rest : List ℕ) × (status_frame s.now ≡ sent ++ rest) × Appends (W.contents w.old) (W.contents w.new) sent }
+    ensures device { result ≡ Err FrameFault.Device
+        → HasFailed (W.failures w.old) (W.failures w.new) × (W.failed_last w.new ≡ true) }
+    ensures part { result ≡ Err FrameFault.Device → (sent : List ℕ) × (rest : List ℕ)
+        × (status_frame s.now ≡ sent ++ rest) × Appends (W.contents w.old) (W.contents w.new) sent }
     ensures memory { result ≡ Err FrameFault.OutOfMemory → Keeps (W.contents w.old) (W.contents w.new) }
     ensures works { result ≢ Err FrameFault.Device → W.failures w.new ≡ W.failures w.old }
 {

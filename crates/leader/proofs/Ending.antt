@@ -1,6 +1,6 @@
 -- How a message or an item ends a run.
-use Rattle.std.proofs.Common.{◌≡◌, ℕ, List, [], ◌∷◌, ◌++◌, refl, sym, subst, inl, inr}
-use Rattle.std.specs.Prelude.{Result, Ok, Err, IsErrAnd}
+use Rattle.std.proofs.Common.{◌≡◌, ℕ, List, [], ◌∷◌, ◌++◌, refl, sym, ap, subst, inl, inr}
+use Rattle.std.specs.Prelude.{Result, Ok, Err, IsErrAnd, map}
 use Rattle.model.specs.Rows.{Rows, Schema}
 use Rattle.model.specs.Effect.{effect}
 use Rattle.model.specs.declared.change.Change.{Change}
@@ -17,13 +17,13 @@ use Rattle.leader.specs.declared.applier.Applier.{Applier}
 use Rattle.leader.specs.declared.end.End.{End}
 use Rattle.leader.specs.declared.end.End.TheVariants as ends
 use Rattle.leader.specs.Work.{rows_now, IsClear, ClashesIn}
-use Rattle.leader.specs.Commits.{committed_changes, begun_changes, all_changes}
+use Rattle.leader.specs.Commits.{transaction, changes_in, committed_changes, begun_changes, all_changes}
 use Rattle.leader.specs.Progress.{Progress}
 use Rattle.leader.specs.Ends.{end_of_refusal, end_of_clash}
-use Rattle.leader.specs.Run.{schema_of}
+use Rattle.leader.specs.Cause.{schema_of}
 use Rattle.leader.specs.Applier.{HasCommits, IsAt, EndsByMessage, TakesMessage}
 use Rattle.leader.proofs.Working.{ClashesIn-behind}
-use Rattle.leader.proofs.Taking.{rows_at, GoesOn, done_more, not_committed, HasCommits-kept, IsCommitted, done_is}
+use Rattle.leader.proofs.Taking.{rows_at, GoesOn, done_more, not_committed, commits_one, HasCommits-kept, IsCommitted, done_is}
 
 pub IsClear-front : (schema : Schema) (rows : Rows) (cs ds : List Change) → IsClear schema rows (cs ++ ds) → IsClear schema rows cs
 IsClear-front schema rows [] ds clear = tt
@@ -48,18 +48,21 @@ ends_with g rows b p payload (Err e) end is ends = subst (EndsByMessage g rows b
 -- ---- the session refuses a message
 
 pub turned_away : (g : Setting) (rows : Rows) (a b : Applier) (p : Progress) (payload : List ℕ) (r : Refused) → IsAt g rows a p → StaysKept a b → Refuses g p.state payload r → EndsByMessage g rows b p payload (end_of_refusal r)
-turned_away g rows a b p payload (refusals.Msg f) at same why = inl (λ first last more. record { commits = stays g rows a b p.state p.state at.commits refl same; clear = at.clear; cause = why })
-turned_away g rows a b p payload (refusals.Session f) at same why = inl (λ first last more. record { commits = stays g rows a b p.state p.state at.commits refl same; clear = at.clear; cause = why })
-turned_away g rows a b p payload (refusals.Rel f) at same why = inl (λ first last more. record { commits = stays g rows a b p.state p.state at.commits refl same; clear = at.clear; cause = why })
-turned_away g rows a b p payload refusals.OutOfMemory at same why = inl (λ first last more. record { commits = stays g rows a b p.state p.state at.commits refl same; clear = at.clear; cause = tt })
+turned_away g rows a b p payload (refusals.Msg f) at same why = inl (stays g rows a b p.state p.state at.commits refl same, λ first last more. why)
+turned_away g rows a b p payload (refusals.Session f) at same why = inl (stays g rows a b p.state p.state at.commits refl same, λ first last more. why)
+turned_away g rows a b p payload (refusals.Rel f) at same why = inl (stays g rows a b p.state p.state at.commits refl same, λ first last more. why)
+turned_away g rows a b p payload refusals.OutOfMemory at same why = inl (stays g rows a b p.state p.state at.commits refl same, λ first last more. tt)
 
 pub out_of_memory : (g : Setting) (rows : Rows) (a b : Applier) (p : Progress) (payload : List ℕ) → IsAt g rows a p → StaysKept a b → EndsByMessage g rows b p payload ends.OutOfMemory
-out_of_memory g rows a b p payload at same = inl (λ first last more. record { commits = stays g rows a b p.state p.state at.commits refl same; clear = at.clear; cause = tt })
+out_of_memory g rows a b p payload at same = inl (stays g rows a b p.state p.state at.commits refl same, λ first last more. tt)
 
 -- ---- a change clashes
 
-committed_clear : (g : Setting) (rows : Rows) (a : Applier) (p : Progress) → IsAt g rows a p → IsClear (schema_of g) rows (committed_changes p.state)
-committed_clear g rows a p at = IsClear-front (schema_of g) rows (committed_changes p.state) (begun_changes p.state) at.clear
+-- none of the changes of the commits clashed, nor do they once a message was taken that commits nothing
+committed_clear : (g : Setting) (rows : Rows) (a : Applier) (p : Progress) (t : State) → IsAt g rows a p → t.past ≡ p.state.past → IsClear (schema_of g) rows (committed_changes t)
+committed_clear g rows a p t at same =
+    subst (IsClear (schema_of g) rows) (ap (λ past. changes_in (map transaction past)) (sym same))
+    (IsClear-front (schema_of g) rows (committed_changes p.state) (begun_changes p.state) at.clear)
 
 -- changes that were refused on the rows now are refused behind all that was done
 refused_behind : (g : Setting) (rows : Rows) (a : Applier) (p : Progress) (cs : List Change) (clash : Clash) → IsAt g rows a p → ClashesIn a.work.schema (rows_now a.work) cs clash → ClashesIn (schema_of g) rows (all_changes p.state ++ cs) clash
@@ -77,48 +80,34 @@ clashed_on g rows a b p payload m t cs (clashes.Unique table key) at admits on s
       t,
       admits,
       not_committed p.state t on.past,
-      λ more.
-          record {
-            commits = stays g rows a b p.state t at.commits on.past same;
-            clear = subst (λ s. IsClear (schema_of g) rows s) (sym (committed_kept p.state t on.past)) (committed_clear g rows a p at);
-            cause = inl (subst (λ cs'. ClashesIn (schema_of g) rows cs' (clashes.Unique table key)) (sym (done_more g p.state t cs on)) (refused_behind g rows a p cs (clashes.Unique table key) at refused));
-          },
+      stays g rows a b p.state t at.commits on.past same,
+      committed_clear g rows a p t at on.past,
+      subst (λ cs'. ClashesIn (schema_of g) rows cs' (clashes.Unique table key)) (sym (done_more g p.state t cs on)) (refused_behind g rows a p cs (clashes.Unique table key) at refused),
     )
-  where
-    committed_kept : (s u : State) → u.past ≡ s.past → committed_changes u ≡ committed_changes s
-    committed_kept s u e = rw e
 clashed_on g rows a b p payload m t cs (clashes.NullKey table) at admits on same refused =
     inr (
       m,
       t,
       admits,
       not_committed p.state t on.past,
-      λ more.
-          record {
-            commits = stays g rows a b p.state t at.commits on.past same;
-            clear = subst (λ s. IsClear (schema_of g) rows s) (sym (committed_kept p.state t on.past)) (committed_clear g rows a p at);
-            cause = inl (subst (λ cs'. ClashesIn (schema_of g) rows cs' (clashes.NullKey table)) (sym (done_more g p.state t cs on)) (refused_behind g rows a p cs (clashes.NullKey table) at refused));
-          },
+      stays g rows a b p.state t at.commits on.past same,
+      committed_clear g rows a p t at on.past,
+      subst (λ cs'. ClashesIn (schema_of g) rows cs' (clashes.NullKey table)) (sym (done_more g p.state t cs on)) (refused_behind g rows a p cs (clashes.NullKey table) at refused),
     )
-  where
-    committed_kept : (s u : State) → u.past ≡ s.past → committed_changes u ≡ committed_changes s
-    committed_kept s u e = rw e
 
 -- one of a transaction that the message commits: the message is left
 pub clashed_at_commit : (g : Setting) (rows : Rows) (a b : Applier) (p : Progress) (payload : List ℕ) (m : Message) (t : State) (xid commit end : ℕ) (items : List Item) (clash : Clash) → IsAt g rows a p → Admits g p.state payload m t → IsCommitted g p.state t xid commit end items → StaysKept a b
     → ClashesIn a.work.schema (rows_now a.work) (changes_of items) clash → EndsByMessage g rows b p payload (end_of_clash clash)
 clashed_at_commit g rows a b p payload m t xid commit end items clashes.OutOfMemory at admits is same refused = out_of_memory g rows a b p payload at same
 clashed_at_commit g rows a b p payload m t xid commit end items (clashes.Unique table key) at admits is same refused =
-    inl (λ first last more.
-    record {
-      commits = stays g rows a b p.state p.state at.commits refl same;
-      clear = committed_clear g rows a p at;
-      cause = inr (m, t, admits, subst (λ cs'. ClashesIn (schema_of g) rows cs' (clashes.Unique table key)) (sym (done_is g p.state t xid commit end items is)) (refused_behind g rows a p (changes_of items) (clashes.Unique table key) at refused));
-    })
+    inl (
+      stays g rows a b p.state p.state at.commits refl same,
+      λ first last more.
+          (m, t, admits, commits_one g p.state t xid commit end items is, subst (λ cs'. ClashesIn (schema_of g) rows cs' (clashes.Unique table key)) (sym (done_is g p.state t xid commit end items is)) (refused_behind g rows a p (changes_of items) (clashes.Unique table key) at refused)),
+    )
 clashed_at_commit g rows a b p payload m t xid commit end items (clashes.NullKey table) at admits is same refused =
-    inl (λ first last more.
-    record {
-      commits = stays g rows a b p.state p.state at.commits refl same;
-      clear = committed_clear g rows a p at;
-      cause = inr (m, t, admits, subst (λ cs'. ClashesIn (schema_of g) rows cs' (clashes.NullKey table)) (sym (done_is g p.state t xid commit end items is)) (refused_behind g rows a p (changes_of items) (clashes.NullKey table) at refused));
-    })
+    inl (
+      stays g rows a b p.state p.state at.commits refl same,
+      λ first last more.
+          (m, t, admits, commits_one g p.state t xid commit end items is, subst (λ cs'. ClashesIn (schema_of g) rows cs' (clashes.NullKey table)) (sym (done_is g p.state t xid commit end items is)) (refused_behind g rows a p (changes_of items) (clashes.NullKey table) at refused)),
+    )

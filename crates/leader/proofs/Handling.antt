@@ -47,13 +47,15 @@ handled_wal g rows b p first last payload (Ok is_commit) taken = record {
   updates = taken.updates;
   at = taken.at;
 }
-handled_wal g rows b p first last payload (Err end) (inl ends) = inl (ends first last)
-handled_wal g rows b p first last payload (Err end) (inr (m, s, admits, none, ends)) =
+handled_wal g rows b p first last payload (Err end) (inl (commits, why)) = inl (commits, why first last)
+handled_wal g rows b p first last payload (Err end) (inr (m, s, admits, none, commits, clear, why)) =
     inr (
       record { state = s; seen = max (max p.seen first) last; updates = p.updates },
       (m, admits, refl, sym (append-nil p.updates) ∙ ap (λ c. p.updates ++ due_updates c s (max (max p.seen first) last)) (sym none)),
       refl,
-      ends,
+      commits,
+      clear,
+      why,
     )
 
 pub handled_keepalive : (g : Setting) (rows : Rows) (b : Applier) (p : Progress) (last : ℕ) (reply : Bool) → IsAt g rows b (with_seen p (max p.seen last)) → HasHandled g rows b p (Keepalive last reply) reply

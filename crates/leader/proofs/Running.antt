@@ -2,22 +2,23 @@
 use Rattle.std.proofs.Common.{◌≡◌, ℕ, ◌+◌, Bool, true, false, List, [], ◌∷◌, ◌++◌, length, Option, Some, None, refl, sym, ap, subst, ◌∙◌, append_assoc, append-nil, length-append, arith, inl, inr}
 use Rattle.std.specs.Prelude.{Result, Ok, Err, ℤ, IsErrAnd, ◌⊎◌}
 use Rattle.std.specs.Io.KnownBytes.{Appends, Keeps}
-use Rattle.std.proofs.KnownBytes.{Appends-trans, Appends-kept}
+use Rattle.std.proofs.KnownBytes.{Appends-nil, Appends-trans, Appends-kept}
 use Rattle.model.specs.Rows.{Rows}
 use Rattle.frames.specs.declared.fault.FrameFault.{FrameFault}
 use Rattle.frames.specs.declared.fault.FrameFault.TheVariants as frames
 use Rattle.frames.specs.declared.item.CopyItem.{CopyItem}
-use Rattle.frames.specs.Device.{HasFailed}
+use Rattle.frames.specs.Device.{HasFailed, HasWorked, HasFailedLast}
 use Rattle.frames.specs.Status.{status_frame}
-use Rattle.session.specs.State.{State, Setting}
+use Rattle.session.specs.State.{Setting}
 use Rattle.leader.specs.declared.applier.Applier.{Applier}
 use Rattle.leader.specs.declared.end.End.{End}
 use Rattle.leader.specs.declared.end.End.TheVariants as ends
 use Rattle.leader.specs.Clock.{Ticks}
 use Rattle.leader.specs.Ends.{end_of_frame}
 use Rattle.leader.specs.Progress.{Progress, Handles, Leads, start_progress, Update, update, status_bytes}
-use Rattle.leader.specs.Run.{Devices, IsItemCause, AreAllSent, IsSent}
-use Rattle.leader.specs.Applier.{IsAt, IsUnderWay, EndsByItem, HasHandled, HasTold, HasCome, IsStopCause, StopsAt, Answers}
+use Rattle.leader.specs.Cause.{LastStep, HasGoneWell, LastIsCut, LastClashed, IsNextCause, IsItemCause}
+use Rattle.leader.specs.Devices.{DeviceState}
+use Rattle.leader.specs.Applier.{IsAt, IsUnderWay, EndsByItem, HasHandled, HasTold, HasCome, StopsAt, Answers}
 
 pub Leads-more : (g : Setting) (p q r : Progress) (items : List CopyItem) (item : CopyItem) → Leads g p items q → Handles g q item r → Leads g p (items ++ item ∷ []) r
 Leads-more g p q r [] item leads handles = (r, subst (λ (x : Progress). Handles g x item r) (sym leads) handles, refl)
@@ -57,11 +58,12 @@ pub under_way : (g : Setting) (rows : Rows) (b : Applier) (p : Progress) (item :
 under_way g rows b p item told h = (g, rows, h.progress, h.at)
 
 -- and no update is due
-pub come_on : (g : Setting) (rows : Rows) (old new : Devices) (a b : Applier) (handled : List CopyItem) (item : CopyItem) (come : HasCome g rows old new a handled) → HasHandled g rows b come.progress item false → HasCome g rows old new b (handled ++ item ∷ [])
+pub come_on : (g : Setting) (rows : Rows) (old new : DeviceState) (a b : Applier) (handled : List CopyItem) (item : CopyItem) (come : HasCome g rows old new a handled) → HasHandled g rows b come.progress item false → HasCome g rows old new b (handled ++ item ∷ [])
 come_on g rows old new a b handled item come h = record {
   progress = h.progress;
   lawful = Leads-more g start_progress come.progress h.progress handled item come.lawful h.handles;
   at = h.at;
+  read = come.read;
   told = subst (HasTold old new) (sym (h.updates ∙ append-nil come.progress.updates)) come.told;
 }
 
@@ -72,11 +74,11 @@ update_is g rows b p time at =
     rw (at.seen, position)
 
 -- and an update was sent
-pub come_told : (g : Setting) (rows : Rows) (old mid new : Devices) (a b : Applier) (handled : List CopyItem) (item : CopyItem) (time : ℤ) (written flushed applied : ℕ) (come : HasCome g rows old mid a handled) → HasHandled g rows b come.progress item true
+pub come_told : (g : Setting) (rows : Rows) (old mid new : DeviceState) (a b : Applier) (handled : List CopyItem) (item : CopyItem) (time : ℤ) (written flushed applied : ℕ) (come : HasCome g rows old mid a handled) → HasHandled g rows b come.progress item true
     → Ticks mid.times new.times (time ∷ []) → written ≡ b.written → flushed ≡ b.position → applied ≡ b.position
-    → Appends mid.sent new.sent (status_frame (record { written = written; flushed = flushed; applied = applied; clock = time })) → new.write_failures ≡ mid.write_failures
-    → HasCome g rows old new b (handled ++ item ∷ [])
-come_told g rows old mid new a b handled item time written flushed applied come h ticks is_written is_flushed is_applied sent works =
+    → Appends mid.sent new.sent (status_frame (record { written = written; flushed = flushed; applied = applied; clock = time })) → HasWorked mid.writer new.writer
+    → new.reader ≡ mid.reader → HasCome g rows old new b (handled ++ item ∷ [])
+come_told g rows old mid new a b handled item time written flushed applied come h ticks is_written is_flushed is_applied sent works reader =
     let appends : Appends mid.sent new.sent (status_frame (record { written = b.written; flushed = b.position; applied = b.position; clock = time })) =
     subst (λ n. Appends mid.sent new.sent (status_frame (record { written = b.written; flushed = b.position; applied = n; clock = time }))) is_applied
     (subst (λ n. Appends mid.sent new.sent (status_frame (record { written = b.written; flushed = n; applied = applied; clock = time }))) is_flushed
@@ -89,6 +91,7 @@ come_told g rows old mid new a b handled item time written flushed applied come 
       progress = h.progress;
       lawful = Leads-more g start_progress p h.progress handled item come.lawful h.handles;
       at = h.at;
+      read = subst (HasWorked old.reader) (sym reader) come.read;
       told = subst (HasTold old new) (sym h.updates)
           (record {
             times = ts ++ time ∷ [];
@@ -101,72 +104,68 @@ come_told g rows old mid new a b handled item time written flushed applied come 
 
 -- ---- an item ended the run
 
-as_stop : (g : Setting) (rows : Rows) (old new : Devices) (s : State) (rest : List CopyItem) (end : End) → IsItemCause g rows s rest end → IsStopCause g rows old new s rest end
-as_stop g rows old new s rest ends.Clean why = absurd why
-as_stop g rows old new s rest (ends.Frame f) why = absurd why
-as_stop g rows old new s rest (ends.Msg f) why = why
-as_stop g rows old new s rest (ends.Session f) why = why
-as_stop g rows old new s rest (ends.Rel f) why = why
-as_stop g rows old new s rest (ends.Unique table key) why = why
-as_stop g rows old new s rest (ends.NullKey table) why = why
-as_stop g rows old new s rest (ends.HeldKey xid holder) why = absurd why
-as_stop g rows old new s rest ends.OutOfMemory why = why
+-- the next item ends the run, where all has gone well
+by_next : (g : Setting) (rows : Rows) (old new : DeviceState) (handled : List CopyItem) (p : Progress) (times : List ℤ) (rest : List CopyItem) (end : End) → HasGoneWell g rows old new handled p times → IsNextCause g rows p.state rest end
+    → IsItemCause g rows old new handled p times rest end
+by_next g rows old new handled p times rest ends.Clean well why = absurd why
+by_next g rows old new handled p times rest (ends.Frame f) well why = absurd why
+by_next g rows old new handled p times rest (ends.Msg f) well why = inl (well, why)
+by_next g rows old new handled p times rest (ends.Session f) well why = inl (well, why)
+by_next g rows old new handled p times rest (ends.Rel f) well why = inl (well, why)
+by_next g rows old new handled p times rest (ends.Unique table key) well why = inl (well, why)
+by_next g rows old new handled p times rest (ends.NullKey table) well why = inl (well, why)
+by_next g rows old new handled p times rest (ends.HeldKey xid holder) well why = absurd why
+by_next g rows old new handled p times rest ends.OutOfMemory well why = inl well
 
-sent_frame : (old new : Devices) (updates : List Update) (times : List ℤ) (f : FrameFault) → AreAllSent old new updates times → IsSent old new updates times (ends.Frame f)
-sent_frame old new updates times frames.UnknownFrame sent = sent
-sent_frame old new updates times frames.BadLength sent = sent
-sent_frame old new updates times frames.TooLarge sent = sent
-sent_frame old new updates times frames.Truncated sent = sent
-sent_frame old new updates times frames.UnknownCopyTag sent = sent
-sent_frame old new updates times frames.ServerError sent = sent
-sent_frame old new updates times frames.Device sent = inl sent
-sent_frame old new updates times frames.OutOfMemory sent = sent
+-- the last item does
+by_last : (g : Setting) (rows : Rows) (old new : DeviceState) (handled : List CopyItem) (p : Progress) (times : List ℤ) (rest : List CopyItem) (end : End) → LastClashed g rows old new handled p times end
+    → IsItemCause g rows old new handled p times rest end
+by_last g rows old new handled p times rest ends.Clean clashed = absurd clashed.why
+by_last g rows old new handled p times rest (ends.Frame f) clashed = absurd clashed.why
+by_last g rows old new handled p times rest (ends.Msg f) clashed = absurd clashed.why
+by_last g rows old new handled p times rest (ends.Session f) clashed = absurd clashed.why
+by_last g rows old new handled p times rest (ends.Rel f) clashed = absurd clashed.why
+by_last g rows old new handled p times rest (ends.Unique table key) clashed = inr clashed
+by_last g rows old new handled p times rest (ends.NullKey table) clashed = inr clashed
+by_last g rows old new handled p times rest (ends.HeldKey xid holder) clashed = absurd clashed.why
+by_last g rows old new handled p times rest ends.OutOfMemory clashed = absurd clashed.why
 
--- all updates were sent, whatever ends the run
-pub sent_all : (old new : Devices) (updates : List Update) (times : List ℤ) (end : End) → AreAllSent old new updates times → IsSent old new updates times end
-sent_all old new updates times ends.Clean sent = sent
-sent_all old new updates times (ends.Frame f) sent = sent_frame old new updates times f sent
-sent_all old new updates times (ends.Msg f) sent = sent
-sent_all old new updates times (ends.Session f) sent = sent
-sent_all old new updates times (ends.Rel f) sent = sent
-sent_all old new updates times (ends.Unique table key) sent = sent
-sent_all old new updates times (ends.NullKey table) sent = sent
-sent_all old new updates times (ends.HeldKey xid holder) sent = sent
-sent_all old new updates times ends.OutOfMemory sent = inl sent
+-- nothing has clashed or failed so far
+pub gone_well : (g : Setting) (rows : Rows) (old new : DeviceState) (a : Applier) (handled : List CopyItem) (come : HasCome g rows old new a handled) → HasGoneWell g rows old new handled come.progress come.told.times
+gone_well g rows old new a handled come = record { clear = come.at.clear; read = come.read; sent = (come.told.works, come.told.sent) }
 
-pub stopped : (g : Setting) (rows : Rows) (old new : Devices) (a b : Applier) (handled : List CopyItem) (item : CopyItem) (result : Result (Unit {0}) End) (end : End) (come : HasCome g rows old new a handled) → EndsByItem g rows b come.progress item end → IsErrAnd result (λ e. e ≡ end) → Answers g rows old new b handled item result
+-- an item more
+abbrev with_item : (g : Setting) (rows : Rows) (old new : DeviceState) (a : Applier) (handled : List CopyItem) (item : CopyItem) (q : Progress) (come : HasCome g rows old new a handled) → Handles g come.progress item q → LastStep g (handled ++ item ∷ []) q
+with_item g rows old new a handled item q come handles =
+    record { before = handled; item = item; split = refl; past = come.progress; lawful = come.lawful; step = handles }
+
+pub stopped : (g : Setting) (rows : Rows) (old new : DeviceState) (a b : Applier) (handled : List CopyItem) (item : CopyItem) (result : Result (Unit {0}) End) (end : End) (come : HasCome g rows old new a handled) → EndsByItem g rows b come.progress item end → IsErrAnd result (λ e. e ≡ end) → Answers g rows old new b handled item result
 stopped g rows old new a b handled item (Ok u) end come why is = absurd is
-stopped g rows old new a b handled item (Err e) end come (inl ended) is =
-    let told = come.told in
+stopped g rows old new a b handled item (Err e) end come (inl (commits, why)) is =
     inl (λ more.
     subst (StopsAt g rows old new b handled (item ∷ more)) (sym is)
-    (let at = ended more in
-    record {
+    (record {
       progress = come.progress;
       lawful = come.lawful;
-      commits = at.commits;
-      clear = at.clear;
-      cause = as_stop g rows old new come.progress.state (item ∷ more) end at.cause;
-      times = told.times;
-      told = told.told;
-      counted = told.counted;
-      sent = sent_all old new come.progress.updates told.times end (told.works, told.sent);
+      commits = commits;
+      times = come.told.times;
+      told = come.told.told;
+      counted = come.told.counted;
+      cause = by_next g rows old new handled come.progress come.told.times (item ∷ more) end (gone_well g rows old new a handled come) (why more);
     }))
-stopped g rows old new a b handled item (Err e) end come (inr (q, handles, same, ended)) is =
+stopped g rows old new a b handled item (Err e) end come (inr (q, handles, same, commits, clear, why)) is =
     let told = subst (HasTold old new) (sym same) come.told in
     inr (λ more.
     subst (StopsAt g rows old new b (handled ++ item ∷ []) more) (sym is)
-    (let at = ended more in
-    record {
+    (record {
       progress = q;
       lawful = Leads-more g start_progress come.progress q handled item come.lawful handles;
-      commits = at.commits;
-      clear = at.clear;
-      cause = as_stop g rows old new q.state more end at.cause;
+      commits = commits;
       times = told.times;
       told = told.told;
       counted = told.counted;
-      sent = sent_all old new q.updates told.times end (told.works, told.sent);
+      cause = by_last g rows old new (handled ++ item ∷ []) q told.times more end
+          (record { last = with_item g rows old new a handled item q come handles; clear = come.at.clear; committed = clear; why = why; read = come.read; sent = (told.works, told.sent) });
     }))
 
 -- the bytes of all updates, where the frame of the last has this beginning
@@ -182,71 +181,63 @@ frame_of : (written flushed applied w f a : ℕ) (time : ℤ) → w ≡ written 
 frame_of written flushed applied w f a time is_written is_flushed is_applied = rw (is_written, is_flushed, is_applied)
 
 -- the update could not be sent
-pub unsent : (g : Setting) (rows : Rows) (old mid new : Devices) (a b : Applier) (handled : List CopyItem) (item : CopyItem) (time : ℤ) (written flushed applied : ℕ) (result : Result (Unit {0}) End) (fault : FrameFault) (come : HasCome g rows old mid a handled) → HasHandled g rows b come.progress item true
-    → Ticks mid.times new.times (time ∷ []) → (fault ≡ frames.Device) ⊎ (fault ≡ frames.OutOfMemory) → (fault ≡ frames.Device → HasFailed mid.write_failures new.write_failures) → (fault ≡ frames.OutOfMemory → (new.write_failures ≡ mid.write_failures) × Keeps mid.sent new.sent) → (fault ≡ frames.Device → (part : List ℕ) × (left : List ℕ) × (status_frame (record { written = written; flushed = flushed; applied = applied; clock = time }) ≡ part ++ left) × Appends mid.sent new.sent part)
-    → written ≡ b.written → flushed ≡ b.position → applied ≡ b.position
-    → IsErrAnd result (λ e. e ≡ end_of_frame fault) → Answers g rows old new b handled item result
-unsent g rows old mid new a b handled item time written flushed applied (Ok u) fault come h ticks kind failed kept part is_written is_flushed is_applied is = absurd is
-unsent g rows old mid new a b handled item time written flushed applied (Err e) fault come h ticks (inl device) failed kept part is_written is_flushed is_applied is =
-    let ts = come.told.times in
-    let u = update h.progress.state h.progress.seen in
-    let is_device : e ≡ ends.Frame frames.Device = is ∙ ap end_of_frame device in
-    let counted : length (ts ++ time ∷ []) ≡ length h.progress.updates = length-append ts (time ∷ []) ∙ ap (λ n. n + 1) come.told.counted ∙ sym (length-append come.progress.updates (u ∷ [])) ∙ ap length (sym h.updates) in
-    let went = part device in
-    let all : status_bytes come.progress.updates (ts ++ time ∷ []) ≡ status_bytes come.progress.updates ts = status_bytes-longer come.progress.updates ts (time ∷ []) come.told.counted in
-    let began : Appends old.sent new.sent (status_bytes come.progress.updates (ts ++ time ∷ []) ++ went.0) = subst (λ bs. Appends old.sent new.sent (bs ++ went.0)) (sym all) (Appends-trans old.sent mid.sent new.sent (status_bytes come.progress.updates ts) went.0 come.told.sent went.3) in
-    let frame : frame_at u time ≡ went.0 ++ went.1 = update_is g rows b h.progress time h.at ∙ frame_of b.written b.position b.position written flushed applied time is_written is_flushed is_applied ∙ went.2 in
-    let fails : HasFailed old.write_failures new.write_failures = subst (λ n. HasFailed n new.write_failures) come.told.works (failed device) in
-    inr (λ more.
-    subst (StopsAt g rows old new b (handled ++ item ∷ []) more) (sym is_device)
-    (record {
-      progress = h.progress;
-      lawful = Leads-more g start_progress come.progress h.progress handled item come.lawful h.handles;
-      commits = h.at.commits;
-      clear = h.at.clear;
-      cause = fails;
-      times = ts ++ time ∷ [];
-      told = Ticks-trans old.times mid.times new.times ts (time ∷ []) come.told.told ticks;
-      counted = counted;
-      sent = inr (
-        went.0,
-        fails,
-        record {
-          before = come.progress.updates;
-          last = u;
-          split = h.updates;
-          unsent = went.1;
-          whole = but_last come.progress.updates h.progress.updates ts u time went.0 went.1 h.updates come.told.counted frame;
-          sent = began;
-        },
-      );
-    }))
-unsent g rows old mid new a b handled item time written flushed applied (Err e) fault come h ticks (inr memory) failed kept part is_written is_flushed is_applied is =
-    let ts = come.told.times in
-    let u = update h.progress.state h.progress.seen in
-    let is_memory : e ≡ ends.OutOfMemory = is ∙ ap end_of_frame memory in
-    let counted : length (ts ++ time ∷ []) ≡ length h.progress.updates = length-append ts (time ∷ []) ∙ ap (λ n. n + 1) come.told.counted ∙ sym (length-append come.progress.updates (u ∷ [])) ∙ ap length (sym h.updates) in
-    let before : Appends old.sent new.sent (status_bytes come.progress.updates (ts ++ time ∷ [])) = subst (Appends old.sent new.sent) (sym (status_bytes-longer come.progress.updates ts (time ∷ []) come.told.counted)) (Appends-kept old.sent mid.sent new.sent (status_bytes come.progress.updates ts) come.told.sent (kept memory).1) in
-    inr (λ more.
-    subst (StopsAt g rows old new b (handled ++ item ∷ []) more) (sym is_memory)
-    (record {
-      progress = h.progress;
-      lawful = Leads-more g start_progress come.progress h.progress handled item come.lawful h.handles;
-      commits = h.at.commits;
-      clear = h.at.clear;
-      cause = tt;
-      times = ts ++ time ∷ [];
-      told = Ticks-trans old.times mid.times new.times ts (time ∷ []) come.told.told ticks;
-      counted = counted;
-      sent = inr (
-        (kept memory).0 ∙ come.told.works,
-        record {
-          before = come.progress.updates;
-          last = u;
-          split = h.updates;
-          unsent = frame_at u time;
-          whole = but_last come.progress.updates h.progress.updates ts u time [] (frame_at u time) h.updates come.told.counted refl;
-          sent = subst (Appends old.sent new.sent) (sym (append-nil (status_bytes come.progress.updates (ts ++ time ∷ [])))) before;
-        },
-      );
-    }))
+module _ (g : Setting) (rows : Rows) (old mid new : DeviceState) (a b : Applier) (handled : List CopyItem) (item : CopyItem) (time : ℤ) (come : HasCome g rows old mid a handled) (h : HasHandled g rows b come.progress item true)
+    (ticks : Ticks mid.times new.times (time ∷ [])) (reader : new.reader ≡ mid.reader) where
+  abbrev ts : List ℤ
+  ts = come.told.times
+
+  abbrev all : List CopyItem
+  all = handled ++ item ∷ []
+
+  counted : length (ts ++ time ∷ []) ≡ length h.progress.updates
+  counted =
+      length-append ts (time ∷ []) ∙ ap (λ n. n + 1) come.told.counted
+      ∙ sym (length-append come.progress.updates (update h.progress.state h.progress.seen ∷ [])) ∙ ap length (sym h.updates)
+
+  read_on : HasWorked old.reader new.reader
+  read_on = subst (HasWorked old.reader) (sym reader) come.read
+
+  -- all before it were sent, and this part of it
+  abbrev cut_at : (part left : List ℕ) → frame_at (update h.progress.state h.progress.seen) time ≡ part ++ left → Appends mid.sent new.sent part → LastIsCut g rows old new all h.progress (ts ++ time ∷ [])
+  cut_at part left frame went = record {
+    last = with_item g rows old mid a handled item h.progress come h.handles;
+    update = update h.progress.state h.progress.seen;
+    due = h.updates;
+    part = part;
+    unsent = left;
+    frame = but_last come.progress.updates h.progress.updates ts (update h.progress.state h.progress.seen) time part left h.updates come.told.counted frame;
+    sent = subst (λ bs. Appends old.sent new.sent (bs ++ part)) (sym (status_bytes-longer come.progress.updates ts (time ∷ []) come.told.counted))
+        (Appends-trans old.sent mid.sent new.sent (status_bytes come.progress.updates ts) part come.told.sent went);
+  }
+
+  stops_there : (end : End) (more : List CopyItem) → IsItemCause g rows old new all h.progress (ts ++ time ∷ []) more end → StopsAt g rows old new b all more end
+  stops_there end more why = record {
+    progress = h.progress;
+    lawful = Leads-more g start_progress come.progress h.progress handled item come.lawful h.handles;
+    commits = h.at.commits;
+    times = ts ++ time ∷ [];
+    told = Ticks-trans old.times mid.times new.times ts (time ∷ []) come.told.told ticks;
+    counted = counted;
+    cause = why;
+  }
+
+  pub unsent : (written flushed applied : ℕ) (result : Result (Unit {0}) End) (fault : FrameFault) → (fault ≡ frames.Device) ⊎ (fault ≡ frames.OutOfMemory)
+      → (fault ≡ frames.Device → HasFailedLast mid.writer new.writer) → (fault ≡ frames.OutOfMemory → HasWorked mid.writer new.writer × Keeps mid.sent new.sent)
+      → (fault ≡ frames.Device → (part : List ℕ) × (left : List ℕ) × (status_frame (record { written = written; flushed = flushed; applied = applied; clock = time }) ≡ part ++ left) × Appends mid.sent new.sent part)
+      → written ≡ b.written → flushed ≡ b.position → applied ≡ b.position
+      → IsErrAnd result (λ e. e ≡ end_of_frame fault) → Answers g rows old new b handled item result
+  unsent written flushed applied (Ok u) fault kind failed kept part is_written is_flushed is_applied is = absurd is
+  unsent written flushed applied (Err e) fault (inl device) failed kept part is_written is_flushed is_applied is =
+      let went = part device in
+      let fails = failed device in
+      let frame : frame_at (update h.progress.state h.progress.seen) time ≡ went.0 ++ went.1 = update_is g rows b h.progress time h.at ∙ frame_of b.written b.position b.position written flushed applied time is_written is_flushed is_applied ∙ went.2 in
+      inr (λ more.
+      subst (StopsAt g rows old new b all more) (sym (is ∙ ap end_of_frame device))
+      (stops_there (ends.Frame frames.Device) more
+      (record { clear = h.at.clear; read = read_on; failed = (subst (λ n. HasFailed n new.writer.failures) come.told.works fails.0, fails.1); cut = cut_at went.0 went.1 frame went.3 })))
+  unsent written flushed applied (Err e) fault (inr memory) failed kept part is_written is_flushed is_applied is =
+      let was = kept memory in
+      inr (λ more.
+      subst (StopsAt g rows old new b all more) (sym (is ∙ ap end_of_frame memory))
+      (stops_there ends.OutOfMemory more
+      (inr (record { clear = h.at.clear; read = read_on; written = was.0 ∙ come.told.works; cut = cut_at [] (frame_at (update h.progress.state h.progress.seen) time) refl (Appends-kept mid.sent mid.sent new.sent [] (Appends-nil mid.sent) was.1); nothing = refl }))))

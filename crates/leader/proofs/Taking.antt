@@ -32,7 +32,7 @@ use Rattle.leader.specs.declared.applier.Applier.{Applier}
 use Rattle.leader.specs.Work.{OpenWork, rows_now, IsClear}
 use Rattle.leader.specs.Commits.{Transaction, transaction_of, transaction, changes_in, surviving_changes, commits, committed_changes, begun_changes, all_changes, last_end}
 use Rattle.leader.specs.Progress.{Progress, commits_from, due_updates}
-use Rattle.leader.specs.Run.{schema_of}
+use Rattle.leader.specs.Cause.{schema_of}
 use Rattle.leader.specs.Applier.{AreServed, HasCommits, IsAt, HasTaken}
 use Rattle.leader.proofs.Working.{with_changes, rows_with, IsClear-append}
 use Rattle.leader.proofs.States.{map-sized_survivors, last_end-push, changes_in-append, map-before_first, AreServed-insert, AreServed-remove}
@@ -322,7 +322,7 @@ module _ (g : Setting) (s t : State) (xid commit end : ℕ) (items : List Item) 
   ends_at : last_end t.past ≡ end
   ends_at = ap last_end is.past ∙ last_end-push s.past is.transaction ∙ ap (λ (i : CommitInfo). i.end) is.info_is
 
-  commits_one : commits_from s t ≡ true
+  pub commits_one : commits_from s t ≡ true
   commits_one = lt-ltb (length s.past) (length t.past) (rw is.past (omega (arith, length-append s.past (is.transaction ∷ []))))
 
 -- the progress that a commit leads to

@@ -7,8 +7,7 @@ use Rattle.model.specs.Effect.{serial}
 use Rattle.messages.specs.declared.message.Message.{Message}
 use Rattle.frames.specs.declared.item.CopyItem.{CopyItem}
 use Rattle.frames.specs.declared.item.CopyItem.TheVariants.{Wal}
-use Rattle.frames.specs.declared.fault.FrameFault.TheVariants.{Device}
-use Rattle.frames.specs.Device.{HasFailed}
+use Rattle.frames.specs.Device.{HasWorked}
 use Rattle.frames.specs.Stream.{Reading, copy_items}
 use Rattle.frames.specs.Reads.{HasRead}
 use Rattle.session.specs.Lawful.{Admits}
@@ -23,7 +22,8 @@ use Rattle.leader.specs.Work.{IsClear}
 use Rattle.leader.specs.Commits.{transaction_of, commits, committed_changes, begun_changes, all_changes, last_end}
 use Rattle.leader.specs.Progress.{Progress, Handles, Leads, start_progress, Update, due_updates, commits_from, status_bytes}
 use Rattle.leader.specs.Clock.{Ticks}
-use Rattle.leader.specs.Run.{Devices, schema_of, IsItemCause, IsCause, IsClearUnless, IsSent}
+use Rattle.leader.specs.Cause.{schema_of, IsNextCause, IsLastCause, IsItemCause, IsCause}
+use Rattle.leader.specs.Devices.{DeviceState}
 
 -- The open transaction has no worker, and its items name tables among the first so many.
 pub record IsServed (count : ℕ) (o : Open) : Type 0 where
@@ -57,12 +57,6 @@ pub record IsAt (g : Setting) (rows : Rows) (a : Applier) (p : Progress) : Type 
 abbrev pub IsUnderWay : Applier → Type 0
 IsUnderWay a = (g : Setting) × (rows : Rows) × (p : Progress) × IsAt g rows a p
 
--- The run ends at this state, with these items left: what is kept is that of the commits.
-pub record EndsAt (g : Setting) (rows : Rows) (a : Applier) (s : State) (rest : List CopyItem) (end : End) : Type 0 where
-  pub commits : HasCommits g rows a s
-  pub clear : IsClearUnless g rows s end
-  pub cause : IsItemCause g rows s rest end
-
 -- ---- a message
 
 -- The message was taken. Whether it commits is answered.
@@ -78,8 +72,10 @@ pub record HasTaken (g : Setting) (rows : Rows) (a : Applier) (p : Progress) (pa
 -- The message ended the run: it may not come or clashes as it commits, or it was taken and clashed then.
 abbrev pub EndsByMessage : Setting → Rows → Applier → Progress → List ℕ → End → Type 0
 EndsByMessage g rows a p payload end =
-    ((first last : ℕ) (more : List CopyItem) → EndsAt g rows a p.state (Wal first last payload ∷ more) end)
-    ⊎ ((m : Message) × (s : State) × Admits g p.state payload m s × (commits_from p.state s ≡ false) × ((more : List CopyItem) → EndsAt g rows a s more end))
+    (HasCommits g rows a p.state
+    × ((first last : ℕ) (more : List CopyItem) → IsNextCause g rows p.state (Wal first last payload ∷ more) end))
+    ⊎ ((m : Message) × (s : State) × Admits g p.state payload m s × (commits_from p.state s ≡ false)
+    × HasCommits g rows a s × IsClear (schema_of g) rows (committed_changes s) × IsLastCause g rows s end)
 
 -- The message was taken, or it ended the run.
 abbrev pub TakesMessage : Setting → Rows → Applier → Progress → List ℕ → Result Bool End → Type 0
@@ -97,8 +93,9 @@ pub record HasHandled (g : Setting) (rows : Rows) (a : Applier) (p : Progress) (
 -- The item ended the run: it was not handled, or it was and clashed then.
 abbrev pub EndsByItem : Setting → Rows → Applier → Progress → CopyItem → End → Type 0
 EndsByItem g rows a p item end =
-    ((more : List CopyItem) → EndsAt g rows a p.state (item ∷ more) end)
-    ⊎ ((q : Progress) × Handles g p item q × (q.updates ≡ p.updates) × ((more : List CopyItem) → EndsAt g rows a q.state more end))
+    (HasCommits g rows a p.state × ((more : List CopyItem) → IsNextCause g rows p.state (item ∷ more) end))
+    ⊎ ((q : Progress) × Handles g p item q × (q.updates ≡ p.updates)
+    × HasCommits g rows a q.state × IsClear (schema_of g) rows (committed_changes q.state) × IsLastCause g rows q.state end)
 
 -- The item was handled, or it ended the run.
 abbrev pub HandlesItem : Setting → Rows → Applier → Progress → CopyItem → Result Bool End → Type 0
@@ -107,45 +104,39 @@ HandlesItem g rows a p item result = MatchResult result (HasHandled g rows a p i
 -- ---- the items so far
 
 -- The status updates so far were sent, each with its time, and the writer has not failed.
-pub record HasTold (old new : Devices) (updates : List Update) : Type 0 where
+pub record HasTold (old new : DeviceState) (updates : List Update) : Type 0 where
   pub times : List ℤ
   pub told : Ticks old.times new.times times
   pub counted : length times ≡ length updates
   pub sent : Appends old.sent new.sent (status_bytes updates times)
-  pub works : new.write_failures ≡ old.write_failures
+  pub works : HasWorked old.writer new.writer
 
--- These items were handled, and the run goes on from here.
-pub record HasCome (g : Setting) (rows : Rows) (old new : Devices) (a : Applier) (handled : List CopyItem) : Type 0 where
+-- These items were handled, no device failed, and the run goes on from here.
+pub record HasCome (g : Setting) (rows : Rows) (old new : DeviceState) (a : Applier) (handled : List CopyItem) : Type 0 where
   pub progress : Progress
   pub lawful : Leads g start_progress handled progress
   pub at : IsAt g rows a progress
+  pub read : HasWorked old.reader new.reader
   pub told : HasTold old new progress.updates
 
--- Why an item, or the update after it, ends a run.
-abbrev pub IsStopCause : Setting → Rows → Devices → Devices → State → List CopyItem → End → Type 0
-IsStopCause g rows old new s rest (ends.Frame Device) = HasFailed old.write_failures new.write_failures
-IsStopCause g rows old new s rest end = IsItemCause g rows s rest end
-
 -- These items were handled, and the run ends here, with those left.
-pub record StopsAt (g : Setting) (rows : Rows) (old new : Devices) (a : Applier) (handled rest : List CopyItem) (end : End) : Type 0 where
+pub record StopsAt (g : Setting) (rows : Rows) (old new : DeviceState) (a : Applier) (handled rest : List CopyItem) (end : End) : Type 0 where
   pub progress : Progress
   pub lawful : Leads g start_progress handled progress
   pub commits : HasCommits g rows a progress.state
-  pub clear : IsClearUnless g rows progress.state end
-  pub cause : IsStopCause g rows old new progress.state rest end
   pub times : List ℤ
   pub told : Ticks old.times new.times times
   pub counted : length times ≡ length progress.updates
-  pub sent : IsSent old new progress.updates times end
+  pub cause : IsItemCause g rows old new handled progress times rest end
 
 -- An item more was handled, or ended the run before or after it was.
-abbrev pub Answers : Setting → Rows → Devices → Devices → Applier → List CopyItem → CopyItem → Result (Unit {0}) End → Type 0
+abbrev pub Answers : Setting → Rows → DeviceState → DeviceState → Applier → List CopyItem → CopyItem → Result (Unit {0}) End → Type 0
 Answers g rows old new a handled item result =
     MatchResult result (λ _. HasCome g rows old new a (handled ++ item ∷ []))
     (λ end. ((more : List CopyItem) → StopsAt g rows old new a handled (item ∷ more) end) ⊎ ((more : List CopyItem) → StopsAt g rows old new a (handled ++ item ∷ []) more end))
 
 -- All items that were kept of these bytes were handled, or one of them ended the run.
-abbrev pub HandlesKept : Setting → Rows → Devices → Devices → Applier → List ℕ → Reading → Result (Unit {0}) End → Type 0
+abbrev pub HandlesKept : Setting → Rows → DeviceState → DeviceState → Applier → List ℕ → Reading → Result (Unit {0}) End → Type 0
 HandlesKept g rows old new a bytes kept result =
     MatchResult result (λ _. (handled : List CopyItem) × HasCome g rows old new a handled × HasRead bytes handled kept)
     (λ end. (handled : List CopyItem) × (rest : List CopyItem) × (handled ++ rest ≡ copy_items bytes) × StopsAt g rows old new a handled rest end)
@@ -156,7 +147,7 @@ end_of (Ok all_changes) = ends.Clean
 end_of (Err end) = end
 
 -- The run is over, with these items of the bytes left.
-pub record IsRunOver (g : Setting) (rows : Rows) (old new : Devices) (a : Applier) (end : End) : Type 0 where
+pub record IsRunOver (g : Setting) (rows : Rows) (old new : DeviceState) (a : Applier) (end : End) : Type 0 where
   pub bytes : List ℕ
   pub read : Consumes old.unread new.unread bytes
   pub handled : List CopyItem
@@ -165,9 +156,7 @@ pub record IsRunOver (g : Setting) (rows : Rows) (old new : Devices) (a : Applie
   pub progress : Progress
   pub lawful : Leads g start_progress handled progress
   pub commits : HasCommits g rows a progress.state
-  pub clear : IsClearUnless g rows progress.state end
-  pub cause : IsCause g rows bytes old new progress.state rest end
   pub times : List ℤ
   pub told : Ticks old.times new.times times
   pub counted : length times ≡ length progress.updates
-  pub sent : IsSent old new progress.updates times end
+  pub cause : IsCause g rows old new handled progress times bytes rest end

@@ -6,5 +6,7 @@ pub mod Commits
 pub mod Progress
 pub mod Clock
 pub mod Ends
+pub mod Cause
+pub mod Devices
 pub mod Run
 pub mod Applier

@@ -13,6 +13,7 @@
 //   work      the tables with the changes of one open transaction in them, and what takes these back
 //   outcome   what a run is given and what it leaves; the journal; the clock
 //   end       why a run ended
+//   advice    what an end means, and what to do about it, as text
 //   printing  the report: the rows, the position and the end as text
 //
 // A status update goes to the sink after each commit, and after each keepalive that wants a reply
@@ -24,8 +25,12 @@
 // the public contracts of the layers below alone: an item leads from what the run keeps for one
 // progress to what it keeps for the next (`specs/Applier`).
 //
+// What a caller of a run needs of the layers below stands here too: sources and sinks, the catalog, the
+// tables with their keys, rows and values, and the faults that an end names.
+//
 // It stands on `frames` for the stream, `session` for what its messages ask for, `change` and `undo`
 // for the tables, and `catalog` for their names.
+mod advice;
 mod applier;
 mod end;
 mod outcome;
@@ -33,7 +38,17 @@ mod printing;
 mod run;
 mod work;
 
+pub use bytes::ByteStr;
+pub use catalog::{Catalog, CatalogFault, TableDef};
 pub use end::End;
+pub use frames::{Failed, FrameFault, Lsn, ReadSource, Sink, Source, WriteSink};
+pub use indexes::Tables;
+pub use messages::MsgFault;
+pub use model::{Change, Key, KeyValues, OutOfMemory, Row, TableId, Value};
 pub use outcome::{Clock, Config, Entry, Outcome};
 pub use printing::report;
-pub use run::{run_over, run_spooled};
+pub use relcache::RelFault;
+pub use rows::{RowView, ValueRef, Walk};
+pub use run::{Devices, run_over, run_spooled};
+pub use savepoint::Xid;
+pub use session::SessionFault;

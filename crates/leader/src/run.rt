@@ -1,25 +1,62 @@
 // A run without threads.
-ghost use Rattle.std.specs.Prelude.{◌≡◌, ℕ, Option, List, [], map, OnOk};
+ghost use Rattle.std.specs.Prelude.{◌≡◌, ◌≢◌, ℕ, true, false, List, [], map, Err, OnOk};
 ghost use Rattle.model.specs.Rows.{Rows, keys_of};
 ghost use Rattle.frames.specs.declared.item.CopyItem.{CopyItem as Item};
 ghost use Rattle.frames.specs.Reads.{HasRead};
 ghost use Rattle.session.specs.State.{Setting};
 ghost use Rattle.leader.specs.Progress.{start_progress};
 ghost use Rattle.leader.specs.Applier.{IsUnderWay, IsAt, HasCome, Answers, HandlesKept, IsRunOver, end_of};
-ghost use Rattle.leader.specs.Run.{Devices, devices, IsRun};
+ghost use Rattle.leader.specs.Devices.{DeviceState, device_state, health};
+ghost use Rattle.leader.specs.Run.{IsRun, spooling};
 
 use crate::applier::Applier;
 use crate::end::End;
 use crate::outcome::{Clock, Config, Outcome};
 use catalog::Catalog;
-use frames::{CopyItem, Frames, Sink, Source, Status, send_status};
+use frames::{CopyItem, FrameFault, Frames, Sink, Source, Status, send_status};
 use indexes::Tables;
 use std::alloc::Global;
+use std::marker::Model;
+
+/// What a run reads from, writes to, and takes its times from.
+///
+/// A clause sees what the devices tell: the bytes still to be read and those sent, the times given,
+/// how often reader and writer failed, and whether the last call on them did.
+#[derive(Drop)]
+pub struct Devices<R: Source, W: Sink, C: Clock> {
+    reader: R,
+    writer: W,
+    clock: C,
+}
+
+impl<R: Source, W: Sink, C: Clock> Model for Devices<R, W, C> {
+    ghost use Rattle.leader.specs.Devices.{DeviceState, device_state, health};
+
+    ghost Value = { DeviceState };
+
+    ghost view = { λ d. device_state (R.remaining d.reader) (W.contents d.writer) (C.told d.clock) (R.reads_left d.reader)
+        (health (R.failures d.reader) (R.failed_last d.reader)) (health (W.failures d.writer) (W.failed_last d.writer)) };
+}
+
+impl<R: Source, W: Sink, C: Clock> Devices<R, W, C> {
+    /// These devices.
+    pub fn new(reader: R, writer: W, clock: C) -> Devices<R, W, C>
+        ensures { result ≡ device_state (R.remaining reader) (W.contents writer) (C.told clock) (R.reads_left reader)
+            (health (R.failures reader) (R.failed_last reader)) (health (W.failures writer) (W.failed_last writer)) }
+    {
+        Devices {
+            reader,
+            writer,
+            clock,
+        }
+    }
+}
 
 /// Reads the stream to its end and applies its transactions one after another, a streamed one at its
 /// commit. Open work is undone before the answer.
 ///
-/// The start tables must be those of the catalog.
+/// The start tables must be those of the catalog. It is `run_over` with devices of its own: what it
+/// sends is said there.
 pub fn run_spooled<R: Source + Drop, W: Sink + Drop, C: Clock + Drop>(
     alloc: Global,
     reader: R,
@@ -30,64 +67,51 @@ pub fn run_spooled<R: Source + Drop, W: Sink + Drop, C: Clock + Drop>(
     clock: C,
 ) -> Outcome
     requires { start.schema ≡ map keys_of catalog.now }
-    ensures { (after : Devices) × IsRun (record { workers = 0; spool = config.now.spool; catalog = catalog.now }) start.rows
-        (devices (R.remaining reader) (W.contents writer) (C.told clock) (R.failures reader) (W.failures writer)) after result }
+    ensures { (after : DeviceState) × IsRun (spooling catalog.now config.now) start.rows
+        (device_state (R.remaining reader) (W.contents writer) (C.told clock) (R.reads_left reader)
+        (health (R.failures reader) (R.failed_last reader)) (health (W.failures writer) (W.failed_last writer)))
+        after result }
 {
-    let mut reader = reader;
-    let mut writer = writer;
-    let mut clock = clock;
-    run_over(
-        alloc,
-        &mut reader,
-        &mut writer,
-        catalog,
-        start,
-        config,
-        &mut clock,
-    )
+    let mut devices = Devices::new(reader, writer, clock);
+    run_over(alloc, &mut devices, catalog, start, config)
 }
 
-/// `run_spooled` over devices that are used again afterwards.
+/// `run_spooled` over devices that are looked at afterwards: what was read and sent.
 pub fn run_over<R: Source, W: Sink, C: Clock>(
     alloc: Global,
-    reader: &mut R,
-    writer: &mut W,
+    devices: &mut Devices<R, W, C>,
     catalog: &Catalog,
     start: Tables,
     config: &Config,
-    clock: &mut C,
 ) -> Outcome
     requires { start.schema ≡ map keys_of catalog.now }
-    ensures { IsRun (record { workers = 0; spool = config.now.spool; catalog = catalog.now }) start.rows
-        (devices (R.remaining reader.old) (W.contents writer.old) (C.told clock.old) (R.failures reader.old) (W.failures writer.old))
-        (devices (R.remaining reader.new) (W.contents writer.new) (C.told clock.new) (R.failures reader.new) (W.failures writer.new)) result }
+    ensures { IsRun (spooling catalog.now config.now) start.rows devices.old devices.new result }
 {
     let mut applier = Applier::new(alloc, catalog, start, config.spool);
-    let end = match read_all(alloc, reader, writer, clock, &mut applier) {
+    let end = match read_all(alloc, devices, &mut applier) {
         Ok(()) => End::Clean,
         Err(end) => end,
     };
     applier.leave(end)
 }
 
-/// Handles the items of a stream until it ends or an item ends the run.
+/// Handles the items of a stream until it ends or an item ends the run. A failed read is the last.
 fn read_all<R: Source, W: Sink, C: Clock>(
     alloc: Global,
-    reader: &mut R,
-    writer: &mut W,
-    clock: &mut C,
+    devices: &mut Devices<R, W, C>,
     applier: &mut Applier<'_>,
 ) -> Result<(), End>
     requires { IsUnderWay applier.old }
-    ensures { (g : Setting) (rows : Rows) → IsAt g rows applier.old start_progress → IsRunOver g rows
-        (devices (R.remaining reader.old) (W.contents writer.old) (C.told clock.old) (R.failures reader.old) (W.failures writer.old))
-        (devices (R.remaining reader.new) (W.contents writer.new) (C.told clock.new) (R.failures reader.new) (W.failures writer.new))
-        applier.new (end_of result) }
+    ensures { (g : Setting) (rows : Rows) → IsAt g rows applier.old start_progress
+        → IsRunOver g rows devices.old devices.new applier.new (end_of result) }
 {
     let mut frames = Frames::new(alloc);
     'pulls: loop {
-        let pulled = frames.pull(reader);
-        handle_kept(alloc, &mut frames, writer, clock, applier)?;
+        let pulled = frames.pull(&mut devices.reader);
+        if is_failed_read(&pulled) {
+            return Err(End::Frame(FrameFault::Device));
+        }
+        handle_kept(alloc, &mut frames, devices, applier)?;
         if !pulled? {
             frames.finish()?;
             return Ok(());
@@ -95,51 +119,65 @@ fn read_all<R: Source, W: Sink, C: Clock>(
     }
 }
 
+/// The reader failed.
+fn is_failed_read(pulled: &Result<bool, FrameFault>) -> bool
+    ensures failed { result ≡ true → pulled.now ≡ Err FrameFault.Device }
+    ensures other { result ≡ false → pulled.now ≢ Err FrameFault.Device }
+{
+    match pulled {
+        Err(FrameFault::Device) => true,
+        _ => false,
+    }
+}
+
 /// Handles the items that were read and are kept.
-fn handle_kept<W: Sink, C: Clock>(
+fn handle_kept<R: Source, W: Sink, C: Clock>(
     alloc: Global,
     frames: &mut Frames,
-    writer: &mut W,
-    clock: &mut C,
+    devices: &mut Devices<R, W, C>,
     applier: &mut Applier<'_>,
 ) -> Result<(), End>
     requires { IsUnderWay applier.old }
     ensures under_way { OnOk result (IsUnderWay applier.new) }
     ensures none { OnOk result (frames.new.items ≡ []) }
     ensures ending { frames.new.ending ≡ frames.old.ending }
-    ensures kept { (g : Setting) (rows : Rows) (old : Devices) (unread : Option (List ℕ)) (failures : ℕ) (bytes : List ℕ) (handled : List Item) →
-        HasCome g rows old (devices unread (W.contents writer.old) (C.told clock.old) failures (W.failures writer.old)) applier.old handled →
-        HasRead bytes handled frames.old →
-        HandlesKept g rows old (devices unread (W.contents writer.new) (C.told clock.new) failures (W.failures writer.new)) applier.new bytes frames.new result }
+    ensures reader { devices.new.reader ≡ devices.old.reader }
+    ensures unread { devices.new.unread ≡ devices.old.unread }
+    ensures left { devices.new.reads_left ≡ devices.old.reads_left }
+    ensures kept { (g : Setting) (rows : Rows) (old : DeviceState) (bytes : List ℕ) (handled : List Item)
+        → HasCome g rows old devices.old applier.old handled → HasRead bytes handled frames.old
+        → HandlesKept g rows old devices.new applier.new bytes frames.new result }
 {
     while let Some(item) = frames.next() {
-        answer(alloc, item, writer, clock, applier)?;
+        answer(alloc, item, devices, applier)?;
     }
     Ok(())
 }
 
 /// Handles an item, and sends a status update if one is due.
-fn answer<W: Sink, C: Clock>(
+fn answer<R: Source, W: Sink, C: Clock>(
     alloc: Global,
     item: CopyItem,
-    writer: &mut W,
-    clock: &mut C,
+    devices: &mut Devices<R, W, C>,
     applier: &mut Applier<'_>,
 ) -> Result<(), End>
     requires { IsUnderWay applier.old }
     ensures under_way { OnOk result (IsUnderWay applier.new) }
-    ensures answer { (g : Setting) (rows : Rows) (old : Devices) (unread : Option (List ℕ)) (failures : ℕ) (handled : List Item) →
-        HasCome g rows old (devices unread (W.contents writer.old) (C.told clock.old) failures (W.failures writer.old)) applier.old handled →
-        Answers g rows old (devices unread (W.contents writer.new) (C.told clock.new) failures (W.failures writer.new)) applier.new handled item result }
+    ensures reader { devices.new.reader ≡ devices.old.reader }
+    ensures unread { devices.new.unread ≡ devices.old.unread }
+    ensures left { devices.new.reads_left ≡ devices.old.reads_left }
+    ensures answer { (g : Setting) (rows : Rows) (old : DeviceState) (handled : List Item)
+        → HasCome g rows old devices.old applier.old handled
+        → Answers g rows old devices.new applier.new handled item result }
 {
     if applier.handle(item)? {
         let status = Status {
             written: applier.written(),
             flushed: applier.position(),
             applied: applier.position(),
-            clock: clock.micros(),
+            clock: devices.clock.micros(),
         };
-        send_status(alloc, &status, writer)?;
+        send_status(alloc, &status, &mut devices.writer)?;
     }
     Ok(())
 }

@@ -7,8 +7,10 @@ use Rattle.catalog.specs.declared.fault.CatalogFault.{CatalogFault}
 use Rattle.catalog.specs.declared.fault.CatalogFault.TheVariants.{NotToml, UnknownField, DuplicateTable, DuplicateColumn, NoPrimaryKey, KeyColumnUnknown, BadDefault, OverLimit, OutOfMemory}
 use Rattle.leader.specs.declared.end.End.{End}
 use Rattle.leader.specs.declared.end.End.TheVariants as ends
+use Rattle.leader.specs.declared.outcome.Config.{Config}
 use Rattle.leader.specs.declared.outcome.Outcome.{Outcome}
-use Rattle.leader.specs.Run.{Devices, IsRun}
+use Rattle.leader.specs.Devices.{DeviceState}
+use Rattle.leader.specs.Run.{IsRun, spooling}
 use Rattle.leader.specs.Report.{report_text}
 use Rattle.pgapply.specs.declared.execute.Ended.{Ended}
 
@@ -63,26 +65,30 @@ IsFault bytes fault = (¬ IsUtf8 bytes × (fault ≡ NotToml)) ⊎ (IsUtf8 bytes
 
 -- ---- how a command ends
 
--- The catalog is refused, and nothing was appended.
-pub record IsRefused (bytes old new : List ℕ) (ended : Ended) : Type 0 where
+-- The catalog is refused: no device was used, and nothing was appended.
+pub record IsRefused (bytes : List ℕ) (given left : DeviceState) (old new : List ℕ) (ended : Ended) : Type 0 where
   pub fault : CatalogFault
   pub faulty : IsFault bytes fault
   pub said : Says ended (fault_status fault) (fault_line fault)
+  pub unused : left ≡ given
   pub nothing : new ≡ old
+
+-- The bytes are those of a catalog, and the stream was run from its tables, all empty.
+pub record HasRun (bytes : List ℕ) (config : Config) (given left : DeviceState) : Type 0 where
+  pub definitions : List Definition
+  pub catalog : IsCatalog bytes definitions
+  pub outcome : Outcome
+  pub run : IsRun (spooling definitions config) finite.empty given left outcome
 
 -- The report of an outcome was appended.
 pub record IsTold (definitions : List Definition) (outcome : Outcome) (old new : List ℕ) (ended : Ended) : Type 0 where
   pub report : new ≡ old ++ report_text definitions outcome.tables.rows outcome.position outcome.end
   pub said : Says ended (end_status outcome.end) []
 
--- The stream was run from empty tables, and the report of what it left was appended.
-pub record HasReported (bytes : List ℕ) (spool : ℕ) (given : Devices) (old new : List ℕ) (ended : Ended) : Type 0 where
-  pub definitions : List Definition
-  pub catalog : IsCatalog bytes definitions
-  pub outcome : Outcome
-  pub left : Devices
-  pub run : IsRun (record { workers = 0; spool = spool; catalog = definitions }) finite.empty given left outcome
-  pub told : IsTold definitions outcome old new ended
+-- The stream was run, and the report of what it left was appended.
+pub record HasReported (bytes : List ℕ) (config : Config) (given left : DeviceState) (old new : List ℕ) (ended : Ended) : Type 0 where
+  pub ran : HasRun bytes config given left
+  pub told : IsTold ran.definitions ran.outcome old new ended
 
 -- Memory was refused, and nothing was appended.
 pub record HasNoMemory (old new : List ℕ) (ended : Ended) : Type 0 where
@@ -93,7 +99,14 @@ pub record HasNoMemory (old new : List ℕ) (ended : Ended) : Type 0 where
 abbrev pub Tells : List Definition → Outcome → List ℕ → List ℕ → Ended → Type 0
 Tells definitions outcome old new ended = IsTold definitions outcome old new ended ⊎ HasNoMemory old new ended
 
+-- Memory was refused: before a device was used, or for the report of a run.
+pub record LacksMemory (bytes : List ℕ) (config : Config) (given left : DeviceState) (old new : List ℕ) (ended : Ended) : Type 0 where
+  pub when : (left ≡ given) ⊎ HasRun bytes config given left
+  pub said : HasNoMemory old new ended
+
 -- The catalog was refused, the stream was run and reported, or memory was refused.
-abbrev pub Executes : List ℕ → ℕ → Devices → List ℕ → List ℕ → Ended → Type 0
-Executes bytes spool given old new ended =
-    IsRefused bytes old new ended ⊎ HasReported bytes spool given old new ended ⊎ HasNoMemory old new ended
+abbrev pub Executes : List ℕ → Config → DeviceState → DeviceState → List ℕ → List ℕ → Ended → Type 0
+Executes bytes config given left old new ended =
+    IsRefused bytes given left old new ended
+    ⊎ HasReported bytes config given left old new ended
+    ⊎ LacksMemory bytes config given left old new ended

@@ -2,13 +2,13 @@
 ghost use Rattle.std.specs.Prelude.{◌≡◌, ◌≢◌, map, IfOk, IfErr};
 ghost use Rattle.catalog.specs.declared.fault.CatalogFault.TheVariants as faults;
 ghost use Rattle.model.specs.Rows.{keys_of};
-ghost use Rattle.leader.specs.Run.{devices};
+ghost use Rattle.leader.specs.Devices.{DeviceState, device_state, health};
 ghost use Rattle.pgapply.specs.Ending.{Says, IsCatalog, IsFault, Executes, Tells, end_status, fault_status, fault_line};
 
 use catalog::{Catalog, CatalogFault};
 use frames::{Sink, Source};
 use indexes::Tables;
-use leader::{Clock, Config, End, Outcome, report, run_spooled};
+use leader::{Clock, Config, Devices, End, Outcome, report, run_over};
 use std::alloc::Global;
 use std::mem::ManuallyDrop;
 
@@ -26,7 +26,8 @@ const OUT_OF_MEMORY: Ended = Ended {
     line: "pgapply: out of memory",
 };
 
-/// Reads the catalog, runs the stream from empty tables and appends the report to `out`.
+/// Reads the catalog, runs the stream from empty tables and appends the report to `out`. It is
+/// `execute_over` with devices of its own: what it sends is said there.
 ///
 /// `spooled` asks that each streamed transaction is applied at its commit, which is so for now in any case.
 pub fn execute<R: Source + Drop, W: Sink + Drop, C: Clock + Drop>(
@@ -39,18 +40,70 @@ pub fn execute<R: Source + Drop, W: Sink + Drop, C: Clock + Drop>(
     clock: C,
     out: &mut Vec<u8>,
 ) -> Ended
-    ensures { Executes catalog.now config.now.spool
-        (devices (R.remaining reader) (W.contents writer) (C.told clock) (R.failures reader) (W.failures writer))
-        out.old.items out.new.items result }
+    ensures { (left : DeviceState) × Executes catalog.now config.now
+        (device_state (R.remaining reader) (W.contents writer) (C.told clock) (R.reads_left reader)
+        (health (R.failures reader) (R.failed_last reader)) (health (W.failures writer) (W.failed_last writer)))
+        left out.old.items out.new.items result }
+{
+    let mut devices = Devices::new(reader, writer, clock);
+    execute_over(alloc, config, catalog, &mut devices, out)
+}
+
+/// `execute` over devices that are looked at afterwards: what was read and sent.
+pub fn execute_over<R: Source, W: Sink, C: Clock>(
+    alloc: Global,
+    config: &Config,
+    catalog: &[u8],
+    devices: &mut Devices<R, W, C>,
+    out: &mut Vec<u8>,
+) -> Ended
+    ensures { Executes catalog.now config.now devices.old devices.new out.old.items out.new.items result }
+{
+    execute_heard(alloc, config, catalog, devices, &mut Nobody, out)
+}
+
+/// Hears why a command ended, while it is known. It is shown what there is, and can change nothing of it.
+pub trait Hearer {
+    /// The catalog was refused.
+    fn hear_refusal(&mut self, fault: CatalogFault);
+
+    /// The run has ended, and its report comes next.
+    fn hear_end(&mut self, catalog: &Catalog, outcome: &Outcome);
+}
+
+/// Nobody hears.
+#[derive(Drop)]
+struct Nobody;
+
+impl Hearer for Nobody {
+    fn hear_refusal(&mut self, _fault: CatalogFault) {}
+
+    fn hear_end(&mut self, _catalog: &Catalog, _outcome: &Outcome) {}
+}
+
+/// `execute_over`, and somebody hears why it ends.
+pub fn execute_heard<R: Source, W: Sink, C: Clock, L: Hearer>(
+    alloc: Global,
+    config: &Config,
+    catalog: &[u8],
+    devices: &mut Devices<R, W, C>,
+    hearer: &mut L,
+    out: &mut Vec<u8>,
+) -> Ended
+    ensures { Executes catalog.now config.now devices.old devices.new out.old.items out.new.items result }
 {
     let catalog = match read_catalog(alloc, catalog) {
         Ok(catalog) => catalog,
-        Err(fault) => return refused(fault),
+        Err(fault) => {
+            hearer.hear_refusal(fault);
+            return refused(fault);
+        }
     };
     let Ok(start) = Tables::empty(alloc, &catalog) else {
         return OUT_OF_MEMORY;
     };
-    let outcome = run_spooled(alloc, reader, writer, &catalog, start, config, clock);
+    let outcome = run_over(alloc, devices, &catalog, start, config);
+    hearer.hear_end(&catalog, &outcome);
     let ended = tell(alloc, &outcome, &catalog, out);
     // The process ends with its report: the memory goes back as a whole, not row by row.
     let _outcome = ManuallyDrop::new(outcome);

@@ -43,11 +43,13 @@ impl<H: Host> Clock for SystemClock<'_, H> {
 pub struct Nowhere;
 
 impl Sink for Nowhere {
-    ghost use Rattle.std.specs.Prelude.{None};
+    ghost use Rattle.std.specs.Prelude.{None, false};
 
     ghost contents = { λ _. None };
 
     ghost failures = { λ _. 0 };
+
+    ghost failed_last = { λ _. false };
 
     fn write_some(&mut self, buf: &[u8]) -> Result<usize, Failed> {
         Ok(buf.len())

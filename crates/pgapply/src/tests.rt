@@ -1,5 +1,6 @@
 // What the program prints of whole streams. The expected texts come from outside: worked by hand from
 // the rules, before the program was. And what it reads of a command line.
+mod accounts;
 mod cases;
 mod command_line;
 mod devices;
@@ -27,6 +28,7 @@ struct Pieces<'a> {
     size: usize,
     reads_before_failure: u64,
     failures: u64,
+    failed_last: bool,
 }
 
 impl Source for Pieces<'_> {
@@ -38,8 +40,11 @@ impl Source for Pieces<'_> {
 
     ghost failures = { λ p. p.failures };
 
+    ghost failed_last = { λ p. p.failed_last };
+
     fn read_some(&mut self, buf: &mut [u8]) -> Result<usize, Failed> {
-        if self.reads_before_failure == 0 {
+        self.failed_last = self.reads_before_failure == 0;
+        if self.failed_last {
             self.failures = self.failures.saturating_add(1);
             return Err(Failed);
         }
@@ -57,6 +62,7 @@ impl Source for Pieces<'_> {
 struct Kept<'a> {
     bytes: &'a mut Vec<u8>,
     failures: u64,
+    failed_last: bool,
 }
 
 impl Sink for Kept<'_> {
@@ -66,8 +72,11 @@ impl Sink for Kept<'_> {
 
     ghost failures = { λ k. k.failures };
 
+    ghost failed_last = { λ k. k.failed_last };
+
     fn write_some(&mut self, buf: &[u8]) -> Result<usize, Failed> {
-        if self.bytes.extend_from_slice(buf).is_err() {
+        self.failed_last = self.bytes.extend_from_slice(buf).is_err();
+        if self.failed_last {
             self.failures = self.failures.saturating_add(1);
             return Err(Failed);
         }
@@ -93,16 +102,22 @@ fn framed(alloc: Global, payloads: &[&str]) -> Result<Vec<u8>, Fail> {
     let mut stream = Vec::new(alloc);
     for payload in payloads {
         let bytes = hex::decode(alloc, *payload)?;
-        let length = u32::try_from(bytes.len().saturating_add(29))
-            .ok()
-            .ok_or("a payload's length")?;
-        stream.push(b'd')?;
-        stream.extend_from_slice(&length.to_be_bytes())?;
-        stream.push(b'w')?;
-        stream.extend_from_slice(&[0; 24])?;
-        stream.extend_from_slice(bytes.as_slice())?;
+        push_frame(&mut stream, bytes.as_slice())?;
     }
     Ok(stream)
+}
+
+/// Appends an XLogData frame with the payload.
+fn push_frame(stream: &mut Vec<u8>, payload: &[u8]) -> Result<(), Fail> {
+    let length = u32::try_from(payload.len().saturating_add(29))
+        .ok()
+        .ok_or("a payload's length")?;
+    stream.push(b'd')?;
+    stream.extend_from_slice(&length.to_be_bytes())?;
+    stream.push(b'w')?;
+    stream.extend_from_slice(&[0; 24])?;
+    stream.extend_from_slice(payload)?;
+    Ok(())
 }
 
 /// What is printed of a stream that comes in pieces of this length, and what is written back.
@@ -119,10 +134,12 @@ fn printed(
         size,
         reads_before_failure: u64::MAX,
         failures: 0,
+        failed_last: false,
     };
     let writer = Kept {
         bytes: &mut written,
         failures: 0,
+        failed_last: false,
     };
     let ended = execute(
         alloc,

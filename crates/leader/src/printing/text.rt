@@ -40,7 +40,7 @@ pub fn push_value(out: &mut Vec<u8>, value: Option<ValueRef<'_>>) -> Result<(), 
             let mut buffer = Buffer::new();
             out.extend_from_slice(buffer.format(number).as_bytes())
         }
-        Some(ValueRef::Text(text)) => push_escaped(out, text.as_bytes().as_slice()),
+        Some(ValueRef::Text(text)) => push_escaped(out, text.as_bytes()),
         Some(ValueRef::Bool(true)) => out.extend_from_slice(b"t"),
         Some(ValueRef::Bool(false)) => out.extend_from_slice(b"f"),
     }

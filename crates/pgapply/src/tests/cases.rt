@@ -18,7 +18,7 @@ const SPOOL: u64 = 1 << 30;
 const ACCOUNTS: &str =
     "52000040017075626c6963006163636f756e7473006400030169640000000017ffffffff00656d61696c0000000019ffffffff006e6f74650000000019ffffffff";
 
-pub static CASES: [Case; 27] = [
+pub static CASES: [Case; 28] = [
     // B(900,0/100) R I(1,a,n) I(2,b,NULL) I(3,NULL,) C(0/100,0/120)
     Case {
         name: "nulls and empty texts",
@@ -396,6 +396,23 @@ pub static CASES: [Case; 27] = [
         ],
         spool: SPOOL,
         report: "table public.accounts 2\n1|a|n\n2|b|n\nposition 0/220\nend 0 Clean\n",
+        status: 0,
+    },
+    // P S(700,1) 700:I(3,b,n) E
+    Case {
+        name: "a conflict of a transaction that is still open at the end",
+        payloads: &[
+            "4200000000000001000000000000000000000001f4",
+            ACCOUNTS,
+            "49000040014e000374000000013174000000016174000000016e",
+            "49000040014e000374000000013274000000016274000000016e",
+            "4300000000000000010000000000000001400000000000000000",
+            "53000002bc01",
+            "49000002bc000040014e000374000000013374000000016274000000016e",
+            "45",
+        ],
+        spool: SPOOL,
+        report: "table public.accounts 2\n1|a|n\n2|b|n\nposition 0/140\nend 0 Clean\n",
         status: 0,
     },
     // S(700,1) 700:R 700:I(1,a,n) 711:I(2,b,n) E A(700,711) S(700,0) 700:I(3,c,n) E c(700,0/200,0/220)

@@ -71,9 +71,69 @@ fn numbers_that_are_not_given(rt: HostRuntime) -> Result<(), Fail> {
         assert_eq!(rt; asked.spooled, spooled);
         assert_eq!(rt; asked.catalog, "c");
         assert_eq!(rt; asked.stream, "s");
-        assert_eq!(rt; asked.config.workers, 2);
-        assert_eq!(rt; asked.config.ring, 64);
+        assert_eq!(rt; asked.config.workers, if spooled { 0 } else { 2 });
+        assert_eq!(rt; asked.config.ring, if spooled { 1 } else { 64 });
         assert_eq!(rt; asked.config.spool, 1_073_741_824);
+        assert!(rt; !asked.verbose && !asked.progress);
+    }
+    Ok(())
+}
+
+/// A command line that is no run, whether its text is for standard error, and the text.
+struct Refused {
+    words: &'static [&'static str],
+    is_fault: bool,
+    text: &'static str,
+}
+
+static REFUSED: [Refused; 5] = [
+    Refused {
+        words: &["pgapply", "--version"],
+        is_fault: false,
+        text: "pgapply 0.1.0\n",
+    },
+    Refused {
+        words: &[
+            "pgapply",
+            "apply",
+            "--config",
+            "c",
+            "--stream",
+            "s",
+            "--workers",
+            "17",
+        ],
+        is_fault: true,
+        text: "error: invalid value '17' for '--workers <N>': 17 is not in 0..=16\n\nFor more information, try '--help'.\n",
+    },
+    Refused {
+        words: &[
+            "pgapply", "apply", "--config", "c", "--stream", "s", "--ring", "+1",
+        ],
+        is_fault: true,
+        text: "error: invalid value '+1' for '--ring <N>': only digits are allowed\n\nUsage: pgapply <COMMAND>\n\nFor more information, try '--help'.\n",
+    },
+    Refused {
+        words: &["pgapply", "replay", "--config", "c"],
+        is_fault: true,
+        text: "error: the following required arguments were not provided:\n  --stream <F>\n\nUsage: pgapply replay --config <F> --stream <F>\n\nFor more information, try '--help'.\n",
+    },
+    Refused {
+        words: &["pgapply", "replay", "--help"],
+        is_fault: false,
+        text: "Apply a stream from a file, each streamed transaction at its commit\n\nUsage: pgapply replay [OPTIONS] --config <F> --stream <F>\n\nOptions:\n      --config <F>  The catalog: a TOML file that defines the tables\n      --stream <F>  The stream: the CopyData bytes of a replication connection\n      --spool <N>   Bytes of messages of streamed transactions that wait for their commits [default: 1073741824]\n      --verbose     Say on standard error why and where a command ended; slower, since the stream is read frame by frame\n      --progress    Say on standard error each second how far the stream was read, and at the end\n  -h, --help        Print help\n\nExample:\n  pgapply replay --config accounts.toml --stream accounts.stream\n",
+    },
+];
+
+#[test]
+fn usage_help_and_version(rt: HostRuntime) -> Result<(), Fail> {
+    for case in &REFUSED {
+        let words = owned(rt.alloc(), case.words)?;
+        let Err(error) = options::parse(rt.alloc(), words.as_slice()) else {
+            return Err("a command line that is taken".into());
+        };
+        assert_eq!(rt; format!(in rt.alloc(); "{error}")?.as_str(), case.text);
+        assert_eq!(rt; error.use_stderr(), case.is_fault);
     }
     Ok(())
 }

@@ -1,7 +1,8 @@
 // How streams come: in pieces, cut short, from a source or to a sink that fails; and catalogs that are refused.
-use super::{CATALOG, CONFIG, Kept, Pieces, Stopped, framed, printed};
+use super::{CATALOG, CONFIG, Kept, Pieces, Stopped, framed, printed, push_frame};
 use crate::execute::{Ended, execute};
 use std::alloc::Global;
+use std::fmt::Write;
 use std::test::Fail;
 
 /// B(900,0/100), the relation, I(1,a,n) and C(0/100,0/120).
@@ -88,6 +89,87 @@ fn a_keepalive_inside_of_a_block(rt: HostRuntime) -> Result<(), Fail> {
     Ok(())
 }
 
+#[test]
+fn a_keepalive_behind_a_clash_is_not_answered(rt: HostRuntime) -> Result<(), Fail> {
+    // The insert comes a second time.
+    let mut stream = framed(rt.alloc(), &ONE_INSERT[..3])?;
+    push_frames(&mut stream, rt.alloc(), &ONE_INSERT[2..3])?;
+    let keepalive = hex::decode(rt.alloc(), KEEPALIVE)?;
+    stream.extend_from_slice(keepalive.as_slice())?;
+    let (ended, out, written) = printed(rt.alloc(), stream.as_slice(), usize::MAX, &CONFIG);
+    let want = "table public.accounts 0\nposition 0/0\nend 5 Unique public.accounts 0\n";
+    assert_eq!(rt; out.as_slice(), want.as_bytes());
+    assert_eq!(rt; ended.status, 3);
+    assert_eq!(rt; written.len(), 0);
+    Ok(())
+}
+
+#[test]
+fn work_that_is_open_at_copy_done_is_undone(rt: HostRuntime) -> Result<(), Fail> {
+    let begun = framed(rt.alloc(), &ONE_INSERT[..3])?;
+    let streamed = framed(rt.alloc(), &STREAMED[..3])?;
+    for open in [begun, streamed] {
+        let mut stream = open;
+        stream.extend_from_slice(b"c\x00\x00\x00\x04")?;
+        let (ended, out, written) = printed(rt.alloc(), stream.as_slice(), usize::MAX, &CONFIG);
+        let want = "table public.accounts 0\nposition 0/0\nend 0 Clean\n";
+        assert_eq!(rt; out.as_slice(), want.as_bytes());
+        assert_eq!(rt; ended.status, 0);
+        assert_eq!(rt; written.len(), 0);
+    }
+    Ok(())
+}
+
+/// Appends the insert of a row with this key, a null and the text `n` into a block.
+fn push_insert(stream: &mut Vec<u8>, alloc: Global, xid: u32, key: u32) -> Result<(), Fail> {
+    let text = format!(in alloc; "{key}")?;
+    let length = u32::try_from(text.len()).ok().ok_or("a key's length")?;
+    let mut payload = Vec::new(alloc);
+    payload.push(b'I')?;
+    payload.extend_from_slice(&xid.to_be_bytes())?;
+    payload.extend_from_slice(b"\x00\x00\x40\x01N\x00\x03t")?;
+    payload.extend_from_slice(&length.to_be_bytes())?;
+    payload.extend_from_slice(text.as_bytes())?;
+    payload.extend_from_slice(b"nt\x00\x00\x00\x01n")?;
+    push_frame(stream, payload.as_slice())
+}
+
+/// Appends frames with these payloads.
+fn push_frames(stream: &mut Vec<u8>, alloc: Global, payloads: &[&str]) -> Result<(), Fail> {
+    let frames = framed(alloc, payloads)?;
+    stream.extend_from_slice(frames.as_slice())?;
+    Ok(())
+}
+
+// The second transaction commits first, and the rows stand in key order.
+#[test]
+fn a_thousand_items_of_two_streamed_transactions(rt: HostRuntime) -> Result<(), Fail> {
+    let mut stream = framed(rt.alloc(), &STREAMED[..2])?;
+    for key in 1..501u32 {
+        push_insert(&mut stream, rt.alloc(), 700, key)?;
+    }
+    push_frames(&mut stream, rt.alloc(), &["45", "53000002bd01"])?;
+    for key in 501..1001u32 {
+        push_insert(&mut stream, rt.alloc(), 701, key)?;
+    }
+    let commits = [
+        "45",
+        "63000002bd00000000000000020000000000000002200000000000000000",
+        "63000002bc00000000000000030000000000000003200000000000000000",
+    ];
+    push_frames(&mut stream, rt.alloc(), &commits)?;
+    let mut want = String::new(rt.alloc());
+    want.push_str("table public.accounts 1000\n")?;
+    for key in 1..1001u32 {
+        write!(want, "{key}|\\N|n\n")?;
+    }
+    want.push_str("position 0/320\nend 0 Clean\n")?;
+    let (ended, out, _) = printed(rt.alloc(), stream.as_slice(), 4096, &CONFIG);
+    assert_eq!(rt; out.as_slice(), want.as_bytes());
+    assert_eq!(rt; ended.status, 0);
+    Ok(())
+}
+
 /// The update after the commit at 0/220 of a stream whose greatest position is 0/500.
 const UPDATE_AT_500: &str =
     "640000002672000000000000050000000000000002200000000000000220000000000000000500";
@@ -155,11 +237,13 @@ struct Broken {
 }
 
 impl frames::Sink for Broken {
-    ghost use Rattle.std.specs.Prelude.{None};
+    ghost use Rattle.std.specs.Prelude.{None, true};
 
     ghost contents = { λ _. None };
 
     ghost failures = { λ b. b.failures };
+
+    ghost failed_last = { λ _. true };
 
     fn write_some(&mut self, _buf: &[u8]) -> Result<usize, frames::Failed> {
         self.failures = self.failures.saturating_add(1);
@@ -174,6 +258,7 @@ fn printed_by(alloc: Global, stream: &[u8], reads_before_failure: u64, out: &mut
         size: 40,
         reads_before_failure,
         failures: 0,
+        failed_last: false,
     };
     execute(
         alloc,
@@ -226,10 +311,12 @@ fn catalogs_that_are_refused(rt: HostRuntime) -> Result<(), Fail> {
             size: 1,
             reads_before_failure: u64::MAX,
             failures: 0,
+            failed_last: false,
         };
         let writer = Kept {
             bytes: &mut written,
             failures: 0,
+            failed_last: false,
         };
         let ended = execute(
             rt.alloc(),

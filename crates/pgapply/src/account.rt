@@ -1,0 +1,120 @@
+// What `--verbose` says of a command that did not end well: why, and where in the stream.
+use crate::execute::Hearer;
+use catalog::{Catalog, CatalogFault, TableDef, TableId};
+use leader::{End, Outcome};
+use std::alloc::{AllocError, Global};
+use trace::Trace;
+
+/// Writes down why a command ended. Where memory is refused, there is less to read.
+#[derive(Drop)]
+pub struct Account {
+    text: String,
+}
+
+impl Account {
+    pub fn new(alloc: Global) -> Account {
+        Account {
+            text: String::new(alloc),
+        }
+    }
+
+    /// Lines for standard error, none where the command ended well.
+    pub fn text(&self) -> &str {
+        self.text.as_str()
+    }
+
+    /// Adds where the run stood when it ended, of a trace that stopped at each frame.
+    pub fn add_place(&mut self, trace: &Trace) -> Result<(), AllocError> {
+        let counts = trace.counts();
+        let place = trace.place();
+        let bytes = counts.bytes;
+        let frames = counts.frames;
+        let offset = place.offset;
+        write!(
+            self.text,
+            "pgapply: {bytes} bytes were read, whole frames {frames}; the last frame begins at byte {offset}"
+        )?;
+        if let Some(start) = place.start {
+            let high = start >> 32;
+            let low = start & 0xffff_ffff;
+            write!(self.text, ", at {high:X}/{low:X} of the publisher's log")?;
+        }
+        self.text.push('\n')?;
+        if let Some(message) = place.message {
+            write!(self.text, "pgapply: it is {message}")?;
+            if let Some(xid) = place.xid {
+                write!(self.text, ", of transaction {xid}")?;
+            }
+            if let Some(sub) = place.sub {
+                write!(self.text, ", subtransaction {sub}")?;
+            }
+            self.add_relation(trace, place.relation)?;
+            self.text.push('\n')?;
+        }
+        Ok(())
+    }
+
+    fn add_relation(&mut self, trace: &Trace, oid: Option<u32>) -> Result<(), AllocError> {
+        let Some(oid) = oid else {
+            return Ok(());
+        };
+        write!(self.text, ", of relation {oid}")?;
+        if let Some(relation) = trace.relation() {
+            let namespace = relation.namespace.as_str();
+            let name = relation.name.as_str();
+            write!(self.text, " ({namespace}.{name})")?;
+        }
+        Ok(())
+    }
+
+    fn add_end(&mut self, catalog: &Catalog, end: End) -> Result<(), AllocError> {
+        match end {
+            End::Clean => return Ok(()),
+            End::Unique { table, key } => self.add_key(catalog, table, key)?,
+            End::NullKey { table } => self.add_key(catalog, table, 0)?,
+            _ => {}
+        }
+        write!(self.text, "pgapply: {end}\n")
+    }
+
+    /// Adds a key's table and columns.
+    fn add_key(&mut self, catalog: &Catalog, table: TableId, key: usize) -> Result<(), AllocError> {
+        let Some(definition) = catalog.tables().get(table) else {
+            return Ok(());
+        };
+        let namespace = definition.namespace().as_str();
+        let name = definition.name().as_str();
+        write!(
+            self.text,
+            "pgapply: key {key} of {namespace}.{name} has the columns"
+        )?;
+        for number in columns_of(definition, key) {
+            if let Some(column) = definition.columns().get(*number) {
+                let name = column.name.as_str();
+                write!(self.text, " {name}")?;
+            }
+        }
+        self.text.push('\n')
+    }
+}
+
+impl Hearer for Account {
+    fn hear_refusal(&mut self, fault: CatalogFault) {
+        let _added = write!(self.text, "pgapply: {fault}\n");
+    }
+
+    fn hear_end(&mut self, catalog: &Catalog, outcome: &Outcome) {
+        let _added = self.add_end(catalog, outcome.end);
+    }
+}
+
+/// The columns of a key: 0 is the primary key, 1 upwards the unique keys.
+fn columns_of(definition: &TableDef, key: usize) -> &[usize] {
+    match key.checked_sub(1) {
+        None => definition.primary().numbers(),
+        Some(unique) => match definition.uniques().get(unique) {
+            Some(columns) => columns.numbers(),
+            None => &[],
+        },
+    }
+}
