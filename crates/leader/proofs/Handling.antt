@@ -2,12 +2,18 @@
 use Rattle.std.proofs.Common.{◌≡◌, ℕ, Bool, false, List, ◌++◌, refl, sym, ap, ◌∙◌, append-nil, arith, inl, inr}
 use Rattle.std.specs.Prelude.{Result, Ok, Err, max}
 use Rattle.model.specs.Rows.{Rows}
+use Rattle.frames.specs.declared.item.CopyItem.{CopyItem}
 use Rattle.frames.specs.declared.item.CopyItem.TheVariants.{Wal, Keepalive, Done}
 use Rattle.session.specs.State.{Setting}
 use Rattle.leader.specs.declared.applier.Applier.{Applier}
 use Rattle.leader.specs.declared.end.End.{End}
-use Rattle.leader.specs.Progress.{Progress, due_updates}
-use Rattle.leader.specs.Applier.{IsAt, TakesMessage, HandlesItem, HasHandled}
+use Rattle.leader.specs.Progress.{Progress, Handles, Leads, start_progress, due_updates}
+use Rattle.leader.specs.Work.{IsClear}
+use Rattle.leader.specs.Commits.{all_changes}
+use Rattle.leader.specs.Cause.{schema_of}
+use Rattle.leader.specs.Handler.{HandlesItem, HasHandled}
+use Rattle.leader.specs.Applier.{IsAt, HasEnded, TakesMessage}
+use Rattle.leader.proofs.Running.{with_item}
 
 -- the same with a greater position seen
 abbrev pub with_seen : Progress → ℕ → Progress
@@ -40,25 +46,21 @@ IsAt-seen g rows a b p seen at same written = record {
 }
 
 -- a message was taken, or ended the run
-pub handled_wal : (g : Setting) (rows : Rows) (b : Applier) (p : Progress) (first last : ℕ) (payload : List ℕ) (result : Result Bool End) → TakesMessage g rows b (with_seen p (max (max p.seen first) last)) payload result → HandlesItem g rows b p (Wal first last payload) result
-handled_wal g rows b p first last payload (Ok is_commit) taken = record {
+pub handled_wal : (g : Setting) (rows : Rows) (b : Applier) (handled : List CopyItem) (p : Progress) (first last : ℕ) (payload : List ℕ) (result : Result Bool End) → Leads g start_progress handled p → IsClear (schema_of g) rows (all_changes p.state)
+    → TakesMessage g rows b (with_seen p (max (max p.seen first) last)) payload result → HandlesItem g (IsAt g rows) (HasEnded g rows) b handled p (Wal first last payload) result
+handled_wal g rows b handled p first last payload (Ok is_commit) lawful clear taken = record {
   progress = taken.progress;
   handles = (taken.message, taken.admits, taken.seen, taken.updates ∙ ap (λ c. p.updates ++ due_updates c taken.progress.state taken.progress.seen) taken.commits);
   updates = taken.updates;
   at = taken.at;
 }
-handled_wal g rows b p first last payload (Err end) (inl (commits, why)) = inl (commits, why first last)
-handled_wal g rows b p first last payload (Err end) (inr (m, s, admits, none, commits, clear, why)) =
-    inr (
-      record { state = s; seen = max (max p.seen first) last; updates = p.updates },
-      (m, admits, refl, sym (append-nil p.updates) ∙ ap (λ c. p.updates ++ due_updates c s (max (max p.seen first) last)) (sym none)),
-      refl,
-      commits,
-      clear,
-      why,
-    )
+handled_wal g rows b handled p first last payload (Err end) lawful clear (inl (commits, why)) = inl (λ more. (commits, inl (clear, why first last more)))
+handled_wal g rows b handled p first last payload (Err end) lawful clear (inr (m, s, admits, none, commits, committed, why)) =
+    let q : Progress = record { state = s; seen = max (max p.seen first) last; updates = p.updates } in
+    let handles : Handles g p (Wal first last payload) q = (m, admits, refl, sym (append-nil p.updates) ∙ ap (λ c. p.updates ++ due_updates c s (max (max p.seen first) last)) (sym none)) in
+    inr (q, handles, refl, λ more. (commits, inr (with_item g handled (Wal first last payload) p q lawful handles, clear, committed, why)))
 
-pub handled_keepalive : (g : Setting) (rows : Rows) (b : Applier) (p : Progress) (last : ℕ) (reply : Bool) → IsAt g rows b (with_seen p (max p.seen last)) → HasHandled g rows b p (Keepalive last reply) reply
+pub handled_keepalive : (g : Setting) (rows : Rows) (b : Applier) (p : Progress) (last : ℕ) (reply : Bool) → IsAt g rows b (with_seen p (max p.seen last)) → HasHandled g (IsAt g rows) (HasEnded g rows) b p (Keepalive last reply) reply
 handled_keepalive g rows b p last reply at =
     let q : Progress = record { state = p.state; seen = max p.seen last; updates = p.updates ++ due_updates reply p.state (max p.seen last) } in
     record {
@@ -78,7 +80,7 @@ handled_keepalive g rows b p last reply at =
       };
     }
 
-pub handled_done : (g : Setting) (rows : Rows) (b : Applier) (p : Progress) → IsAt g rows b p → HasHandled g rows b p Done false
+pub handled_done : (g : Setting) (rows : Rows) (b : Applier) (p : Progress) → IsAt g rows b p → HasHandled g (IsAt g rows) (HasEnded g rows) b p Done false
 handled_done g rows b p at = record { progress = p; handles = refl; updates = sym (append-nil p.updates); at = at }
 
 -- the greatest position of the log once positions more were seen

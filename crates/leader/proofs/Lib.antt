@@ -6,4 +6,5 @@ mod Ending
 mod Handling
 mod Running
 mod Reading
+mod Leaving
 mod ReportLoops

@@ -1,6 +1,6 @@
 -- What the items so far, and the status updates after them, leave of a run.
 use Rattle.std.proofs.Common.{◌≡◌, ℕ, ◌+◌, Bool, true, false, List, [], ◌∷◌, ◌++◌, length, Option, Some, None, refl, sym, ap, subst, ◌∙◌, append_assoc, append-nil, length-append, arith, inl, inr}
-use Rattle.std.specs.Prelude.{Result, Ok, Err, ℤ, IsErrAnd, ◌⊎◌}
+use Rattle.std.specs.Prelude.{Result, Ok, Err, ℤ, IsErrAnd, ◌⊎◌, max}
 use Rattle.std.specs.Io.KnownBytes.{Appends, Keeps}
 use Rattle.std.proofs.KnownBytes.{Appends-nil, Appends-trans, Appends-kept}
 use Rattle.model.specs.Rows.{Rows}
@@ -10,15 +10,14 @@ use Rattle.frames.specs.declared.item.CopyItem.{CopyItem}
 use Rattle.frames.specs.Device.{HasFailed, HasWorked, HasFailedLast}
 use Rattle.frames.specs.Status.{status_frame}
 use Rattle.session.specs.State.{Setting}
-use Rattle.leader.specs.declared.applier.Applier.{Applier}
 use Rattle.leader.specs.declared.end.End.{End}
 use Rattle.leader.specs.declared.end.End.TheVariants as ends
 use Rattle.leader.specs.Clock.{Ticks}
 use Rattle.leader.specs.Ends.{end_of_frame}
 use Rattle.leader.specs.Progress.{Progress, Handles, Leads, start_progress, Update, update, status_bytes}
-use Rattle.leader.specs.Cause.{LastStep, HasGoneWell, LastIsCut, LastClashed, IsNextCause, IsItemCause}
+use Rattle.leader.specs.Cause.{LastStep, HasGoneWell, LastIsCut, IsSendCause}
 use Rattle.leader.specs.Devices.{DeviceState}
-use Rattle.leader.specs.Applier.{IsAt, IsUnderWay, EndsByItem, HasHandled, HasTold, HasCome, StopsAt, Answers}
+use Rattle.leader.specs.Handler.{IsUnderWay, EndsByItem, HasHandled, HasTold, HasCome, StopsAt, Answers}
 
 pub Leads-more : (g : Setting) (p q r : Progress) (items : List CopyItem) (item : CopyItem) → Leads g p items q → Handles g q item r → Leads g p (items ++ item ∷ []) r
 Leads-more g p q r [] item leads handles = (r, subst (λ (x : Progress). Handles g x item r) (sym leads) handles, refl)
@@ -52,122 +51,6 @@ status_bytes-longer [] times more e = refl
 status_bytes-longer (v ∷ updates) [] more e = absurd (omega arith)
 status_bytes-longer (v ∷ updates) (t ∷ times) more e = ap (λ bs. frame_at v t ++ bs) (status_bytes-longer updates times more (omega arith))
 
--- ---- an item was handled
-
-pub under_way : (g : Setting) (rows : Rows) (b : Applier) (p : Progress) (item : CopyItem) (told : Bool) → HasHandled g rows b p item told → IsUnderWay b
-under_way g rows b p item told h = (g, rows, h.progress, h.at)
-
--- and no update is due
-pub come_on : (g : Setting) (rows : Rows) (old new : DeviceState) (a b : Applier) (handled : List CopyItem) (item : CopyItem) (come : HasCome g rows old new a handled) → HasHandled g rows b come.progress item false → HasCome g rows old new b (handled ++ item ∷ [])
-come_on g rows old new a b handled item come h = record {
-  progress = h.progress;
-  lawful = Leads-more g start_progress come.progress h.progress handled item come.lawful h.handles;
-  at = h.at;
-  read = come.read;
-  told = subst (HasTold old new) (sym (h.updates ∙ append-nil come.progress.updates)) come.told;
-}
-
--- the update that the run has ready is the one that is due
-update_is : (g : Setting) (rows : Rows) (b : Applier) (p : Progress) (time : ℤ) → IsAt g rows b p → frame_at (update p.state p.seen) time ≡ status_frame (record { written = b.written; flushed = b.position; applied = b.position; clock = time })
-update_is g rows b p time at =
-    let position : b.position ≡ p.state.position = at.commits.position ∙ sym at.reached in
-    rw (at.seen, position)
-
--- and an update was sent
-pub come_told : (g : Setting) (rows : Rows) (old mid new : DeviceState) (a b : Applier) (handled : List CopyItem) (item : CopyItem) (time : ℤ) (written flushed applied : ℕ) (come : HasCome g rows old mid a handled) → HasHandled g rows b come.progress item true
-    → Ticks mid.times new.times (time ∷ []) → written ≡ b.written → flushed ≡ b.position → applied ≡ b.position
-    → Appends mid.sent new.sent (status_frame (record { written = written; flushed = flushed; applied = applied; clock = time })) → HasWorked mid.writer new.writer
-    → new.reader ≡ mid.reader → HasCome g rows old new b (handled ++ item ∷ [])
-come_told g rows old mid new a b handled item time written flushed applied come h ticks is_written is_flushed is_applied sent works reader =
-    let appends : Appends mid.sent new.sent (status_frame (record { written = b.written; flushed = b.position; applied = b.position; clock = time })) =
-    subst (λ n. Appends mid.sent new.sent (status_frame (record { written = b.written; flushed = b.position; applied = n; clock = time }))) is_applied
-    (subst (λ n. Appends mid.sent new.sent (status_frame (record { written = b.written; flushed = n; applied = applied; clock = time }))) is_flushed
-    (subst (λ n. Appends mid.sent new.sent (status_frame (record { written = n; flushed = flushed; applied = applied; clock = time }))) is_written sent)) in
-    let p = come.progress in
-    let u = update h.progress.state h.progress.seen in
-    let ts = come.told.times in
-    let frame : Appends mid.sent new.sent (frame_at u time) = subst (Appends mid.sent new.sent) (sym (update_is g rows b h.progress time h.at)) appends in
-    record {
-      progress = h.progress;
-      lawful = Leads-more g start_progress p h.progress handled item come.lawful h.handles;
-      at = h.at;
-      read = subst (HasWorked old.reader) (sym reader) come.read;
-      told = subst (HasTold old new) (sym h.updates)
-          (record {
-            times = ts ++ time ∷ [];
-            told = Ticks-trans old.times mid.times new.times ts (time ∷ []) come.told.told ticks;
-            counted = length-append ts (time ∷ []) ∙ ap (λ n. n + 1) come.told.counted ∙ sym (length-append p.updates (u ∷ []));
-            sent = subst (Appends old.sent new.sent) (sym (status_bytes-push p.updates ts u time come.told.counted)) (Appends-trans old.sent mid.sent new.sent (status_bytes p.updates ts) (frame_at u time) come.told.sent frame);
-            works = works ∙ come.told.works;
-          });
-    }
-
--- ---- an item ended the run
-
--- the next item ends the run, where all has gone well
-by_next : (g : Setting) (rows : Rows) (old new : DeviceState) (handled : List CopyItem) (p : Progress) (times : List ℤ) (rest : List CopyItem) (end : End) → HasGoneWell g rows old new handled p times → IsNextCause g rows p.state rest end
-    → IsItemCause g rows old new handled p times rest end
-by_next g rows old new handled p times rest ends.Clean well why = absurd why
-by_next g rows old new handled p times rest (ends.Frame f) well why = absurd why
-by_next g rows old new handled p times rest (ends.Msg f) well why = inl (well, why)
-by_next g rows old new handled p times rest (ends.Session f) well why = inl (well, why)
-by_next g rows old new handled p times rest (ends.Rel f) well why = inl (well, why)
-by_next g rows old new handled p times rest (ends.Unique table key) well why = inl (well, why)
-by_next g rows old new handled p times rest (ends.NullKey table) well why = inl (well, why)
-by_next g rows old new handled p times rest (ends.HeldKey xid holder) well why = absurd why
-by_next g rows old new handled p times rest ends.OutOfMemory well why = inl well
-
--- the last item does
-by_last : (g : Setting) (rows : Rows) (old new : DeviceState) (handled : List CopyItem) (p : Progress) (times : List ℤ) (rest : List CopyItem) (end : End) → LastClashed g rows old new handled p times end
-    → IsItemCause g rows old new handled p times rest end
-by_last g rows old new handled p times rest ends.Clean clashed = absurd clashed.why
-by_last g rows old new handled p times rest (ends.Frame f) clashed = absurd clashed.why
-by_last g rows old new handled p times rest (ends.Msg f) clashed = absurd clashed.why
-by_last g rows old new handled p times rest (ends.Session f) clashed = absurd clashed.why
-by_last g rows old new handled p times rest (ends.Rel f) clashed = absurd clashed.why
-by_last g rows old new handled p times rest (ends.Unique table key) clashed = inr clashed
-by_last g rows old new handled p times rest (ends.NullKey table) clashed = inr clashed
-by_last g rows old new handled p times rest (ends.HeldKey xid holder) clashed = absurd clashed.why
-by_last g rows old new handled p times rest ends.OutOfMemory clashed = absurd clashed.why
-
--- nothing has clashed or failed so far
-pub gone_well : (g : Setting) (rows : Rows) (old new : DeviceState) (a : Applier) (handled : List CopyItem) (come : HasCome g rows old new a handled) → HasGoneWell g rows old new handled come.progress come.told.times
-gone_well g rows old new a handled come = record { clear = come.at.clear; read = come.read; sent = (come.told.works, come.told.sent) }
-
--- an item more
-abbrev with_item : (g : Setting) (rows : Rows) (old new : DeviceState) (a : Applier) (handled : List CopyItem) (item : CopyItem) (q : Progress) (come : HasCome g rows old new a handled) → Handles g come.progress item q → LastStep g (handled ++ item ∷ []) q
-with_item g rows old new a handled item q come handles =
-    record { before = handled; item = item; split = refl; past = come.progress; lawful = come.lawful; step = handles }
-
-pub stopped : (g : Setting) (rows : Rows) (old new : DeviceState) (a b : Applier) (handled : List CopyItem) (item : CopyItem) (result : Result (Unit {0}) End) (end : End) (come : HasCome g rows old new a handled) → EndsByItem g rows b come.progress item end → IsErrAnd result (λ e. e ≡ end) → Answers g rows old new b handled item result
-stopped g rows old new a b handled item (Ok u) end come why is = absurd is
-stopped g rows old new a b handled item (Err e) end come (inl (commits, why)) is =
-    inl (λ more.
-    subst (StopsAt g rows old new b handled (item ∷ more)) (sym is)
-    (record {
-      progress = come.progress;
-      lawful = come.lawful;
-      commits = commits;
-      times = come.told.times;
-      told = come.told.told;
-      counted = come.told.counted;
-      cause = by_next g rows old new handled come.progress come.told.times (item ∷ more) end (gone_well g rows old new a handled come) (why more);
-    }))
-stopped g rows old new a b handled item (Err e) end come (inr (q, handles, same, commits, clear, why)) is =
-    let told = subst (HasTold old new) (sym same) come.told in
-    inr (λ more.
-    subst (StopsAt g rows old new b (handled ++ item ∷ []) more) (sym is)
-    (record {
-      progress = q;
-      lawful = Leads-more g start_progress come.progress q handled item come.lawful handles;
-      commits = commits;
-      times = told.times;
-      told = told.told;
-      counted = told.counted;
-      cause = by_last g rows old new (handled ++ item ∷ []) q told.times more end
-          (record { last = with_item g rows old new a handled item q come handles; clear = come.at.clear; committed = clear; why = why; read = come.read; sent = (told.works, told.sent) });
-    }))
-
 -- the bytes of all updates, where the frame of the last has this beginning
 but_last : (before updates : List Update) (times : List ℤ) (u : Update) (time : ℤ) (part left : List ℕ) → updates ≡ before ++ u ∷ [] → length times ≡ length before → frame_at u time ≡ part ++ left
     → status_bytes updates (times ++ time ∷ []) ≡ status_bytes before (times ++ time ∷ []) ++ part ++ left
@@ -175,13 +58,98 @@ but_last before updates times u time part left split counted frame =
     ap (λ us. status_bytes us (times ++ time ∷ [])) split ∙ status_bytes-push before times u time counted
     ∙ ap (λ bs. status_bytes before times ++ bs) frame ∙ sym (append_assoc (status_bytes before times) part left) ∙ ap (λ bs. bs ++ part ++ left) (sym (status_bytes-longer before times (time ∷ []) counted))
 
--- the frame of an update whose numbers are these
-frame_of : (written flushed applied w f a : ℕ) (time : ℤ) → w ≡ written → f ≡ flushed → a ≡ applied
-    → status_frame (record { written = written; flushed = flushed; applied = applied; clock = time }) ≡ status_frame (record { written = w; flushed = f; applied = a; clock = time })
-frame_of written flushed applied w f a time is_written is_flushed is_applied = rw (is_written, is_flushed, is_applied)
+-- the frame of the update that is due at this progress, whose numbers are these
+frame_of : (p : Progress) (written flushed applied : ℕ) (time : ℤ) → written ≡ max p.seen p.state.position → flushed ≡ p.state.position → applied ≡ p.state.position
+    → frame_at (update p.state p.seen) time ≡ status_frame (record { written = written; flushed = flushed; applied = applied; clock = time })
+frame_of p written flushed applied time is_written is_flushed is_applied = rw (is_written, is_flushed, is_applied)
+
+-- it goes on behind an item that was handled
+pub under_way : {H : Type 0} → (g : Setting) (rows : Rows) (IsAt : Setting → Rows → H → Progress → Type 0) (HasEnded : Setting → Rows → H → List CopyItem → Progress → List CopyItem → End → Type 0)
+    (handled : List CopyItem) (p : Progress) (h : H) (item : CopyItem) (told : Bool) → Leads g start_progress handled p → HasHandled g (IsAt g rows) (HasEnded g rows) h p item told → IsUnderWay IsAt h
+under_way g rows IsAt HasEnded handled p h item told lawful done = (g, rows, handled ++ item ∷ [], done.progress, Leads-more g start_progress p done.progress handled item lawful done.handles, done.at)
+
+-- an item more
+abbrev pub with_item : (g : Setting) (handled : List CopyItem) (item : CopyItem) (p q : Progress) → Leads g start_progress handled p → Handles g p item q → LastStep g (handled ++ item ∷ []) q
+with_item g handled item p q lawful handles = record { before = handled; item = item; split = refl; past = p; lawful = lawful; step = handles }
+
+module _ {H : Type 0} (g : Setting) (IsAt : H → Progress → Type 0) (HasEnded : H → List CopyItem → Progress → List CopyItem → End → Type 0) where
+  -- ---- an item was handled
+
+  -- and no update is due
+  pub come_on : (old new : DeviceState) (a b : H) (handled : List CopyItem) (item : CopyItem) (come : HasCome g IsAt HasEnded old new a handled)
+      → HasHandled g IsAt HasEnded b come.progress item false → HasCome g IsAt HasEnded old new b (handled ++ item ∷ [])
+  come_on old new a b handled item come h = record {
+    progress = h.progress;
+    lawful = Leads-more g start_progress come.progress h.progress handled item come.lawful h.handles;
+    at = h.at;
+    read = come.read;
+    told = subst (HasTold old new) (sym (h.updates ∙ append-nil come.progress.updates)) come.told;
+  }
+
+  -- and an update was sent
+  pub come_told : (old mid new : DeviceState) (a b : H) (handled : List CopyItem) (item : CopyItem) (time : ℤ) (written flushed applied : ℕ)
+      (come : HasCome g IsAt HasEnded old mid a handled) (h : HasHandled g IsAt HasEnded b come.progress item true) → Ticks mid.times new.times (time ∷ [])
+      → written ≡ max h.progress.seen h.progress.state.position → flushed ≡ h.progress.state.position → applied ≡ h.progress.state.position
+      → Appends mid.sent new.sent (status_frame (record { written = written; flushed = flushed; applied = applied; clock = time })) → HasWorked mid.writer new.writer
+      → new.reader ≡ mid.reader → HasCome g IsAt HasEnded old new b (handled ++ item ∷ [])
+  come_told old mid new a b handled item time written flushed applied come h ticks is_written is_flushed is_applied sent works reader =
+      let p = come.progress in
+      let u = update h.progress.state h.progress.seen in
+      let ts = come.told.times in
+      let frame : Appends mid.sent new.sent (frame_at u time) =
+      subst (Appends mid.sent new.sent) (sym (frame_of h.progress written flushed applied time is_written is_flushed is_applied)) sent in
+      record {
+        progress = h.progress;
+        lawful = Leads-more g start_progress p h.progress handled item come.lawful h.handles;
+        at = h.at;
+        read = subst (HasWorked old.reader) (sym reader) come.read;
+        told = subst (HasTold old new) (sym h.updates)
+            (record {
+              times = ts ++ time ∷ [];
+              told = Ticks-trans old.times mid.times new.times ts (time ∷ []) come.told.told ticks;
+              counted = length-append ts (time ∷ []) ∙ ap (λ n. n + 1) come.told.counted ∙ sym (length-append p.updates (u ∷ []));
+              sent = subst (Appends old.sent new.sent) (sym (status_bytes-push p.updates ts u time come.told.counted)) (Appends-trans old.sent mid.sent new.sent (status_bytes p.updates ts) (frame_at u time) come.told.sent frame);
+              works = works ∙ come.told.works;
+            });
+      }
+
+  -- ---- an item ended the run
+
+  -- nothing has clashed or failed so far
+  pub gone_well : (old new : DeviceState) (a : H) (handled : List CopyItem) (come : HasCome g IsAt HasEnded old new a handled)
+      → HasGoneWell g (IsAt a come.progress) old new handled come.progress come.told.times
+  gone_well old new a handled come = record { clear = come.at; read = come.read; sent = (come.told.works, come.told.sent) }
+
+  pub stopped : (old new : DeviceState) (a b : H) (handled : List CopyItem) (item : CopyItem) (result : Result (Unit {0}) End) (end : End) (come : HasCome g IsAt HasEnded old new a handled)
+      → EndsByItem g IsAt HasEnded b handled come.progress item end → IsErrAnd result (λ e. e ≡ end) → Answers g IsAt HasEnded old new b handled item result
+  stopped old new a b handled item (Ok u) end come why is = absurd is
+  stopped old new a b handled item (Err e) end come (inl why) is =
+      inl (λ more.
+      subst (StopsAt g IsAt HasEnded old new b handled (item ∷ more)) (sym is)
+      (record {
+        progress = come.progress;
+        lawful = come.lawful;
+        times = come.told.times;
+        told = come.told.told;
+        counted = come.told.counted;
+        why = inl (record { ended = why more; read = come.read; sent = (come.told.works, come.told.sent) });
+      }))
+  stopped old new a b handled item (Err e) end come (inr (q, handles, same, why)) is =
+      let told = subst (HasTold old new) (sym same) come.told in
+      inr (λ more.
+      subst (StopsAt g IsAt HasEnded old new b (handled ++ item ∷ []) more) (sym is)
+      (record {
+        progress = q;
+        lawful = Leads-more g start_progress come.progress q handled item come.lawful handles;
+        times = told.times;
+        told = told.told;
+        counted = told.counted;
+        why = inl (record { ended = why more; read = come.read; sent = (told.works, told.sent) });
+      }))
 
 -- the update could not be sent
-module _ (g : Setting) (rows : Rows) (old mid new : DeviceState) (a b : Applier) (handled : List CopyItem) (item : CopyItem) (time : ℤ) (come : HasCome g rows old mid a handled) (h : HasHandled g rows b come.progress item true)
+module _ {H : Type 0} (g : Setting) (IsAt : H → Progress → Type 0) (HasEnded : H → List CopyItem → Progress → List CopyItem → End → Type 0) (old mid new : DeviceState) (a b : H) (handled : List CopyItem) (item : CopyItem) (time : ℤ)
+    (come : HasCome g IsAt HasEnded old mid a handled) (h : HasHandled g IsAt HasEnded b come.progress item true)
     (ticks : Ticks mid.times new.times (time ∷ [])) (reader : new.reader ≡ mid.reader) where
   abbrev ts : List ℤ
   ts = come.told.times
@@ -198,9 +166,9 @@ module _ (g : Setting) (rows : Rows) (old mid new : DeviceState) (a b : Applier)
   read_on = subst (HasWorked old.reader) (sym reader) come.read
 
   -- all before it were sent, and this part of it
-  abbrev cut_at : (part left : List ℕ) → frame_at (update h.progress.state h.progress.seen) time ≡ part ++ left → Appends mid.sent new.sent part → LastIsCut g rows old new all h.progress (ts ++ time ∷ [])
+  abbrev cut_at : (part left : List ℕ) → frame_at (update h.progress.state h.progress.seen) time ≡ part ++ left → Appends mid.sent new.sent part → LastIsCut g old new all h.progress (ts ++ time ∷ [])
   cut_at part left frame went = record {
-    last = with_item g rows old mid a handled item h.progress come h.handles;
+    last = with_item g handled item come.progress h.progress come.lawful h.handles;
     update = update h.progress.state h.progress.seen;
     due = h.updates;
     part = part;
@@ -210,34 +178,33 @@ module _ (g : Setting) (rows : Rows) (old mid new : DeviceState) (a b : Applier)
         (Appends-trans old.sent mid.sent new.sent (status_bytes come.progress.updates ts) part come.told.sent went);
   }
 
-  stops_there : (end : End) (more : List CopyItem) → IsItemCause g rows old new all h.progress (ts ++ time ∷ []) more end → StopsAt g rows old new b all more end
+  stops_there : (end : End) (more : List CopyItem) → IsSendCause g (IsAt b h.progress) old new all h.progress (ts ++ time ∷ []) end → StopsAt g IsAt HasEnded old new b all more end
   stops_there end more why = record {
     progress = h.progress;
     lawful = Leads-more g start_progress come.progress h.progress handled item come.lawful h.handles;
-    commits = h.at.commits;
     times = ts ++ time ∷ [];
     told = Ticks-trans old.times mid.times new.times ts (time ∷ []) come.told.told ticks;
     counted = counted;
-    cause = why;
+    why = inr why;
   }
 
   pub unsent : (written flushed applied : ℕ) (result : Result (Unit {0}) End) (fault : FrameFault) → (fault ≡ frames.Device) ⊎ (fault ≡ frames.OutOfMemory)
       → (fault ≡ frames.Device → HasFailedLast mid.writer new.writer) → (fault ≡ frames.OutOfMemory → HasWorked mid.writer new.writer × Keeps mid.sent new.sent)
       → (fault ≡ frames.Device → (part : List ℕ) × (left : List ℕ) × (status_frame (record { written = written; flushed = flushed; applied = applied; clock = time }) ≡ part ++ left) × Appends mid.sent new.sent part)
-      → written ≡ b.written → flushed ≡ b.position → applied ≡ b.position
-      → IsErrAnd result (λ e. e ≡ end_of_frame fault) → Answers g rows old new b handled item result
+      → written ≡ max h.progress.seen h.progress.state.position → flushed ≡ h.progress.state.position → applied ≡ h.progress.state.position
+      → IsErrAnd result (λ e. e ≡ end_of_frame fault) → Answers g IsAt HasEnded old new b handled item result
   unsent written flushed applied (Ok u) fault kind failed kept part is_written is_flushed is_applied is = absurd is
   unsent written flushed applied (Err e) fault (inl device) failed kept part is_written is_flushed is_applied is =
       let went = part device in
       let fails = failed device in
-      let frame : frame_at (update h.progress.state h.progress.seen) time ≡ went.0 ++ went.1 = update_is g rows b h.progress time h.at ∙ frame_of b.written b.position b.position written flushed applied time is_written is_flushed is_applied ∙ went.2 in
+      let frame : frame_at (update h.progress.state h.progress.seen) time ≡ went.0 ++ went.1 = frame_of h.progress written flushed applied time is_written is_flushed is_applied ∙ went.2 in
       inr (λ more.
-      subst (StopsAt g rows old new b all more) (sym (is ∙ ap end_of_frame device))
+      subst (StopsAt g IsAt HasEnded old new b all more) (sym (is ∙ ap end_of_frame device))
       (stops_there (ends.Frame frames.Device) more
-      (record { clear = h.at.clear; read = read_on; failed = (subst (λ n. HasFailed n new.writer.failures) come.told.works fails.0, fails.1); cut = cut_at went.0 went.1 frame went.3 })))
+      (record { clear = h.at; read = read_on; failed = (subst (λ n. HasFailed n new.writer.failures) come.told.works fails.0, fails.1); cut = cut_at went.0 went.1 frame went.3 })))
   unsent written flushed applied (Err e) fault (inr memory) failed kept part is_written is_flushed is_applied is =
       let was = kept memory in
       inr (λ more.
-      subst (StopsAt g rows old new b all more) (sym (is ∙ ap end_of_frame memory))
+      subst (StopsAt g IsAt HasEnded old new b all more) (sym (is ∙ ap end_of_frame memory))
       (stops_there ends.OutOfMemory more
-      (inr (record { clear = h.at.clear; read = read_on; written = was.0 ∙ come.told.works; cut = cut_at [] (frame_at (update h.progress.state h.progress.seen) time) refl (Appends-kept mid.sent mid.sent new.sent [] (Appends-nil mid.sent) was.1); nothing = refl }))))
+      (record { clear = h.at; read = read_on; written = was.0 ∙ come.told.works; cut = cut_at [] (frame_at (update h.progress.state h.progress.seen) time) refl (Appends-kept mid.sent mid.sent new.sent [] (Appends-nil mid.sent) was.1); nothing = refl })))

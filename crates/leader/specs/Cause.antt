@@ -1,10 +1,13 @@
 -- Why a run without threads ends.
 --     LastStep      the last item that was handled, and what the others led to
 --     AreAllSent, LastIsCut      which status updates went out: all, or all but a part of the last
---     HasGoneWell      nothing clashed, and no device failed
---     RefusesNext, NextClashes, LastClashes      what the next message, or the last item, ends a run by
+--     HasGoneWell      all is clear, and no device failed
+--     CouldNotSend, HadNoMemoryToSend, IsSendCause      an update that was due ends a run
+--     CouldNotRead, IsOver, IsInputCause      the input ends it
+--     HasNotClashed      without threads all is clear where no change clashed
+--     RefusesNext, NextClashes, LastClashed      what the next message, or the last item, ends a run by
 --     IsNextCause, IsLastCause, IsItemCause      why an item ends it: one that is not handled; one that is; either
---     IsOver, IsCause      the end of the input; why a run ends, for each end
+--     IsCause      why a run ends, for each end
 use Rattle.std.specs.Prelude.{◌≡◌, ℕ, true, List, [], ◌∷◌, ◌++◌, map, Option, Some, None, ℤ, ◌⊎◌}
 use Rattle.std.specs.Io.KnownBytes.{Appends}
 use Rattle.model.specs.Rows.{Rows, Schema, keys_of}
@@ -86,11 +89,7 @@ IsLastCause g rows s end = ⊥
 
 -- ---- a run that handled these items, which led to this progress
 
-module _ (g : Setting) (rows : Rows) (old new : DeviceState) (handled : List CopyItem) (p : Progress) (times : List ℤ) where
-  -- No change clashed.
-  abbrev pub HasNotClashed : Type 0
-  HasNotClashed = IsClear (schema_of g) rows (all_changes p.state)
-
+module _ (g : Setting) (old new : DeviceState) (handled : List CopyItem) (p : Progress) (times : List ℤ) where
   -- All status updates were sent, and the writer never failed.
   abbrev pub AreAllSent : Type 0
   AreAllSent = HasWorked old.writer new.writer × Appends old.sent new.sent (status_bytes p.updates times)
@@ -105,11 +104,62 @@ module _ (g : Setting) (rows : Rows) (old new : DeviceState) (handled : List Cop
     pub frame : status_bytes p.updates times ≡ status_bytes last.past.updates times ++ part ++ unsent
     pub sent : Appends old.sent new.sent (status_bytes last.past.updates times ++ part)
 
-  -- No change clashed, no read failed, and all status updates were sent.
+-- where, beside the devices, this says that all is clear
+module _ (g : Setting) (Clear : Type 0) (old new : DeviceState) (handled : List CopyItem) (p : Progress) (times : List ℤ) where
+  -- All is clear, no read failed, and all status updates were sent.
   pub record HasGoneWell : Type 0 where
-    pub clear : HasNotClashed
+    pub clear : Clear
     pub read : HasWorked old.reader new.reader
-    pub sent : AreAllSent
+    pub sent : AreAllSent g old new handled p times
+
+  -- The update that the last item brought could not be sent: the writer failed in its last call, and never before.
+  pub record CouldNotSend : Type 0 where
+    pub clear : Clear
+    pub read : HasWorked old.reader new.reader
+    pub failed : HasFailedLast old.writer new.writer
+    pub cut : LastIsCut g old new handled p times
+
+  -- Memory was refused for the update that the last item brought, of which nothing was sent.
+  pub record HadNoMemoryToSend : Type 0 where
+    pub clear : Clear
+    pub read : HasWorked old.reader new.reader
+    pub written : HasWorked old.writer new.writer
+    pub cut : LastIsCut g old new handled p times
+    pub nothing : cut.part ≡ []
+
+  -- Why an update that was due ends the run.
+  abbrev pub IsSendCause : End → Type 0
+  IsSendCause (ends.Frame Device) = CouldNotSend
+  IsSendCause ends.OutOfMemory = HadNoMemoryToSend
+  IsSendCause end = ⊥
+
+  -- The reader failed in its last call, and never before; all items of what it gave were handled.
+  pub record CouldNotRead (rest : List CopyItem) : Type 0 where
+    pub clear : Clear
+    pub all_handled : rest ≡ []
+    pub failed : HasFailedLast old.reader new.reader
+    pub sent : AreAllSent g old new handled p times
+
+  -- The input is over: all items were handled, and this is the fault of an input that ends here, if there is one.
+  pub record IsOver (bytes : List ℕ) (rest : List CopyItem) (why : Option FrameFault) : Type 0 where
+    pub well : HasGoneWell
+    pub all_handled : rest ≡ []
+    pub fault : fault_at_end (ending_of bytes) ≡ why
+    pub asked : AtEndOf (ending_of bytes) new.unread
+
+  -- Why the input ends the run, with these items of its bytes left.
+  abbrev pub IsInputCause : List ℕ → List CopyItem → End → Type 0
+  IsInputCause bytes rest ends.Clean = IsOver bytes rest None
+  IsInputCause bytes rest (ends.Frame Device) = CouldNotRead rest
+  IsInputCause bytes rest (ends.Frame fault) = IsOver bytes rest (Some fault)
+  IsInputCause bytes rest ends.OutOfMemory = HasGoneWell
+  IsInputCause bytes rest end = ⊥
+
+-- without threads
+module _ (g : Setting) (rows : Rows) (old new : DeviceState) (handled : List CopyItem) (p : Progress) (times : List ℤ) where
+  -- No change clashed.
+  abbrev pub HasNotClashed : Type 0
+  HasNotClashed = IsClear (schema_of g) rows (all_changes p.state)
 
   -- A change that the last item brought into the transaction that was begun clashed, the first that did; it was not
   -- committed.
@@ -119,46 +169,17 @@ module _ (g : Setting) (rows : Rows) (old new : DeviceState) (handled : List Cop
     pub committed : IsClear (schema_of g) rows (committed_changes p.state)
     pub why : IsLastCause g rows p.state end
     pub read : HasWorked old.reader new.reader
-    pub sent : AreAllSent
-
-  -- The update that the last item brought could not be sent: the writer failed in its last call, and never before.
-  pub record CouldNotSend : Type 0 where
-    pub clear : HasNotClashed
-    pub read : HasWorked old.reader new.reader
-    pub failed : HasFailedLast old.writer new.writer
-    pub cut : LastIsCut
-
-  -- The reader failed in its last call, and never before; all items of what it gave were handled.
-  pub record CouldNotRead (rest : List CopyItem) : Type 0 where
-    pub clear : HasNotClashed
-    pub all_handled : rest ≡ []
-    pub failed : HasFailedLast old.reader new.reader
-    pub sent : AreAllSent
-
-  -- Memory was refused for the update that the last item brought, of which nothing was sent.
-  pub record HadNoMemoryToSend : Type 0 where
-    pub clear : HasNotClashed
-    pub read : HasWorked old.reader new.reader
-    pub written : HasWorked old.writer new.writer
-    pub cut : LastIsCut
-    pub nothing : cut.part ≡ []
+    pub sent : AreAllSent g old new handled p times
 
   -- Why an item, or the update behind it, ends the run, with these items left.
   abbrev pub IsItemCause : List CopyItem → End → Type 0
-  IsItemCause rest (ends.Frame Device) = CouldNotSend
-  IsItemCause rest ends.OutOfMemory = HasGoneWell ⊎ HadNoMemoryToSend
-  IsItemCause rest end = (HasGoneWell × IsNextCause g rows p.state rest end) ⊎ LastClashed end
-
-  -- The input is over: all items were handled, and this is the fault of an input that ends here, if there is one.
-  pub record IsOver (bytes : List ℕ) (rest : List CopyItem) (why : Option FrameFault) : Type 0 where
-    pub well : HasGoneWell
-    pub all_handled : rest ≡ []
-    pub fault : fault_at_end (ending_of bytes) ≡ why
-    pub asked : AtEndOf (ending_of bytes) new.unread
+  IsItemCause rest (ends.Frame Device) = CouldNotSend g HasNotClashed old new handled p times
+  IsItemCause rest ends.OutOfMemory = HasGoneWell g HasNotClashed old new handled p times ⊎ HadNoMemoryToSend g HasNotClashed old new handled p times
+  IsItemCause rest end = (HasGoneWell g HasNotClashed old new handled p times × IsNextCause g rows p.state rest end) ⊎ LastClashed end
 
   -- Why a run over these bytes ends, with these items left.
   abbrev pub IsCause : List ℕ → List CopyItem → End → Type 0
-  IsCause bytes rest ends.Clean = IsOver bytes rest None
-  IsCause bytes rest (ends.Frame Device) = CouldNotRead rest ⊎ CouldNotSend
-  IsCause bytes rest (ends.Frame fault) = IsOver bytes rest (Some fault)
+  IsCause bytes rest ends.Clean = IsOver g HasNotClashed old new handled p times bytes rest None
+  IsCause bytes rest (ends.Frame Device) = CouldNotRead g HasNotClashed old new handled p times rest ⊎ CouldNotSend g HasNotClashed old new handled p times
+  IsCause bytes rest (ends.Frame fault) = IsOver g HasNotClashed old new handled p times bytes rest (Some fault)
   IsCause bytes rest end = IsItemCause rest end

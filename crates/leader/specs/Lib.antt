@@ -9,4 +9,5 @@ pub mod Ends
 pub mod Cause
 pub mod Devices
 pub mod Run
+pub mod Handler
 pub mod Applier

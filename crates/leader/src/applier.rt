@@ -7,6 +7,7 @@ ghost use Rattle.leader.specs.Commits.{transaction_of};
 ghost use Rattle.leader.specs.Progress.{Progress, start_progress};
 
 use crate::end::End;
+use crate::handler::Handler;
 use crate::outcome::{Entry, Outcome};
 use crate::work::Work;
 use bytes::Bytes;
@@ -32,7 +33,7 @@ pub struct Applier<'a> {
 }
 
 impl<'a> Applier<'a> {
-    ghost use Rattle.leader.specs.Applier.{IsUnderWay, IsAt, TakesMessage, HandlesItem};
+    ghost use Rattle.leader.specs.Applier.{IsAtSome, IsAt, TakesMessage};
 
     /// Before the first item: these tables, which are those of the catalog, and spools for so many bytes.
     pub fn new(alloc: Global, catalog: &'a Catalog, start: Tables, spool: u64) -> Applier<'a>
@@ -48,20 +49,6 @@ impl<'a> Applier<'a> {
             position: 0,
             written: 0,
         }
-    }
-
-    /// The greatest position of the publisher's log so far.
-    pub fn written(&self) -> Lsn
-        ensures { result ≡ self.now.written }
-    {
-        self.written
-    }
-
-    /// The end of the last commit; 0 before the first.
-    pub fn position(&self) -> Lsn
-        ensures { result ≡ self.now.position }
-    {
-        self.position
     }
 
     /// Undoes open work, and answers what is left.
@@ -80,31 +67,9 @@ impl<'a> Applier<'a> {
         }
     }
 
-    /// Handles one item. It answers whether a status update is due.
-    pub fn handle(&mut self, item: CopyItem) -> Result<bool, End>
-        requires { IsUnderWay self.old }
-        ensures { (g : Setting) (rows : Rows) (p : Progress) → IsAt g rows self.old p → HandlesItem g rows self.new p item result }
-    {
-        match item {
-            CopyItem::Wal {
-                start,
-                end,
-                payload,
-            } => {
-                self.written = self.written.max(start).max(end);
-                self.take_message(&payload)
-            }
-            CopyItem::Keepalive { end, reply } => {
-                self.written = self.written.max(end);
-                Ok(reply)
-            }
-            CopyItem::Done => Ok(false),
-        }
-    }
-
     /// Takes the next message. It answers whether a transaction committed.
     fn take_message(&mut self, payload: &Bytes) -> Result<bool, End>
-        requires { IsUnderWay self.old }
+        requires { IsAtSome self.old }
         ensures { (g : Setting) (rows : Rows) (p : Progress) → IsAt g rows self.old p → TakesMessage g rows self.new p payload.now result }
     {
         match self.session.admit(self.alloc, self.catalog, payload)? {
@@ -144,5 +109,40 @@ impl<'a> Applier<'a> {
         self.position = info.end;
         self.written = self.written.max(info.end);
         Ok(())
+    }
+}
+
+impl<'a> Handler for Applier<'a> {
+    ghost use Rattle.leader.specs.Applier.{IsAt, HasEnded};
+
+    ghost at = { IsAt };
+
+    ghost ended = { HasEnded };
+
+    fn handle(&mut self, item: CopyItem) -> Result<bool, End>
+    {
+        match item {
+            CopyItem::Wal {
+                start,
+                end,
+                payload,
+            } => {
+                self.written = self.written.max(start).max(end);
+                self.take_message(&payload)
+            }
+            CopyItem::Keepalive { end, reply } => {
+                self.written = self.written.max(end);
+                Ok(reply)
+            }
+            CopyItem::Done => Ok(false),
+        }
+    }
+
+    fn written(&self) -> Lsn {
+        self.written
+    }
+
+    fn position(&self) -> Lsn {
+        self.position
     }
 }

@@ -9,7 +9,8 @@
 // open transactions is undone before it is answered: the tables are those of the commits.
 //
 //   run       reads the items of a stream, and sends status updates
-//   applier   what each item does
+//   handler   what takes the items of a stream, as that loop knows it
+//   applier   what each item does, where no transaction has a worker
 //   work      the tables with the changes of one open transaction in them, and what takes these back
 //   outcome   what a run is given and what it leaves; the journal; the clock
 //   end       why a run ended
@@ -33,6 +34,7 @@
 mod advice;
 mod applier;
 mod end;
+mod handler;
 mod outcome;
 mod printing;
 mod run;

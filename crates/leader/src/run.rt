@@ -5,12 +5,13 @@ ghost use Rattle.frames.specs.declared.item.CopyItem.{CopyItem as Item};
 ghost use Rattle.frames.specs.Reads.{HasRead};
 ghost use Rattle.session.specs.State.{Setting};
 ghost use Rattle.leader.specs.Progress.{start_progress};
-ghost use Rattle.leader.specs.Applier.{IsUnderWay, IsAt, HasCome, Answers, HandlesKept, IsRunOver, end_of};
+ghost use Rattle.leader.specs.Handler.{IsUnderWay, HasCome, Answers, HandlesKept, IsRunOver, end_of};
 ghost use Rattle.leader.specs.Devices.{DeviceState, device_state, health};
 ghost use Rattle.leader.specs.Run.{IsRun, spooling};
 
 use crate::applier::Applier;
 use crate::end::End;
+use crate::handler::Handler;
 use crate::outcome::{Clock, Config, Outcome};
 use catalog::Catalog;
 use frames::{CopyItem, FrameFault, Frames, Sink, Source, Status, send_status};
@@ -96,14 +97,14 @@ pub fn run_over<R: Source, W: Sink, C: Clock>(
 }
 
 /// Handles the items of a stream until it ends or an item ends the run. A failed read is the last.
-fn read_all<R: Source, W: Sink, C: Clock>(
+fn read_all<R: Source, W: Sink, C: Clock, H: Handler>(
     alloc: Global,
     devices: &mut Devices<R, W, C>,
-    applier: &mut Applier<'_>,
+    handler: &mut H,
 ) -> Result<(), End>
-    requires { IsUnderWay applier.old }
-    ensures { (g : Setting) (rows : Rows) → IsAt g rows applier.old start_progress
-        → IsRunOver g rows devices.old devices.new applier.new (end_of result) }
+    requires { IsUnderWay H.at handler.old }
+    ensures { (g : Setting) (rows : Rows) → H.at g rows handler.old start_progress
+        → IsRunOver g (H.at g rows) (H.ended g rows) devices.old devices.new handler.new (end_of result) }
 {
     let mut frames = Frames::new(alloc);
     'pulls: loop {
@@ -111,7 +112,7 @@ fn read_all<R: Source, W: Sink, C: Clock>(
         if is_failed_read(&pulled) {
             return Err(End::Frame(FrameFault::Device));
         }
-        handle_kept(alloc, &mut frames, devices, applier)?;
+        handle_kept(alloc, &mut frames, devices, handler)?;
         if !pulled? {
             frames.finish()?;
             return Ok(());
@@ -131,50 +132,50 @@ fn is_failed_read(pulled: &Result<bool, FrameFault>) -> bool
 }
 
 /// Handles the items that were read and are kept.
-fn handle_kept<R: Source, W: Sink, C: Clock>(
+fn handle_kept<R: Source, W: Sink, C: Clock, H: Handler>(
     alloc: Global,
     frames: &mut Frames,
     devices: &mut Devices<R, W, C>,
-    applier: &mut Applier<'_>,
+    handler: &mut H,
 ) -> Result<(), End>
-    requires { IsUnderWay applier.old }
-    ensures under_way { OnOk result (IsUnderWay applier.new) }
+    requires { IsUnderWay H.at handler.old }
+    ensures under_way { OnOk result (IsUnderWay H.at handler.new) }
     ensures none { OnOk result (frames.new.items ≡ []) }
     ensures ending { frames.new.ending ≡ frames.old.ending }
     ensures reader { devices.new.reader ≡ devices.old.reader }
     ensures unread { devices.new.unread ≡ devices.old.unread }
     ensures left { devices.new.reads_left ≡ devices.old.reads_left }
     ensures kept { (g : Setting) (rows : Rows) (old : DeviceState) (bytes : List ℕ) (handled : List Item)
-        → HasCome g rows old devices.old applier.old handled → HasRead bytes handled frames.old
-        → HandlesKept g rows old devices.new applier.new bytes frames.new result }
+        → HasCome g (H.at g rows) (H.ended g rows) old devices.old handler.old handled → HasRead bytes handled frames.old
+        → HandlesKept g (H.at g rows) (H.ended g rows) old devices.new handler.new bytes frames.new result }
 {
     while let Some(item) = frames.next() {
-        answer(alloc, item, devices, applier)?;
+        answer(alloc, item, devices, handler)?;
     }
     Ok(())
 }
 
 /// Handles an item, and sends a status update if one is due.
-fn answer<R: Source, W: Sink, C: Clock>(
+fn answer<R: Source, W: Sink, C: Clock, H: Handler>(
     alloc: Global,
     item: CopyItem,
     devices: &mut Devices<R, W, C>,
-    applier: &mut Applier<'_>,
+    handler: &mut H,
 ) -> Result<(), End>
-    requires { IsUnderWay applier.old }
-    ensures under_way { OnOk result (IsUnderWay applier.new) }
+    requires { IsUnderWay H.at handler.old }
+    ensures under_way { OnOk result (IsUnderWay H.at handler.new) }
     ensures reader { devices.new.reader ≡ devices.old.reader }
     ensures unread { devices.new.unread ≡ devices.old.unread }
     ensures left { devices.new.reads_left ≡ devices.old.reads_left }
     ensures answer { (g : Setting) (rows : Rows) (old : DeviceState) (handled : List Item)
-        → HasCome g rows old devices.old applier.old handled
-        → Answers g rows old devices.new applier.new handled item result }
+        → HasCome g (H.at g rows) (H.ended g rows) old devices.old handler.old handled
+        → Answers g (H.at g rows) (H.ended g rows) old devices.new handler.new handled item result }
 {
-    if applier.handle(item)? {
+    if handler.handle(item)? {
         let status = Status {
-            written: applier.written(),
-            flushed: applier.position(),
-            applied: applier.position(),
+            written: handler.written(),
+            flushed: handler.position(),
+            applied: handler.position(),
             clock: devices.clock.micros(),
         };
         send_status(alloc, &status, &mut devices.writer)?;

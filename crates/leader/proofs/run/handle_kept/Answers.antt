@@ -18,7 +18,7 @@ loop-item-preserved g c = record {
 pub returns-in_err-answer-clause-kept : goal.returns-in_err-answer-clause-kept
 returns-in_err-answer-clause-kept g c = λ h rows old bytes handled come read.
     let was = c.loop-item.invariant.come h rows old bytes handled come read in
-    kept_stopped h rows old _ c.answer.new.applier bytes was.0 c.in-Some.item c.next.new.self c.in_err-answer.field-0.0 c.from_residual.result (c.in-Some.ensures.read bytes was.0 was.2)
+    kept_stopped h (g.H.Handler.at h rows) (g.H.Handler.ended h rows) old _ c.answer.new.handler bytes was.0 c.in-Some.item c.next.new.self c.in_err-answer.field-0.0 c.from_residual.result (c.in-Some.ensures.read bytes was.0 was.2)
     (c.in_err-answer.ensures.answer h rows old was.0 was.1) c.from_residual.ensures.1
 
 pub returns-clause-kept : goal.returns-clause-kept

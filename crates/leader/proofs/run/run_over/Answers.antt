@@ -1,10 +1,15 @@
-use Rattle.std.proofs.Common.{◌≡◌, sym, ap, subst, ◌∙◌}
+use Rattle.std.proofs.Common.{◌≡◌, [], refl, sym, ap, subst, ◌∙◌}
 use Rattle.session.specs.State.{Setting}
+use Rattle.leader.specs.Progress.{start_progress}
 use Rattle.leader.specs.Run.{spooling}
-use Rattle.leader.specs.Applier.{IsRunOver, end_of}
-use Rattle.leader.proofs.Reading.{is_run}
+use Rattle.leader.specs.Handler.{IsRunOver, end_of}
+use Rattle.leader.specs.Applier.{IsAt, HasEnded}
+use Rattle.leader.proofs.Leaving.{is_run}
 use Rattle.leader.proofs.run.run_over.Goals as goal
 use Rattle.leader.proofs.run.run_over.Goals.{in-Ok, in-Err}
+
+pub read_all-requires : goal.read_all-requires
+read_all-requires g c = (spooling c.args.catalog.now c.args.config.now, c.args.start.rows, [], start_progress, refl, c.new-applier.ensures)
 
 pub returns : goal.returns
 returns g c =
@@ -13,6 +18,6 @@ returns g c =
       | in-Ok w ↦ ap end_of w.in-Ok.is ∙ sym w.end-is ∙ sym c.leave.ensures.end
       | in-Err w ↦ ap end_of w.in-Err.is ∙ sym w.end-is ∙ sym c.leave.ensures.end
     ] in
-    is_run s c.args.start.rows c.args.devices.now c.read_all.new.devices c.read_all.new.applier c.leave.result
-    (subst (IsRunOver s c.args.start.rows c.args.devices.now c.read_all.new.devices c.read_all.new.applier) same (c.read_all.ensures s c.args.start.rows c.new-applier.ensures))
+    is_run s c.args.start.rows c.args.devices.now c.read_all.new.devices c.read_all.new.handler c.leave.result
+    (subst (IsRunOver s (IsAt s c.args.start.rows) (HasEnded s c.args.start.rows) c.args.devices.now c.read_all.new.devices c.read_all.new.handler) same (c.read_all.ensures s c.args.start.rows c.new-applier.ensures))
     c.leave.ensures.tables c.leave.ensures.schema c.leave.ensures.journal c.leave.ensures.position
