@@ -30,7 +30,7 @@ impl Model for Changes {
 
 impl Changes {
     /// The changes among these items.
-    pub(crate) fn of_items(items: Vec<Item>) -> Changes
+    pub fn of_items(items: Vec<Item>) -> Changes
         ensures { result ≡ changes_of items.items }
     {
         Changes { items }

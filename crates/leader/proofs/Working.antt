@@ -1,5 +1,5 @@
 -- What a change leaves of the work that is open.
-use Rattle.std.specs.Prelude.{◌≡◌, List, [], ◌∷◌, ◌++◌, map, refl, Result, Ok, Err, IsErrAnd, IfErr}
+use Rattle.std.specs.Prelude.{◌≡◌, ℕ, List, [], ◌∷◌, ◌++◌, map, refl, Result, Ok, Err, IsErrAnd, IfErr}
 use Rattle.std.specs.Iterator.{Yields}
 use Rattle.std.specs.Vec.Iter.{into_iter_items, into_iter_steps}
 use Rattle.std.specs.declared.vec.IntoIter.{IntoIter}
@@ -132,3 +132,7 @@ if_err (Err x) e P is p = subst P (sym is) p
 pub taken_front : {X A : Type 0} (s : IntoIter X A) (xs : List X) (t : IntoIter X A) → Yields into_iter_steps s xs t → into_iter_items s ≡ xs ++ into_iter_items t
 taken_front s [] t y = ap into_iter_items y
 taken_front s (x ∷ xs) t y = y.1.0 ∙ ap (λ ys. x ∷ ys) (taken_front y.0 xs t y.2)
+
+-- a change more is kept, behind room that was made
+pub change_kept : (old room new : List Item) (sub : ℕ) (c : Change) → room ≡ old → new ≡ room ++ ItemChange sub c ∷ [] → changes_of new ≡ changes_of old ++ c ∷ []
+change_kept old room new sub c made pushed = ap changes_of (pushed ∙ ap (λ (items : List Item). items ++ ItemChange sub c ∷ []) made) ∙ changes_of-append old (ItemChange sub c ∷ [])

@@ -11,7 +11,7 @@ use Rattle.session.specs.declared.phase.Phase.{Phase}
 use Rattle.session.specs.declared.phase.Phase.TheVariants.{Outside, Begun, Block}
 use Rattle.session.specs.Sized.{SizedItems, item_of}
 use Rattle.session.specs.State.{Open, Committed, State, OpenTransactions}
-use Rattle.leader.specs.declared.outcome.Entry.{Entry}
+use Rattle.engine.specs.declared.entry.Entry.{Entry}
 
 -- a committed transaction
 pub record Transaction : Type 0 where
@@ -23,7 +23,7 @@ pub record Transaction : Type 0 where
 
 -- an entry of a journal, without where it lies in memory
 abbrev pub transaction_of : Entry → Transaction
-transaction_of e = record { xid = e.xid; changes = e.changes.items; commit = e.commit; end = e.end }
+transaction_of e = record { xid = e.xid; changes = e.changes; commit = e.commit; end = e.end }
 
 -- the changes of a transaction's items that survive
 abbrev pub surviving_changes : ℕ → SizedItems → List Change

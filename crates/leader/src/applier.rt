@@ -8,10 +8,11 @@ ghost use Rattle.leader.specs.Progress.{Progress, start_progress};
 
 use crate::end::End;
 use crate::handler::Handler;
-use crate::outcome::{Entry, Outcome};
+use crate::outcome::Outcome;
 use crate::work::Work;
 use bytes::Bytes;
 use catalog::Catalog;
+use engine::Entry;
 use frames::{CopyItem, Lsn};
 use indexes::Tables;
 use model::OutOfMemory;

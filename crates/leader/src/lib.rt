@@ -30,7 +30,7 @@
 // tables with their keys, rows and values, and the faults that an end names.
 //
 // It stands on `frames` for the stream, `session` for what its messages ask for, `change` and `undo`
-// for the tables, and `catalog` for their names.
+// for the tables, `engine` for the journal's entries, and `catalog` for their names.
 mod advice;
 mod applier;
 mod end;
@@ -43,11 +43,12 @@ mod work;
 pub use bytes::ByteStr;
 pub use catalog::{Catalog, CatalogFault, TableDef};
 pub use end::End;
+pub use engine::{Changes, ChangesIter, Entry};
 pub use frames::{Failed, FrameFault, Lsn, ReadSource, Sink, Source, WriteSink};
 pub use indexes::Tables;
 pub use messages::MsgFault;
 pub use model::{Change, Key, KeyValues, OutOfMemory, Row, TableId, Value};
-pub use outcome::{Clock, Config, Entry, Outcome};
+pub use outcome::{Clock, Config, Outcome};
 pub use printing::report;
 pub use relcache::RelFault;
 pub use rows::{RowView, ValueRef, Walk};

@@ -3,10 +3,9 @@ ghost use Rattle.std.specs.Prelude.{ℤ, Option, List, [], ◌∷◌};
 ghost use Rattle.leader.specs.Clock.{Ticks};
 
 use crate::end::End;
+use engine::Entry;
 use frames::Lsn;
 use indexes::Tables;
-use model::Change;
-use savepoint::Xid;
 
 /// The limits of a run.
 #[derive(Clone, Copy, Debug, PartialEq, Eq)]
@@ -17,18 +16,6 @@ pub struct Config {
     pub ring: usize,
     /// The payload bytes that spooled transactions may take.
     pub spool: u64,
-}
-
-/// A committed transaction.
-#[derive(Debug, Drop)]
-pub struct Entry {
-    pub xid: Xid,
-    /// Its surviving changes in order, skipped ones too.
-    pub changes: Vec<Change>,
-    /// Where its commit stands in the publisher's log.
-    pub commit: Lsn,
-    /// Where the log goes on behind it.
-    pub end: Lsn,
 }
 
 /// What a run leaves.

@@ -9,8 +9,9 @@ ghost use Rattle.session.specs.Answers.{IsOfTables};
 ghost use Rattle.leader.specs.Work.{HasNoClash, IsClear, ClashesAs, ClashesIn, rows_now};
 
 use change::{Applied, Clash, apply};
+use engine::Changes;
 use indexes::Tables;
-use model::Change;
+use model::{Change, Xid};
 use savepoint::Item;
 use std::alloc::Global;
 use std::marker::Model;
@@ -24,7 +25,7 @@ use undo::UndoLog;
 pub struct Work {
     tables: Tables,
     undo: UndoLog,
-    changes: Vec<Change>,
+    items: Vec<Item>,
 }
 
 impl Model for Work {
@@ -49,21 +50,21 @@ impl Work {
         Work {
             tables,
             undo: UndoLog::new(alloc),
-            changes: Vec::new(alloc),
+            items: Vec::new(alloc),
         }
     }
 
-    /// Applies a change as open work. A refusal leaves all as it was.
-    pub fn apply(&mut self, alloc: Global, change: Change) -> Result<(), Clash>
+    // Applies a change of a subtransaction as open work. A refusal leaves all as it was.
+    fn apply(&mut self, alloc: Global, sub: Xid, change: Change) -> Result<(), Clash>
         requires { NamesTables (length self.old.schema) change }
         ensures passes { OnOk result (HasNoClash self.old.schema (rows_now self.old) change) }
         ensures ok { OnOk result (self.new ≡ record self.old { changes = self.old.changes ++ change ∷ [] }) }
         ensures refused { IfErr result (ClashesAs self.old.schema (rows_now self.old) change) }
         ensures err { OnErr result (self.new ≡ self.old) }
     {
-        self.changes.reserve(1)?;
+        self.items.reserve(1)?;
         apply_logged(alloc, &mut self.tables, &mut self.undo, &change)?;
-        self.changes.push_reserved(change);
+        self.items.push_reserved(Item::Change { sub, change });
         Ok(())
     }
 
@@ -76,7 +77,7 @@ impl Work {
         ensures err { OnErr result (self.new ≡ self.old) }
     {
         match item {
-            Item::Change { sub: _, change } => self.apply(alloc, change),
+            Item::Change { sub, change } => self.apply(alloc, sub, change),
             Item::Touch(_) | Item::BackTo(_) | Item::Last => Ok(()),
         }
     }
@@ -97,13 +98,13 @@ impl Work {
     }
 
     /// The open work stands from here on. It answers its changes.
-    pub fn settle(&mut self, alloc: Global) -> Vec<Change>
-        ensures changes { result.items ≡ self.old.changes }
+    pub fn settle(&mut self, alloc: Global) -> Changes
+        ensures changes { result ≡ self.old.changes }
         ensures settled { self.new ≡ record { schema = self.old.schema; base = rows_now self.old; changes = [] } }
     {
         self.undo.settle(&mut self.tables);
         self.undo = UndoLog::new(alloc);
-        mem::replace(&mut self.changes, Vec::new(alloc))
+        Changes::of_items(mem::replace(&mut self.items, Vec::new(alloc)))
     }
 
     /// Undoes the open work, and gives the tables back. It takes no memory.
@@ -114,7 +115,7 @@ impl Work {
         let Work {
             mut tables,
             mut undo,
-            changes: _,
+            items: _,
         } = self;
         undo.undo_to(&mut tables, 0);
         tables
