@@ -108,7 +108,9 @@ def small_work(session, turn, chance):
         f"DELETE FROM accounts WHERE id = {own};",
         f"INSERT INTO \"Odd \"\"table\"\" \\ |\" VALUES ({key}, 'v{session}', {odd}) ON CONFLICT DO NOTHING;",
         f"UPDATE \"Odd \"\"table\"\" \\ |\" SET v = {odd} WHERE \"k 1\" = {key};",
-        f"UPDATE \"Odd \"\"table\"\" \\ |\" SET k2 = k2 || 'x' WHERE \"k 1\" = {key} AND length(k2) < 20;",
+        # A row whose longer key is there is passed over: keys are compared row by row, in an order of the plan.
+        f"UPDATE \"Odd \"\"table\"\" \\ |\" o SET k2 = k2 || 'x' WHERE \"k 1\" = {key} AND length(k2) < 20 AND NOT EXISTS "
+        f"(SELECT FROM \"Odd \"\"table\"\" \\ |\" WHERE \"k 1\" = o.\"k 1\" AND k2 = o.k2 || 'x');",
         f"INSERT INTO whole VALUES ({own}, (SELECT string_agg(md5(i::text), '') FROM generate_series(1, 400) i), "
         f"{turn % 100}) ON CONFLICT (id) DO UPDATE SET n = whole.n + 1;",
         f"DELETE FROM whole WHERE id = {own};",

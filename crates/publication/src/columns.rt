@@ -1,4 +1,8 @@
 // How a column of the server is kept: the subscriber's type, and a constant default.
+ghost use Rattle.std.specs.Prelude.{◌≡◌, IfOk, IsTrue};
+ghost use Rattle.publication.specs.Types.{kind_of, name_of, is_default_of};
+ghost use Rattle.publication.specs.declared.columns.Kind.TheVariants.{Int};
+
 use server::fault::Fault;
 use std::alloc::Global;
 
@@ -12,7 +16,9 @@ pub enum Kind {
 
 impl Kind {
     /// Its name in a catalog.
-    pub fn name(self) -> &'static str {
+    pub fn name(self) -> &'static str
+        ensures { result.now ≡ name_of self }
+    {
         match self {
             Kind::Int => "int",
             Kind::Text => "text",
@@ -35,7 +41,9 @@ pub struct ServerType {
 
 impl ServerType {
     /// The subscriber's own type: int2, int4 and int8, text and varchar, bool.
-    pub fn kind(&self) -> Option<Kind> {
+    pub fn kind(&self) -> Option<Kind>
+        ensures { result ≡ kind_of self.now.oid }
+    {
         match self.oid {
             20 | 21 | 23 => Some(Kind::Int),
             25 | 1043 => Some(Kind::Text),
@@ -84,7 +92,9 @@ pub enum DefaultValue {
 }
 
 /// Reads a default as `pg_get_expr` prints it: a number, a quoted text or a word, perhaps with a cast.
-pub fn read_default(alloc: Global, kind: Kind, expression: &str) -> Result<DefaultValue, Fault> {
+pub fn read_default(alloc: Global, kind: Kind, expression: &str) -> Result<DefaultValue, Fault>
+    ensures { IfOk result (λ value. IsTrue (is_default_of kind value)) }
+{
     if let Some(constant) = unquoted(alloc, expression)? {
         return Ok(typed(kind, constant));
     }
@@ -103,7 +113,9 @@ pub fn read_default(alloc: Global, kind: Kind, expression: &str) -> Result<Defau
 }
 
 /// A text constant as a default of a type.
-fn typed(kind: Kind, constant: String) -> DefaultValue {
+fn typed(kind: Kind, constant: String) -> DefaultValue
+    ensures { IsTrue (is_default_of kind result) }
+{
     match kind {
         Kind::Int => int_default(constant.as_str()),
         Kind::Text => DefaultValue::Text(constant),
@@ -115,7 +127,9 @@ fn typed(kind: Kind, constant: String) -> DefaultValue {
     }
 }
 
-fn int_default(text: &str) -> DefaultValue {
+fn int_default(text: &str) -> DefaultValue
+    ensures { IsTrue (is_default_of Int result) }
+{
     match text.parse::<i64>() {
         Ok(number) => DefaultValue::Int(number),
         Err(_) => match text.strip_prefix("NULL::") {

@@ -1,4 +1,6 @@
 // The command line, and libpq's variables.
+ghost use Rattle.std.specs.Prelude.{◌≡◌, ◌≤◌, IfOk, IfSome, Some, None};
+
 use clap::error::ErrorKind;
 use clap::{Arg, ArgAction, ArgMatches, Command, Error};
 use server::host::Server;
@@ -16,6 +18,7 @@ pub struct Options<'a> {
     database: Option<&'a str>,
     /// How many milliseconds the server may be silent.
     limit: u64,
+    ghost a_second: { 1000 ≤ limit },
 }
 
 /// A command, with what it alone takes.
@@ -217,7 +220,10 @@ fn given_slot<'a>(given: &ArgMatches<'a>) -> Option<Slot<'a>> {
 }
 
 /// Milliseconds of a number of seconds, if one was given.
-fn seconds(text: Option<&str>) -> Option<Option<u64>> {
+fn seconds(text: Option<&str>) -> Option<Option<u64>>
+    ensures absent { text.entry ≡ None → result ≡ Some None }
+    ensures range { IfSome result (λ given. IfSome given (λ millis. (1000 ≤ millis) × (millis ≤ 1000000000000))) }
+{
     let Some(text) = text else {
         return Some(None);
     };
@@ -233,7 +239,9 @@ fn seconds(text: Option<&str>) -> Option<Option<u64>> {
 }
 
 /// A place in the log, if one was given.
-fn place(text: Option<&str>) -> Option<Option<u64>> {
+fn place(text: Option<&str>) -> Option<Option<u64>>
+    ensures { text.entry ≡ None → result ≡ Some None }
+{
     match text {
         None => Some(None),
         Some(text) => {
@@ -272,7 +280,9 @@ pub fn choose_server(
     alloc: Global,
     options: &Options<'_>,
     variables: &Variables,
-) -> Result<Option<Server>, AllocError> {
+) -> Result<Option<Server>, AllocError>
+    ensures { IfOk result (λ chosen. IfSome chosen (λ server. 1000 ≤ server.limit)) }
+{
     let login = variables.login.as_deref();
     let Some(user) = options.user.or(variables.user.as_deref()).or(login) else {
         return Ok(None);
