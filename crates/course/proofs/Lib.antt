@@ -2,3 +2,8 @@ mod Telling
 mod Alone
 mod Reaching
 mod Running
+mod Ways
+mod Threading
+mod Closing
+pub mod Books
+pub mod Turns
