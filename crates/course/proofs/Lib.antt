@@ -6,4 +6,5 @@ mod Ways
 mod Threading
 mod Closing
 pub mod Books
-pub mod Turns
+pub mod Steps
+pub mod Moments

@@ -27,6 +27,7 @@ use Rattle.course.specs.Course.{world_of}
 use Rattle.course.specs.Leading.{Lane, AreInStep, AreCounts}
 use Rattle.course.specs.Runs.{CommitsNext, Leaves, IsAtMostOne, TellsRun, IsTurnOf, IsStoppedBy, conflict}
 use Rattle.course.specs.Threads.{IsWorldOf}
+use Rattle.course.specs.Turns.{Moment, start_moment, IsInStep, Turns}
 use Rattle.course.specs.ThreadedRun.{HasConflict, IsStuckBy, IsThreadedRun}
 
 -- each message that the session table admits tells one thing
@@ -121,6 +122,14 @@ OneIsOpenWithoutWorkers =
     → IsAtMostOne run.world.opened × ((xid holder : ℕ) → o.end ≢ ends.HeldKey xid holder)
 
 -- ---- a leader and its workers
+
+-- whatever a leader and its workers do, and in whatever order: at each moment all transactions are
+-- in step with the world, which is one of the state
+abbrev pub EachMomentIsInStep : Type 0
+EachMomentIsInStep =
+    (g : Setting) (rows : Rows) (items : List CopyItem) (a : Moment)
+    → Turns g (start_moment rows items) a
+    → IsInStep g rows a × IsWorldOf g rows a.state a.rest a.world
 
 -- where a leader's transactions are in step with the world, that is one of its state
 abbrev pub InStepIsWorld : Type 0

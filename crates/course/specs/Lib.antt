@@ -4,4 +4,5 @@ pub mod Runs
 pub mod Threads
 pub mod ThreadedRun
 pub mod Leading
+pub mod Turns
 pub mod Laws

@@ -4,7 +4,8 @@ ghost use Rattle.course.specs.Laws.{EachMessageTells, LawfulIsSane, ProgressIsRe
 ghost use Rattle.course.specs.Laws.{RunIsReached, ConflictStopsWorld};
 ghost use Rattle.course.specs.Laws.{ThreadedIsSerial, OpenLeavesNothing, WorkersAlterNothing};
 ghost use Rattle.course.specs.Laws.{CleanIsWithoutThreads, OneIsOpenWithoutWorkers};
-ghost use Rattle.course.specs.Laws.{InStepIsWorld, NotedClashIsConflict, HeldIsStuck};
+ghost use Rattle.course.specs.Laws.{EachMomentIsInStep, InStepIsWorld};
+ghost use Rattle.course.specs.Laws.{NotedClashIsConflict, HeldIsStuck};
 
 /// Each message that is admitted tells one thing, which says what becomes of the transaction that
 /// was begun.
@@ -59,6 +60,12 @@ pub fn clean_is_without_threads()
 /// Without workers one transaction is open at most, and none waits for another.
 pub fn one_is_open_without_workers()
     ensures { OneIsOpenWithoutWorkers }
+{}
+
+/// Whatever a leader and its workers do, in whatever order: at each moment all transactions are in
+/// step with the world.
+pub fn each_moment_is_in_step()
+    ensures { EachMomentIsInStep }
 {}
 
 /// Where a leader's transactions are in step with the world, that is one of its state.

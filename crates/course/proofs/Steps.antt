@@ -24,6 +24,7 @@ use Rattle.world.specs.World.{Opened, Stop, World, starting}
 use Rattle.course.specs.Runs.{CommitsNext}
 use Rattle.course.specs.Threads.{work_of, done_by_commit}
 use Rattle.course.specs.Leading.{Lane, InStep, IsAgreed, AreInStep, IsWith}
+use Rattle.course.specs.Turns.{empty_lane, with_late}
 use Rattle.course.proofs.Threading.{not_longer, one_state, one_commit}
 
 -- The next message commits none.
@@ -74,14 +75,6 @@ module _ (g : Setting) (rows : Rows) (s t : State) (rest more : List CopyItem) w
   }
 
 -- ---- what the leader is told of a message
-
--- an item of a lane's transaction is added to those that are late
-abbrev pub with_late : Lane → Item → Lane
-with_late l item = record l { late = l.late ++ item ∷ [] }
-
--- a lane with nothing in it
-abbrev pub empty_lane : Lane
-empty_lane = record { sent = []; late = [] }
 
 -- what has just opened
 abbrev pub just_opened : Opened
@@ -293,7 +286,18 @@ commits_told g rows s t rest more lanes after w c d are told only at all lane =
 
 -- ---- between two messages
 
-module _ (g : Setting) (rows : Rows) (s : State) (rest : List CopyItem) (lanes : ℕ → Option Lane) (w : World) (are : AreInStep g rows s rest lanes w) (xid : ℕ) (o : Open) (l : Lane) (d : Opened) (present : get s.transactions xid ≡ Some o) where
+-- what is open in the state and in the world, and has a lane, is in step
+pub in_step_at : (g : Setting) (rows : Rows) (s : State) (rest : List CopyItem) (lanes : ℕ → Option Lane) (w : World) → AreInStep g rows s rest lanes w
+    → (xid : ℕ) (o : Open) (l : Lane) (d : Opened) → get s.transactions xid ≡ Some o → lanes xid ≡ Some l → get w.opened xid ≡ Some d
+    → InStep g s rest xid o l d
+in_step_at g rows s rest lanes w are xid o l d at was there =
+    let is = in_lane g s rest xid (get s.transactions xid) o (lanes xid) l (get w.opened xid) at was (are.agree xid) in
+    subst (InStep g s rest xid o l) (same is.0 d (sym is.1 ∙ there)) is.2
+  where
+    same : (d e : Opened) → Some d ≡ Some e → d ≡ e
+    same d e is = cc
+
+module _ (g : Setting) (rows : Rows) (s : State) (rest : List CopyItem) (lanes : ℕ → Option Lane) (w : World) (are : AreInStep g rows s rest lanes w) (xid : ℕ) (o : Open) (present : get s.transactions xid ≡ Some o) where
   -- one transaction's lane, or what it has done, moves
   abbrev moves : (after : ℕ → Option Lane) (new : World) (k : Lane) (e : Opened) → ∥ Reaches (schema_of g) (starting rows) new ∥₁
       → new.line ≡ w.line → InStep g s rest xid o k e → IsWith lanes after xid (Some k)
@@ -305,14 +309,14 @@ module _ (g : Setting) (rows : Rows) (s : State) (rest : List CopyItem) (lanes :
       (subst (λ x. IsAgreed g s rest xid (Some o) (Some k) x) (sym (there xid ∙ got_same w.opened xid e)) step)))
       (λ x differs. (refl, lane.elsewhere x differs, there x ∙ got_other w.opened xid e x differs)) (λ x differs next. next)
 
-  same_lanes : lanes xid ≡ Some l → IsWith lanes lanes xid (Some l)
-  same_lanes was = record { here = was; elsewhere = λ x differs. refl }
+  same_lanes : (l : Lane) → lanes xid ≡ Some l → IsWith lanes lanes xid (Some l)
+  same_lanes l was = record { here = was; elsewhere = λ x differs. refl }
 
   -- the leader sends the first item that is late
-  pub sends : (i : Item) (late : List Item) (after : ℕ → Option Lane) → InStep g s rest xid o l d → get w.opened xid ≡ Some d
+  pub sends : (l : Lane) (d : Opened) (i : Item) (late : List Item) (after : ℕ → Option Lane) → InStep g s rest xid o l d → get w.opened xid ≡ Some d
       → l.late ≡ i ∷ late → IsWith lanes after xid (Some (record { sent = l.sent ++ i ∷ []; late = late }))
       → AreInStep g rows s rest after w
-  sends i late after step at first lane =
+  sends l d i late after step at first lane =
       moves after w (record { sent = l.sent ++ i ∷ []; late = late }) d are.reached refl
       (record {
         all_work = append_assoc l.sent (i ∷ []) late ∙ ap (λ is. l.sent ++ is) (sym first) ∙ step.all_work;
@@ -330,36 +334,36 @@ module _ (g : Setting) (rows : Rows) (s : State) (rest : List CopyItem) (lanes :
       ]
 
   -- the transaction does the next item that was sent
-  pub does : (i : Item) (left : List Item) (step : InStep g s rest xid o l d) → lanes xid ≡ Some l → step.left ≡ i ∷ left
+  pub does : (l : Lane) (d : Opened) (i : Item) (left : List Item) → InStep g s rest xid o l d → lanes xid ≡ Some l → d.items ++ i ∷ left ≡ l.sent
       → Step (schema_of g) w (done_with w xid d i) → AreInStep g rows s rest lanes (done_with w xid d i)
-  does i left step was first call =
+  does l d i left step was first call =
       moves lanes (done_with w xid d i) l (record { items = d.items ++ i ∷ []; wants = None })
       (∥∥₁_map are.reached (λ r. by_step w (done_with w xid d i) r call)) refl
       (record {
         all_work = step.all_work;
         left = left;
-        begins = append_assoc d.items (i ∷ []) left ∙ ap (λ is. d.items ++ is) (sym first) ∙ step.begins;
+        begins = append_assoc d.items (i ∷ []) left ∙ first;
         wants = λ sub c wanted. absurd (none_wanted sub c wanted);
         next = step.next;
       })
-      (same_lanes was) (λ x. refl)
+      (same_lanes l was) (λ x. refl)
 
   -- that item is a change, which waits, or clashes and stops the world
-  pub wants : (sub : ℕ) (c : change_type.Change) (left : List Item) (stopped : Option Stop) (step : InStep g s rest xid o l d)
-      → lanes xid ≡ Some l → step.left ≡ Change sub c ∷ left
+  pub wants : (l : Lane) (d : Opened) (sub : ℕ) (c : change_type.Change) (left : List Item) (stopped : Option Stop) → InStep g s rest xid o l d
+      → lanes xid ≡ Some l → d.items ++ Change sub c ∷ left ≡ l.sent
       → Step (schema_of g) w (record (wanting w xid d sub c) { stopped = stopped })
       → AreInStep g rows s rest lanes (record (wanting w xid d sub c) { stopped = stopped })
-  wants sub c left stopped step was first call =
+  wants l d sub c left stopped step was first call =
       moves lanes (record (wanting w xid d sub c) { stopped = stopped }) l (record d { wants = Some (sub, c) })
       (∥∥₁_map are.reached (λ r. by_step w (record (wanting w xid d sub c) { stopped = stopped }) r call)) refl
       (record {
         all_work = step.all_work;
-        left = step.left;
-        begins = step.begins;
-        wants = λ other e wanted. (left, first ∙ ap (λ i. i ∷ left) (same_change sub other c e wanted));
+        left = Change sub c ∷ left;
+        begins = first;
+        wants = λ other e wanted. (left, ap (λ i. i ∷ left) (same_change sub other c e wanted));
         next = step.next;
       })
-      (same_lanes was) (λ x. refl)
+      (same_lanes l was) (λ x. refl)
     where
       same_pair : (p q : ℕ × change_type.Change) → Some p ≡ Some q → p ≡ q
       same_pair p q e = cc
