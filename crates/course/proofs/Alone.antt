@@ -213,12 +213,9 @@ module _ (schema : Schema) (rows : Rows) where
     change = c;
     after = after;
     in_turn = turn;
-    new = record (wanting (at line (one xid items)) xid (record { items = items; wants = None }) sub c) { stopped = Some (ByClash xid c cause) };
-    acts = (
-      refl,
-      free_alone line xid (record { items = items; wants = None }) (footprint schema (seen line xid items) c),
-      e,
-      refl,
+    so = (
+      record (wanting (at line (one xid items)) xid (record { items = items; wants = None }) sub c) { stopped = Some (ByClash xid c cause) },
+      (refl, free_alone line xid (record { items = items; wants = None }) (footprint schema (seen line xid items) c), e, refl),
     );
   }
 

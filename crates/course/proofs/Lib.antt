@@ -2,3 +2,9 @@ mod Telling
 mod Alone
 mod Reaching
 mod Running
+mod Ways
+mod Threading
+mod Closing
+pub mod Books
+pub mod Steps
+pub mod Moments

@@ -61,10 +61,12 @@ tells_of : (g : Setting) (rows : Rows) (old new : DeviceState) (o : Outcome) (ru
 tells_of g rows old new o run m w alone is reached = record {
   reached = reached;
   line = ap (λ (v : World). v.line) is;
-  entries = run.journal ∙ entries_same run.progress.state.past ∙ sym (ap (λ (v : World). map told_of (journal v)) is);
-  position = run.position ∙ ends_same run.progress.state.past ∙ sym (ap (λ (v : World). end_of v.line) is);
-  tables =
-      run.tables ∙ ap (serial (schema_of g) rows) (sym (work_same run.progress.state.past)) ∙ sym (ap (λ (v : World). v.committed) is);
+  left = record {
+    entries = run.journal ∙ entries_same run.progress.state.past ∙ sym (ap (λ (v : World). map told_of (journal v)) is);
+    position = run.position ∙ ends_same run.progress.state.past ∙ sym (ap (λ (v : World). end_of v.line) is);
+    tables =
+        run.tables ∙ ap (serial (schema_of g) rows) (sym (work_same run.progress.state.past)) ∙ sym (ap (λ (v : World). v.committed) is);
+  };
   alone = subst IsAtMostOne (sym (ap (λ (v : World). v.opened) is)) alone;
   running = ap (λ (v : World). v.stopped) is;
 }
@@ -293,15 +295,10 @@ module _ (schema : Schema) (rows : Rows) (cause : ClashCause) where
   next_stops g s (Wal first last payload ∷ rest) sane clear reached next =
       let what = told g s next.1 (length payload) next.0 sane next.2.stepped in
       stops_in_turn schema rows s.past cause (NextTurn s next.1) (λ xid work. DoesAtCommit g s payload xid work)
-      (λ xid work turn. record {
-        message = next.0;
-        state = next.1;
-        admits = next.2;
-        committed = turn.0;
-        past = turn.1;
-        xid_is = turn.2;
-        work_is = turn.3;
-      })
+      (λ xid work turn. (
+        record { message = next.0; state = next.1; admits = next.2; committed = turn.0; past = turn.1; xid_is = turn.2 },
+        turn.3,
+      ))
       (next_told s next.1 what.0 what.1 what.2 next.3 clear (clashing next.1 next.4) reached)
   next_stops g s (Keepalive last reply ∷ rest) sane clear reached next = absurd next
   next_stops g s (Done ∷ rest) sane clear reached next = absurd next

@@ -29,35 +29,35 @@ use Rattle.course.specs.Begun.{IsSane, open_items, begun, if_direct, Moves, IsTo
 
 -- ---- what an answer of the table is
 
-was_fault_free : (fault : Option SessionFault) (u t : State) → unless_fault fault u ≡ Ok t
+pub was_fault_free : (fault : Option SessionFault) (u t : State) → unless_fault fault u ≡ Ok t
     → (fault ≡ None) × (u ≡ t)
 was_fault_free None u t e = (refl, cc)
 was_fault_free (Some fault) u t e = cc
 
-was_open : (found : Option Open) (next : Open → Next) (t : State) → of_open found next ≡ Ok t
+pub was_open : (found : Option Open) (next : Open → Next) (t : State) → of_open found next ≡ Ok t
     → (o : Open) × (found ≡ Some o) × (next o ≡ Ok t)
 was_open None next t e = cc
 was_open (Some o) next t e = (o, refl, e)
 
-was_so : (b : Bool) (next : Next) (fault : SessionFault) (t : State)
+pub was_so : (b : Bool) (next : Next) (fault : SessionFault) (t : State)
     → (if b then next else refuse fault) ≡ Ok t → next ≡ Ok t
 was_so true next fault t e = e
 was_so false next fault t e = cc
 
-was_not_so : (b : Bool) (next : Next) (fault : SessionFault) (t : State)
+pub was_not_so : (b : Bool) (next : Next) (fault : SessionFault) (t : State)
     → (if b then refuse fault else next) ≡ Ok t → (b ≡ false) × (next ≡ Ok t)
 was_not_so true next fault t e = cc
 was_not_so false next fault t e = (refl, e)
 
-was_planned : (planned : Result change_type.Change RelFault) (next : change_type.Change → State) (t : State)
+pub was_planned : (planned : Result change_type.Change RelFault) (next : change_type.Change → State) (t : State)
     → plans planned next ≡ Ok t → (c : change_type.Change) × (next c ≡ t)
 was_planned (Ok c) next t e = (c, cc)
 was_planned (Err fault) next t e = cc
 
-abbrev went_to : State → Next
+abbrev pub went_to : State → Next
 went_to t = Ok t
 
-ok_is : (u t : State) → went_to u ≡ went_to t → u ≡ t
+pub ok_is : (u t : State) → went_to u ≡ went_to t → u ≡ t
 ok_is u t e = cc
 
 none_at : (m : OpenTransactions) (xid : ℕ) → room_fault m xid ≡ None → finite.get m xid ≡ None
@@ -69,7 +69,7 @@ none_at m xid e = from (finite.get m xid) refl
 
 -- ---- which transactions go directly
 
-same_open : (o p : Open) → Some o ≡ Some p → o ≡ p
+pub same_open : (o p : Open) → Some o ≡ Some p → o ≡ p
 same_open o p e = cc
 
 -- with one put in, or in its place
@@ -85,7 +85,7 @@ put_alone p m xid o others here x q at direct =
       | inr differs ↦ others x q differs (sym (got_other m xid o x differs) ∙ at) direct
     ]
 
-not_there : (o : Open) → None ≡ Some o → ⊥
+pub not_there : (o : Open) → None ≡ Some o → ⊥
 not_there o e = cc
 
 -- with one taken out

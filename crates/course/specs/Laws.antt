@@ -1,26 +1,34 @@
 -- The laws of a run in the words of a world, each as one statement. `src/laws.rt` names them, so
 -- that the check proves them.
-use Rattle.std.specs.Prelude.{◌≡◌, ℕ, List, Some, None, Ok}
-use Rattle.model.specs.Effect.{ClashCause}
-use Rattle.model.specs.Rows.{Rows}
+use Rattle.std.specs.Prelude.{◌≡◌, ◌≢◌, ℕ, List, [], Option, Some, None, Ok, map, ◌⊎◌}
+use Rattle.std.specs.FinMap.{get}
+use Rattle.model.specs.Effect.{ClashCause, serial}
+use Rattle.model.specs.Rows.{Rows, IsValid}
+use Rattle.model.specs.declared.change.Change as change_type
 use Rattle.model.specs.declared.item.Item.{Item}
 use Rattle.messages.specs.declared.message.Message.{Message}
 use Rattle.frames.specs.declared.item.CopyItem.{CopyItem}
 use Rattle.session.specs.Lawful.{IsLawful}
-use Rattle.session.specs.State.{State, Setting}
+use Rattle.session.specs.State.{State, Setting, begun_at}
 use Rattle.session.specs.Table.{step}
 use Rattle.leader.specs.Cause.{schema_of}
-use Rattle.leader.specs.Commits.{all_changes}
+use Rattle.leader.specs.Commits.{transaction_of, commits, all_changes, changes_in, last_end}
 use Rattle.leader.specs.Devices.{DeviceState}
 use Rattle.leader.specs.Progress.{Progress, Leads, start_progress}
 use Rattle.leader.specs.Run.{IsRun}
 use Rattle.leader.specs.Work.{IsClear}
+use Rattle.leader.specs.declared.end.End.TheVariants as ends
 use Rattle.leader.specs.declared.outcome.Outcome.{Outcome}
-use Rattle.world.specs.Steps.{Reaches}
-use Rattle.world.specs.World.{World, starting}
+use Rattle.world.specs.FineLaws.{IsFine}
+use Rattle.world.specs.Steps.{Reaches, Closes, IsStuck}
+use Rattle.world.specs.World.{Opened, ByClash, World, starting, journal}
 use Rattle.course.specs.Begun.{IsSane, IsTold}
 use Rattle.course.specs.Course.{world_of}
-use Rattle.course.specs.Runs.{TellsRun, IsTurnOf, IsStoppedBy, conflict}
+use Rattle.course.specs.Leading.{Lane, AreInStep, AreCounts}
+use Rattle.course.specs.Runs.{CommitsNext, Leaves, IsAtMostOne, TellsRun, IsTurnOf, IsStoppedBy, conflict}
+use Rattle.course.specs.Threads.{IsWorldOf}
+use Rattle.course.specs.Turns.{Moment, start_moment, IsInStep, Turns}
+use Rattle.course.specs.ThreadedRun.{HasConflict, IsStuckBy, IsThreadedRun}
 
 -- each message that the session table admits tells one thing
 abbrev pub EachMessageTells : Type 0
@@ -60,3 +68,90 @@ ConflictStopsWorld =
     (cause : ClashCause) → conflict o.end ≡ Some cause
     → (w : World) × TellsRun g rows run.progress.state o w × (xid : ℕ) × (work : List Item)
     × IsTurnOf g run.progress.state run.rest xid work × IsStoppedBy (schema_of g) w xid work cause
+
+-- ---- runs with workers
+
+-- whatever the leader and the workers did, and whatever ended the run: its journal are the commits
+-- of the items that were handled, in their order, each with the changes that survived; its tables
+-- are the start rows with the changes of the journal, one commit after another; its position is the
+-- end of the last
+abbrev pub ThreadedIsSerial : Type 0
+ThreadedIsSerial =
+    (g : Setting) (rows : Rows) (old new : DeviceState) (o : Outcome)
+    (run : IsThreadedRun g rows old new o) → IsValid (schema_of g) rows
+    → (map transaction_of o.journal.items ≡ commits run.progress.state)
+    × (o.tables.rows ≡ serial (schema_of g) rows (changes_in (map transaction_of o.journal.items)))
+    × (o.position ≡ last_end run.progress.state.past)
+
+-- what was open at its end has left nothing: calls reach a world in which none is open any more,
+-- and the run leaves what closing that world gives
+abbrev pub OpenLeavesNothing : Type 0
+OpenLeavesNothing =
+    (g : Setting) (rows : Rows) (old new : DeviceState) (o : Outcome)
+    (run : IsThreadedRun g rows old new o)
+    → (closed : World) × ∥ Reaches (schema_of g) (starting rows) closed ∥₁
+    × Closes closed o.tables.rows (journal closed) × Leaves o closed
+
+-- the same items lead to the same commits and the same status updates, however many workers there
+-- are, and whatever the spools have room for
+abbrev pub WorkersAlterNothing : Type 0
+WorkersAlterNothing =
+    (g h : Setting) (items : List CopyItem) (p q : Progress) → h.catalog ≡ g.catalog
+    → Leads g start_progress items p → Leads h start_progress items q
+    → (commits q.state ≡ commits p.state) × (q.state.position ≡ p.state.position)
+    × (q.seen ≡ p.seen) × (q.updates ≡ p.updates)
+
+-- so a clean run leaves what a run without workers does that handles all items of the same bytes:
+-- the same journal, position and tables, and the same status updates but for their times
+abbrev pub CleanIsWithoutThreads : Type 0
+CleanIsWithoutThreads =
+    (g h : Setting) (rows : Rows) (old new before after : DeviceState) (o p : Outcome)
+    (run : IsThreadedRun g rows old new o) (alone : IsRun h rows before after p)
+    → IsValid (schema_of g) rows → h.catalog ≡ g.catalog → o.end ≡ ends.Clean
+    → alone.bytes ≡ run.bytes → alone.rest ≡ []
+    → (map transaction_of p.journal.items ≡ map transaction_of o.journal.items)
+    × (p.position ≡ o.position) × (p.tables.rows ≡ o.tables.rows)
+    × (alone.progress.updates ≡ run.progress.updates)
+
+-- without workers it is a run without threads: one transaction is open at most, so none waits for
+-- another
+abbrev pub OneIsOpenWithoutWorkers : Type 0
+OneIsOpenWithoutWorkers =
+    (g : Setting) (rows : Rows) (old new : DeviceState) (o : Outcome)
+    (run : IsThreadedRun g rows old new o) → g.workers ≡ 0
+    → IsAtMostOne run.world.opened × ((xid holder : ℕ) → o.end ≢ ends.HeldKey xid holder)
+
+-- ---- a leader and its workers
+
+-- whatever a leader and its workers do, and in whatever order: at each moment all transactions are
+-- in step with the world, which is one of the state
+abbrev pub EachMomentIsInStep : Type 0
+EachMomentIsInStep =
+    (g : Setting) (rows : Rows) (items : List CopyItem) (a : Moment)
+    → Turns g (start_moment rows items) a
+    → IsInStep g rows a × IsWorldOf g rows a.state a.rest a.world
+
+-- where a leader's transactions are in step with the world, that is one of its state
+abbrev pub InStepIsWorld : Type 0
+InStepIsWorld =
+    (g : Setting) (rows : Rows) (s : State) (rest : List CopyItem) (lanes : ℕ → Option Lane) (w : World)
+    → AreInStep g rows s rest lanes w → IsWorldOf g rows s rest w
+
+-- and a clash that was noted there is the conflict that the run ends for, while its transaction
+-- wants the change
+abbrev pub NotedClashIsConflict : Type 0
+NotedClashIsConflict =
+    (g : Setting) (rows : Rows) (s : State) (rest : List CopyItem) (lanes : ℕ → Option Lane) (w : World)
+    → AreInStep g rows s rest lanes w → IsFine (schema_of g) w
+    → (xid : ℕ) (c : change_type.Change) (cause : ClashCause) → w.stopped ≡ Some (ByClash xid c cause)
+    → (done : Opened) → get w.opened xid ≡ Some done → (sub : ℕ) → done.wants ≡ Some (sub, c)
+    → HasConflict g s w cause
+
+-- where the call that stops a world answers a holder, for a transaction whose turn it is, nothing
+-- goes on: the run ends for that holder
+abbrev pub HeldIsStuck : Type 0
+HeldIsStuck =
+    (g : Setting) (rows : Rows) (s : State) (rest : List CopyItem) (lanes : ℕ → Option Lane) (w : World)
+    → AreInStep g rows s rest lanes w → (named : List (ℕ × ℕ)) (waiter holder : ℕ) → AreCounts lanes named
+    → (begun_at s.phase ≡ Some waiter) ⊎ CommitsNext g s rest waiter
+    → IsStuck (schema_of g) w named waiter holder → IsStuckBy g s rest w waiter holder

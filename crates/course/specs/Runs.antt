@@ -1,7 +1,10 @@
 -- A run in the words of a world.
 --     told_of, end_of      a world's commit in the words of a journal; where its commits end
+--     Leaves      a run leaves just the commits of a world
 --     IsAtMostOne, TellsRun      no two transactions are open; the world has just what the run leaves
 --     conflict      the conflict that ended a run
+--     IsCommitOf, CommitsNext      a payload commits a transaction; the next message does
+--     NextChange      the next item of a transaction's work is a change, and which
 --     IsTurnOf, IsStoppedBy      whose turn it is, and with which items; one of its changes clashes
 --         so in the world
 use Rattle.std.specs.Prelude.{◌≡◌, ℕ, List, [], ◌∷◌, ◌++◌, map, Option, Some, None, Ok, ◌⊎◌}
@@ -43,15 +46,19 @@ IsAtMostOne opened =
     (xid other : ℕ) (o p : Opened) → get opened xid ≡ Some o → get opened other ≡ Some p
     → xid ≡ other
 
--- Calls reach the world from these rows; it has the commits that the state tells of, which are the
--- journal, and whose end is the position; its committed rows are the tables; at most one
--- transaction is open in it, and nothing has stopped it.
-pub record TellsRun (g : Setting) (rows : Rows) (s : State) (o : Outcome) (w : World) : Type 0 where
-  pub reached : Reaches (schema_of g) (starting rows) w
-  pub line : w.line ≡ map past_of s.past
+-- The run leaves the commits of the world: they are the journal, whose end is the position, and the
+-- committed rows are the tables.
+pub record Leaves (o : Outcome) (w : World) : Type 0 where
   pub entries : map transaction_of o.journal.items ≡ map told_of (journal w)
   pub position : o.position ≡ end_of w.line
   pub tables : o.tables.rows ≡ w.committed
+
+-- Calls reach the world from these rows; it has the commits that the state tells of, which the run
+-- leaves; at most one transaction is open in it, and nothing has stopped it.
+pub record TellsRun (g : Setting) (rows : Rows) (s : State) (o : Outcome) (w : World) : Type 0 where
+  pub reached : Reaches (schema_of g) (starting rows) w
+  pub line : w.line ≡ map past_of s.past
+  pub left : Leaves o w
   pub alone : IsAtMostOne w.opened
   pub running : w.stopped ≡ None
 
@@ -67,18 +74,41 @@ conflict (ends.NullKey table) = Some (NullKey table)
 conflict (ends.HeldKey xid holder) = None
 conflict ends.OutOfMemory = None
 
--- ---- a conflict
+-- ---- the message that comes next
 
--- The payload commits a transaction that does these items at its commit.
-pub record DoesAtCommit (g : Setting) (s : State) (payload : List ℕ) (xid : ℕ) (work : List Item)
-    : Type 0 where
+-- The payload is a message that commits this transaction.
+pub record IsCommitOf (g : Setting) (s : State) (payload : List ℕ) (xid : ℕ) : Type 0 where
   pub message : Message
   pub state : State
   pub admits : Admits g s payload message state
   pub committed : Committed
   pub past : state.past ≡ s.past ++ committed ∷ []
   pub xid_is : committed.xid ≡ xid
-  pub work_is : survivors xid (map item_of committed.items) ≡ work
+
+-- The next message commits this transaction.
+abbrev pub CommitsNext : Setting → State → List CopyItem → ℕ → Type 0
+CommitsNext g s rest xid = IsNext rest (λ payload. IsCommitOf g s payload xid)
+
+-- The payload commits a transaction that does these items at its commit.
+abbrev pub DoesAtCommit : Setting → State → List ℕ → ℕ → List Item → Type 0
+DoesAtCommit g s payload xid work =
+    (by : IsCommitOf g s payload xid) × (survivors xid (map item_of by.committed.items) ≡ work)
+
+-- ---- a change that comes next
+
+-- The transaction has done the first of these items; the next is a change of a subtransaction, and
+-- this is so of what was done and of that change.
+pub record NextChange (w : World) (xid : ℕ) (work : List Item) (P : Opened → ℕ → Change → Type 0)
+    : Type 0 where
+  pub transaction : Opened
+  pub present : get w.opened xid ≡ Some transaction
+  pub subtransaction : ℕ
+  pub change : Change
+  pub after : List Item
+  pub in_turn : transaction.items ++ ItemChange subtransaction change ∷ after ≡ work
+  pub so : P transaction subtransaction change
+
+-- ---- a conflict
 
 -- It is a transaction's turn to do these items: it is the one that was begun, or the next message
 -- commits it.
@@ -89,13 +119,6 @@ IsTurnOf g s rest xid work =
 
 -- The transaction has done the first of these items, and tries the next, a change, which clashes
 -- so: that call stops the world.
-pub record IsStoppedBy (schema : Schema) (w : World) (xid : ℕ) (work : List Item) (cause : ClashCause)
-    : Type 0 where
-  pub transaction : Opened
-  pub present : get w.opened xid ≡ Some transaction
-  pub subtransaction : ℕ
-  pub change : Change
-  pub after : List Item
-  pub in_turn : transaction.items ++ ItemChange subtransaction change ∷ after ≡ work
-  pub new : World
-  pub acts : Acts schema w xid transaction subtransaction change (Ok (Clashed cause)) new
+abbrev pub IsStoppedBy : Schema → World → ℕ → List Item → ClashCause → Type 0
+IsStoppedBy schema w xid work cause =
+    NextChange w xid work (λ o sub c. (new : World) × Acts schema w xid o sub c (Ok (Clashed cause)) new)

@@ -2,6 +2,10 @@
 // check of this crate proves it.
 ghost use Rattle.course.specs.Laws.{EachMessageTells, LawfulIsSane, ProgressIsReached};
 ghost use Rattle.course.specs.Laws.{RunIsReached, ConflictStopsWorld};
+ghost use Rattle.course.specs.Laws.{ThreadedIsSerial, OpenLeavesNothing, WorkersAlterNothing};
+ghost use Rattle.course.specs.Laws.{CleanIsWithoutThreads, OneIsOpenWithoutWorkers};
+ghost use Rattle.course.specs.Laws.{EachMomentIsInStep, InStepIsWorld};
+ghost use Rattle.course.specs.Laws.{NotedClashIsConflict, HeldIsStuck};
 
 /// Each message that is admitted tells one thing, which says what becomes of the transaction that
 /// was begun.
@@ -30,4 +34,51 @@ pub fn run_is_reached()
 /// conflict; what it leaves are the commits before.
 pub fn conflict_stops_world()
     ensures { ConflictStopsWorld }
+{}
+
+/// Whatever leader and workers did, a run with workers leaves the commits of the items that were
+/// handled, applied one after another in their order.
+pub fn threaded_is_serial()
+    ensures { ThreadedIsSerial }
+{}
+
+/// What was open at its end has left nothing.
+pub fn open_leaves_nothing()
+    ensures { OpenLeavesNothing }
+{}
+
+/// The same items lead to the same commits and status updates, however many workers there are.
+pub fn workers_alter_nothing()
+    ensures { WorkersAlterNothing }
+{}
+
+/// So a clean run leaves what a run without workers does that handles all items of the same bytes.
+pub fn clean_is_without_threads()
+    ensures { CleanIsWithoutThreads }
+{}
+
+/// Without workers one transaction is open at most, and none waits for another.
+pub fn one_is_open_without_workers()
+    ensures { OneIsOpenWithoutWorkers }
+{}
+
+/// Whatever a leader and its workers do, in whatever order: at each moment all transactions are in
+/// step with the world.
+pub fn each_moment_is_in_step()
+    ensures { EachMomentIsInStep }
+{}
+
+/// Where a leader's transactions are in step with the world, that is one of its state.
+pub fn in_step_is_world()
+    ensures { InStepIsWorld }
+{}
+
+/// A clash that was noted there is the conflict that the run ends for.
+pub fn noted_clash_is_conflict()
+    ensures { NotedClashIsConflict }
+{}
+
+/// Where the call that stops a world answers a holder, nothing goes on.
+pub fn held_is_stuck()
+    ensures { HeldIsStuck }
 {}

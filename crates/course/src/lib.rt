@@ -13,9 +13,19 @@
 // leaves, as journal and as rows. Where a conflict ended the run, the call of the one transaction
 // that is open there clashes for the same cause, which stops the world.
 //
+// In a run with workers several transactions are open at once, each with a beginning of its work
+// done. So what such a run may do is said by a world alone: any that calls reach, with the commits
+// of the state, and a cause of the end at it. Its promise (`IsThreadedRun`) shares items, what they
+// lead to and status updates with the run without threads, and its laws say what they have in
+// common. What a leader keeps of its transactions, so that it can show all this at its end, stands
+// here too, with a lemma for each thing that it or a worker does.
+//
 //   specs/Begun         the transaction that was begun, and what each message does to it
 //   specs/Course        the world that a state is
 //   specs/Runs          a run in the words of a world
+//   specs/Threads       the world of a state with workers
+//   specs/ThreadedRun   why a run with workers ends, and what it leaves
+//   specs/Leading       what a leader keeps of its transactions
 //   specs/Laws          the laws as statements, which `laws` promises
 //
 // It has no code but the laws, and stands on `session` for the table, on `leader` for items and

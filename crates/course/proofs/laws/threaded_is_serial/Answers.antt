@@ -1,0 +1,6 @@
+use Rattle.course.proofs.Threading.{run_commits, run_tables, run_position}
+use Rattle.course.proofs.laws.threaded_is_serial.Goals as goal
+
+pub returns : goal.returns
+returns c g rows old new o run valid =
+    (run_commits g rows old new o run, run_tables g rows old new o run valid, run_position g rows old new o run)

@@ -1,0 +1,64 @@
+-- What a leader keeps of its open transactions, beside the session's state and the world.
+--     Lane      the items that it has sent to a transaction, and those that it is still to send
+--     IsWith      the lanes are as they were but for one
+--     InStep      an open transaction, its lane, and what it has done in the world
+--     IsAgreed, AreInStep      so it is with one transaction; with all of them, and with the commits
+--     AreCounts      how many items each transaction has to do
+use Rattle.std.specs.Prelude.{◌≡◌, ◌≢◌, ℕ, List, ◌∷◌, ◌++◌, length, map, Contains, Option, Some, None}
+use Rattle.std.specs.FinMap.{get}
+use Rattle.model.specs.declared.change.Change as change_type
+use Rattle.model.specs.declared.item.Item.{Item}
+use Rattle.model.specs.declared.item.Item.TheVariants.{Change}
+use Rattle.model.specs.Rows.{Rows}
+use Rattle.frames.specs.declared.item.CopyItem.{CopyItem}
+use Rattle.session.specs.State.{Spooled, Open, State, Setting}
+use Rattle.leader.specs.Cause.{schema_of}
+use Rattle.world.specs.World.{Opened, World, starting}
+use Rattle.world.specs.Steps.{Reaches}
+use Rattle.course.specs.Runs.{CommitsNext}
+use Rattle.course.specs.Threads.{work_of, done_by_commit}
+
+-- the items that were sent to a transaction, and those that are still to be sent, as there was no
+-- room for them
+pub record Lane : Type 0 where
+  pub sent : List Item
+  pub late : List Item
+
+-- The lanes are as they were, but for that of one transaction, which is this now.
+pub record IsWith (lanes after : ℕ → Option Lane) (xid : ℕ) (now : Option Lane) : Type 0 where
+  pub here : after xid ≡ now
+  pub elsewhere : (x : ℕ) → x ≢ xid → after x ≡ lanes x
+
+-- What was sent and what is late are its work. What it has done is a beginning of what was sent; a
+-- change that waits or clashed is the next. A spooled one begins only once the next message commits
+-- it.
+pub record InStep (g : Setting) (s : State) (rest : List CopyItem) (xid : ℕ) (o : Open) (lane : Lane) (done : Opened)
+    : Type 0 where
+  pub all_work : lane.sent ++ lane.late ≡ work_of xid o.way o.items
+  pub left : List Item
+  pub begins : done.items ++ left ≡ lane.sent
+  pub wants : (sub : ℕ) (c : change_type.Change) → done.wants ≡ Some (sub, c)
+      → (more : List Item) × (left ≡ Change sub c ∷ more)
+  pub next : o.way ≡ Spooled → CommitsNext g s rest xid
+
+-- A transaction of the state is in step with its lane and with the world, or it is spooled and has
+-- neither; what is not open there is nowhere.
+abbrev pub IsAgreed : Setting → State → List CopyItem → ℕ → Option Open → Option Lane → Option Opened → Type 0
+IsAgreed g s rest xid None None None = Unit {0}
+IsAgreed g s rest xid (Some o) None None = o.way ≡ Spooled
+IsAgreed g s rest xid (Some o) (Some lane) (Some done) = InStep g s rest xid o lane done
+IsAgreed g s rest xid _ _ _ = ⊥
+
+-- Calls reach the world from these rows, its commits are those of the state, and so it is with each
+-- transaction.
+pub record AreInStep (g : Setting) (rows : Rows) (s : State) (rest : List CopyItem) (lanes : ℕ → Option Lane) (w : World)
+    : Type 0 where
+  pub reached : ∥ Reaches (schema_of g) (starting rows) w ∥₁
+  pub line : w.line ≡ map done_by_commit s.past
+  pub agree : (xid : ℕ) → IsAgreed g s rest xid (get s.transactions xid) (lanes xid) (get w.opened xid)
+
+-- Each count that is named is of all items of a transaction's lane.
+abbrev pub AreCounts : (ℕ → Option Lane) → List (ℕ × ℕ) → Type 0
+AreCounts lanes named =
+    (xid count : ℕ) → Contains named (xid, count)
+    → (lane : Lane) × (lanes xid ≡ Some lane) × (count ≡ length (lane.sent ++ lane.late))

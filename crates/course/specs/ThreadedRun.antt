@@ -1,0 +1,143 @@
+-- A run with workers: why it ends, and what it leaves.
+--     HasWorkedOn, CouldNotSend, CouldNotRead, HadNoMemoryToSend, IsInputOver      what became of the
+--         devices and of the input
+--     HasConflict      the next change of an open transaction clashes
+--     WaitsOn, HasDoneAll, AllWait, IsStuckBy      nothing goes on, and a transaction whose turn it
+--         is waits for a cell of another
+--     IsThreadedCause      why a run ends, for each end
+--     IsThreadedRun      a run
+use Rattle.std.specs.Prelude.{◌≡◌, ◌≢◌, ℕ, ℤ, List, [], ◌++◌, length, Option, Some, None, ◌⊎◌}
+use Rattle.std.specs.FinMap.{get}
+use Rattle.std.specs.Io.KnownBytes.{Consumes}
+use Rattle.model.specs.Rows.{Rows, Schema}
+use Rattle.model.specs.Effect.{ClashCause, NullKey, Unique}
+use Rattle.model.specs.Footprint.{footprint}
+use Rattle.frames.specs.declared.fault.FrameFault.{FrameFault}
+use Rattle.frames.specs.declared.fault.FrameFault.TheVariants.{Device}
+use Rattle.frames.specs.declared.item.CopyItem.{CopyItem}
+use Rattle.frames.specs.Device.{HasWorked, HasFailedLast}
+use Rattle.frames.specs.Reads.{fault_at_end, AtEndOf}
+use Rattle.frames.specs.Stream.{copy_items, ending_of}
+use Rattle.session.specs.declared.fault.Refused.TheVariants as refusals
+use Rattle.session.specs.State.{Spooled, Open, State, Setting, begun_at}
+use Rattle.leader.specs.declared.end.End.{End}
+use Rattle.leader.specs.declared.end.End.TheVariants as ends
+use Rattle.leader.specs.declared.outcome.Outcome.{Outcome}
+use Rattle.leader.specs.Cause.{schema_of, RefusesNext, AreAllSent, LastIsCut}
+use Rattle.leader.specs.Clock.{Ticks}
+use Rattle.leader.specs.Devices.{DeviceState}
+use Rattle.leader.specs.Progress.{Progress, start_progress, Leads}
+use Rattle.world.specs.FineLaws.{IsClashing}
+use Rattle.world.specs.World.{Opened, World, own_rows, IsHeldBy}
+use Rattle.course.specs.Runs.{CommitsNext, NextChange, Leaves}
+use Rattle.course.specs.Threads.{work_of, IsWorldOf}
+
+-- ---- a conflict
+
+-- The next item of some open transaction's work is a change that clashes so, where nobody else
+-- holds a cell of it.
+abbrev pub HasConflict : Setting → State → World → ClashCause → Type 0
+HasConflict g s w cause =
+    (xid : ℕ) × (o : Open) × (get s.transactions xid ≡ Some o)
+    × NextChange w xid (work_of xid o.way o.items) (λ done sub c. IsClashing (schema_of g) w xid done c cause)
+
+-- ---- where nothing goes on
+
+-- The next item of its work is a change, and the holder, another open transaction, holds a cell of
+-- it.
+abbrev pub WaitsOn : Schema → World → ℕ → Open → ℕ → Type 0
+WaitsOn schema w xid o holder =
+    NextChange w xid (work_of xid o.way o.items) (λ done sub c. IsHeldBy schema w xid
+    (footprint schema (own_rows schema w xid done) c) holder)
+
+-- It has done all of its work.
+abbrev pub HasDoneAll : World → ℕ → Open → Type 0
+HasDoneAll w xid o =
+    (done : Opened) × (get w.opened xid ≡ Some done) × (done.items ≡ work_of xid o.way o.items)
+
+-- Each transaction that is not spooled has done all of its work, or waits for a cell of another.
+abbrev pub AllWait : Setting → State → World → Type 0
+AllWait g s w =
+    (xid : ℕ) (o : Open) → get s.transactions xid ≡ Some o → o.way ≢ Spooled
+    → HasDoneAll w xid o ⊎ ((holder : ℕ) × WaitsOn (schema_of g) w xid o holder)
+
+-- It is a transaction's turn, the one's that was begun or that the next message commits; it waits
+-- for a cell of the holder, and nothing else goes on.
+pub record IsStuckBy (g : Setting) (s : State) (rest : List CopyItem) (w : World) (xid holder : ℕ)
+    : Type 0 where
+  pub turn : (begun_at s.phase ≡ Some xid) ⊎ CommitsNext g s rest xid
+  pub transaction : Open
+  pub present : get s.transactions xid ≡ Some transaction
+  pub waits : WaitsOn (schema_of g) w xid transaction holder
+  pub settled : AllWait g s w
+
+-- ---- a run that handled these items, which led to this progress
+
+module _ (g : Setting) (rows : Rows) (old new : DeviceState) (handled : List CopyItem) (p : Progress) (times : List ℤ) where
+  -- No device failed, and all status updates were sent.
+  pub record HasWorkedOn : Type 0 where
+    pub read : HasWorked old.reader new.reader
+    pub sent : AreAllSent g rows old new handled p times
+
+  -- The update that the last item brought could not be sent: the writer failed in its last call,
+  -- and never before.
+  pub record CouldNotSend : Type 0 where
+    pub read : HasWorked old.reader new.reader
+    pub failed : HasFailedLast old.writer new.writer
+    pub cut : LastIsCut g rows old new handled p times
+
+  -- The reader failed in its last call, and never before; all items of what it gave were handled.
+  pub record CouldNotRead (rest : List CopyItem) : Type 0 where
+    pub all_handled : rest ≡ []
+    pub failed : HasFailedLast old.reader new.reader
+    pub sent : AreAllSent g rows old new handled p times
+
+  -- Memory was refused for the update that the last item brought, of which nothing was sent.
+  pub record HadNoMemoryToSend : Type 0 where
+    pub read : HasWorked old.reader new.reader
+    pub written : HasWorked old.writer new.writer
+    pub cut : LastIsCut g rows old new handled p times
+    pub nothing : cut.part ≡ []
+
+  -- The input is over: all items were handled, and this is the fault of an input that ends here, if
+  -- there is one.
+  pub record IsInputOver (bytes : List ℕ) (rest : List CopyItem) (why : Option FrameFault) : Type 0 where
+    pub well : HasWorkedOn
+    pub all_handled : rest ≡ []
+    pub fault : fault_at_end (ending_of bytes) ≡ why
+    pub asked : AtEndOf (ending_of bytes) new.unread
+
+  -- Why a run over these bytes ends at this world, with these items left.
+  abbrev pub IsThreadedCause : List ℕ → List CopyItem → World → End → Type 0
+  IsThreadedCause bytes rest w ends.Clean = IsInputOver bytes rest None × (w.stopped ≡ None)
+  IsThreadedCause bytes rest w (ends.Frame Device) = CouldNotRead rest ⊎ CouldNotSend
+  IsThreadedCause bytes rest w (ends.Frame fault) = IsInputOver bytes rest (Some fault)
+  IsThreadedCause bytes rest w (ends.Msg fault) = HasWorkedOn × RefusesNext g p.state rest (refusals.Msg fault)
+  IsThreadedCause bytes rest w (ends.Session fault) =
+      HasWorkedOn × RefusesNext g p.state rest (refusals.Session fault)
+  IsThreadedCause bytes rest w (ends.Rel fault) = HasWorkedOn × RefusesNext g p.state rest (refusals.Rel fault)
+  IsThreadedCause bytes rest w (ends.Unique table key) = HasWorkedOn × HasConflict g p.state w (Unique table key)
+  IsThreadedCause bytes rest w (ends.NullKey table) = HasWorkedOn × HasConflict g p.state w (NullKey table)
+  IsThreadedCause bytes rest w (ends.HeldKey xid holder) = HasWorkedOn × IsStuckBy g p.state rest w xid holder
+  IsThreadedCause bytes rest w ends.OutOfMemory = HasWorkedOn ⊎ HadNoMemoryToSend
+
+-- A run with workers from these rows, over the bytes that the reader gave: `handled` are items of
+-- the bytes, each lawful after those before it; there is a world of the state that they led to, at
+-- which the run ended for its cause. What is left are the commits of that world, and nothing of
+-- what was open in it.
+pub record IsThreadedRun (g : Setting) (rows : Rows) (old new : DeviceState) (o : Outcome) : Type 0 where
+  pub bytes : List ℕ
+  pub read : Consumes old.unread new.unread bytes
+  pub handled : List CopyItem
+  pub rest : List CopyItem
+  pub items : handled ++ rest ≡ copy_items bytes
+  pub progress : Progress
+  pub lawful : Leads g start_progress handled progress
+  pub times : List ℤ
+  pub told : Ticks old.times new.times times
+  pub counted : length times ≡ length progress.updates
+  pub world : World
+  pub is_world : IsWorldOf g rows progress.state rest world
+  pub cause : IsThreadedCause g rows old new handled progress times bytes rest world o.end
+  pub left : Leaves o world
+  pub schema : o.tables.schema ≡ schema_of g
