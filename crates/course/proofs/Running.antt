@@ -24,7 +24,7 @@ use Rattle.leader.specs.declared.outcome.Outcome.{Outcome}
 use Rattle.leader.specs.Commits.{transaction, committed_changes, all_changes, last_end}
 use Rattle.leader.specs.Work.{IsClear, ClashesIn, ClashesAs}
 use Rattle.leader.specs.Progress.{Progress, Leads, start_progress, commits_from}
-use Rattle.leader.specs.Cause.{schema_of, IsCause, HasGoneWell, LastClashed, NextClashes, IsNext}
+use Rattle.leader.specs.Cause.{schema_of, IsCause, HasGoneWell, HasNotClashed, LastClashed, NextClashes, IsNext}
 use Rattle.leader.specs.Devices.{DeviceState}
 use Rattle.leader.specs.Run.{IsRun}
 use Rattle.std.specs.Ordering.{nat_cmp}
@@ -306,7 +306,7 @@ module _ (schema : Schema) (rows : Rows) (cause : ClashCause) where
 -- ---- why a run ended
 
 module _ (g : Setting) (rows : Rows) (old new : DeviceState) (handled : List CopyItem) (p : Progress) (times : List ℤ) (lawful : Leads g start_progress handled p) (rest : List CopyItem) (cause : ClashCause) where
-  next_clashed : HasGoneWell g rows old new handled p times
+  next_clashed : HasGoneWell g (HasNotClashed g rows old new handled p times) old new handled p times
       → NextClashes g rows p.state rest (clash_of cause) → Stops (schema_of g) rows p.state.past cause (IsTurnOf g p.state rest)
   next_clashed well next =
       let was = reached_at g (schema_of g) rows handled p lawful well.clear in

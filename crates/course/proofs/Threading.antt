@@ -247,7 +247,7 @@ one_open g rows old new o run zero =
     let alone = at_most_one g rows run.handled run.rest run.progress run.world zero run.lawful run.is_world in (
       alone,
       λ xid holder e.
-          let cause = subst (IsThreadedCause g rows old new run.handled run.progress run.times run.bytes run.rest run.world) e run.cause in
+          let cause = subst (IsThreadedCause g old new run.handled run.progress run.times run.bytes run.rest run.world) e run.cause in
           not_stuck g run.progress.state run.rest run.world xid holder alone cause.1,
     )
 
@@ -280,7 +280,7 @@ pub clean_alone : (g h : Setting) (rows : Rows) (old new before after : DeviceSt
     × (p.position ≡ o.position) × (p.tables.rows ≡ o.tables.rows)
     × (alone.progress.updates ≡ run.progress.updates)
 clean_alone g h rows old new before after o p run alone valid catalog clean bytes none =
-    let cause = subst (IsThreadedCause g rows old new run.handled run.progress run.times run.bytes run.rest run.world) clean run.cause in
+    let cause = subst (IsThreadedCause g old new run.handled run.progress run.times run.bytes run.rest run.world) clean run.cause in
     let items : alone.handled ≡ run.handled =
     all_items alone.handled alone.rest (copy_items run.bytes) (alone.items ∙ ap copy_items bytes) none
     ∙ sym (all_items run.handled run.rest (copy_items run.bytes) run.items cause.0.all_handled) in

@@ -1,6 +1,5 @@
 -- A run with workers: why it ends, and what it leaves.
---     HasWorkedOn, CouldNotSend, CouldNotRead, HadNoMemoryToSend, IsInputOver      what became of the
---         devices and of the input
+--     Clear, HasWorkedOn      what became of the devices
 --     HasConflict      the next change of an open transaction clashes
 --     WaitsOn, HasDoneAll, AllWait, IsStuckBy      nothing goes on, and a transaction whose turn it
 --         is waits for a cell of another
@@ -23,7 +22,7 @@ use Rattle.session.specs.State.{Spooled, Open, State, Setting, begun_at}
 use Rattle.leader.specs.declared.end.End.{End}
 use Rattle.leader.specs.declared.end.End.TheVariants as ends
 use Rattle.leader.specs.declared.outcome.Outcome.{Outcome}
-use Rattle.leader.specs.Cause.{schema_of, RefusesNext, AreAllSent, LastIsCut}
+use Rattle.leader.specs.Cause.{schema_of, RefusesNext, HasGoneWell, CouldNotSend, HadNoMemoryToSend, CouldNotRead, IsOver}
 use Rattle.leader.specs.Clock.{Ticks}
 use Rattle.leader.specs.Devices.{DeviceState}
 use Rattle.leader.specs.Progress.{Progress, start_progress, Leads}
@@ -73,45 +72,21 @@ pub record IsStuckBy (g : Setting) (s : State) (rest : List CopyItem) (w : World
 
 -- ---- a run that handled these items, which led to this progress
 
-module _ (g : Setting) (rows : Rows) (old new : DeviceState) (handled : List CopyItem) (p : Progress) (times : List ℤ) where
+-- Beside the devices nothing is asked to be clear: what the transactions did is told by the world.
+abbrev pub Clear : Type 0
+Clear = Unit {0}
+
+module _ (g : Setting) (old new : DeviceState) (handled : List CopyItem) (p : Progress) (times : List ℤ) where
   -- No device failed, and all status updates were sent.
-  pub record HasWorkedOn : Type 0 where
-    pub read : HasWorked old.reader new.reader
-    pub sent : AreAllSent g rows old new handled p times
-
-  -- The update that the last item brought could not be sent: the writer failed in its last call,
-  -- and never before.
-  pub record CouldNotSend : Type 0 where
-    pub read : HasWorked old.reader new.reader
-    pub failed : HasFailedLast old.writer new.writer
-    pub cut : LastIsCut g rows old new handled p times
-
-  -- The reader failed in its last call, and never before; all items of what it gave were handled.
-  pub record CouldNotRead (rest : List CopyItem) : Type 0 where
-    pub all_handled : rest ≡ []
-    pub failed : HasFailedLast old.reader new.reader
-    pub sent : AreAllSent g rows old new handled p times
-
-  -- Memory was refused for the update that the last item brought, of which nothing was sent.
-  pub record HadNoMemoryToSend : Type 0 where
-    pub read : HasWorked old.reader new.reader
-    pub written : HasWorked old.writer new.writer
-    pub cut : LastIsCut g rows old new handled p times
-    pub nothing : cut.part ≡ []
-
-  -- The input is over: all items were handled, and this is the fault of an input that ends here, if
-  -- there is one.
-  pub record IsInputOver (bytes : List ℕ) (rest : List CopyItem) (why : Option FrameFault) : Type 0 where
-    pub well : HasWorkedOn
-    pub all_handled : rest ≡ []
-    pub fault : fault_at_end (ending_of bytes) ≡ why
-    pub asked : AtEndOf (ending_of bytes) new.unread
+  abbrev pub HasWorkedOn : Type 0
+  HasWorkedOn = HasGoneWell g Clear old new handled p times
 
   -- Why a run over these bytes ends at this world, with these items left.
   abbrev pub IsThreadedCause : List ℕ → List CopyItem → World → End → Type 0
-  IsThreadedCause bytes rest w ends.Clean = IsInputOver bytes rest None × (w.stopped ≡ None)
-  IsThreadedCause bytes rest w (ends.Frame Device) = CouldNotRead rest ⊎ CouldNotSend
-  IsThreadedCause bytes rest w (ends.Frame fault) = IsInputOver bytes rest (Some fault)
+  IsThreadedCause bytes rest w ends.Clean = IsOver g Clear old new handled p times bytes rest None × (w.stopped ≡ None)
+  IsThreadedCause bytes rest w (ends.Frame Device) =
+      CouldNotRead g Clear old new handled p times rest ⊎ CouldNotSend g Clear old new handled p times
+  IsThreadedCause bytes rest w (ends.Frame fault) = IsOver g Clear old new handled p times bytes rest (Some fault)
   IsThreadedCause bytes rest w (ends.Msg fault) = HasWorkedOn × RefusesNext g p.state rest (refusals.Msg fault)
   IsThreadedCause bytes rest w (ends.Session fault) =
       HasWorkedOn × RefusesNext g p.state rest (refusals.Session fault)
@@ -119,7 +94,7 @@ module _ (g : Setting) (rows : Rows) (old new : DeviceState) (handled : List Cop
   IsThreadedCause bytes rest w (ends.Unique table key) = HasWorkedOn × HasConflict g p.state w (Unique table key)
   IsThreadedCause bytes rest w (ends.NullKey table) = HasWorkedOn × HasConflict g p.state w (NullKey table)
   IsThreadedCause bytes rest w (ends.HeldKey xid holder) = HasWorkedOn × IsStuckBy g p.state rest w xid holder
-  IsThreadedCause bytes rest w ends.OutOfMemory = HasWorkedOn ⊎ HadNoMemoryToSend
+  IsThreadedCause bytes rest w ends.OutOfMemory = HasWorkedOn ⊎ HadNoMemoryToSend g Clear old new handled p times
 
 -- A run with workers from these rows, over the bytes that the reader gave: `handled` are items of
 -- the bytes, each lawful after those before it; there is a world of the state that they led to, at
@@ -138,6 +113,6 @@ pub record IsThreadedRun (g : Setting) (rows : Rows) (old new : DeviceState) (o 
   pub counted : length times ≡ length progress.updates
   pub world : World
   pub is_world : IsWorldOf g rows progress.state rest world
-  pub cause : IsThreadedCause g rows old new handled progress times bytes rest world o.end
+  pub cause : IsThreadedCause g old new handled progress times bytes rest world o.end
   pub left : Leaves o world
   pub schema : o.tables.schema ≡ schema_of g
