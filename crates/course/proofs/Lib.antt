@@ -3,6 +3,7 @@ mod Alone
 mod Reaching
 mod Running
 mod Ways
+mod Clear
 mod Threading
 mod Closing
 pub mod Books

@@ -29,6 +29,7 @@ use Rattle.leader.specs.Commits.{Transaction, transaction, transaction_of, commi
 use Rattle.leader.specs.Devices.{DeviceState}
 use Rattle.leader.specs.Progress.{Progress, Leads, start_progress}
 use Rattle.leader.specs.Run.{IsRun}
+use Rattle.leader.specs.Work.{IsClear}
 use Rattle.world.specs.CallLaws.{committed_is_serial}
 use Rattle.world.specs.World.{Opened, Past, World, starting, entry_of, changes_in}
 use Rattle.world.specs.Steps.{Reaches}
@@ -37,6 +38,7 @@ use Rattle.course.specs.Runs.{told_of, end_of, IsAtMostOne, IsCommitOf, CommitsN
 use Rattle.course.specs.Threads.{work_of, done_by_commit, Does, IsWorldOf}
 use Rattle.course.specs.ThreadedRun.{IsStuckBy, IsThreadedCause, IsThreadedRun}
 use Rattle.course.proofs.Alone.{survive_again}
+use Rattle.course.proofs.Clear.{commits_clear}
 use Rattle.course.proofs.Reaching.{handled_told}
 use Rattle.course.proofs.Telling.{told, ok_is, sane_start}
 use Rattle.course.proofs.Ways.{NoneWorks, Alike, without_way, led, start_alike, same_transactions}
@@ -91,6 +93,15 @@ module _ (g : Setting) (rows : Rows) (old new : DeviceState) (o : Outcome) (run 
   run_tables valid =
       run.left.tables ∙ committed_serial (schema_of g) rows run.world valid run.is_world.reached
       ∙ ap (serial (schema_of g) rows) (changes_told run.world.line ∙ ap told_changes (sym run.left.entries))
+
+  -- the changes of the world's commits are those of the journal
+  run_changes : changes_in run.world.line ≡ told_changes (map transaction_of o.journal.items)
+  run_changes = changes_told run.world.line ∙ ap told_changes (sym run.left.entries)
+
+  pub run_clear : IsValid (schema_of g) rows
+      → IsClear (schema_of g) rows (told_changes (map transaction_of o.journal.items))
+  run_clear valid =
+      subst (IsClear (schema_of g) rows) run_changes (commits_clear (schema_of g) rows run.world valid run.is_world.reached)
 
 -- ---- sane states
 

@@ -73,14 +73,15 @@ ConflictStopsWorld =
 
 -- whatever the leader and the workers did, and whatever ended the run: its journal are the commits
 -- of the items that were handled, in their order, each with the changes that survived; its tables
--- are the start rows with the changes of the journal, one commit after another; its position is the
--- end of the last
+-- are the start rows with the changes of the journal, one commit after another, of which none
+-- clashes; its position is the end of the last
 abbrev pub ThreadedIsSerial : Type 0
 ThreadedIsSerial =
     (g : Setting) (rows : Rows) (old new : DeviceState) (o : Outcome)
     (run : IsThreadedRun g rows old new o) → IsValid (schema_of g) rows
     → (map transaction_of o.journal.items ≡ commits run.progress.state)
     × (o.tables.rows ≡ serial (schema_of g) rows (changes_in (map transaction_of o.journal.items)))
+    × IsClear (schema_of g) rows (changes_in (map transaction_of o.journal.items))
     × (o.position ≡ last_end run.progress.state.past)
 
 -- what was open at its end has left nothing: calls reach a world in which none is open any more,

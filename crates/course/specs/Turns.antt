@@ -94,7 +94,7 @@ Follows g a b (Aborts xid Spooled) = IsLeft a b
 -- ---- what a transaction does
 
 -- An open transaction of the state, with its lane, and what it has done.
-pub record IsOpenAt (g : Setting) (a : Moment) (xid : ℕ) (o : Open) (lane : Lane) (done : Opened) : Type 0 where
+pub record IsOpenAt (a : Moment) (xid : ℕ) (o : Open) (lane : Lane) (done : Opened) : Type 0 where
   pub present : get a.state.transactions xid ≡ Some o
   pub served : a.lanes xid ≡ Some lane
   pub opened : get a.world.opened xid ≡ Some done
@@ -111,16 +111,16 @@ pub data Turn (g : Setting) (a : Moment) : Moment → Type 0 where
       → Turn g a (record a { rest = rest })
   passes : (rest : List CopyItem) → a.rest ≡ Done ∷ rest → Turn g a (record a { rest = rest })
   sends : (xid : ℕ) (o : Open) (lane : Lane) (done : Opened) (i : Item) (late : List Item) (after : ℕ → Option Lane)
-      → IsOpenAt g a xid o lane done → lane.late ≡ i ∷ late
+      → IsOpenAt a xid o lane done → lane.late ≡ i ∷ late
       → IsWith a.lanes after xid (Some (record { sent = lane.sent ++ i ∷ []; late = late }))
       → Turn g a (record a { lanes = after })
   does : (xid : ℕ) (o : Open) (lane : Lane) (done : Opened) (i : Item) (left : List Item)
-      → IsOpenAt g a xid o lane done → done.items ++ i ∷ left ≡ lane.sent
+      → IsOpenAt a xid o lane done → done.items ++ i ∷ left ≡ lane.sent
       → Step (schema_of g) a.world (done_with a.world xid done i)
       → Turn g a (record a { world = done_with a.world xid done i })
   wants : (xid : ℕ) (o : Open) (lane : Lane) (done : Opened) (sub : ℕ) (c : change_type.Change) (left : List Item)
       (stopped : Option Stop)
-      → IsOpenAt g a xid o lane done → done.items ++ Change sub c ∷ left ≡ lane.sent
+      → IsOpenAt a xid o lane done → done.items ++ Change sub c ∷ left ≡ lane.sent
       → Step (schema_of g) a.world (record (wanting a.world xid done sub c) { stopped = stopped })
       → Turn g a (record a { world = record (wanting a.world xid done sub c) { stopped = stopped } })
   unspools : (xid : ℕ) (o : Open) (after : ℕ → Option Lane) (new : World)
