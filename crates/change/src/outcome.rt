@@ -16,6 +16,7 @@ use indexes::Tables;
 use model::{Change, ColumnPatch, Key, OutOfMemory, Patch, Row, TableId, Value};
 use rows::RowView;
 use std::alloc::{AllocError, Global};
+use thiserror::Error;
 
 /// What came of a change that was not refused.
 #[derive(Drop)]
@@ -27,14 +28,17 @@ pub enum Applied {
 }
 
 /// Why a change was refused. The tables are as they were before it.
-#[derive(Clone, Copy, Debug, PartialEq, Eq)]
+#[derive(Clone, Copy, Debug, PartialEq, Eq, Error)]
 pub enum Clash {
     /// The row agrees with another in a key: 0 is the primary key, 1 upwards the unique keys in the
     /// catalog's order. The least that clashes is named.
+    #[error("a row of table {table} agrees with another in key {key} (0 is the primary key, and the first table)")]
     Unique { table: TableId, key: usize },
     /// The row has a null in its primary key.
+    #[error("a row of table {table} has a null in its primary key (0 is the first table)")]
     NullKey { table: TableId },
     /// The system had no memory for it.
+    #[error("the system had no memory for the change")]
     OutOfMemory,
 }
 

@@ -4,9 +4,11 @@ ghost use Rattle.std.specs.Io.KnownBytes.{Consumes, Keeps, Appends, IsAtEnd};
 ghost use Rattle.frames.specs.Device.{HasFailed};
 
 use std::io::{Read, Write};
+use thiserror::Error;
 
 /// A read or a write failed.
-#[derive(Clone, Copy, Debug, PartialEq, Eq)]
+#[derive(Clone, Copy, Debug, PartialEq, Eq, Error)]
+#[error("a read or a write failed")]
 pub struct Failed;
 
 /// Gives the bytes of a stream, some at a time.

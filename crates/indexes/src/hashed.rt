@@ -20,7 +20,7 @@ use std::slice;
 const FACTOR: u64 = 1_099_511_628_211;
 
 /// Values with their hash. A clause sees the values.
-#[derive(Drop)]
+#[derive(Debug, Drop)]
 pub(crate) struct Hashed {
     hash: u64,
     values: Key,

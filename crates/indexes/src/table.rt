@@ -19,7 +19,7 @@ use std::mem;
 
 /// One table: rows with a primary key and unique keys. A clause sees its keys' columns, its rows by
 /// their keys, and its room.
-#[derive(Drop)]
+#[derive(Debug, Drop)]
 pub struct Table {
     primary: Vec<usize>,
     uniques: Vec<Unique>,

@@ -22,7 +22,7 @@ use std::marker::Model;
 
 /// The tables of a catalog, in its order. A clause sees their keys' columns, all rows by table and
 /// key, and the cells that there is room for.
-#[derive(Drop)]
+#[derive(Debug, Drop)]
 pub struct Tables {
     tables: Vec<Table>,
 }

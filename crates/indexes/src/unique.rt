@@ -15,7 +15,7 @@ use std::collections::BTreeMap;
 
 // A unique key's columns, and from its values to the number of the slot that the row with these
 // values lies in. An entry whose row went stays, with no number, until it is settled.
-#[derive(Drop)]
+#[derive(Debug, Drop)]
 pub(crate) struct Unique {
     pub(crate) columns: Vec<usize>,
     pub(crate) entries: BTreeMap<Hashed, Option<usize>>,

@@ -4,6 +4,7 @@ mod accounts;
 mod cases;
 mod command_line;
 mod devices;
+mod progress;
 
 use crate::execute::{Ended, execute};
 use cases::CASES;

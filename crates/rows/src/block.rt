@@ -18,13 +18,13 @@ use std::sync::Arc;
 ///
 /// It has its texts copied, so it keeps no buffer alive from which they were read. The texts of
 /// one row are at most 4 GiB; a message of the protocol is at most 2 GiB.
-#[derive(Drop)]
+#[derive(Debug, Drop)]
 pub struct Block {
     packed: Arc<Packed>,
 }
 
 // The texts of a row one behind another, and for each column what it holds.
-#[derive(Drop)]
+#[derive(Debug, Drop)]
 struct Packed {
     texts: String,
     cuts: Vec<Cut>,
@@ -32,7 +32,7 @@ struct Packed {
 
 /// What a column holds: a number or a truth lies here, a text from one byte of the texts to
 /// another.
-#[derive(Clone, Copy)]
+#[derive(Clone, Copy, Debug)]
 pub(crate) enum Cut {
     Null,
     Int(i64),

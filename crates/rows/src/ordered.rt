@@ -18,14 +18,14 @@ use std::marker::Model;
 use std::mem;
 
 /// A place for a row. It keeps its number while it is there, filled or empty.
-#[derive(Drop)]
+#[derive(Debug, Drop)]
 pub(crate) struct Slot {
     number: usize,
     row: Option<Row>,
 }
 
 /// The rows of one table by primary key, each in a slot of an ordered map.
-#[derive(Drop)]
+#[derive(Debug, Drop)]
 pub struct OrderedRows {
     slots: BTreeMap<Key, Slot>,
     // The key of each slot, at the slot's number.

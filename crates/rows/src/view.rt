@@ -9,7 +9,7 @@ use model::{OutOfMemory, Row, Value};
 use std::marker::Model;
 
 /// A value of a row, as it is read.
-#[derive(Clone, Copy)]
+#[derive(Clone, Copy, Debug)]
 pub enum ValueRef<'a> {
     Int(i64),
     Text(&'a str),
@@ -17,13 +17,13 @@ pub enum ValueRef<'a> {
 }
 
 /// A row of a store. A clause sees its values in the table's column order; none is null.
-#[derive(Drop)]
+#[derive(Debug, Drop)]
 pub struct RowView<'a> {
     row: Form<'a>,
 }
 
 /// A row, whichever way it is kept.
-#[derive(Clone, Copy)]
+#[derive(Clone, Copy, Debug)]
 pub(crate) enum Form<'a> {
     List(&'a Row),
     Block(&'a Block),
