@@ -45,15 +45,19 @@ pub enum SessionFault {
 }
 
 /// Why a message was refused. The session is then as it was before.
-#[derive(Clone, Copy, Debug, PartialEq, Eq)]
+#[derive(Clone, Copy, Debug, PartialEq, Eq, Error)]
 pub enum Refused {
     /// The payload is no message.
+    #[error("the payload is no message: {0}")]
     Msg(MsgFault),
     /// The message may not come here.
+    #[error("the message may not come here: {0}")]
     Session(SessionFault),
     /// The message does not fit its relation, or its relation no table.
+    #[error("the message does not fit its relation, or its relation no table: {0}")]
     Rel(RelFault),
     /// Memory was refused.
+    #[error("memory was refused")]
     OutOfMemory,
 }
 
