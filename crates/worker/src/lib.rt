@@ -38,7 +38,7 @@
 //   progress   `work`, `work_on`
 //   tries      one item under the lock
 //   ended      why a worker came back
-//   names      `LaneNames`, which store and which rings, in the types of all of these
+//   names      `LaneNames`, which rings; with the store's names it stands in the types of all of these
 //
 // `specs/Working` says what a job knows and what work makes of it, `specs/WorkingLaws` what follows of
 // its items and events. It stands on `engine` for the store, on `ring` for the lane, and on `model`.
