@@ -10,7 +10,7 @@ use crate::gate::Gate;
 use crate::item::WorkItem;
 use crate::names::LaneNames;
 use crate::tries::try_until_done;
-use engine::{SharedStore, Ticket};
+use engine::{SharedStore, StoreNames, Ticket};
 use model::{Item, Xid};
 use ring::Taker;
 use std::alloc::Global;
@@ -23,13 +23,14 @@ use std::sync::{Condvar, Mutex, Wait};
 /// or clashed is the first item after them (`IsInStep`). So whoever brings the two ends of the ring
 /// together knows which items are done and which are left.
 #[derive(Drop)]
-pub struct Job<N: LaneNames> {
+pub struct Job<N: StoreNames, L: LaneNames> {
     ticket: Ticket,
     taker: Taker<WorkItem<N>>,
     lane: usize,
+    of: PhantomData<L>,
 }
 
-impl<N: LaneNames> Model for Job<N> {
+impl<N: StoreNames, L: LaneNames> Model for Job<N, L> {
     ghost use Rattle.worker.specs.Working.{Working, working, IsInStep};
     ghost use Rattle.std.specs.Prelude.{◌≡◌};
 
@@ -37,14 +38,14 @@ impl<N: LaneNames> Model for Job<N> {
 
     ghost view = { λ j. working j.lane j.ticket j.taker };
 
-    ghost invariant = { λ j. (j.ticket.name ≡ N.tickets) × IsInStep (N.ring j.lane) (working j.lane j.ticket j.taker) };
+    ghost invariant = { λ j. (j.ticket.name ≡ N.tickets) × IsInStep (L.ring j.lane) (working j.lane j.ticket j.taker) };
 }
 
-impl<N: LaneNames> Job<N> {
+impl<N: StoreNames, L: LaneNames> Job<N, L> {
     /// A job of a transaction that has done nothing yet, by a ring of which nothing is acknowledged.
-    pub fn new(ticket: Ticket, taker: Taker<WorkItem<N>>, lane: usize) -> Job<N>
+    pub fn new(ticket: Ticket, taker: Taker<WorkItem<N>>, lane: usize) -> Job<N, L>
         requires belongs { ticket.name ≡ N.tickets }
-        requires ring { taker.ring ≡ N.ring lane }
+        requires ring { taker.ring ≡ L.ring lane }
         requires first { opened_by ticket.list ≡ record { items = []; wants = None } }
         requires acked { taker.acked ≡ [] }
         ensures { result ≡ working lane ticket taker }
@@ -53,6 +54,7 @@ impl<N: LaneNames> Job<N> {
             ticket,
             taker,
             lane,
+            of: PhantomData,
         }
     }
 
@@ -60,12 +62,13 @@ impl<N: LaneNames> Job<N> {
     pub fn split(self) -> (Ticket, Taker<WorkItem<N>>)
         ensures ticket { result.0 ≡ open_list N.tickets self.xid self.events }
         ensures taker { result.1 ≡ self.taker }
-        ensures step { IsInStep (N.ring self.lane) self }
+        ensures step { IsInStep (L.ring self.lane) self }
     {
         let Job {
             ticket,
             taker,
             lane: _,
+            of: _,
         } = self;
         (ticket, taker)
     }

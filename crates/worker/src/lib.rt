@@ -38,15 +38,18 @@
 //   progress   `work`, `work_on`
 //   tries      one item under the lock
 //   ended      why a worker came back
-//   names      `LaneNames`, which store and which rings, in the types of all of these
+//   post       `Post`, where the leader gives the items of a lane's transaction
+//   names      `LaneNames`, which rings; with the store's names it stands in the types of all of these
 //
 // `specs/Working` says what a job knows and what work makes of it, `specs/WorkingLaws` what follows of
-// its items and events. It stands on `engine` for the store, on `ring` for the lane, and on `model`.
+// its items and events; `specs/Post` says what is known of a post. It stands on `engine` for the
+// store, on `ring` for the lane, on `tokens` for what the leader knows of a post, and on `model`.
 mod ended;
 mod gate;
 mod item;
 mod job;
 mod names;
+mod post;
 mod progress;
 mod tries;
 
@@ -55,4 +58,8 @@ pub use gate::{Gate, Point};
 pub use item::WorkItem;
 pub use job::Job;
 pub use names::LaneNames;
+pub use post::{Collected, Post, PostEvent, PostNames, lock_post};
 pub use progress::{work, work_on};
+
+#[cfg(test)]
+mod post_tests;

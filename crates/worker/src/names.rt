@@ -1,10 +1,11 @@
 // The names of what a worker works with.
-use engine::StoreNames;
 use std::marker::Brand;
 
-/// The names of one store's parts, and of the rings of the lanes to its workers: a lane has a number,
-/// and one ring.
-pub trait LaneNames: StoreNames {
+/// The names of the rings of the lanes to a store's workers: a lane has a number, and one ring.
+///
+/// They stand apart from the names of the store: what goes through a ring has those in its type, so
+/// they are picked before a ring is made, and its own name after it.
+pub trait LaneNames {
     ghost use Rattle.std.specs.Prelude.{ℕ};
     ghost use Rattle.atomic_table.specs.Seated.{TableId};
 

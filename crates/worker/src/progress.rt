@@ -7,19 +7,19 @@ use crate::ended::Ended;
 use crate::gate::{Gate, Point};
 use crate::job::Job;
 use crate::names::LaneNames;
-use engine::SharedStore;
+use engine::{SharedStore, StoreNames};
 use std::alloc::Global;
 use std::sync::{Condvar, Mutex, Wait};
 
 /// Does the items of a job as they come, and gives the job back.
-pub fn work<N: LaneNames, G: Gate, R: Wait>(
+pub fn work<N: StoreNames, L: LaneNames, G: Gate, R: Wait>(
     rt: &R,
     alloc: Global,
     store: &Mutex<SharedStore<N>>,
     changed: &Condvar,
-    mut job: Job<N>,
+    mut job: Job<N, L>,
     gate: &mut G,
-) -> Job<N>
+) -> Job<N, L>
     ensures goes_on { GoesOn job result }
     ensures ended { (ended : EndedBy) × IsEndedBy ended result }
 {
@@ -32,12 +32,12 @@ pub fn work<N: LaneNames, G: Gate, R: Wait>(
 ///
 /// The store's lock is taken for each item alone. Whoever commits or aborts a transaction of the
 /// store, stops it, or tells a worker to give up notifies all under that lock.
-pub fn work_on<N: LaneNames, G: Gate, R: Wait>(
+pub fn work_on<N: StoreNames, L: LaneNames, G: Gate, R: Wait>(
     rt: &R,
     alloc: Global,
     store: &Mutex<SharedStore<N>>,
     changed: &Condvar,
-    job: &mut Job<N>,
+    job: &mut Job<N, L>,
     gate: &mut G,
 ) -> Ended
     ensures goes_on { GoesOn job.old job.new }
@@ -54,12 +54,12 @@ pub fn work_on<N: LaneNames, G: Gate, R: Wait>(
 }
 
 // Does the next item, and tells the gate.
-fn work_once<N: LaneNames, G: Gate, R: Wait>(
+fn work_once<N: StoreNames, L: LaneNames, G: Gate, R: Wait>(
     rt: &R,
     alloc: Global,
     store: &Mutex<SharedStore<N>>,
     changed: &Condvar,
-    job: &mut Job<N>,
+    job: &mut Job<N, L>,
     gate: &mut G,
     number: u64,
 ) -> Result<(), Ended>

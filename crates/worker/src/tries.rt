@@ -12,8 +12,7 @@ ghost use Rattle.worker.specs.Working.{IsTaken, Comes, ComesTo, ended_by};
 use crate::ended::{Ended, Tried};
 use crate::gate::Gate;
 use crate::item::WorkItem;
-use crate::names::LaneNames;
-use engine::{Acted, EngineFault, SharedStore, Ticket};
+use engine::{Acted, EngineFault, SharedStore, StoreNames, Ticket};
 use model::{Change, Item, Xid};
 use ring::Taker;
 use std::alloc::Global;
@@ -22,7 +21,7 @@ use std::sync::{Condvar, Mutex, Wait};
 /// Does the item that was taken, under the store's lock. While another transaction holds a cell of it,
 /// it waits and tries again, unless it is doomed. It looks for the doom under the lock that it gives
 /// back only as it waits, so it hears whoever dooms it and then notifies under that lock.
-pub fn try_until_done<N: LaneNames, G: Gate, R: Wait>(
+pub fn try_until_done<N: StoreNames, G: Gate, R: Wait>(
     rt: &R,
     alloc: Global,
     store: &Mutex<SharedStore<N>>,
@@ -60,7 +59,7 @@ pub fn try_until_done<N: LaneNames, G: Gate, R: Wait>(
 }
 
 // Tries an item, and wakes those that wait where it stops the store or may let cells go.
-fn try_item<N: LaneNames>(
+fn try_item<N: StoreNames>(
     alloc: Global,
     store: &mut SharedStore<N>,
     changed: &Condvar,
@@ -86,7 +85,7 @@ fn try_item<N: LaneNames>(
 }
 
 // A change under the lock. One that clashes has stopped the store, of which those that wait are told.
-fn try_change<N: LaneNames>(
+fn try_change<N: StoreNames>(
     alloc: Global,
     store: &mut SharedStore<N>,
     changed: &Condvar,
@@ -114,7 +113,7 @@ fn try_change<N: LaneNames>(
 }
 
 // An item that names a subtransaction, under the lock.
-fn try_touch<N: LaneNames>(
+fn try_touch<N: StoreNames>(
     store: &mut SharedStore<N>,
     ticket: &mut Ticket,
     sub: Xid,
