@@ -5,6 +5,7 @@ mod Running
 mod Ways
 mod Clear
 mod Threading
+mod Unthreaded
 mod Closing
 pub mod Books
 pub mod Steps
