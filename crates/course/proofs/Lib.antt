@@ -7,6 +7,7 @@ mod Clear
 mod Threading
 mod Unthreaded
 mod Closing
+mod Noted
 pub mod Books
 pub mod Steps
 pub mod Moments

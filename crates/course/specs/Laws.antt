@@ -153,14 +153,14 @@ InStepIsWorld =
     → AreInStep g rows s rest lanes w → IsWorldOf g rows s rest w
 
 -- and a clash that was noted there is the conflict that the run ends for, while its transaction
--- wants the change
+-- wants a change: that is the one which clashed
 abbrev pub NotedClashIsConflict : Type 0
 NotedClashIsConflict =
     (g : Setting) (rows : Rows) (s : State) (rest : List CopyItem) (lanes : ℕ → Option Lane) (w : World)
     → AreInStep g rows s rest lanes w → IsFine (schema_of g) w
     → (xid : ℕ) (c : change_type.Change) (cause : ClashCause) → w.stopped ≡ Some (ByClash xid c cause)
-    → (done : Opened) → get w.opened xid ≡ Some done → (sub : ℕ) → done.wants ≡ Some (sub, c)
-    → HasConflict g s w cause
+    → (done : Opened) → get w.opened xid ≡ Some done
+    → (sub : ℕ) (e : change_type.Change) → done.wants ≡ Some (sub, e) → HasConflict g s w cause
 
 -- where the call that stops a world answers a holder, for a transaction whose turn it is, nothing
 -- goes on: the run ends for that holder
