@@ -18,6 +18,7 @@ use Rattle.course.specs.Runs.{CommitsNext}
 use Rattle.course.specs.Threads.{work_of, IsWorldOf}
 use Rattle.course.specs.ThreadedRun.{HasConflict, WaitsOn, HasDoneAll, AllWait, IsStuckBy}
 use Rattle.course.specs.Leading.{Lane, InStep, IsAgreed, AreInStep, AreCounts}
+use Rattle.course.proofs.Noted.{is_wanted}
 
 -- ---- one transaction
 
@@ -88,12 +89,14 @@ module _ (g : Setting) (rows : Rows) (s : State) (rest : List CopyItem) (lanes :
         );
   }
 
-  -- what clashed and stopped the world is a conflict
+  -- what clashed and stopped the world is a conflict, while its transaction wants a change
   pub noted_conflict : IsFine (schema_of g) w → (xid : ℕ) (c : change_type.Change) (cause : ClashCause)
       → w.stopped ≡ Some (ByClash xid c cause) → (done : Opened) → get w.opened xid ≡ Some done
-      → (sub : ℕ) → done.wants ≡ Some (sub, c) → HasConflict g s w cause
-  noted_conflict fine xid c cause stopped done at sub wants =
-      let is = there xid done at in (
+      → (sub : ℕ) (e : change_type.Change) → done.wants ≡ Some (sub, e) → HasConflict g s w cause
+  noted_conflict fine xid c cause stopped done at sub e wanted =
+      let is = there xid done at in
+      let same = is_wanted (schema_of g) rows w are.reached xid c cause stopped done sub e at wanted in
+      let wants : done.wants ≡ Some (sub, c) = wanted ∙ ap (λ (d : change_type.Change). Some (sub, d)) same in (
         xid,
         is.0,
         is.1,

@@ -118,7 +118,7 @@ run_reached g rows old new o run e =
 -- ---- a conflict
 
 -- the clash for this cause
-abbrev clash_of : ClashCause → Clash
+abbrev pub clash_of : ClashCause → Clash
 clash_of (Unique table key) = clashes.Unique table key
 clash_of (NullKey table) = clashes.NullKey table
 
@@ -127,7 +127,7 @@ clashes_as : (schema : Schema) (rows : Rows) (c : change_type.Change) (cause : C
 clashes_as schema rows c (Unique table key) is = is
 clashes_as schema rows c (NullKey table) is = is
 
-first_in : (schema : Schema) (rows : Rows) (cs : List change_type.Change) (cause : ClashCause)
+pub first_in : (schema : Schema) (rows : Rows) (cs : List change_type.Change) (cause : ClashCause)
     → ClashesIn schema rows cs (clash_of cause) → ClashesFirst schema rows cs cause
 first_in schema rows cs cause is =
     subst (λ ds. ClashesFirst schema rows ds cause) (sym is.split)
@@ -267,7 +267,7 @@ module _ (schema : Schema) (rows : Rows) (cause : ClashCause) where
 
   -- ---- the end of a run
 
-  not_more : (s t : State) → t.past ≡ s.past → commits_from s t ≡ true → ⊥
+  pub not_more : (s t : State) → t.past ≡ s.past → commits_from s t ≡ true → ⊥
   not_more s t past more =
       let no : true ≡ false = sym more ∙ ap (λ p. nat_lt (length s.past) (length p)) past ∙ le-ltb (length s.past) (length s.past) (omega arith) in cc
 

@@ -272,7 +272,7 @@ workers_alter g h items p q catalog is there =
     let same = led g h start_progress start_progress p q items catalog (start_alike h) is there in
     (same_transactions h p.state q.state same.state, same.state.position, same.seen, same.updates)
 
-same_ends : (h : Setting) (s t : State) → Alike h s t → last_end t.past ≡ last_end s.past
+pub same_ends : (h : Setting) (s t : State) → Alike h s t → last_end t.past ≡ last_end s.past
 same_ends h s t alike = ends_without t.past ∙ ap last_end alike.past ∙ sym (ends_without s.past)
   where
     ends_without : (past : List Committed) → last_end past ≡ last_end (map without_way past)
@@ -280,7 +280,7 @@ same_ends h s t alike = ends_without t.past ∙ ap last_end alike.past ∙ sym (
     ends_without (c ∷ []) = refl
     ends_without (c ∷ d ∷ past) = ends_without (d ∷ past)
 
-all_items : (handled rest items : List CopyItem) → handled ++ rest ≡ items → rest ≡ [] → handled ≡ items
+pub all_items : (handled rest items : List CopyItem) → handled ++ rest ≡ items → rest ≡ [] → handled ≡ items
 all_items handled rest items all none = sym (append-nil handled) ∙ ap (λ more. handled ++ more) (sym none) ∙ all
 
 pub clean_alone : (g h : Setting) (rows : Rows) (old new before after : DeviceState) (o p : Outcome)

@@ -7,6 +7,7 @@ use Rattle.model.specs.Rows.{Rows, IsValid}
 use Rattle.model.specs.declared.change.Change as change_type
 use Rattle.model.specs.declared.item.Item.{Item}
 use Rattle.messages.specs.declared.message.Message.{Message}
+use Rattle.frames.specs.declared.fault.FrameFault.TheVariants.{Device}
 use Rattle.frames.specs.declared.item.CopyItem.{CopyItem}
 use Rattle.session.specs.Lawful.{IsLawful}
 use Rattle.session.specs.State.{State, Setting, begun_at}
@@ -26,7 +27,7 @@ use Rattle.course.specs.Begun.{IsSane, IsTold}
 use Rattle.course.specs.Course.{world_of}
 use Rattle.course.specs.Leading.{Lane, AreInStep, AreCounts}
 use Rattle.course.specs.Runs.{CommitsNext, Leaves, IsAtMostOne, TellsRun, IsTurnOf, IsStoppedBy, conflict}
-use Rattle.course.specs.Threads.{IsWorldOf}
+use Rattle.course.specs.Threads.{IsWorldOf, AreBytes}
 use Rattle.course.specs.Turns.{Moment, start_moment, IsInStep, Turns}
 use Rattle.course.specs.ThreadedRun.{HasConflict, IsStuckBy, IsThreadedRun}
 
@@ -114,6 +115,19 @@ CleanIsWithoutThreads =
     × (p.position ≡ o.position) × (p.tables.rows ≡ o.tables.rows)
     × (alone.progress.updates ≡ run.progress.updates)
 
+-- and its journal, position and tables are those of any run without workers over the same bytes,
+-- whose spools have room for all of their items, and which neither memory nor a device fails
+abbrev pub CleanWhereThereIsRoom : Type 0
+CleanWhereThereIsRoom =
+    (g h : Setting) (rows : Rows) (old new before after : DeviceState) (o p : Outcome)
+    (run : IsThreadedRun g rows old new o) (alone : IsRun h rows before after p)
+    → IsValid (schema_of g) rows → h.catalog ≡ g.catalog → o.end ≡ ends.Clean
+    → alone.bytes ≡ run.bytes → AreBytes run.handled
+    → (q : Progress) → Leads h start_progress run.handled q
+    → p.end ≢ ends.OutOfMemory → p.end ≢ ends.Frame Device
+    → (map transaction_of p.journal.items ≡ map transaction_of o.journal.items)
+    × (p.position ≡ o.position) × (p.tables.rows ≡ o.tables.rows)
+
 -- without workers it is a run without threads: one transaction is open at most, so none waits for
 -- another
 abbrev pub OneIsOpenWithoutWorkers : Type 0
@@ -139,14 +153,14 @@ InStepIsWorld =
     → AreInStep g rows s rest lanes w → IsWorldOf g rows s rest w
 
 -- and a clash that was noted there is the conflict that the run ends for, while its transaction
--- wants the change
+-- wants a change: that is the one which clashed
 abbrev pub NotedClashIsConflict : Type 0
 NotedClashIsConflict =
     (g : Setting) (rows : Rows) (s : State) (rest : List CopyItem) (lanes : ℕ → Option Lane) (w : World)
     → AreInStep g rows s rest lanes w → IsFine (schema_of g) w
     → (xid : ℕ) (c : change_type.Change) (cause : ClashCause) → w.stopped ≡ Some (ByClash xid c cause)
-    → (done : Opened) → get w.opened xid ≡ Some done → (sub : ℕ) → done.wants ≡ Some (sub, c)
-    → HasConflict g s w cause
+    → (done : Opened) → get w.opened xid ≡ Some done
+    → (sub : ℕ) (e : change_type.Change) → done.wants ≡ Some (sub, e) → HasConflict g s w cause
 
 -- where the call that stops a world answers a holder, for a transaction whose turn it is, nothing
 -- goes on: the run ends for that holder

@@ -60,8 +60,8 @@ AllWait g s w =
     (xid : ℕ) (o : Open) → get s.transactions xid ≡ Some o → o.way ≢ Spooled
     → HasDoneAll w xid o ⊎ ((holder : ℕ) × WaitsOn (schema_of g) w xid o holder)
 
--- It is a transaction's turn, the one's that was begun or that the next message commits; it waits
--- for a cell of the holder, and nothing else goes on.
+-- It is the turn of this transaction: it was begun, or the next message commits it. It waits for a
+-- cell of the holder, and nothing else goes on.
 pub record IsStuckBy (g : Setting) (s : State) (rest : List CopyItem) (w : World) (xid holder : ℕ)
     : Type 0 where
   pub turn : (begun_at s.phase ≡ Some xid) ⊎ CommitsNext g s rest xid

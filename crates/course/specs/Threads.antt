@@ -3,12 +3,14 @@
 --         it was done
 --     Does      what an open transaction has done of its work
 --     IsWorldOf      the world is one of a state, with these items still to be handled
-use Rattle.std.specs.Prelude.{◌≡◌, ℕ, List, ◌++◌, map, Some}
+--     AreBytes      the payloads of items are bytes
+use Rattle.std.specs.Prelude.{◌≡◌, ◌<◌, ℕ, List, [], ◌∷◌, ◌++◌, map, slice_index, Some}
 use Rattle.std.specs.FinMap.{get}
 use Rattle.model.specs.declared.item.Item.{Item}
 use Rattle.model.specs.Rows.{Rows}
 use Rattle.model.specs.Survivors.{survivors}
 use Rattle.frames.specs.declared.item.CopyItem.{CopyItem}
+use Rattle.frames.specs.declared.item.CopyItem.TheVariants.{Wal, Keepalive, Done}
 use Rattle.session.specs.Sized.{SizedItems, item_of}
 use Rattle.session.specs.State.{Way, Direct, Worker, Spooled, Open, Committed, State, Setting}
 use Rattle.leader.specs.Cause.{schema_of}
@@ -44,3 +46,10 @@ pub record IsWorldOf (g : Setting) (rows : Rows) (s : State) (rest : List CopyIt
   pub line : w.line ≡ map done_by_commit s.past
   pub opened : (xid : ℕ) (done : Opened) → get w.opened xid ≡ Some done
       → (o : Open) × (get s.transactions xid ≡ Some o) × Does g s rest xid o done
+
+-- The payloads of these items are bytes.
+abbrev pub AreBytes : List CopyItem → Type 0
+AreBytes [] = Unit {0}
+AreBytes (Wal first last payload ∷ items) = ((i : ℕ) → slice_index payload i < 256) × AreBytes items
+AreBytes (Keepalive last reply ∷ items) = AreBytes items
+AreBytes (Done ∷ items) = AreBytes items

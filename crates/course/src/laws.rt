@@ -3,7 +3,8 @@
 ghost use Rattle.course.specs.Laws.{EachMessageTells, LawfulIsSane, ProgressIsReached};
 ghost use Rattle.course.specs.Laws.{RunIsReached, ConflictStopsWorld};
 ghost use Rattle.course.specs.Laws.{ThreadedIsSerial, OpenLeavesNothing, WorkersAlterNothing};
-ghost use Rattle.course.specs.Laws.{CleanIsWithoutThreads, OneIsOpenWithoutWorkers};
+ghost use Rattle.course.specs.Laws.{CleanIsWithoutThreads, CleanWhereThereIsRoom};
+ghost use Rattle.course.specs.Laws.{OneIsOpenWithoutWorkers};
 ghost use Rattle.course.specs.Laws.{EachMomentIsInStep, InStepIsWorld};
 ghost use Rattle.course.specs.Laws.{NotedClashIsConflict, HeldIsStuck};
 
@@ -55,6 +56,12 @@ pub fn workers_alter_nothing()
 /// So a clean run leaves what a run without workers does that handles all items of the same bytes.
 pub fn clean_is_without_threads()
     ensures { CleanIsWithoutThreads }
+{}
+
+/// Its journal, position and tables are those of any such run whose spools have room, and which
+/// neither memory nor a device fails.
+pub fn clean_where_there_is_room()
+    ensures { CleanWhereThereIsRoom }
 {}
 
 /// Without workers one transaction is open at most, and none waits for another.

@@ -18,7 +18,7 @@
 // of the state, and a cause of the end at it. Its promise (`IsThreadedRun`) shares items, what they
 // lead to and status updates with the run without threads, and its laws say what they have in
 // common. What a leader keeps of its transactions, so that it can show all this at its end, stands
-// here too, with a lemma for each thing that it or a worker does.
+// here too, with a lemma for each thing that it or a worker does (`proofs/Steps`, `proofs/Books`).
 //
 //   specs/Begun         the transaction that was begun, and what each message does to it
 //   specs/Course        the world that a state is
@@ -26,6 +26,7 @@
 //   specs/Threads       the world of a state with workers
 //   specs/ThreadedRun   why a run with workers ends, and what it leaves
 //   specs/Leading       what a leader keeps of its transactions
+//   specs/Turns         each thing that a leader or a worker does
 //   specs/Laws          the laws as statements, which `laws` promises
 //
 // It has no code but the laws, and stands on `session` for the table, on `leader` for items and
