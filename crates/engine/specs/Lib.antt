@@ -40,3 +40,4 @@ pub mod StopLaws
 pub mod RowsAfterLaws
 pub mod Shared
 pub mod SharedLaws
+pub mod NamedLaws
