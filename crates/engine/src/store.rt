@@ -7,7 +7,8 @@ ghost use Rattle.model.specs.Named.{NamesTables};
 ghost use Rattle.model.specs.Survivors.{before_savepoint, survivors, changes_of};
 ghost use Rattle.tokens.specs.Half.{Begins};
 ghost use Rattle.tokens.specs.Lists.{open_list, with_list};
-ghost use Rattle.world.specs.World.{Opened, World, starting, entry_of, journal, work};
+ghost use Rattle.model.specs.Effect.{serial};
+ghost use Rattle.world.specs.World.{Opened, World, starting, entry_of, journal, work, changes_in};
 ghost use Rattle.world.specs.Steps.{Opens, Acts, Touches, GoesBack, Commits, Aborts, StopsHeld, ReadsLive, ReadsCommitted, ReadsAfter, TellsJournal, Closes, Watches, Looks, Fault};
 ghost use Rattle.model.specs.declared.item.Item.TheVariants.{Touch, BackTo};
 ghost use Rattle.engine.specs.declared.answers.EngineFault.TheVariants.{OutOfMemory as NoMemory};
@@ -15,7 +16,7 @@ ghost use Rattle.engine.specs.declared.events.Event.TheVariants.{Done};
 ghost use Rattle.engine.specs.declared.events.LineEvent.TheVariants.{Opened as WasOpened, Committed as WasCommitted, Aborted as WasAborted};
 ghost use Rattle.std.specs.Result.{result_ok};
 ghost use Rattle.engine.specs.Answers.{told, told_call, after_open, after_touch, stop_of, TellsWhatStopped, TellsCause, IsNoClash};
-ghost use Rattle.engine.specs.Events.{opened_by, commits_in, last_end, events_of, events_of_touch};
+ghost use Rattle.engine.specs.Events.{opened_by, commits_in, ends_in, last_end, events_of, events_of_touch};
 ghost use Rattle.engine.specs.Journal.{rows_after as rows_behind};
 ghost use Rattle.engine.specs.declared.entry.Entry.{Entry as AnyEntry};
 ghost use Rattle.engine.specs.Engine.{entry_in, IsOtherwiseSame};
@@ -215,6 +216,19 @@ impl Store {
         grow(&mut self.line, &mut line.token, &LineEvent::Aborted(xid));
         self.book.close(t.into_slip());
         self.live.abort(xid);
+    }
+
+    /// How many tables there are. It takes no memory.
+    pub fn table_count(&self) -> usize
+        ensures count { result ≡ length self.now.schema }
+
+        // Its world has the commits that its line tells, each of which ends above the ones before it,
+        // and the committed rows are their changes.
+        ensures line { self.now.world.line ≡ commits_in self.now.line.list }
+        ensures rising { IsStrictlyIncreasing (0 ∷ ends_in self.now.line.list) }
+        ensures committed { self.now.world.committed ≡ serial self.now.schema self.now.world.start (changes_in self.now.world.line) }
+    {
+        self.live.tables.len()
     }
 
     /// What stopped the store, if anything did. It takes no memory.
