@@ -52,7 +52,7 @@ module _ (e : entry_type.Entry) where
   not_next entries index position below is before here has =
       let one : index + 1 ≡ suc index = omega arith in
       let more : positions_of (take (index + 1) entries) ≡ positions_of (take index entries) ++ e.end ∷ [] =
-          ap (λ (n : ℕ). positions_of (take n entries)) one ∙ ap (λ (ends : List ℕ). 0 ∷ ends) (ends_next entries index below is) in
+      ap (λ (n : ℕ). positions_of (take n entries)) one ∙ ap (λ (ends : List ℕ). 0 ∷ ends) (ends_next entries index below is) in
       elim (Contains-push_cases (positions_of (take index entries)) e.end position (subst (λ (ns : List ℕ). Contains ns position) more has)) [
         | inl earlier ↦ before earlier
         | inr same ↦ here same

@@ -37,3 +37,6 @@ mod watch;
 pub use fault::ReadFault;
 pub use reader::Reader;
 pub use watch::Watch;
+
+#[cfg(test)]
+mod tests;

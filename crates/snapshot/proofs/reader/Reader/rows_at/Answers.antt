@@ -21,11 +21,12 @@ returns-in_default-clause-refused g c =
     let is = subst (λ (s : Engine). map entry_in entries ≡ journal s.world) c.deref-2.ensures c.journal.ensures.journal in
     let looked = subst (λ (s : Engine). seen ≡ s.line) c.deref_mut.ensures.value c.look.ensures.seen in
     let positions = positions_told c.lock-store.result.value told seen looked entries is in
-    rw (← c.self.view_is)
-    (omega (arith, c.in_ok-check_table.ensures.known, c.table_count.ensures.count),
-    sees_more c.deref_mut.result.now g.N.StoreNames.line c.self.inside.seen seen _ _ _ c.self.invariant.0 c.look.ensures.name c.look.ensures.begins c.look.ensures.seen
-    (subst (λ (s : Engine). IsStrictlyIncreasing (0 ∷ ends_in s.line.list)) (c.deref.ensures ∙ sym c.deref_mut.ensures.value) c.table_count.ensures.rising),
-    λ has. c.in_default.ensures (subst (λ (ns : List ℕ). Contains ns c.args.position) (sym positions) has))
+    rw (← c.self.view_is) (
+      omega (arith, c.in_ok-check_table.ensures.known, c.table_count.ensures.count),
+      sees_more c.deref_mut.result.now g.N.StoreNames.line c.self.inside.seen seen _ _ _ c.self.invariant.0 c.look.ensures.name c.look.ensures.begins c.look.ensures.seen
+          (subst (λ (s : Engine). IsStrictlyIncreasing (0 ∷ ends_in s.line.list)) (c.deref.ensures ∙ sym c.deref_mut.ensures.value) c.table_count.ensures.rising),
+      λ has. c.in_default.ensures (subst (λ (ns : List ℕ). Contains ns c.args.position) (sym positions) has),
+    )
 
 pub rows_after-requires-clause-reached : goal.rows_after-requires-clause-reached
 rows_after-requires-clause-reached g c =
@@ -43,12 +44,13 @@ returns-clause-rows g c =
     let starts = subst (λ (t : Engine). t.world.start ≡ g.N.StoreNames.start) c.deref.ensures c.table_count.ensures.start in
     let is = subst (λ (t : Engine). map entry_in entries ≡ journal t.world) c.deref-2.ensures c.journal.ensures.journal in
     let looked = subst (λ (t : Engine). seen ≡ t.line) c.deref_mut-2.ensures.value c.look-2.ensures.seen in
-    let positions = positions_told s told seen looked entries is in
-    (c.in-Some.count,
-    ap (λ (ns : List ℕ). slice_get ns c.in-Some.count) (sym positions) ∙ c.in-Some.ensures,
-    c.in-Ok.ensures.reads
-    ∙ ap (λ (t : Engine). rows_of_table (serial g.N.StoreNames.schema t.world.start (changes_in (take c.in-Some.count t.world.line))) c.args.table) c.deref-3.ensures
-    ∙ ap (λ (rows : Rows). rows_of_table rows c.args.table) (rows_told s told seen looked g.N.StoreNames.schema g.N.StoreNames.start c.in-Some.count starts))
+    let positions = positions_told s told seen looked entries is in (
+      c.in-Some.count,
+      ap (λ (ns : List ℕ). slice_get ns c.in-Some.count) (sym positions) ∙ c.in-Some.ensures,
+      c.in-Ok.ensures.reads
+          ∙ ap (λ (t : Engine). rows_of_table (serial g.N.StoreNames.schema t.world.start (changes_in (take c.in-Some.count t.world.line))) c.args.table) c.deref-3.ensures
+          ∙ ap (λ (rows : Rows). rows_of_table rows c.args.table) (rows_told s told seen looked g.N.StoreNames.schema g.N.StoreNames.start c.in-Some.count starts),
+    )
 
 pub returns-clause-seen : goal.returns-clause-seen
 returns-clause-seen g c =
