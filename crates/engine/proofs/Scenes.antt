@@ -105,6 +105,21 @@ know_gone old new was now xid know update gone other there =
           ∙ know other (sym (ap is_some (ap (λ (m : OpenOnes). finite.get m other) gone ∙ gone_other was xid other apart)) ∙ there)
     ]
 
+-- a ticket is handed back, and its transaction is gone again
+pub belong_again : (old new : Tickets) (name later : Name) → Belong name old → later ≡ name → new.entries ≡ old.entries → Belong later new
+belong_again old new name later belong same entries xid t at =
+    let was = belong xid t (ap (lookup (tree.is_at (nat_cmp xid))) (sym entries) ∙ at) in
+    (was.0 ∙ sym same, was.1)
+
+pub know_again : (old new : Tickets) (was mid now : OpenOnes) (xid : ℕ) → Know was old → new.entries ≡ old.entries
+    → AreOpenBeside xid was mid → now ≡ finite.remove mid xid → Know now new
+know_again old new was mid now xid know entries alike gone other there =
+    elim (xid_cases other xid) [
+      | inl here ↦ absurd (true≢false (sym there ∙ ap is_some (ap (finite.get now) here ∙ ap (λ (m : OpenOnes). finite.get m xid) gone ∙ gone_same mid xid)))
+      | inr apart ↦ ap is_some (ap (lookup (tree.is_at (nat_cmp other))) entries)
+          ∙ know other (sym (ap is_some (ap (λ (m : OpenOnes). finite.get m other) gone ∙ gone_other mid xid other apart) ∙ alike other apart) ∙ there)
+    ]
+
 -- ---- what each call leaves open
 
 put_alike : (w new : World) (xid : ℕ) (o : Opened) → new.opened ≡ finite.insert w.opened xid o → AreOpenBeside xid w.opened new.opened

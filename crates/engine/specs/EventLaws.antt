@@ -1,26 +1,32 @@
 -- What the lists of tickets and of the line tell, once they are longer.
 --     get_values, values_insert, values_remove      a finite map whose values are altered
---     opened_more      an open transaction once one more event has come
+--     opened_more, work_back      an open transaction once one more event has come, and what survives of it after a rollback
 --     same_insert      a map into which what it has is inserted
 --     world_acted      the world once a call that tried a change is in its transaction's list
 --     world_done      the world once an item is in it
+--     rise_more      numbers that rise, with one more
+--     ends_same, last_same, ends_more, last_more      the ends of the commits with an event that is none, and with one more
 --     world_opened, world_aborted, world_committed      the world once the line has one more event
-use Rattle.std.proofs.Common.{◌≡◌, ℕ, Bool, true, false, List, [], ◌∷◌, ◌++◌, Option, Some, None, refl, sym, ap, ◌∙◌, inl, inr, append-nil}
-use Rattle.std.specs.Prelude.{Result, Ok, Err, map, option_map, cond}
+use Rattle.std.proofs.Common.{◌≡◌, ℕ, zero, suc, ◌+◌, ◌<◌, Bool, true, false, List, [], ◌∷◌, ◌++◌, length, get_or, Option, Some, None, refl, sym, ap, subst, ◌∙◌, inl, inr, append-nil, arith}
+use Rattle.std.specs.Prelude.{Result, Ok, Err, ◌==◌, if◌then◌else◌, fold, map, option_map, cond}
+use Rattle.std.specs.List.Sorted.{IsStrictlyIncreasing}
 use Rattle.std.specs.Ordering.{nat_cmp, eq_by_cmp}
 use Rattle.std.specs.Cmp.{nat_cmp_total}
 use Rattle.std.specs.FinMap as finite
 use Rattle.std.specs.FinMap.{FinMap, get}
 use Rattle.std.proofs.lemmas.Grind.{flat_map-append, fold-append}
+use Rattle.std.proofs.lemmas.List.{map-append}
 use Rattle.model.specs.declared.change.Change as change_type
 use Rattle.model.specs.declared.item.Item.{Item}
-use Rattle.model.specs.declared.item.Item.TheVariants.{Change}
+use Rattle.model.specs.declared.item.Item.TheVariants.{Change, BackTo}
 use Rattle.model.specs.declared.item.CommitInfo.{CommitInfo}
 use Rattle.model.specs.Rows.{Rows, Schema}
 use Rattle.model.specs.Effect.{serial}
 use Rattle.model.specs.EffectLaws.{serial_append}
+use Rattle.model.specs.Survivors.{before_savepoint, survivors, changes_of}
+use Rattle.model.specs.SurvivorLaws.{survivors_with}
 use Rattle.tokens.specs.Lists.{ListMap}
-use Rattle.world.specs.World.{Past, OpenOnes, Stop, changes_in, work_behind}
+use Rattle.world.specs.World.{Past, OpenOnes, Stop, work, changes_in, work_behind}
 use Rattle.world.specs.ListingLaws.{xid_cases, got_same, got_other, same_by_xid}
 use Rattle.world.specs.Steps.{Fault, Acted, IsDone, IsSkipped, Held, Clashed, opened_with, done_with, committed_with, aborted_with}
 use Rattle.engine.specs.declared.events.Event.{Event}
@@ -28,7 +34,7 @@ use Rattle.engine.specs.declared.events.Event.TheVariants.{Done, Wants}
 use Rattle.engine.specs.declared.events.LineEvent.{LineEvent}
 use Rattle.engine.specs.declared.events.LineEvent.TheVariants.{Opened as WasOpened, Committed as WasCommitted, Aborted as WasAborted}
 use Rattle.engine.specs.Answers.{after_act}
-use Rattle.engine.specs.Events.{after_event, opened_by, map_values, opened_in, past_of, commits_in, world_of, events_of}
+use Rattle.engine.specs.Events.{after_event, opened_by, map_values, opened_in, past_of, commits_in, ends_in, last_end, world_of, events_of}
 
 -- ---- a finite map whose values are altered
 
@@ -80,6 +86,13 @@ same_insert m k v is = same_by_xid (finite.insert m k v) m (λ q.
 -- an open transaction once one more event has come
 pub opened_more : (events : List Event) (e : Event) → opened_by (events ++ e ∷ []) ≡ after_event (opened_by events) e
 opened_more events e = fold-append after_event (record { items = []; wants = None }) events (e ∷ [])
+
+-- what survives of an open transaction once it was rolled back
+pub work_back : (events : List Event) (xid sub : ℕ)
+    → work xid (opened_by (events ++ Done (BackTo sub) ∷ []))
+    ≡ changes_of (if sub == xid then survivors xid (opened_by events).items else before_savepoint sub (survivors xid (opened_by events).items))
+work_back events xid sub =
+    ap (work xid) (opened_more events (Done (BackTo sub))) ∙ ap changes_of (survivors_with xid (opened_by events).items (BackTo sub))
 
 -- the open transactions once a list has one more event
 pub opened_event : (lists : ListMap Event) (xid : ℕ) (events : List Event) (e : Event)
@@ -154,6 +167,40 @@ world_aborted schema start line lists stopped xid =
 more_commits : (line : List LineEvent) (xid : ℕ) (items : List Item) (info : CommitInfo)
     → commits_in (line ++ WasCommitted xid items info ∷ []) ≡ commits_in line ++ record { xid = xid; items = items; info = info } ∷ []
 more_commits line xid items info = flat_map-append past_of line (WasCommitted xid items info ∷ [])
+
+-- ---- the ends of the commits
+
+-- numbers that rise, with one above the last
+pub rise_more : (ns : List ℕ) (first n : ℕ) → IsStrictlyIncreasing (first ∷ ns) → fold (λ (before end : ℕ). end) first ns < n
+    → IsStrictlyIncreasing (first ∷ (ns ++ n ∷ []))
+rise_more [] first n rise above zero within = above
+rise_more [] first n rise above (suc k) within = absurd (omega (arith, within))
+rise_more (next ∷ ns) first n rise above zero within = rise 0 (omega arith)
+rise_more (next ∷ ns) first n rise above (suc k) within =
+    let same : suc k + 1 ≡ suc (k + 1) = omega arith in
+    subst (λ j. get_or (next ∷ (ns ++ n ∷ [])) k 0 < get_or (first ∷ next ∷ (ns ++ n ∷ [])) j 0) (sym same)
+    (rise_more ns next n
+    (λ j inside.
+    let one : suc j + 1 ≡ suc (j + 1) = omega arith in
+    subst (λ i. get_or (next ∷ ns) j 0 < get_or (first ∷ next ∷ ns) i 0) one (rise (suc j) (omega (arith, inside))))
+    above k (omega (arith, within)))
+
+pub ends_same : (line : List LineEvent) (e : LineEvent) → past_of e ≡ [] → ends_in (line ++ e ∷ []) ≡ ends_in line
+ends_same line e none = ap (λ (ps : List Past). map (λ (p : Past). p.info.end) ps) (same_commits line e none)
+
+pub last_same : (line : List LineEvent) (e : LineEvent) → past_of e ≡ [] → last_end (line ++ e ∷ []) ≡ last_end line
+last_same line e none = ap (fold (λ (before end : ℕ). end) 0) (ends_same line e none)
+
+pub ends_more : (line : List LineEvent) (xid : ℕ) (items : List Item) (info : CommitInfo)
+    → ends_in (line ++ WasCommitted xid items info ∷ []) ≡ ends_in line ++ info.end ∷ []
+ends_more line xid items info =
+    ap (λ (ps : List Past). map (λ (p : Past). p.info.end) ps) (more_commits line xid items info)
+    ∙ map-append (λ (p : Past). p.info.end) (commits_in line) (record { xid = xid; items = items; info = info } ∷ [])
+
+pub last_more : (line : List LineEvent) (xid : ℕ) (items : List Item) (info : CommitInfo)
+    → last_end (line ++ WasCommitted xid items info ∷ []) ≡ info.end
+last_more line xid items info =
+    ap (fold (λ (before end : ℕ). end) 0) (ends_more line xid items info) ∙ fold-append (λ (before end : ℕ). end) 0 (ends_in line) (info.end ∷ [])
 
 -- the committed rows after one commit more
 more_committed : (schema : Schema) (start : Rows) (pasts : List Past) (p : Past)

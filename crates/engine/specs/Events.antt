@@ -2,6 +2,7 @@
 --     after_event, opened_by      what an open transaction has done, by the events of its list
 --     opened_in      the open transactions, by their lists
 --     past_of, commits_in      the commits, by the events of the line
+--     ends_in, last_end      where the log goes on behind each of them, and behind the last
 --     is_same      two numbers are one
 --     open_after, is_open_in      whether a transaction is open, by the events of the line
 --     world_of      the world that start, line, lists and stop tell
@@ -49,6 +50,14 @@ past_of (WasAborted xid) = []
 -- the commits, by the events of the line
 abbrev pub commits_in : List LineEvent → List Past
 commits_in line = flat_map past_of line
+
+-- where the log goes on behind each commit, in order
+abbrev pub ends_in : List LineEvent → List ℕ
+ends_in line = map (λ (p : Past). p.info.end) (commits_in line)
+
+-- where it goes on behind the last; 0 before the first
+abbrev pub last_end : List LineEvent → ℕ
+last_end line = fold (λ (before end : ℕ). end) 0 (ends_in line)
 
 -- two numbers are one
 abbrev pub is_same : ℕ → ℕ → Bool

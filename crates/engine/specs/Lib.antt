@@ -42,3 +42,4 @@ pub mod Shared
 pub mod SharedLaws
 pub mod Shut
 pub mod ShutLaws
+pub mod NamedLaws

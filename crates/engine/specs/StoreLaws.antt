@@ -3,14 +3,18 @@
 --     clash_there, stop_there      what a clash stopped stands for a world that it stopped; the caller is told so
 --     absent_there, runs_there      what is not kept is not open there; what runs stands for a world that runs
 --     stands      so is the one of a list
+--     still_named, still_rising      what the journal's entries keep where they are the same
 --     store_grown      a transaction's list has more events
 --     store_acted, store_done, store_touched      those of a call that tried a change; an item; those of a call that
 --         named a subtransaction
 --     store_started      a store with nothing in its lists and no entries
 --     store_opened, store_ended      a transaction opens; one ends
 --     store_aborted, store_committed      it is aborted; it is committed, and the journal has its entry, for which there is room
+--     store_rising, store_serial      the ends of the journal's entries rise, and its changes make the committed rows
+--     first_named, store_rows_after      the rows of a table after the first entries
 use Rattle.std.proofs.Common.{◌≡◌, ℕ, zero, suc, ◌+◌, ◌-◌, ◌<◌, ◌≤◌, Vec, Global, Bool, true, false, List, [], ◌∷◌, ◌++◌, Option, Some, None, refl, sym, ap, subst, ◌∙◌, inl, inr, arith}
-use Rattle.std.specs.Prelude.{Result, Ok, Err, cond, if◌then◌else◌, is_some, IsSome, IfSome, map, option_map, vec_len, vec_capacity}
+use Rattle.std.specs.Prelude.{Result, Ok, Err, All, cond, if◌then◌else◌, is_some, IsSome, IfSome, length, map, take, option_map, vec_len, vec_capacity}
+use Rattle.std.specs.List.Sorted.{IsStrictlyIncreasing}
 use Rattle.std.specs.Ordering.{nat_cmp}
 use Rattle.std.specs.Cmp.{nat_cmp_total}
 use Rattle.std.specs.BTreeMap as tree
@@ -19,19 +23,25 @@ use Rattle.std.specs.FinMap as finite
 use Rattle.std.specs.FinMap.{FinMap, get}
 use Rattle.std.proofs.lemmas.Bool.{false≢true}
 use Rattle.std.proofs.lemmas.Grind.{fold-append}
-use Rattle.std.proofs.lemmas.List.{map-append}
+use Rattle.std.proofs.lemmas.List.{map-append, take-map}
+use Rattle.std.proofs.lemmas.List.Elements.{All-nil, All-take}
+use Rattle.std.proofs.lemmas.Simd.{map-map}
 use Rattle.model.specs.declared.change.Change as change_type
 use Rattle.change.specs.declared.outcome.Clash as clash_type
 use Rattle.model.specs.declared.item.Item.{Item}
 use Rattle.model.specs.declared.item.CommitInfo.{CommitInfo}
 use Rattle.model.specs.declared.item.Item.TheVariants.{Touch}
 use Rattle.model.specs.ValidLaws.{not_none}
-use Rattle.model.specs.Rows.{Rows}
-use Rattle.model.specs.Effect.{ClashCause}
+use Rattle.model.specs.Named.{NamesTables}
+use Rattle.model.specs.Rows.{Rows, Schema}
+use Rattle.model.specs.Survivors.{survivors, changes_of}
+use Rattle.model.specs.Effect.{ClashCause, serial}
+use Rattle.model.specs.TableRows.{rows_of_table}
 use Rattle.savepoint.specs.Record.{Record}
 use Rattle.tokens.specs.Half.{Half}
 use Rattle.tokens.specs.Lists.{ListMap, OpenLists, with_list, without_list}
-use Rattle.world.specs.World.{Opened, Past, ByClash, World, starting, entry_of, journal}
+use Rattle.world.specs.World as told_entry
+use Rattle.world.specs.World.{Opened, Past, ByClash, World, starting, entry_of, journal, changes_in}
 use Rattle.world.specs.ListingLaws.{xid_cases, got_same, got_other}
 use Rattle.world.specs.Steps.{Fault, Acted, IsDone, IsSkipped, Held, Clashed, opened_with, done_with, committed_with, aborted_with}
 use Rattle.engine.specs.declared.events.Event.{Event}
@@ -45,9 +55,12 @@ use Rattle.engine.specs.declared.live.Stopped.TheVariants.{Clash as StoppedByCla
 use Rattle.engine.specs.declared.store.Store.TheInside.{Inside}
 use Rattle.engine.specs.declared.transaction.OpenTransaction.{OpenTransaction}
 use Rattle.engine.specs.Answers.{cause_of, stop_for, told_stop, after_act, after_touch, stop_of, TellsWhatStopped, HasCause}
-use Rattle.engine.specs.Events.{opened_by, opened_in, is_same, open_after, is_open_in, world_of, events_of, events_of_touch}
-use Rattle.engine.specs.EventLaws.{get_values, values_empty, opened_stands, same_lists, world_done, world_acted, world_opened, world_aborted, world_committed}
-use Rattle.engine.specs.Engine.{entry_in, world_in, IsStore}
+use Rattle.engine.specs.Events.{opened_by, opened_in, commits_in, ends_in, last_end, is_same, open_after, is_open_in, world_of, events_of, events_of_touch}
+use Rattle.engine.specs.EventLaws.{get_values, values_empty, opened_stands, same_lists, rise_more, ends_same, ends_more, world_done, world_acted, world_opened, world_aborted, world_committed}
+use Rattle.engine.specs.Journal.{rows_after}
+use Rattle.engine.specs.JournalLaws.{entries_are_serial, rows_after_are_read}
+use Rattle.engine.specs.Engine.{entry_in, world_in, AreNamed, IsStore}
+use Rattle.engine.specs.NamedLaws.{work_named, entries_named}
 use Rattle.engine.specs.Tied.{IsTied}
 
 -- a record that is there is kept of a transaction
@@ -103,6 +116,14 @@ same_len m k v w is = finite.len-insert nat_cmp_total m k w ∙ ap (λ b. cond b
 fewer_fit : (entries old new capacity : ℕ) → old ≡ new → entries + old ≤ capacity → entries + new ≤ capacity
 fewer_fit entries old new capacity same fits = subst (λ n. entries + n ≤ capacity) same fits
 
+-- entries whose changes name tables that are there, under a schema that is the same
+still_named : (schema later : Schema) (entries : List Entry) → later ≡ schema → AreNamed schema entries → AreNamed later entries
+still_named schema later entries same named = subst (λ (s : Schema). AreNamed s entries) (sym same) named
+
+-- ends that rise, of a line that tells the same ones
+still_rising : (line : List LineEvent) (ends : List ℕ) → ends_in line ≡ ends → IsStrictlyIncreasing (0 ∷ ends) → IsStrictlyIncreasing (0 ∷ ends_in line)
+still_rising line ends same rising = subst (λ (ns : List ℕ). IsStrictlyIncreasing (0 ∷ ns)) (sym same) rising
+
 -- a store whose live part and lists are others, with the same line, journal and start
 abbrev pub with_parts : Inside → Live → OpenLists Event → Inside
 with_parts s m b = record s { live = m; book = b }
@@ -135,6 +156,8 @@ module _ (s : Inside) (is : IsStore s) (xid : ℕ) (events : List Event) (listed
           schema = is.schema ∙ sym schema;
           told = is.told;
           room = fewer_fit (vec_len s.journal) (btree_map_len s.live.transactions) (btree_map_len m.transactions) (vec_capacity s.journal) (sym is.tied.count ∙ sym count ∙ tied.count) is.room;
+          rising = is.rising;
+          named = still_named s.live.tables.schema m.tables.schema s.journal.items schema is.named;
           opened = λ other. is.opened other ∙ sym (still_told more other) ∙ ap (λ (bs : OpenLists Event). is_some (get bs.lists other)) (sym book);
         },
       )
@@ -195,6 +218,8 @@ store_started s rows tied schema rows_are line lists items len =
         schema = schema;
         told = ap (map entry_in) items ∙ ap journal (sym same);
         room = no_room (vec_len s.journal) (finite.len (starting rows).opened) (btree_map_len s.live.transactions) (vec_capacity s.journal) len (finite.len-empty nat_cmp Opened) tied.count;
+        rising = still_rising s.line.list [] (ap (λ (events : List LineEvent). ends_in events) line) (λ k within. absurd (omega (arith, within)));
+        named = subst (AreNamed s.live.tables.schema) (sym items) (All-nil (λ (e : Entry). All (NamesTables (length s.live.tables.schema)) e.changes));
         opened = λ xid.
             ap (λ (events : List LineEvent). is_open_in events xid) line ∙ sym (ap is_some (finite.get-empty nat_cmp xid))
             ∙ ap (λ (found : ListMap Event). is_some (get found xid)) (sym lists);
@@ -256,6 +281,8 @@ module _ (s : Inside) (is : IsStore s) (xid : ℕ) (absent : get (world_in s).op
           told = ap (map entry_in) journal_same ∙ is.told ∙ ap journal (sym same);
           room = fewer_fit (vec_len j) (btree_map_len s.live.transactions + 1) (btree_map_len m.transactions) (vec_capacity j)
               (ap (λ n. n + 1) (sym is.tied.count) ∙ sym (one_more (world_in s).opened xid _ absent) ∙ tied.count) room;
+          rising = still_rising k.list (ends_in s.line.list) (ap (λ (h : Half LineEvent). ends_in h.list) line ∙ ends_same s.line.list (WasOpened xid) refl) is.rising;
+          named = still_named s.live.tables.schema m.tables.schema j.items schema (subst (AreNamed s.live.tables.schema) (sym journal_same) is.named);
           opened = λ other.
               ap (λ (h : Half LineEvent). is_open_in h.list other) line ∙ open_more s.line.list (WasOpened xid) other
               ∙ ap (λ b. if is_same other xid then true else b) (is.opened other) ∙ sym (there_more s.book.lists xid [] other)
@@ -293,8 +320,9 @@ module _ (s : Inside) (is : IsStore s) (xid : ℕ) (events : List Event) (listed
       → IsTied later m → later.opened ≡ finite.remove (world_in s).opened xid
       → world_of s.live.tables.schema s.start.rows (s.line.list ++ e ∷ []) (finite.remove s.book.lists xid) (told_stop m.stopped) ≡ later
       → map entry_in j.items ≡ journal later → vec_len j + btree_map_len m.transactions ≤ vec_capacity j
+      → IsStrictlyIncreasing (0 ∷ ends_in (s.line.list ++ e ∷ [])) → AreNamed m.tables.schema j.items
       → let t = record s { live = m; journal = j; book = b; line = k } in (world_in t ≡ later) × IsStore t
-  store_ended m j b k e later schema book line ends tied gone tells told room =
+  store_ended m j b k e later schema book line ends tied gone tells told room rising named =
       let same : world_in (record s { live = m; journal = j; book = b; line = k }) ≡ later =
       (λ i. world_of (schema i) s.start.rows (line i).list (book i).lists (told_stop m.stopped)) ∙ tells in (
         same,
@@ -303,6 +331,8 @@ module _ (s : Inside) (is : IsStore s) (xid : ℕ) (events : List Event) (listed
           schema = is.schema ∙ sym schema;
           told = told ∙ ap journal (sym same);
           room = room;
+          rising = still_rising k.list (ends_in (s.line.list ++ e ∷ [])) (ap (λ (h : Half LineEvent). ends_in h.list) line) rising;
+          named = named;
           opened = λ other.
               ap (λ (h : Half LineEvent). is_open_in h.list other) line ∙ open_more s.line.list e other ∙ ends other (is_open_in s.line.list other)
               ∙ ap (λ b. if is_same other xid then false else b) (is.opened other) ∙ sym (there_less s.book.lists xid other)
@@ -336,6 +366,20 @@ module _ (s : Inside) (is : IsStore s) (xid : ℕ) (events : List Event) (listed
       is.told
       (less_fit (vec_len s.journal) (btree_map_len m.transactions) (btree_map_len s.live.transactions) (vec_capacity s.journal)
       (one_kept_less m (aborted_with (world_in s) xid) tied refl) is.room)
+      (still_rising (s.line.list ++ WasAborted xid ∷ []) (ends_in s.line.list) (ends_same s.line.list (WasAborted xid) refl) is.rising)
+      (still_named s.live.tables.schema m.tables.schema s.journal.items schema is.named)
+
+  -- the changes of its items name tables that are there
+  work_is_named : All (NamesTables (length s.live.tables.schema)) (changes_of (survivors xid (opened_by events).items))
+  work_is_named =
+      let kept = there (tree.get nat_cmp s.live.transactions xid) refl (is_kept (world_in s) s.live is.tied xid (opened_by events) (stands s is xid events listed)) in
+      work_named (length s.live.tables.schema) xid (opened_by events).items
+      (is.tied.beside xid (opened_by events) kept.0 (stands s is xid events listed) kept.1).items_named
+    where
+      there : (found : Option OpenTransaction) → tree.get nat_cmp s.live.transactions xid ≡ found → IsSome found
+          → (kept : OpenTransaction) × (tree.get nat_cmp s.live.transactions xid ≡ Some kept)
+      there None at some = absurd (false≢true some)
+      there (Some kept) at some = (kept, at)
 
   -- It is committed, and its entry is in the journal.
   pub store_committed : (m : Live) (j : Vec Entry Global) (b : OpenLists Event) (k : Half LineEvent) (info : CommitInfo) (entry : Entry)
@@ -343,10 +387,10 @@ module _ (s : Inside) (is : IsStore s) (xid : ℕ) (events : List Event) (listed
       → k ≡ record s.line { list = s.line.list ++ WasCommitted xid (opened_by events).items info ∷ [] }
       → IsTied (committed_with s.live.tables.schema (world_in s) xid (opened_by events) info) m
       → j.items ≡ s.journal.items ++ entry ∷ [] → vec_len j ≡ vec_len s.journal + 1 → vec_capacity j ≡ vec_capacity s.journal
-      → entry_in entry ≡ entry_of (record { xid = xid; items = (opened_by events).items; info = info })
+      → entry_in entry ≡ entry_of (record { xid = xid; items = (opened_by events).items; info = info }) → last_end s.line.list < info.end
       → let t = record s { live = m; journal = j; book = b; line = k } in
       (world_in t ≡ committed_with s.live.tables.schema (world_in s) xid (opened_by events) info) × IsStore t
-  store_committed m j b k info entry schema book line tied items len capacity entry_is =
+  store_committed m j b k info entry schema book line tied items len capacity entry_is above =
       let later : World = committed_with s.live.tables.schema (world_in s) xid (opened_by events) info in
       let past : Past = record { xid = xid; items = (opened_by events).items; info = info } in
       store_ended m j b k (WasCommitted xid (opened_by events).items info) later schema book line (λ q was. refl) tied refl
@@ -356,3 +400,40 @@ module _ (s : Inside) (is : IsStore s) (xid : ℕ) (events : List Event) (listed
       ∙ sym (map-append entry_of (world_in s).line (past ∷ [])))
       (more_less_fit (vec_len s.journal) (vec_len j) (btree_map_len m.transactions) (btree_map_len s.live.transactions) (vec_capacity s.journal) (vec_capacity j)
       len capacity (one_kept_less m later tied refl) is.room)
+      (still_rising (s.line.list ++ WasCommitted xid (opened_by events).items info ∷ []) (ends_in s.line.list ++ info.end ∷ [])
+      (ends_more s.line.list xid (opened_by events).items info) (rise_more (ends_in s.line.list) 0 info.end is.rising above))
+      (subst (AreNamed m.tables.schema) (sym items)
+      (entries_named s.live.tables.schema m.tables.schema schema s.journal.items entry is.named
+      (subst (All (NamesTables (length s.live.tables.schema))) (sym (ap (λ (e : told_entry.Entry). e.changes) entry_is)) work_is_named)))
+
+-- ---- what a store tells of its journal
+
+module _ (s : Inside) (is : IsStore s) where
+  -- the ends of its entries rise
+  pub store_rising : IsStrictlyIncreasing (0 ∷ map (λ (e : Entry). e.end) s.journal.items)
+  store_rising =
+      let ends : map (λ (e : Entry). e.end) s.journal.items ≡ ends_in s.line.list =
+      sym (map-map (λ (e : told_entry.Entry). e.end) entry_in s.journal.items) ∙ ap (map (λ (e : told_entry.Entry). e.end)) is.told
+      ∙ map-map (λ (e : told_entry.Entry). e.end) entry_of (commits_in s.line.list) in
+      subst (λ (ns : List ℕ). IsStrictlyIncreasing (0 ∷ ns)) (sym ends) is.rising
+
+  -- the committed rows are those at the start with the changes of its entries
+  pub store_serial : (world_in s).committed ≡ rows_after s.live.tables.schema s.start.rows (map entry_in s.journal.items)
+  store_serial =
+      sym (ap (rows_after s.live.tables.schema s.start.rows) is.told ∙ entries_are_serial s.live.tables.schema s.start.rows (commits_in s.line.list))
+
+  module _ (table count : ℕ) where
+    -- the changes of the first entries name tables that are there
+    pub first_named : AreNamed s.start.schema (take count s.journal.items)
+    first_named =
+        still_named s.live.tables.schema s.start.schema (take count s.journal.items) is.schema
+        (All-take (λ (e : Entry). All (NamesTables (length s.live.tables.schema)) e.changes) count s.journal.items is.named)
+
+    -- the rows of a table after them
+    pub store_rows_after : rows_of_table (rows_after s.start.schema s.start.rows (map entry_in (take count s.journal.items))) table
+        ≡ rows_of_table (serial s.live.tables.schema s.start.rows (changes_in (take count (commits_in s.line.list)))) table
+    store_rows_after =
+        ap (λ (schema : Schema). rows_of_table (rows_after schema s.start.rows (map entry_in (take count s.journal.items))) table) is.schema
+        ∙ ap (λ (entries : List told_entry.Entry). rows_of_table (rows_after s.live.tables.schema s.start.rows entries) table)
+        (sym (take-map entry_in count s.journal.items) ∙ ap (take count) is.told)
+        ∙ rows_after_are_read s.live.tables.schema (world_in s) table count

@@ -12,6 +12,7 @@ use Rattle.std.specs.FinMap as finite
 use Rattle.std.specs.FinMap.{FinMap, get}
 use Rattle.std.specs.Ordering.{nat_cmp}
 use Rattle.std.proofs.lemmas.List.{length-take}
+use Rattle.std.proofs.lemmas.List.Elements.{All-nil, All-cons}
 use Rattle.std.proofs.lemmas.Map.Entries.{length-keys_of}
 use Rattle.model.specs.declared.cell.Cell.{Cell}
 use Rattle.model.specs.declared.change.Change as change_type
@@ -47,6 +48,7 @@ use Rattle.engine.specs.Laws.{IsFreeLive}
 use Rattle.engine.specs.CallLaws.{done_is_kept, skip_is_kept, held_is_kept, clash_is_kept, refusal_is_kept}
 use Rattle.engine.specs.HoldsLaws.{holds_tell_the_world, taken_is_held, same_is_held}
 use Rattle.engine.specs.MarkedHolds.{item_keeps_marks}
+use Rattle.engine.specs.NamedLaws.{changes_item}
 use Rattle.engine.specs.MarksLaws.{marks_same}
 use Rattle.engine.specs.Transactions.{WaitsNoMore, IsAsBefore, HasApplied, WritesTransaction, WantsChange, HasHeldItem, HasTaken}
 use Rattle.engine.specs.Stood.{HasStood, AreToStand, TakesStood, cells_of_each}
@@ -146,14 +148,18 @@ module _ (w : World) (l : Live) (tied : IsTied w l) (xid : ℕ) (o : Opened) (is
       marks_there (tied.holds.its xid o is) sub item names more has_at.0 has_at.1 front
       (longer (cells_held l.holds xid) (cells_held n.holds xid) front)
 
-  beside_item : (item : Item) → WaitsNoMore old kept → IsBeside (length l.tables.schema) (record { items = o.items ++ item ∷ []; wants = None }) kept
-  beside_item item more = record {
+  beside_item : (sub : ℕ) (c : change_type.Change) → NamesTables (length l.tables.schema) c → WaitsNoMore old kept
+      → IsBeside (length l.tables.schema) (record { items = o.items ++ Change sub c ∷ []; wants = None }) kept
+  beside_item sub c names more = record {
     wants = more.wants;
+    items_named =
+        let P : change_type.Change → Type 0 = NamesTables (length l.tables.schema) in
+        changes_item P o.items (Change sub c ∷ []) (its_beside w l tied xid o is old writes.at).items_named (All-cons P c [] names (All-nil P));
     named = subst (λ (wanted : Option (ℕ × change_type.Change)). IfSome wanted (λ (v : ℕ × change_type.Change). NamesTables (length l.tables.schema) v.1)) (sym more.wants) tt;
-    done = let was = (its_beside w l tied xid o is old writes.at).done in let now = more.done in omega (arith, was, now, length-append o.items (item ∷ []));
+    done = let was = (its_beside w l tied xid o is old writes.at).done in let now = more.done in omega (arith, was, now, length-append o.items (Change sub c ∷ []));
   }
 
-  module _ (sub : ℕ) (c : change_type.Change) (running : l.stopped ≡ None) where
+  module _ (sub : ℕ) (c : change_type.Change) (names : NamesTables (length l.tables.schema) c) (running : l.stopped ≡ None) where
     module _ (free : IsFreeOf l.tables.schema l.tables.rows (cells_held l.holds) xid c)
         (takes : TakesStood l.tables.rows (footprint l.tables.schema l.tables.rows c) (length (tied.kept.ready xid o is).its.log.inverses) (holds_of l.holds) xid (holds_of n.holds)) where
       taken : HasTaken xid (footprint l.tables.schema l.tables.rows c) (cells_held l.holds) (cells_held n.holds)
@@ -173,7 +179,7 @@ module _ (w : World) (l : Live) (tied : IsTied w l) (xid : ℕ) (o : Opened) (is
           → HasStood (done_with w xid o (Change sub c)) (records_in n.transactions) (holds_of n.holds) → IsTied (done_with w xid o (Change sub c)) n
       tied_item more waits has schema stops is_kept stood =
           tied_put w l tied xid o is old writes.at (record { items = o.items ++ Change sub c ∷ []; wants = None }) w.stopped n kept schema writes.puts is_kept holds_item
-          (marks_item sub (Change sub c) more (λ other. refl) has taken.front) taken.beside (beside_item (Change sub c) waits) writes.as_many (ap told_stop stops ∙ tied.stopped)
+          (marks_item sub (Change sub c) more (λ other. refl) has taken.front) taken.beside (beside_item sub c names waits) writes.as_many (ap told_stop stops ∙ tied.stopped)
           (caused_still stops) stood
 
       -- it was done
@@ -233,7 +239,7 @@ module _ (w : World) (l : Live) (tied : IsTied w l) (xid : ℕ) (o : Opened) (is
 
     -- ---- a change that it wants
 
-    module _ (names : NamesTables (length l.tables.schema) c) (wants : WantsChange sub c old kept) (tables : n.tables ≡ l.tables) (holds : holds_of n.holds ≡ holds_of l.holds) where
+    module _ (wants : WantsChange sub c old kept) (tables : n.tables ≡ l.tables) (holds : holds_of n.holds ≡ holds_of l.holds) where
       left : IsLeft l.tables.schema l.tables n.tables
       left = subst (λ (t : Content). IsLeft l.tables.schema l.tables t) (sym tables) (record { schema_is = refl; rows = refl; room = λ cell has. has })
 
@@ -245,6 +251,7 @@ module _ (w : World) (l : Live) (tied : IsTied w l) (xid : ℕ) (o : Opened) (is
       beside_wanting : IsBeside (length l.tables.schema) (record o { wants = Some (sub, c) }) kept
       beside_wanting = record {
         wants = wants.wants;
+        items_named = (its_beside w l tied xid o is old writes.at).items_named;
         named = subst (λ (wanted : Option (ℕ × change_type.Change)). IfSome wanted (λ (v : ℕ × change_type.Change). NamesTables (length l.tables.schema) v.1)) (sym wants.wants) names;
         done = wants.done ∙ (its_beside w l tied xid o is old writes.at).done;
       }
@@ -325,6 +332,7 @@ module _ (w : World) (l : Live) (tied : IsTied w l) (xid : ℕ) (o : Opened) (is
       (λ other differs. ap (λ (held : ℕ → List (Cell × Stood)). cells_of_each held other) holds)
       (record {
         wants = before.wants ∙ (its_beside w l tied xid o is old writes.at).wants;
+        items_named = (its_beside w l tied xid o is old writes.at).items_named;
         named = subst (λ (wanted : Option (ℕ × change_type.Change)). IfSome wanted (λ (v : ℕ × change_type.Change). NamesTables (length l.tables.schema) v.1)) (sym before.wants)
             (its_beside w l tied xid o is old writes.at).named;
         done = before.done ∙ (its_beside w l tied xid o is old writes.at).done;

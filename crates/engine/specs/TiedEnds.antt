@@ -7,7 +7,7 @@
 --     tied_back      one is rolled back to a savepoint
 --     tied_aborted, tied_committed      one ends
 use Rattle.std.proofs.Common.{◌≡◌, ◌≢◌, ℕ, ◌+◌, ◌-◌, ◌^◌, ◌++◌, ◌∷◌, [], cond, List, length, take, min, Option, Some, None, refl, sym, ap, subst, ◌∙◌, inl, inr, arith, is_some, true≢false, length-append, append-nil}
-use Rattle.std.specs.Prelude.{option_map, IfSome}
+use Rattle.std.specs.Prelude.{All, option_map, IfSome}
 use Rattle.std.specs.Ordering.{nat_cmp}
 use Rattle.std.specs.Cmp.{nat_cmp_total}
 use Rattle.std.specs.Map.{keys_of, lookup}
@@ -16,6 +16,7 @@ use Rattle.std.specs.BTreeMap.{BTreeMap, btree_map_len}
 use Rattle.std.specs.FinMap as finite
 use Rattle.std.specs.FinMap.{FinMap, get, get-empty, len-empty, len-insert, len-remove}
 use Rattle.std.proofs.lemmas.List.{take_all}
+use Rattle.std.proofs.lemmas.List.Elements.{All-nil}
 use Rattle.std.proofs.lemmas.Map.Entries.{length-keys_of}
 use Rattle.std.proofs.Math.Path.{fun_ext}
 use Rattle.model.specs.declared.change.Change as change_type
@@ -27,7 +28,7 @@ use Rattle.model.specs.Accepted.{AreAccepted}
 use Rattle.model.specs.Named.{NamesTables}
 use Rattle.model.specs.Rows.{Rows, Schema, IsValid}
 use Rattle.model.specs.Footprint.{held_cells, shares_cell, footprint}
-use Rattle.model.specs.Survivors.{after_item}
+use Rattle.model.specs.Survivors.{after_item, changes_of}
 use Rattle.model.specs.SurvivorLaws.{work_with_touch}
 use Rattle.model.specs.ValidLaws.{not_none}
 use Rattle.indexes.specs.Content.{Content}
@@ -51,6 +52,7 @@ use Rattle.engine.specs.Kept.{IsRecordOf, IsKept, IsPutAt}
 use Rattle.engine.specs.KeptLaws.{kept_opened, kept_touched}
 use Rattle.engine.specs.CallLaws.{start_is_kept, refusal_is_kept, rollback_is_kept, abort_is_kept, commit_is_kept}
 use Rattle.engine.specs.MarksLaws.{marks_same}
+use Rattle.engine.specs.NamedLaws.{changes_item}
 use Rattle.engine.specs.MarkedHolds.{item_keeps_marks, rollback_keeps_marks, rollback_is_held, commit_keeps_marks}
 use Rattle.engine.specs.Stood.{HasStood, IsStoodAt, up_to_stood}
 use Rattle.engine.specs.StoodCalls.{start_is_stood, open_is_stood, touch_is_stood, rollback_is_stood, abort_is_stood, commit_is_stood}
@@ -59,7 +61,7 @@ use Rattle.engine.specs.TiedBasics.{records_put, tied_by, marks_put, beside_put,
 use Rattle.engine.specs.Told.{HasTheSame, IsLeft, IsFresh, IsRolledBack, IsTakenBack, IsGivenUp}
 use Rattle.engine.specs.Transactions.{PutsTransaction, WritesTransaction, WaitsNoMore, IsAsBefore, HasHeldItem, HasTouched}
 
--- ---- an item, with which it waits no more
+-- ---- an item that is no change, with which it waits no more
 
 counted : (old new items more most : ℕ) → old ≡ min items most → new ≡ min (old + 1) most → more ≡ items + 1 → new ≡ min more most
 counted old new items more most was is one_more = omega (arith, was, is, one_more)
@@ -68,10 +70,11 @@ wants_none : (tables : ℕ) (wants : Option (ℕ × change_type.Change)) → wan
 wants_none tables None none = tt
 wants_none tables (Some w) some = absurd (not_none w (sym some))
 
-beside_more : (tables : ℕ) (o : Opened) (item : Item) (old kept : OpenTransaction) → IsBeside tables o old → WaitsNoMore old kept
+beside_more : (tables : ℕ) (o : Opened) (item : Item) (old kept : OpenTransaction) → IsBeside tables o old → changes_of (item ∷ []) ≡ [] → WaitsNoMore old kept
     → IsBeside tables (record { items = o.items ++ item ∷ []; wants = None }) kept
-beside_more tables o item old kept was more = record {
+beside_more tables o item old kept was none more = record {
   wants = more.wants;
+  items_named = changes_item (NamesTables tables) o.items (item ∷ []) was.items_named (subst (All (NamesTables tables)) (sym none) (All-nil (NamesTables tables)));
   named = wants_none tables kept.wants more.wants;
   done = counted old.done kept.done (length o.items) (length (o.items ++ item ∷ [])) (2 ^ 64 - 1) was.done more.done (length-append o.items (item ∷ []));
 }
@@ -177,7 +180,7 @@ module _ (w : World) (l : Live) (tied : IsTied w l) (xid : ℕ) (o : Opened) (is
       (item_keeps_marks schema w xid o old.record kept.record tells cells cells (its_marks w l tied xid o is old writes.at) (tied.holds.its xid o is)
       sub (Touch sub) (λ other. refl) [] item has.1 (take_all (length cells) cells (omega arith)) (omega arith)))
       (λ other differs. ap (λ (held : LiveHolds). cells_held held other) holds)
-      (beside_more (length schema) o (Touch sub) old kept (its_beside w l tied xid o is old writes.at) was_touched.more) writes.as_many (ap told_stop stops ∙ tied.stopped)
+      (beside_more (length schema) o (Touch sub) old kept (its_beside w l tied xid o is old writes.at) refl was_touched.more) writes.as_many (ap told_stop stops ∙ tied.stopped)
       (still_caused l n stops tied.caused) (subst (λ (held : LiveHolds). HasStood (done_with w xid o (Touch sub)) (records_in n.transactions) (holds_of held)) (sym holds) (stood_touched sub has))
 
   -- ---- a rollback
@@ -196,7 +199,7 @@ module _ (w : World) (l : Live) (tied : IsTied w l) (xid : ℕ) (o : Opened) (is
       (subst (λ (cells : List Cell). HasHeldMarks schema w.committed kept.record cells) (sym held.here)
       (rollback_keeps_marks schema w xid o old.record kept.record tells (cells_held l.holds xid) (its_marks w l tied xid o is old writes.at) sub
       (back.survivors ∙ ap (λ (top : ℕ). after_item top old.record.survivors (BackTo sub)) tells.top) back.marks))
-      held.beside (beside_more (length schema) o (BackTo sub) old kept (its_beside w l tied xid o is old writes.at) more) writes.as_many (ap told_stop stops ∙ tied.stopped)
+      held.beside (beside_more (length schema) o (BackTo sub) old kept (its_beside w l tied xid o is old writes.at) refl more) writes.as_many (ap told_stop stops ∙ tied.stopped)
       (still_caused l n stops tied.caused)
       (rollback_is_stood schema l.tables w (records_in l.transactions) tied.kept (holds_of l.holds) tied.stood xid o is sub n.tables (records_in n.transactions) kept.record records_at
       back_there (holds_of n.holds)
@@ -256,7 +259,12 @@ module _ (w : World) (l : Live) (tied : IsTied w l) (xid : ℕ) (absent : tree.g
       not_open (records_put xid (Some kept) l.transactions after puts) new.top new.survivors new.marks new.inverses new.named)
       (holds_opened l.tables.schema w (cells_held l.holds) tied.holds xid not_open)
       (marks_put w l tied xid fresh n kept puts (marks_fresh kept.record new.marks) (λ other differs. refl))
-      (beside_put w l tied xid fresh n kept puts (record { wants = wants; named = wants_none (length l.tables.schema) kept.wants wants; done = done }))
+      (beside_put w l tied xid fresh n kept puts (record {
+        wants = wants;
+        named = wants_none (length l.tables.schema) kept.wants wants;
+        items_named = All-nil (NamesTables (length l.tables.schema));
+        done = done;
+      }))
       (len-insert nat_cmp_total w.opened xid fresh ∙ ap (λ b. cond b (finite.len w.opened) (finite.len w.opened + 1)) (ap is_some not_open)
       ∙ ap (λ (count : ℕ). count + 1) tied.count ∙ sym one_more)
       tied.stopped tied.caused

@@ -69,6 +69,7 @@
 //   specs/StopLaws      the call that stops a store in which all wait
 //   specs/JournalLaws   entries of the journal, one after another
 //   specs/RowsAfterLaws the steps of the loops that make their changes
+//   specs/NamedLaws     the tables that changes name
 //
 // It stands on `world` for the definitions, on `savepoint`, `undo`, `change` and `indexes` for tables
 // and records, on `keyholds` for the cells that are held, and on `tokens`.

@@ -3,8 +3,7 @@ ghost use Rattle.std.specs.Prelude.{◌≡◌, ◌<◌, IfOk, OnOk, All, length,
 ghost use Rattle.model.specs.Named.{NamesTables};
 ghost use Rattle.model.specs.Effect.{effect, serial};
 ghost use Rattle.model.specs.TableRows.{rows_of_table};
-ghost use Rattle.engine.specs.declared.entry.Entry.{Entry as AnyEntry};
-ghost use Rattle.engine.specs.Engine.{entry_in};
+ghost use Rattle.engine.specs.Engine.{entry_in, AreNamed};
 ghost use Rattle.engine.specs.Journal.{rows_after as rows_behind};
 
 use crate::entry::{Changes, Entry};
@@ -22,7 +21,7 @@ pub(crate) fn rows_after(
     table: TableId,
 ) -> Result<Vec<Row>, OutOfMemory>
     requires known { table < length start.now.schema }
-    requires named { All (λ (e : AnyEntry). All (NamesTables (length start.now.schema)) e.changes) entries.now }
+    requires named { AreNamed start.now.schema entries.now }
     ensures { IfOk result (λ rows. rows.items ≡ rows_of_table (rows_behind start.now.schema start.now.rows (map entry_in entries.now)) table) }
 {
     let mut tables = start.copy()?;

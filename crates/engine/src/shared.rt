@@ -1,18 +1,21 @@
 // A store as it lies under a lock.
-ghost use Rattle.std.specs.Prelude.{◌≡◌, ◌<◌, ◌++◌, ◌∷◌, [], Some, IfOk, IfErr, OnOk, OnErr, length, map};
+ghost use Rattle.std.specs.Prelude.{◌≡◌, ◌<◌, ◌≤◌, ◌++◌, ◌∷◌, [], Some, Ok, IfOk, IfErr, OnOk, OnErr, length, map};
 ghost use Rattle.std.specs.FinMap as finite;
+ghost use Rattle.std.specs.List.Sorted.{IsStrictlyIncreasing};
 ghost use Rattle.std.specs.Result.{result_ok};
 ghost use Rattle.model.specs.Named.{NamesTables};
 ghost use Rattle.model.specs.declared.item.Item.TheVariants.{Touch, BackTo};
 ghost use Rattle.tokens.specs.Half.{Begins};
 ghost use Rattle.tokens.specs.Lists.{open_list};
-ghost use Rattle.world.specs.World.{World, starting, entry_of};
-ghost use Rattle.world.specs.Steps.{Opens, Acts, Touches, GoesBack, Commits, Aborts, StopsHeld, ReadsLive, ReadsCommitted, TellsJournal, Closes, Watches, Looks, Reaches};
+ghost use Rattle.model.specs.Effect.{serial};
+ghost use Rattle.world.specs.World.{World, starting, entry_of, journal, changes_in};
+ghost use Rattle.world.specs.Steps.{Opens, Acts, Touches, GoesBack, Commits, Aborts, StopsHeld, ReadsLive, ReadsCommitted, ReadsAfter, TellsJournal, Closes, Watches, Looks, Reaches, Fault};
 ghost use Rattle.engine.specs.declared.answers.EngineFault.TheVariants.{OutOfMemory as NoMemory};
 ghost use Rattle.engine.specs.declared.events.Event.TheVariants.{Done};
 ghost use Rattle.engine.specs.declared.events.LineEvent.TheVariants.{Opened as WasOpened, Committed as WasCommitted, Aborted as WasAborted};
 ghost use Rattle.engine.specs.Answers.{told, told_call, TellsWhatStopped, TellsCause, IsNoClash};
-ghost use Rattle.engine.specs.Events.{opened_by, commits_in, events_of};
+ghost use Rattle.engine.specs.Events.{opened_by, commits_in, ends_in, last_end, events_of};
+ghost use Rattle.engine.specs.declared.entry.Entry.{Entry as AnyEntry};
 ghost use Rattle.engine.specs.Engine.{entry_in, IsOtherwiseSame};
 ghost use Rattle.engine.specs.Journal.{rows_after};
 ghost use Rattle.engine.specs.Shared.{IsShared};
@@ -170,6 +173,7 @@ impl<N: StoreNames> SharedStore<N> {
     pub fn commit(&mut self, line: &mut Line, t: Ticket, info: CommitInfo)
         requires belongs { t.name ≡ N.tickets }
         requires line { line.old.name ≡ N.line }
+        requires rising { last_end line.old.list < info.end }
         ensures stood { finite.get self.old.world.opened t.number ≡ Some (opened_by t.list) }
         ensures commits { Commits N.schema self.old.world t.number (opened_by t.list) info self.new.world }
         ensures met { line.old ≡ self.old.line }
@@ -194,6 +198,20 @@ impl<N: StoreNames> SharedStore<N> {
         self.store.abort(line, t);
     }
 
+    /// How many tables there are.
+    pub fn table_count(&self) -> usize
+        ensures count { result ≡ length N.schema }
+
+        // Its world has the commits that its line tells, each of which ends above the ones before it,
+        // and the committed rows are their changes.
+        ensures start { self.now.world.start ≡ N.start }
+        ensures line { self.now.world.line ≡ commits_in self.now.line.list }
+        ensures rising { IsStrictlyIncreasing (0 ∷ ends_in self.now.line.list) }
+        ensures committed { self.now.world.committed ≡ serial N.schema N.start (changes_in self.now.world.line) }
+    {
+        self.store.table_count()
+    }
+
     /// What stopped the store, if anything did.
     pub fn stop(&self) -> Option<Stop>
         ensures { TellsWhatStopped result self.now.world.stopped }
@@ -203,7 +221,8 @@ impl<N: StoreNames> SharedStore<N> {
 
     /// The commits so far, in order.
     pub fn journal(&self) -> &[Entry]
-        ensures { TellsJournal self.now.world (map entry_in result.now) }
+        ensures journal { TellsJournal self.now.world (map entry_in result.now) }
+        ensures rising { IsStrictlyIncreasing (0 ∷ map (λ (e : AnyEntry). e.end) result.now) }
     {
         self.store.journal()
     }
@@ -224,6 +243,21 @@ impl<N: StoreNames> SharedStore<N> {
         ensures fault { IfErr result (λ fault. fault ≡ NoMemory) }
     {
         self.store.committed(table, key)
+    }
+
+    /// The rows of a table after the first so many commits, in key order, as copies.
+    pub fn rows_after(
+        &self,
+        alloc: Global,
+        table: TableId,
+        entries: usize,
+    ) -> Result<Vec<Row>, EngineFault>
+        requires known { table < length N.schema }
+        requires reached { entries ≤ length (journal self.now.world) }
+        ensures reads { IfOk result (λ rows. ReadsAfter {E = Fault} N.schema self.now.world table entries (Ok rows.items)) }
+        ensures fault { IfErr result (λ fault. fault ≡ NoMemory) }
+    {
+        self.store.rows_after(alloc, table, entries)
     }
 
     /// Stops the store where all that is open waits, as by `Store::stop_held`.

@@ -1,19 +1,24 @@
 // Several open transactions on one live set of tables.
-ghost use Rattle.std.specs.Prelude.{◌≡◌, ◌+◌, ◌<◌, ◌≤◌, [], ◌∷◌, ◌++◌, Some, IfOk, IfErr, OnOk, OnErr, length, map, vec_len, vec_capacity};
+ghost use Rattle.std.specs.Prelude.{◌≡◌, ◌+◌, ◌<◌, ◌≤◌, ◌==◌, if◌then◌else◌, [], ◌∷◌, ◌++◌, Some, Ok, IfOk, IfErr, OnOk, OnErr, length, map, vec_len, vec_capacity};
+ghost use Rattle.std.specs.List.Sorted.{IsStrictlyIncreasing};
 ghost use Rattle.std.specs.BTreeMap.{btree_map_len};
 ghost use Rattle.std.specs.FinMap as finite;
 ghost use Rattle.model.specs.Named.{NamesTables};
+ghost use Rattle.model.specs.Survivors.{before_savepoint, survivors, changes_of};
 ghost use Rattle.tokens.specs.Half.{Begins};
 ghost use Rattle.tokens.specs.Lists.{open_list, with_list};
-ghost use Rattle.world.specs.World.{Opened, World, starting, entry_of};
-ghost use Rattle.world.specs.Steps.{Opens, Acts, Touches, GoesBack, Commits, Aborts, StopsHeld, ReadsLive, ReadsCommitted, TellsJournal, Closes, Watches, Looks};
+ghost use Rattle.model.specs.Effect.{serial};
+ghost use Rattle.world.specs.World.{Opened, World, starting, entry_of, journal, work, changes_in};
+ghost use Rattle.world.specs.Steps.{Opens, Acts, Touches, GoesBack, Commits, Aborts, StopsHeld, ReadsLive, ReadsCommitted, ReadsAfter, TellsJournal, Closes, Watches, Looks, Fault};
 ghost use Rattle.model.specs.declared.item.Item.TheVariants.{Touch, BackTo};
 ghost use Rattle.engine.specs.declared.answers.EngineFault.TheVariants.{OutOfMemory as NoMemory};
 ghost use Rattle.engine.specs.declared.events.Event.TheVariants.{Done};
 ghost use Rattle.engine.specs.declared.events.LineEvent.TheVariants.{Opened as WasOpened, Committed as WasCommitted, Aborted as WasAborted};
 ghost use Rattle.std.specs.Result.{result_ok};
 ghost use Rattle.engine.specs.Answers.{told, told_call, after_open, after_touch, stop_of, TellsWhatStopped, TellsCause, IsNoClash};
-ghost use Rattle.engine.specs.Events.{opened_by, commits_in, events_of, events_of_touch};
+ghost use Rattle.engine.specs.Events.{opened_by, commits_in, ends_in, last_end, events_of, events_of_touch};
+ghost use Rattle.engine.specs.Journal.{rows_after as rows_behind};
+ghost use Rattle.engine.specs.declared.entry.Entry.{Entry as AnyEntry};
 ghost use Rattle.engine.specs.Engine.{entry_in, IsOtherwiseSame};
 ghost use Rattle.engine.specs.Tied.{IsTied};
 
@@ -21,6 +26,7 @@ use crate::answers::{Acted, EngineFault, NotSettled, Stop};
 use crate::entry::{Changes, Entry};
 use crate::events::{Event, LineEvent};
 use crate::live::{Live, Stopped};
+use crate::rows_after::rows_after;
 use crate::tickets::{Line, Seen, Ticket};
 use indexes::Tables;
 use model::{Change, CommitInfo, Item, Key, OutOfMemory, Row, TableId, Xid};
@@ -147,12 +153,15 @@ impl Store {
     }
 
     /// A subtransaction of an open transaction is rolled back, also in a store that is stopped: its
-    /// changes and all later ones are undone, and what was held since its savepoint is let go. It takes
-    /// no memory.
+    /// changes and all later ones are undone, and what was held since its savepoint is let go. What is
+    /// left is the work of the items before its savepoint, as though the others had never come; all of
+    /// it where it has none, or is the top one. It takes no memory.
     pub fn back_to(&mut self, t: &mut Ticket, sub: Xid)
         requires { t.old.name ≡ self.old.tickets }
         ensures stood { finite.get self.old.world.opened t.old.number ≡ Some (opened_by t.old.list) }
         ensures goes_back { GoesBack self.old.world t.old.number (opened_by t.old.list) sub self.new.world }
+        ensures as_though { let items = survivors t.old.number (opened_by t.old.list).items in
+            work t.new.number (opened_by t.new.list) ≡ changes_of (if sub == t.old.number then items else before_savepoint sub items) }
         ensures ticket { t.new ≡ record t.old { list = t.old.list ++ Done (BackTo sub) ∷ [] } }
         ensures same { IsOtherwiseSame self.old self.new }
         ensures line { self.new.line ≡ self.old.line }
@@ -164,10 +173,13 @@ impl Store {
     }
 
     /// An open transaction is committed, also in a store that is stopped: its changes that survived
-    /// its rollbacks are an entry of the journal, and what it held is let go. It takes no memory.
+    /// its rollbacks are an entry of the journal, and what it held is let go. The log goes on behind it
+    /// above where it went on behind the commit before, and above 0 behind the first: so an end names
+    /// one entry. It takes no memory.
     pub fn commit(&mut self, line: &mut Line, t: Ticket, info: CommitInfo)
         requires belongs { t.name ≡ self.old.tickets }
         requires line { line.old.name ≡ self.old.line.name }
+        requires rising { last_end line.old.list < info.end }
         ensures stood { finite.get self.old.world.opened t.number ≡ Some (opened_by t.list) }
         ensures commits { Commits self.old.schema self.old.world t.number (opened_by t.list) info self.new.world }
         ensures met { line.old ≡ self.old.line }
@@ -188,7 +200,8 @@ impl Store {
     }
 
     /// An open transaction is aborted, also in a store that is stopped: its changes are undone, and what
-    /// it held is let go. It takes no memory.
+    /// it held is let go. Nothing of it is left: the world is the same but that it isn't open. It takes
+    /// no memory.
     pub fn abort(&mut self, line: &mut Line, t: Ticket)
         requires belongs { t.name ≡ self.old.tickets }
         requires line { line.old.name ≡ self.old.line.name }
@@ -205,6 +218,19 @@ impl Store {
         self.live.abort(xid);
     }
 
+    /// How many tables there are. It takes no memory.
+    pub fn table_count(&self) -> usize
+        ensures count { result ≡ length self.now.schema }
+
+        // Its world has the commits that its line tells, each of which ends above the ones before it,
+        // and the committed rows are their changes.
+        ensures line { self.now.world.line ≡ commits_in self.now.line.list }
+        ensures rising { IsStrictlyIncreasing (0 ∷ ends_in self.now.line.list) }
+        ensures committed { self.now.world.committed ≡ serial self.now.schema self.now.world.start (changes_in self.now.world.line) }
+    {
+        self.live.tables.len()
+    }
+
     /// What stopped the store, if anything did. It takes no memory.
     pub fn stop(&self) -> Option<Stop>
         ensures { TellsWhatStopped result self.now.world.stopped }
@@ -215,9 +241,11 @@ impl Store {
         }
     }
 
-    /// The commits so far, in order. It takes no memory.
+    /// The commits so far, in order. Where the log goes on behind each rises from one to the next. It
+    /// takes no memory.
     pub fn journal(&self) -> &[Entry]
-        ensures { TellsJournal self.now.world (map entry_in result.now) }
+        ensures journal { TellsJournal self.now.world (map entry_in result.now) }
+        ensures rising { IsStrictlyIncreasing (0 ∷ map (λ (e : AnyEntry). e.end) result.now) }
     {
         self.journal.as_slice()
     }
@@ -244,6 +272,23 @@ impl Store {
             None => Ok(None),
             Some(row) => Ok(Some(row.to_row()?)),
         }
+    }
+
+    /// The rows of a table after the first so many commits, in key order, as copies. They are made anew
+    /// of the rows at the start.
+    pub fn rows_after(
+        &self,
+        alloc: Global,
+        table: TableId,
+        entries: usize,
+    ) -> Result<Vec<Row>, EngineFault>
+        requires known { table < length self.now.schema }
+        requires reached { entries ≤ length (journal self.now.world) }
+        ensures reads { IfOk result (λ rows. ReadsAfter {E = Fault} self.now.schema self.now.world table entries (Ok rows.items)) }
+        ensures fault { IfErr result (λ fault. fault ≡ NoMemory) }
+    {
+        let first = &self.journal[..entries];
+        Ok(rows_after(alloc, &self.start, first, table)?)
     }
 
     /// Stops the store by a transaction that the waiter waits for, where no more can come that would let
@@ -286,11 +331,13 @@ impl Store {
         look(&mut self.line, &mut seen.list);
     }
 
-    /// The tables and the journal, once no transaction is open. It takes no memory.
+    /// The tables and the journal, once no transaction is open. The rows are those at the start with the
+    /// changes of the journal's entries, one entry after another. It takes no memory.
     pub fn close(self, line: Line) -> (Tables, Vec<Entry>)
         requires line { line.name ≡ self.line.name }
         requires none { self.world.opened ≡ finite.empty }
         ensures closes { Closes self.world result.0.rows (map entry_in result.1.items) }
+        ensures serial { result.0.rows ≡ rows_behind self.schema self.world.start (map entry_in result.1.items) }
         ensures schema { result.0.schema ≡ self.schema }
         ensures met { line ≡ self.line }
     {

@@ -2,7 +2,7 @@
 // open transaction the items of it that survive its rollbacks. There are no live tables, no inverses
 // and no holds: they are worked out of these, each time anew.
 use super::calls::{ACCOUNTS, Call, Field, Record, Update};
-use crate::{Acted, EngineFault, Stop};
+use crate::{Acted, EngineFault, NotSettled, Stop};
 use change::Clash;
 use model::{OutOfMemory, TableId, Xid};
 use std::alloc::Global;
@@ -212,7 +212,7 @@ fn share(spots: &[Spot], others: &[Spot]) -> bool {
 /// An item of a transaction: a change, or none for a relation or type message.
 #[derive(Clone, Copy, Debug)]
 pub(super) struct Item {
-    sub: Xid,
+    pub(super) sub: Xid,
     pub(super) call: Option<Call>,
 }
 
@@ -326,6 +326,23 @@ impl Model {
         Ok(rows)
     }
 
+    /// The rows after the first so many commits, made anew of those at the start.
+    pub(super) fn rows_after(
+        &self,
+        alloc: Global,
+        entries: usize,
+    ) -> Result<Vec<Stored>, OutOfMemory> {
+        let mut rows = self.start.as_slice().to_vec(alloc)?;
+        for past in self.journal.iter().take(entries) {
+            for item in &past.items {
+                if let Some(call) = &item.call {
+                    alter(&mut rows, call)?;
+                }
+            }
+        }
+        Ok(rows)
+    }
+
     /// What a change comes to on the view of a transaction, were nobody in the way.
     pub(super) fn outcome(
         &self,
@@ -386,7 +403,7 @@ impl Model {
     }
 
     /// Whether an open transaction waits for a place that the other holds.
-    pub(super) fn waits_for(
+    fn waits_for(
         &self,
         alloc: Global,
         waiter: &Opened,
@@ -397,6 +414,48 @@ impl Model {
         };
         let spots = self.spots_of(alloc, waiter.xid, call)?;
         self.blocks(alloc, other, waiter.xid, spots.as_slice())
+    }
+
+    /// Whether an open transaction waits for a place that any other holds.
+    fn waits(&self, alloc: Global, waiter: &Opened) -> Result<bool, OutOfMemory> {
+        for other in &self.opened {
+            if self.waits_for(alloc, waiter, other)? {
+                return Ok(true);
+            }
+        }
+        Ok(false)
+    }
+
+    /// Whether each open transaction has done what was sent to it, or waits.
+    fn is_settled(&self, alloc: Global, sent: &[(Xid, u64)]) -> Result<bool, OutOfMemory> {
+        for opened in &self.opened {
+            if !sent.contains(&(opened.xid, opened.done)) && !self.waits(alloc, opened)? {
+                return Ok(false);
+            }
+        }
+        Ok(true)
+    }
+
+    /// Whether this may be answered to a call that stops the store where all wait. The waiter may wait
+    /// for several: then any of them may be named.
+    pub(super) fn allows_stop(
+        &self,
+        alloc: Global,
+        waiter: Xid,
+        sent: &[(Xid, u64)],
+        answer: Result<Xid, NotSettled>,
+    ) -> Result<bool, OutOfMemory> {
+        let is_settled = self.is_settled(alloc, sent)?;
+        let Some(opened) = self.find(waiter) else {
+            return Ok(answer.is_err());
+        };
+        let Ok(holder) = answer else {
+            return Ok(!is_settled || !self.waits(alloc, opened)?);
+        };
+        match self.find(holder) {
+            None => Ok(false),
+            Some(other) => Ok(is_settled && self.waits_for(alloc, opened, other)?),
+        }
     }
 
     /// A transaction opens.

@@ -89,6 +89,16 @@ pub(super) fn set(id: i64, words: [&'static str; 3]) -> Call {
     Call::Set(ACCOUNTS, Field::Int(id), update)
 }
 
+/// A note of a name is changed.
+pub(super) fn set_name(id: &'static str) -> Call {
+    let update = Update {
+        id: None,
+        second: None,
+        note: Some(Field::Text("v")),
+    };
+    Call::Set(NAMES, Field::Text(id), update)
+}
+
 /// An account goes.
 pub(super) fn remove(id: i64) -> Call {
     Call::Remove(ACCOUNTS, Field::Int(id))

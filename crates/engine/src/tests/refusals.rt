@@ -43,10 +43,10 @@ fn a_number_that_is_open_does_not_open_again(rt: HostRuntime) -> Result<(), Fail
     let alloc = rt.alloc();
     let mut scene = Scene::worked(&rt, alloc, &[700])?;
     does(&rt, alloc, &mut scene, (700, 700), &put("3", "c", "n"));
-    assert_eq!(rt; scene.open(&rt, alloc, 700), Err(EngineFault::AlreadyOpen));
+    assert_eq!(rt; scene.open(alloc, 700), Err(EngineFault::AlreadyOpen));
     does(&rt, alloc, &mut scene, (700, 700), &put("4", "d", "n"));
     scene.commit(&rt, 700);
-    assert_eq!(rt; scene.open(&rt, alloc, 700), Ok(()));
+    assert_eq!(rt; scene.open(alloc, 700), Ok(()));
     does(&rt, alloc, &mut scene, (700, 700), &remove(3));
     scene.commit(&rt, 700);
     scene.ends_with(&rt, alloc, "1|a|n 2|b|n 4|d|n", 2)
@@ -57,14 +57,14 @@ fn no_more_than_4096_are_open(rt: HostRuntime) -> Result<(), Fail> {
     let alloc = rt.alloc();
     let mut scene = Scene::worked(&rt, alloc, &[])?;
     for xid in 0..4096 {
-        assert_eq!(rt; scene.open(&rt, alloc, xid), Ok(()), "{xid}");
+        assert_eq!(rt; scene.open(alloc, xid), Ok(()), "{xid}");
     }
-    assert_eq!(rt; scene.open(&rt, alloc, 5000), Err(EngineFault::TooManyOpen));
-    assert_eq!(rt; scene.open(&rt, alloc, 4095), Err(EngineFault::AlreadyOpen));
+    assert_eq!(rt; scene.open(alloc, 5000), Err(EngineFault::TooManyOpen));
+    assert_eq!(rt; scene.open(alloc, 4095), Err(EngineFault::AlreadyOpen));
     does(&rt, alloc, &mut scene, (4095, 4095), &put("3", "c", "n"));
     scene.abort(&rt, 0);
-    assert_eq!(rt; scene.open(&rt, alloc, 5000), Ok(()));
-    assert_eq!(rt; scene.open(&rt, alloc, 0), Err(EngineFault::TooManyOpen));
+    assert_eq!(rt; scene.open(alloc, 5000), Ok(()));
+    assert_eq!(rt; scene.open(alloc, 0), Err(EngineFault::TooManyOpen));
     // Each has room for its entry: none of them is refused one.
     scene.abort(&rt, 5000);
     for xid in 1..4096 {
@@ -146,11 +146,7 @@ fn clashes(rt: &impl Abort, alloc: Global, call: &Call, clash: Clash) -> Result<
 /// A store that is stopped opens nothing and does nothing. Stopped goes before any other fault.
 fn refuses_all(rt: &impl Abort, alloc: Global, scene: &mut Scene) {
     for xid in [700u32, 901] {
-        assert_eq!(rt;
-            scene.open(rt, alloc, xid),
-            Err(EngineFault::Stopped),
-            "{xid}"
-        );
+        assert_eq!(rt; scene.open(alloc, xid), Err(EngineFault::Stopped), "{xid}");
     }
     for call in [put("8", "h", "n"), put("1", "a", "n"), remove(7), wipe()] {
         for xid in [700u32, 900] {
@@ -194,7 +190,7 @@ fn a_stopped_store_rolls_back_and_ends_what_is_open(rt: HostRuntime) -> Result<(
     scene.commit(&rt, 700);
     scene.abort(&rt, 900);
     assert_eq!(rt; scene.stop(), Some(Stop::Clash(900, SAME_ID)));
-    assert_eq!(rt; scene.open(&rt, alloc, 900), Err(EngineFault::Stopped));
+    assert_eq!(rt; scene.open(alloc, 900), Err(EngineFault::Stopped));
     scene.abort(&rt, 701);
     scene.ends_with(&rt, alloc, "1|a|n 2|b|n 3|c|n", 1)
 }

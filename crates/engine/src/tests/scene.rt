@@ -1,16 +1,17 @@
 // A store with its line and the tickets of its open transactions, called by their numbers.
-ghost use Rattle.std.specs.Prelude.{◌≡◌, ℕ, IsTrue, true, is_some, Some, length};
+ghost use Rattle.std.specs.Prelude.{◌≡◌, ℕ, IsTrue, IfErr, OnOk, OnErr, true, is_some, Some, length};
 ghost use Rattle.std.specs.Ordering.{nat_cmp};
 ghost use Rattle.std.specs.BTreeMap as tree;
 ghost use Rattle.std.specs.FinMap as finite;
 ghost use Rattle.model.specs.Named.{NamesTables};
 ghost use Rattle.tokens.specs.Lists.{OpenList};
 ghost use Rattle.engine.specs.declared.events.Event.{Event};
+ghost use Rattle.engine.specs.Events.{last_end};
 
 use super::calls::{ACCOUNTS, Call, TABLES, change, empty_tables, put, rows_of};
-use crate::{Acted, EngineFault, Entry, Line, Stop, Store, Ticket};
+use crate::{Acted, EngineFault, Entry, Line, NotSettled, Stop, Store, Ticket};
 use indexes::Tables;
-use model::{Change, CommitInfo, Lsn, Xid};
+use model::{Change, CommitInfo, Key, Lsn, OutOfMemory, Row, TableId, Xid};
 use std::alloc::Global;
 use std::collections::BTreeMap;
 use std::process::Abort;
@@ -22,8 +23,11 @@ pub(super) struct Scene {
     pub(super) store: Store,
     pub(super) line: Line,
     tickets: BTreeMap<Xid, Ticket>,
+    /// Where the log goes on behind the last commit.
+    end: Lsn,
     ghost counted: { length store.schema ≡ 2 },
     ghost lined: { line.name ≡ store.line.name },
+    ghost ended: { last_end line.list ≡ end },
     ghost belong: { (xid : ℕ) (t : OpenList Event) → tree.get nat_cmp tickets xid ≡ Some t → (t.name ≡ store.tickets) × (t.number ≡ xid) },
     ghost known: { (xid : ℕ) → is_some (finite.get store.world.opened xid) ≡ true → is_some (tree.get nat_cmp tickets xid) ≡ true },
 }
@@ -49,58 +53,82 @@ fn are_there(c: &Change) -> bool
     }
 }
 
-/// The ticket of a transaction that opened is kept.
-fn keep(rt: &impl Abort, tickets: &mut BTreeMap<Xid, Ticket>, xid: Xid, ticket: Ticket)
-    ensures { tree.Updates nat_cmp tickets.old tickets.new xid (Some ticket) }
+/// The ticket of a transaction that opened is kept, or is handed back for want of memory.
+fn keep(tickets: &mut BTreeMap<Xid, Ticket>, xid: Xid, ticket: Ticket) -> Result<(), Ticket>
+    ensures ok { OnOk result (tree.Updates nat_cmp tickets.old tickets.new xid (Some ticket)) }
+    ensures err { IfErr result (λ given. given ≡ ticket) }
+    ensures unchanged { OnErr result (tickets.new.entries ≡ tickets.old.entries) }
 {
-    let Ok(_) = tickets.insert(xid, ticket) else {
-        panic!(rt; "no memory for the ticket of {xid}")
-    };
+    match tickets.insert(xid, ticket) {
+        Ok(_) => Ok(()),
+        Err(failed) => {
+            let (_, ticket) = failed.value;
+            Err(ticket)
+        }
+    }
 }
 
 impl Scene {
-    /// A store over these tables.
-    pub(super) fn new(rt: &impl Abort, alloc: Global, tables: Tables) -> Scene {
+    /// A store over these tables, which are handed back for want of memory.
+    pub(super) fn new(rt: &impl Abort, alloc: Global, tables: Tables) -> Result<Scene, Tables> {
         assert!(rt; tables.len() == TABLES);
-        let Ok((store, line)) = Store::new(alloc, tables) else {
-            panic!(rt; "a store takes little memory")
-        };
-        Scene {
+        let (store, line) = Store::new(alloc, tables)?;
+        Ok(Scene {
             store,
             line,
             tickets: BTreeMap::new(alloc),
+            end: 0,
+        })
+    }
+
+    /// A store over these tables.
+    pub(super) fn over(
+        rt: &impl Abort,
+        alloc: Global,
+        tables: Tables,
+    ) -> Result<Scene, OutOfMemory> {
+        match Scene::new(rt, alloc, tables) {
+            Ok(scene) => Ok(scene),
+            Err(_) => Err(OutOfMemory),
         }
     }
 
     /// A store over the accounts `1|a|n` and `2|b|n`, with these transactions open.
-    pub(super) fn worked(rt: &impl Abort, alloc: Global, xids: &[Xid]) -> Result<Scene, Fail> {
-        let mut scene = Scene::new(rt, alloc, empty_tables(alloc)?);
-        scene.open(rt, alloc, 1)?;
+    pub(super) fn worked(
+        rt: &impl Abort,
+        alloc: Global,
+        xids: &[Xid],
+    ) -> Result<Scene, EngineFault> {
+        let mut scene = Scene::over(rt, alloc, empty_tables(alloc)?)?;
+        scene.open(alloc, 1)?;
         for call in [put("1", "a", "n"), put("2", "b", "n")] {
-            assert_eq!(rt; scene.act(rt, alloc, 1, 1, &call), Ok(Acted::Done));
+            assert_eq!(rt; scene.act(rt, alloc, 1, 1, &call)?, Acted::Done);
         }
         scene.commit(rt, 1);
         let (tables, _) = scene.close(rt);
-        let mut scene = Scene::new(rt, alloc, tables);
+        let mut scene = Scene::over(rt, alloc, tables)?;
         for xid in xids {
-            scene.open(rt, alloc, *xid)?;
+            scene.open(alloc, *xid)?;
         }
         Ok(scene)
     }
 
-    pub(super) fn open(
-        &mut self,
-        rt: &impl Abort,
-        alloc: Global,
-        xid: Xid,
-    ) -> Result<(), EngineFault> {
-        match self.store.open(alloc, &mut self.line, xid) {
-            Ok(ticket) => {
-                keep(rt, &mut self.tickets, xid, ticket);
-                Ok(())
+    pub(super) fn open(&mut self, alloc: Global, xid: Xid) -> Result<(), EngineFault> {
+        let ticket = match self.store.open(alloc, &mut self.line, xid) {
+            Ok(ticket) => ticket,
+            Err(fault) => return Err(fault),
+        };
+        match keep(&mut self.tickets, xid, ticket) {
+            Ok(()) => Ok(()),
+            Err(ticket) => {
+                self.store.abort(&mut self.line, ticket);
+                Err(EngineFault::OutOfMemory)
             }
-            Err(fault) => Err(fault),
         }
+    }
+
+    pub(super) fn is_open(&self, xid: Xid) -> bool {
+        self.tickets.contains_key(&xid)
     }
 
     pub(super) fn act(
@@ -136,10 +164,12 @@ impl Scene {
     /// A commit, at the place that its number gives.
     pub(super) fn commit(&mut self, rt: &impl Abort, xid: Xid) {
         let info = commit_info(self.store.journal().len());
+        assert!(rt; info.end > self.end);
         let Some(ticket) = self.tickets.remove(&xid) else {
             panic!(rt; "{xid} is not open")
         };
         self.store.commit(&mut self.line, ticket, info);
+        self.end = info.end;
     }
 
     pub(super) fn abort(&mut self, rt: &impl Abort, xid: Xid) {
@@ -153,12 +183,54 @@ impl Scene {
         self.store.stop()
     }
 
+    /// Stops the store where all wait, given how many items were sent to each.
+    pub(super) fn stop_held(
+        &mut self,
+        waiter: Xid,
+        sent: &[(Xid, u64)],
+    ) -> Result<Xid, NotSettled> {
+        self.store.stop_held(&self.line, waiter, sent)
+    }
+
+    pub(super) fn live(
+        &self,
+        rt: &impl Abort,
+        table: TableId,
+        key: &Key,
+    ) -> Result<Option<Row>, EngineFault> {
+        assert!(rt; table < TABLES);
+        self.store.live(table, key)
+    }
+
+    pub(super) fn committed(
+        &self,
+        rt: &impl Abort,
+        table: TableId,
+        key: &Key,
+    ) -> Result<Option<Row>, EngineFault> {
+        assert!(rt; table < TABLES);
+        self.store.committed(table, key)
+    }
+
+    pub(super) fn rows_after(
+        &self,
+        rt: &impl Abort,
+        alloc: Global,
+        table: TableId,
+        entries: usize,
+    ) -> Result<Vec<Row>, EngineFault> {
+        assert!(rt; table < TABLES);
+        assert!(rt; entries <= self.store.journal().len());
+        self.store.rows_after(alloc, table, entries)
+    }
+
     /// The tables and the journal. None may be open.
     pub(super) fn close(self, rt: &impl Abort) -> (Tables, Vec<Entry>) {
         let Scene {
             store,
             line,
             tickets,
+            end: _,
         } = self;
         assert!(rt; tickets.is_empty());
         store.close(line)

@@ -2,14 +2,17 @@
 // with the model.
 ghost use Rattle.std.specs.Prelude.{◌<◌, length};
 
-use super::by_hand::{Model, Outcome};
-use super::calls::{ACCOUNTS, Call, Field, NAMES, Record, TABLES, Update, empty_tables, is_row};
+use super::by_hand::{Model, Outcome, Past, Stored, row_at};
+use super::calls::{
+    ACCOUNTS, Call, Field, NAMES, Record, TABLES, Update, change, empty_tables, is_row, key,
+};
 use super::scene::{Scene, commit_info};
-use crate::{Acted, EngineFault, Entry};
+use crate::{Acted, EngineFault, Entry, Stop};
 use indexes::Tables;
-use model::{OutOfMemory, TableId, Xid};
+use model::{OutOfMemory, Row, TableId, Xid};
 use rows::RowView;
 use std::alloc::Global;
+use std::fmt::Write;
 use std::process::Abort;
 use std::test::Fail;
 
@@ -55,6 +58,7 @@ enum Kind {
     Act,
     Touch,
     BackTo,
+    StopHeld,
     Commit,
     Abort,
 }
@@ -87,12 +91,13 @@ impl Draws {
     }
 
     fn kind(&mut self) -> Kind {
-        match self.number() % 24 {
-            0..=4 => Kind::Open,
-            5..=17 => Kind::Act,
-            18 => Kind::Touch,
-            19..=21 => Kind::BackTo,
-            22 => Kind::Commit,
+        match self.number() % 48 {
+            0..=9 => Kind::Open,
+            10..=34 => Kind::Act,
+            35..=36 => Kind::Touch,
+            37..=42 => Kind::BackTo,
+            43 => Kind::StopHeld,
+            44..=45 => Kind::Commit,
             _ => Kind::Abort,
         }
     }
@@ -165,6 +170,7 @@ struct Answers {
     held: u32,
     clashed: u32,
     stopped: u32,
+    stops: u32,
 }
 
 impl Answers {
@@ -192,7 +198,7 @@ struct Run {
 impl Run {
     fn new(rt: &impl Abort, alloc: Global) -> Result<Run, OutOfMemory> {
         Ok(Run {
-            scene: Scene::new(rt, alloc, empty_tables(alloc)?),
+            scene: Scene::over(rt, alloc, empty_tables(alloc)?)?,
             model: Model::new(alloc),
             draws: Draws { state: 29 },
             answers: Answers {
@@ -201,6 +207,7 @@ impl Run {
                 held: 0,
                 clashed: 0,
                 stopped: 0,
+                stops: 0,
             },
         })
     }
@@ -217,6 +224,22 @@ impl Run {
             .as_slice()
             .get(drawn)
             .map(|opened| opened.xid)
+    }
+
+    /// Mostly the subtransaction of an item that a transaction has done, else this one.
+    fn draw_savepoint(&mut self, xid: Xid, sub: Xid) -> Xid {
+        if self.draws.one_in(3) {
+            return sub;
+        }
+        let drawn = self.draws.number();
+        let Some(opened) = self.model.find(xid) else {
+            return sub;
+        };
+        let items = opened.items.as_slice();
+        if items.is_empty() {
+            return sub;
+        }
+        items[drawn % items.len()].sub
     }
 
     /// A change that mostly does not clash on the view of its transaction.
@@ -248,10 +271,12 @@ impl Run {
                 Ok(())
             }
             Kind::BackTo => {
+                let sub = self.draw_savepoint(xid, sub);
                 self.scene.back_to(rt, xid, sub);
                 self.model.back_to(xid, sub);
                 Ok(())
             }
+            Kind::StopHeld => self.stop_held(rt, alloc, xid),
             Kind::Commit => self.commit(rt, alloc, xid),
             Kind::Abort => {
                 self.abort(rt, xid);
@@ -262,7 +287,7 @@ impl Run {
 
     fn open(&mut self, rt: &impl Abort, alloc: Global) -> Result<(), OutOfMemory> {
         let xid = self.draws.pick(&XIDS);
-        let answer = self.scene.open(rt, alloc, xid);
+        let answer = self.scene.open(alloc, xid);
         assert_eq!(rt; answer, self.model.open(alloc, xid), "{xid} opens");
         Ok(())
     }
@@ -282,9 +307,37 @@ impl Run {
         self.model.act(xid, sub, &call, answer)
     }
 
+    /// The store is to stop where all wait, and mostly all that was sent is told.
+    fn stop_held(
+        &mut self,
+        rt: &impl Abort,
+        alloc: Global,
+        waiter: Xid,
+    ) -> Result<(), OutOfMemory> {
+        let mut sent = Vec::new(alloc);
+        for opened in &self.model.opened {
+            let more = u64::from(self.draws.one_in(12));
+            sent.push((opened.xid, opened.done.saturating_add(more)))?;
+        }
+        let answer = self.scene.stop_held(waiter, sent.as_slice());
+        let is_allowed = self
+            .model
+            .allows_stop(alloc, waiter, sent.as_slice(), answer)?;
+        assert!(rt; is_allowed, "{answer:?} to {sent:?} by {waiter}");
+        if let Ok(holder) = answer {
+            self.model.stopped = Some(Stop::Held(waiter, holder));
+            self.answers.stops = self.answers.stops.saturating_add(1);
+        }
+        Ok(())
+    }
+
     fn commit(&mut self, rt: &impl Abort, alloc: Global, xid: Xid) -> Result<(), OutOfMemory> {
         self.scene.commit(rt, xid);
-        self.model.commit(alloc, xid)
+        self.model.commit(alloc, xid)?;
+        let scene = &self.scene;
+        let model = &self.model;
+        let past = model.journal.as_slice().last();
+        compare_changes(rt, alloc, scene.store.journal().last(), past)
     }
 
     fn abort(&mut self, rt: &impl Abort, xid: Xid) {
@@ -302,9 +355,10 @@ impl Run {
                 } else {
                     run.abort(rt, xid);
                 }
-                compare(rt, &run.scene, &run.model);
+                compare(rt, alloc, &run.scene, &run.model)?;
             }
         }
+        compare_after(rt, alloc, &run.scene, &run.model)?;
         let Run {
             scene,
             mut model,
@@ -314,9 +368,12 @@ impl Run {
         let (tables, entries) = scene.close(rt);
         compare_rows(rt, &tables, &model);
         compare_journal(rt, entries.as_slice(), &model);
+        for (entry, past) in entries.iter().zip(model.journal.iter()) {
+            compare_changes(rt, alloc, Some(entry), Some(past))?;
+        }
         model.renew(alloc)?;
         Ok(Run {
-            scene: Scene::new(rt, alloc, tables),
+            scene: Scene::over(rt, alloc, tables)?,
             model,
             draws,
             answers,
@@ -325,9 +382,92 @@ impl Run {
 }
 
 /// What a store tells between its calls.
-fn compare(rt: &impl Abort, scene: &Scene, model: &Model) {
+fn compare(
+    rt: &impl Abort,
+    alloc: Global,
+    scene: &Scene,
+    model: &Model,
+) -> Result<(), OutOfMemory> {
     assert_eq!(rt; scene.stop(), model.stopped);
     compare_journal(rt, scene.store.journal(), model);
+    let live = model.live_rows(alloc)?;
+    for (table, ids) in [(ACCOUNTS, IDS.as_slice()), (NAMES, TEXTS.as_slice())] {
+        for id in ids {
+            let key = key(alloc, *id)?;
+            let is_live = is_stored(
+                row_at(live.as_slice(), table, *id),
+                scene.live(rt, table, &key),
+            );
+            assert!(rt; is_live, "live at {id:?} of table {table}");
+            let is_committed = is_stored(
+                row_at(model.committed.as_slice(), table, *id),
+                scene.committed(rt, table, &key),
+            );
+            assert!(rt; is_committed, "committed at {id:?} of table {table}");
+        }
+    }
+    Ok(())
+}
+
+/// Whether this was read at a place.
+fn is_stored(stored: Option<Stored>, answer: Result<Option<Row>, EngineFault>) -> bool {
+    match (stored, answer) {
+        (None, Ok(None)) => true,
+        (Some(stored), Ok(Some(row))) => is_row(&stored.row, &RowView::of_row(&row)),
+        _ => false,
+    }
+}
+
+/// The rows of each table after each number of commits, in key order.
+fn compare_after(
+    rt: &impl Abort,
+    alloc: Global,
+    scene: &Scene,
+    model: &Model,
+) -> Result<(), OutOfMemory> {
+    for entries in 0..=model.journal.len() {
+        let rows = model.rows_after(alloc, entries)?;
+        for (table, ids) in [(ACCOUNTS, IDS.as_slice()), (NAMES, TEXTS.as_slice())] {
+            let Ok(answer) = scene.rows_after(rt, alloc, table, entries) else {
+                return Err(OutOfMemory);
+            };
+            let mut read = answer.iter();
+            for id in ids {
+                if let Some(stored) = row_at(rows.as_slice(), table, *id) {
+                    let row = read.next().map(RowView::of_row);
+                    let is_next = row.is_some_and(|row| is_row(&stored.row, &row));
+                    assert!(rt; is_next, "{id:?} of table {table} after {entries}");
+                }
+            }
+            assert!(rt; read.next().is_none(), "table {table} after {entries}");
+        }
+    }
+    Ok(())
+}
+
+/// An entry has the changes that survived, in their order.
+fn compare_changes(
+    rt: &impl Abort,
+    alloc: Global,
+    entry: Option<&Entry>,
+    past: Option<&Past>,
+) -> Result<(), OutOfMemory> {
+    let mut told = String::new(alloc);
+    let mut want = String::new(alloc);
+    if let Some(entry) = entry {
+        for change in entry.changes.iter() {
+            write!(told, "{change:?} ")?;
+        }
+    }
+    if let Some(past) = past {
+        for item in &past.items {
+            if let Some(call) = &item.call {
+                write!(want, "{:?} ", change(alloc, call)?)?;
+            }
+        }
+    }
+    assert_eq!(rt; told.as_str(), want.as_str());
+    Ok(())
 }
 
 /// The entries have the commits, in their order, each at its place in the log.
@@ -367,7 +507,7 @@ fn ten_thousand_calls_are_as_the_model_says(rt: HostRuntime) -> Result<(), Fail>
     let mut run = Run::new(&rt, alloc)?;
     for turn in 0..CALLS {
         run.step(&rt, alloc)?;
-        compare(&rt, &run.scene, &run.model);
+        compare(&rt, alloc, &run.scene, &run.model)?;
         let is_over = run.model.stopped.is_some() && run.draws.one_in(12);
         if is_over || turn % CALLS_OF_A_STORE == CALLS_OF_A_STORE - 1 {
             run = run.renew(&rt, alloc)?;
@@ -376,7 +516,7 @@ fn ten_thousand_calls_are_as_the_model_says(rt: HostRuntime) -> Result<(), Fail>
     let answers = run.answers;
     let least = answers.done.min(answers.skipped).min(answers.held);
     assert!(rt;
-        least > 300 && answers.clashed > 30 && answers.stopped > 100,
+        least > 300 && answers.clashed > 30 && answers.stopped > 100 && answers.stops > 10,
         "{answers:?}"
     );
     Ok(())

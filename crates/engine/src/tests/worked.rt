@@ -77,7 +77,7 @@ fn a_value_that_is_kept_is_not_held(rt: HostRuntime) -> Result<(), Fail> {
     let answer = scene.act(&rt, alloc, 900, 900, &put("9", "a", "n"));
     assert_eq!(rt; answer, Err(EngineFault::Clash(clash)));
     assert_eq!(rt; scene.stop(), Some(Stop::Clash(900, clash)));
-    assert_eq!(rt; scene.open(&rt, alloc, 901), Err(EngineFault::Stopped));
+    assert_eq!(rt; scene.open(alloc, 901), Err(EngineFault::Stopped));
     scene.abort(&rt, 700);
     scene.abort(&rt, 900);
     scene.ends_with(&rt, alloc, "1|a|n 2|b|n", 0)
@@ -122,8 +122,8 @@ fn a_table_that_was_emptied_is_held_whole(rt: HostRuntime) -> Result<(), Fail> {
     scene.ends_with(&rt, alloc, "1|a|n 2|b|n", 0)
 }
 
-// Each call once: 700 in 711 touch, 700 Put 3, back to 711 in 700, which drops what came since; 700 Put 4.
-// Commit 700. 701 Put 5. Abort 701.
+// A touch sets its subtransaction's savepoint, so a rollback to it drops what the transaction did since.
+// Then the savepoint is gone, and a second rollback drops nothing. Here each call comes once at least.
 #[test]
 fn a_touch_sets_a_savepoint(rt: HostRuntime) -> Result<(), Fail> {
     let alloc = rt.alloc();

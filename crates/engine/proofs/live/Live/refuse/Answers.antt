@@ -35,7 +35,7 @@ both : (c : goal.Joined-self) (w : World) (o : Opened) → IsTied w c.args.self.
 both c w o tied is =
     tied_clashed w c.args.self.now tied c.args.xid o is c.in-Some.transaction.now (kept c) (store c)
     (writes_by_borrow c.args.xid c.in-Some.transaction.now (kept c) c.args.self.now.transactions (c.get_mut.follows.lender (kept c)) (sym c.in-Some.ensures.value) (c.get_mut.follows.holds (kept c)))
-    c.args.sub c.args.refused.change c.requires.running c.requires.names (record { wants = refl; record_is = refl; done = refl }) refl refl c.args.refused.clash (clashed c) c.requires.clash
+    c.args.sub c.args.refused.change c.requires.names c.requires.running (record { wants = refl; record_is = refl; done = refl }) refl refl c.args.refused.clash (clashed c) c.requires.clash
     c.requires.free (ap (λ change. Some (StoppedByClash c.args.xid change c.args.refused.clash)) c.in_ok-copy.ensures)
 
 pub returns-clause-acts : goal.returns-clause-acts

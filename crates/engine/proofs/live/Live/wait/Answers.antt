@@ -28,7 +28,7 @@ both : (c : goal.Joined-transaction) (w : World) (o : Opened) → IsTied w c.arg
 both c w o tied is =
     tied_waiting w c.args.self.now tied c.args.xid o is c.in-Some.transaction.now (kept c) (store c)
     (writes_by_borrow c.args.xid c.in-Some.transaction.now (kept c) c.args.self.now.transactions (c.get_mut.follows.lender (kept c)) (sym c.in-Some.ensures.value) (c.get_mut.follows.holds (kept c)))
-    c.args.sub c.args.change c.requires.running c.requires.names (record { wants = refl; record_is = refl; done = refl }) refl refl c.args.holder c.requires.found refl
+    c.args.sub c.args.change c.requires.names c.requires.running (record { wants = refl; record_is = refl; done = refl }) refl refl c.args.holder c.requires.found refl
 
 pub returns-clause-acts : goal.returns-clause-acts
 returns-clause-acts c = λ w o tied is. (both c w o tied is).0

@@ -1,12 +1,15 @@
 use Rattle.std.proofs.Common.{◌≡◌, [], ◌∷◌, ◌++◌, sym, subst, ◌∙◌, ℕ, Some}
+use Rattle.std.specs.Prelude.{◌==◌, if◌then◌else◌}
 use Rattle.std.specs.FinMap.{get}
 use Rattle.model.specs.declared.item.Item.TheVariants.{BackTo}
+use Rattle.model.specs.Survivors.{before_savepoint, survivors, changes_of}
 use Rattle.tokens.specs.Lists.{OpenList, with_list}
-use Rattle.world.specs.World.{World}
+use Rattle.world.specs.World.{World, work}
 use Rattle.world.specs.Steps.{GoesBack, done_with}
 use Rattle.engine.specs.declared.events.Event.{Event}
 use Rattle.engine.specs.declared.events.Event.TheVariants.{Done}
 use Rattle.engine.specs.Events.{opened_by}
+use Rattle.engine.specs.EventLaws.{work_back}
 use Rattle.engine.specs.Engine.{Engine, world_in, IsStore}
 use Rattle.engine.specs.StoreLaws.{stands, with_parts, store_done}
 use Rattle.engine.specs.Tied.{IsTied}
@@ -61,3 +64,14 @@ returns-clause-goes_back c =
     (world_in (with_parts c.self.inside c.back_to.new.self c.grow.new.self))) c.t.view_is
     (subst (λ (e : Engine). GoesBack e.world c.t.inside.slip.number (opened_by c.t.inside.slip.list) c.args.sub
     (world_in (with_parts c.self.inside c.back_to.new.self c.grow.new.self))) c.self.view_is (gone_back c))
+
+-- what its ticket lists
+longer : (c : goal.Joined-this) → c.grow.new.slip ≡ record c.args.t.now { list = c.args.t.now.list ++ Done (BackTo c.args.sub) ∷ [] }
+longer c = c.grow.ensures.slip ∙ (λ i. let t = (c.meet.ensures.slip ∙ c.t.view_is) i in record t { list = t.list ++ Done (BackTo c.args.sub) ∷ [] })
+
+pub returns-clause-as_though : goal.returns-clause-as_though
+returns-clause-as_though c =
+    subst (λ (t : OpenList Event). work t.number (opened_by t.list)
+    ≡ changes_of (if c.args.sub == c.args.t.now.number then survivors c.args.t.now.number (opened_by c.args.t.now.list).items
+    else before_savepoint c.args.sub (survivors c.args.t.now.number (opened_by c.args.t.now.list).items))) (sym (longer c))
+    (work_back c.args.t.now.list c.args.t.now.number c.args.sub)

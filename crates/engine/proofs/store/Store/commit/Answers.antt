@@ -1,14 +1,16 @@
-use Rattle.std.proofs.Common.{◌≡◌, List, sym, ap, subst, ◌∙◌, ℕ, Some}
+use Rattle.std.proofs.Common.{◌≡◌, ◌<◌, List, sym, ap, subst, ◌∙◌, ℕ, Some}
 use Rattle.std.specs.FinMap.{get}
 use Rattle.model.specs.declared.item.Item.{Item}
 use Rattle.model.specs.Survivors.{survivors, changes_of}
+use Rattle.tokens.specs.Half.{Half}
 use Rattle.tokens.specs.Lists.{OpenList, without_list}
 use Rattle.world.specs.World.{Past, entry_of}
 use Rattle.world.specs.Steps.{Commits, committed_with}
 use Rattle.engine.specs.declared.entry.Entry.{Entry}
 use Rattle.engine.specs.declared.events.Event.{Event}
 use Rattle.engine.specs.declared.store.Store.TheInside.{Inside}
-use Rattle.engine.specs.Events.{opened_by}
+use Rattle.engine.specs.declared.events.LineEvent.{LineEvent}
+use Rattle.engine.specs.Events.{opened_by, last_end}
 use Rattle.engine.specs.Engine.{Engine, entry_in, world_in, IsStore}
 use Rattle.engine.specs.StoreLaws.{stands, has_room, store_committed}
 use Rattle.engine.specs.Tied.{IsTied}
@@ -77,6 +79,7 @@ module _ (c : goal.After-push_reserved) where
       (subst (λ (n : ℕ). IsTied (committed_with c.self.inside.live.tables.schema (world_in c.self.inside) n (opened_by c.args.t.list) c.args.info) c.commit-items.new.self) number
       (c.commit-items.ensures.tied (world_in c.self.inside) (opened_by c.args.t.list) c.args.info c.self.invariant.tied is_open_there))
       c.push_reserved.ensures.items c.push_reserved.ensures.len c.push_reserved.ensures.capacity entry_tells
+      (subst (λ (l : Half LineEvent). last_end l.list < c.args.info.end) (sym c.line.view_is ∙ c.tell_commit.ensures.met) c.requires.rising)
 
 pub invariant_of-self : goal.invariant_of-self
 invariant_of-self c = (moved c).1

@@ -18,6 +18,7 @@ invariant_of-self g c =
     record {
       counted = ap (λ (s : Schema). length s) given.same.schema ∙ old.counted;
       lined = old.lined ∙ sym given.same.line;
+      ended = old.ended;
       belong = is.0;
       known = is.1;
     }

@@ -1,0 +1,9 @@
+-- What a scene of the tests keeps of its line.
+use Rattle.std.proofs.Common.{◌≡◌, sym, ap, ◌∙◌}
+use Rattle.tokens.specs.Half.{Half}
+use Rattle.engine.specs.declared.events.LineEvent.{LineEvent}
+use Rattle.engine.specs.Engine.{Engine, IsOtherwiseSame}
+
+-- a call that appends to the line leaves its name
+pub named_still : (old new : Engine) (was is : Half LineEvent) → was ≡ old.line → is ≡ new.line → IsOtherwiseSame old new → is.name ≡ was.name
+named_still old new was is met told same = ap (λ (h : Half LineEvent). h.name) told ∙ same.line ∙ sym (ap (λ (h : Half LineEvent). h.name) met)

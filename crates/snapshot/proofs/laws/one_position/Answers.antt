@@ -1,0 +1,5 @@
+use Rattle.snapshot.specs.ReadLaws as law
+use Rattle.snapshot.proofs.laws.one_position.Goals as goal
+
+pub returns : goal.returns
+returns c = law.one_position

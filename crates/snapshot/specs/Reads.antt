@@ -1,0 +1,77 @@
+-- What a reader of committed rows has seen, and what its answers tell.
+--     Sight      what a reader knows: the keys of the tables, their start rows, and what it has seen since
+--     commits_seen, world_seen      the commits that it has seen; the world of these, with no transaction open
+--     positions_seen      where the log goes on behind the first so many of these, for each number of them
+--     SeesMore      it has seen all that it had seen, and maybe more
+--     ReadsTable, ReadsAt      the rows of a table after all commits seen; after those up to a position
+--     IsRefused, IsRefusedAt      why a read was refused, and what has been seen then
+use Rattle.std.specs.Prelude.{◌≡◌, ℕ, ◌<◌, ◌≤◌, List, ◌∷◌, Some, None, Ok, length, slice_get}
+use Rattle.std.specs.List.{Contains}
+use Rattle.std.specs.List.Sorted.{IsStrictlyIncreasing}
+use Rattle.std.specs.FinMap as finite
+use Rattle.model.specs.declared.row.Row.{Row}
+use Rattle.model.specs.Rows.{Rows, Schema}
+use Rattle.model.specs.TableRows.{rows_of_table}
+use Rattle.tokens.specs.Half.{Half, Begins}
+use Rattle.world.specs.World.{Past, World}
+use Rattle.world.specs.Steps.{Fault, ReadsAfter}
+use Rattle.engine.specs.declared.events.LineEvent.{LineEvent}
+use Rattle.engine.specs.Events.{commits_in, ends_in, world_of}
+use Rattle.origin.specs.Commits.{Commits}
+use Rattle.snapshot.specs.declared.fault.ReadFault.{ReadFault}
+use Rattle.snapshot.specs.declared.fault.ReadFault.TheVariants.{UnknownTable, PositionUnknown, OutOfMemory}
+
+-- What a reader knows.
+pub record Sight : Type 0 where
+  -- the keys of the tables, and their rows before the first commit
+  pub schema : Schema
+  pub start : Rows
+  -- what it has seen happen to the store's transactions
+  pub line : Half LineEvent
+  -- the published commits that it has seen
+  pub published : Commits
+
+-- the commits that it has seen
+abbrev pub commits_seen : Sight → List Past
+commits_seen s = commits_in s.line.list
+
+-- the world of these commits, with no transaction open
+abbrev pub world_seen : Sight → World
+world_seen s = world_of s.schema s.start s.line.list finite.empty None
+
+-- Where the log goes on behind the first so many of these, for each number of them: 0 before the first, else where the
+-- last of them ends.
+abbrev pub positions_seen : Sight → List ℕ
+positions_seen s = 0 ∷ ends_in s.line.list
+
+-- It has seen all that it had seen, and maybe more, and each commit ends above the ones before it. Of the published
+-- commits it has seen the same.
+pub record SeesMore (old new : Sight) : Type 0 where
+  pub name : new.line.name ≡ old.line.name
+  pub begins : Begins old.line.list new.line.list
+  pub rising : IsStrictlyIncreasing (positions_seen new)
+  pub beside : new ≡ record old { line = new.line }
+
+-- ---- answers
+
+-- the rows of a table after all commits seen, in key order
+abbrev pub ReadsTable : Sight → ℕ → List Row → Type 0
+ReadsTable s table rows = rows ≡ rows_of_table (world_seen s).committed table
+
+-- the rows of a table after the commits seen up to a position, in key order
+abbrev pub ReadsAt : Sight → ℕ → ℕ → List Row → Type 0
+ReadsAt s table position rows =
+    (count : ℕ) × (slice_get (positions_seen s) count ≡ Some position) × ReadsAfter {E = Fault} s.schema (world_seen s) table count (Ok rows)
+
+-- The table isn't there, or memory was refused; nothing more was seen.
+abbrev pub IsRefused : Sight → Sight → ℕ → ReadFault → Type 0
+IsRefused old new table UnknownTable = (length old.schema ≤ table) × (new ≡ old)
+IsRefused old new table PositionUnknown = ⊥
+IsRefused old new table OutOfMemory = (table < length old.schema) × (new ≡ old)
+
+-- The same, or no commit that is seen now ends at the position.
+abbrev pub IsRefusedAt : Sight → Sight → ℕ → ℕ → ReadFault → Type 0
+IsRefusedAt old new table position UnknownTable = (length old.schema ≤ table) × (new ≡ old)
+IsRefusedAt old new table position PositionUnknown =
+    (table < length old.schema) × SeesMore old new × ¬ Contains (positions_seen new) position
+IsRefusedAt old new table position OutOfMemory = (table < length old.schema) × (new ≡ old)

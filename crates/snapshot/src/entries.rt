@@ -1,0 +1,24 @@
+// Positions among the entries of a journal.
+ghost use Rattle.std.specs.Prelude.{◌≡◌, Some, MatchOption, slice_get};
+ghost use Rattle.std.specs.List.{Contains};
+ghost use Rattle.snapshot.specs.ReadLaws.{positions_of};
+
+use engine::Entry;
+use model::Lsn;
+
+/// How many entries there are up to the one that ends at this position; for 0 none of them.
+pub(crate) fn count_up_to(entries: &[Entry], position: Lsn) -> Option<usize>
+    ensures { MatchOption result (¬ Contains (positions_of entries.now) position) (λ count. slice_get (positions_of entries.now) count ≡ Some position) }
+{
+    if position == 0 {
+        return Some(0);
+    }
+    let mut count = 0;
+    for entry in entries {
+        count += 1;
+        if entry.end == position {
+            return Some(count);
+        }
+    }
+    None
+}

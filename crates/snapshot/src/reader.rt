@@ -1,0 +1,167 @@
+// Whoever reads the committed rows while transactions are open.
+ghost use Rattle.std.specs.Prelude.{◌≡◌, ◌<◌, ◌≤◌, IfOk, IfErr, OnOk, length};
+ghost use Rattle.world.specs.Steps.{ReadsCommitted};
+ghost use Rattle.origin.specs.Commits.{Begins, position_after};
+ghost use Rattle.snapshot.specs.declared.fault.ReadFault.TheVariants.{UnknownTable};
+ghost use Rattle.snapshot.specs.Reads.{world_seen, SeesMore, ReadsTable, ReadsAt, IsRefused, IsRefusedAt};
+
+use crate::entries::count_up_to;
+use crate::fault::ReadFault;
+use engine::{Seen, SharedStore, StoreNames};
+use model::{Key, Lsn, Row, TableId};
+use origin::{Loader, Origin, Position};
+use std::alloc::Global;
+use std::marker::Model;
+use std::sync::{Mutex, Wait};
+
+/// Reads the committed rows of a store that others work on, and the position that was published.
+///
+/// A clause sees what it knows (`Sight`): the tables' keys and start rows, what it has seen of the
+/// store's line, and the commits that it has seen published.
+#[derive(Drop)]
+pub struct Reader<'a, N: StoreNames> {
+    store: &'a Mutex<SharedStore<N>>,
+    seen: Seen,
+    origin: &'a Origin,
+    loader: Loader,
+}
+
+impl<'a, N: StoreNames> Model for Reader<'a, N> {
+    ghost use Rattle.snapshot.specs.Reads.{Sight};
+
+    ghost Value = { Sight };
+
+    ghost use Rattle.snapshot.specs.SightCode.{sight_code};
+
+    ghost coded = { sight_code };
+
+    ghost view = { λ r. record { schema = N.schema; start = N.start; line = r.seen; published = r.loader } };
+
+    ghost use Rattle.std.specs.Prelude.{◌≡◌};
+
+    ghost invariant = { λ r. (r.seen.name ≡ N.line) × (r.loader.origin ≡ r.origin.now) };
+}
+
+impl<'a, N: StoreNames> Reader<'a, N> {
+    /// Whoever has seen this much of a store, and of what was published.
+    pub fn new(
+        store: &'a Mutex<SharedStore<N>>,
+        seen: Seen,
+        origin: &'a Origin,
+        loader: Loader,
+    ) -> Reader<'a, N>
+        requires seen { seen.name ≡ N.line }
+        requires loader { loader.origin ≡ origin.now }
+        ensures { result ≡ record { schema = N.schema; start = N.start; line = seen; published = loader } }
+    {
+        Reader {
+            store,
+            seen,
+            origin,
+            loader,
+        }
+    }
+
+    /// What it has seen, for whoever reads or compares after it.
+    pub fn into_parts(self) -> (Seen, Loader)
+        ensures parts { (result.0 ≡ self.entry.line) × (result.1 ≡ self.entry.published) }
+        ensures name { result.0.name ≡ N.line }
+    {
+        let Reader { seen, loader, .. } = self;
+        (seen, loader)
+    }
+
+    /// The committed row of a table at a key, as a copy.
+    pub fn get<R: Wait>(
+        &mut self,
+        rt: &R,
+        table: TableId,
+        key: &Key,
+    ) -> Result<Option<Row>, ReadFault>
+        ensures row { ReadsCommitted (world_seen self.new) (table, key.now) result }
+        ensures seen { OnOk result (SeesMore self.old self.new) }
+        ensures known { OnOk result (table < length self.old.schema) }
+        ensures refused { IfErr result (λ fault. IsRefused self.old self.new table fault) }
+    {
+        let mut store = self.store.lock(rt);
+        check_table(table, store.table_count())?;
+        let Ok(row) = store.committed(table, key) else {
+            return Err(ReadFault::OutOfMemory);
+        };
+        store.look(&mut self.seen);
+        Ok(row)
+    }
+
+    /// The committed rows of a table in key order, as copies. The changes of all commits are made
+    /// anew on a copy of the start tables, under the store's lock: it costs what the commits did, and
+    /// the memory of all tables.
+    pub fn rows<R: Wait>(
+        &mut self,
+        rt: &R,
+        alloc: Global,
+        table: TableId,
+    ) -> Result<Vec<Row>, ReadFault>
+        ensures rows { IfOk result (λ rows. ReadsTable self.new table rows.items) }
+        ensures seen { OnOk result (SeesMore self.old self.new) }
+        ensures known { OnOk result (table < length self.old.schema) }
+        ensures refused { IfErr result (λ fault. IsRefused self.old self.new table fault) }
+    {
+        let mut store = self.store.lock(rt);
+        check_table(table, store.table_count())?;
+        let commits = store.journal().len();
+        let Ok(rows) = store.rows_after(alloc, table, commits) else {
+            return Err(ReadFault::OutOfMemory);
+        };
+        store.look(&mut self.seen);
+        Ok(rows)
+    }
+
+    /// The rows of a table after the commits up to the one that ends at this position, in key order, as
+    /// copies; at position 0 those before the first commit. It costs what `rows` does, for these commits.
+    pub fn rows_at<R: Wait>(
+        &mut self,
+        rt: &R,
+        alloc: Global,
+        table: TableId,
+        position: Lsn,
+    ) -> Result<Vec<Row>, ReadFault>
+        ensures rows { IfOk result (λ rows. ReadsAt self.new table position rows.items) }
+        ensures seen { OnOk result (SeesMore self.old self.new) }
+        ensures known { OnOk result (table < length self.old.schema) }
+        ensures refused { IfErr result (λ fault. IsRefusedAt self.old self.new table position fault) }
+    {
+        let mut store = self.store.lock(rt);
+        check_table(table, store.table_count())?;
+        let Some(count) = count_up_to(store.journal(), position) else {
+            store.look(&mut self.seen);
+            return Err(ReadFault::PositionUnknown);
+        };
+        let Ok(rows) = store.rows_after(alloc, table, count) else {
+            return Err(ReadFault::OutOfMemory);
+        };
+        store.look(&mut self.seen);
+        Ok(rows)
+    }
+
+    /// The position that was published last: how many commits, and where the last of them ends. It
+    /// doesn't take the store's lock.
+    pub fn position<R: Wait>(&mut self, rt: &R) -> Position
+        ensures position { result ≡ position_after self.new.published.ends }
+        ensures origin { self.new.published.origin ≡ self.old.published.origin }
+        ensures later { Begins self.old.published.ends self.new.published.ends }
+        ensures beside { self.new ≡ record self.old { published = self.new.published } }
+    {
+        self.origin.load(rt, &mut self.loader)
+    }
+}
+
+// The table is one of so many.
+fn check_table(table: TableId, tables: usize) -> Result<(), ReadFault>
+    ensures known { OnOk result (table < tables) }
+    ensures unknown { IfErr result (λ fault. (fault ≡ UnknownTable) × (tables ≤ table)) }
+{
+    if table >= tables {
+        return Err(ReadFault::UnknownTable);
+    }
+    Ok(())
+}
