@@ -246,7 +246,7 @@ bytes_behind (Done ∷ xs) ys are = bytes_behind xs ys are
 module _ (g h : Setting) (rows : Rows) (old new before after : DeviceState) (o p : Outcome) (run : IsThreadedRun g rows old new o) (alone : IsRun h rows before after p) (valid : IsValid (schema_of g) rows) (catalog : h.catalog ≡ g.catalog) (clean : o.end ≡ ends.Clean) (same_bytes : alone.bytes ≡ run.bytes) (are : AreBytes run.handled) (q : Progress) (room : Leads h start_progress run.handled q) where
   items : alone.handled ++ alone.rest ≡ run.handled
   items =
-      let cause = subst (IsThreadedCause g rows old new run.handled run.progress run.times run.bytes run.rest run.world) clean run.cause in
+      let cause = subst (IsThreadedCause g old new run.handled run.progress run.times run.bytes run.rest run.world) clean run.cause in
       alone.items ∙ ap copy_items same_bytes ∙ sym (all_items run.handled run.rest (copy_items run.bytes) run.items cause.0.all_handled)
 
   later : Leads h alone.progress alone.rest q
