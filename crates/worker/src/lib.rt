@@ -63,3 +63,5 @@ pub use progress::{work, work_on};
 
 #[cfg(test)]
 mod post_tests;
+#[cfg(test)]
+mod tests;
