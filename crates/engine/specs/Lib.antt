@@ -38,3 +38,5 @@ pub mod CellLaws
 pub mod KeptRowLaws
 pub mod StopLaws
 pub mod RowsAfterLaws
+pub mod Shared
+pub mod SharedLaws

@@ -26,6 +26,7 @@
 // held. Who waits for whom is read by the live tables and the holds (`waits`), in place.
 //
 //   store               `Store`: each call with its ticket or line
+//   shared              `SharedStore`: a store under a lock
 //   tickets, events     `Ticket`, `Line`, `Seen`, and what they list
 //   answers, entry      what calls answer; a committed transaction as the journal has it
 //   live, transaction   `Live`, and what it keeps of an open transaction
@@ -33,6 +34,7 @@
 //   laws, laws_of_reads the laws
 //
 //   specs/Engine, EngineCode      a store as its callers see it; what its type keeps
+//   specs/Shared, SharedLaws      what the type of a store under a lock keeps
 //   specs/Events, EventLaws       the world that tickets and line tell
 //   specs/Answers                 what the answers tell of a world
 //   specs/StoreLaws               what the type keeps, once a call has altered the parts
@@ -76,6 +78,7 @@ pub mod laws;
 pub mod laws_of_reads;
 mod live;
 mod rows_after;
+mod shared;
 pub mod stood;
 mod store;
 mod tickets;
@@ -85,6 +88,7 @@ mod waits;
 pub use answers::{Acted, EngineFault, NotSettled, Stop};
 pub use entry::{Changes, ChangesIter, Entry};
 pub use events::{Event, LineEvent};
+pub use shared::{SharedStore, StoreNames};
 pub use store::Store;
 pub use tickets::{Line, Seen, Ticket};
 

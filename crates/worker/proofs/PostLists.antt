@@ -1,0 +1,17 @@
+-- What isn't done of the items that were given.
+use Rattle.std.proofs.Common.{◌≡◌, ◌↔◌, List, ◌++◌, ap, sym, ◌∙◌}
+use Rattle.std.proofs.lemmas.List.{append_assoc, append_cancel_left}
+
+module _ {X : Type 0} where
+  -- all of them are those acknowledged, those left and those late
+  pub all_given : (given sent acked left late : List X) → given ≡ sent ++ late → sent ≡ acked ++ left
+      → given ≡ acked ++ (left ++ late)
+  all_given given sent acked left late whole parts =
+      whole ∙ ap (λ s. s ++ late) parts ∙ append_assoc acked left late
+
+  -- so these are left or late just where those are all, behind the acknowledged ones
+  pub just_these : (given sent acked left late rest : List X) → given ≡ sent ++ late → sent ≡ acked ++ left
+      → (left ++ late ≡ rest) ↔ (given ≡ acked ++ rest)
+  just_these given sent acked left late rest whole parts =
+      let all = all_given given sent acked left late whole parts in
+      ((λ is. all ∙ ap (λ r. acked ++ r) is), (λ is. append_cancel_left acked (left ++ late) rest (sym all ∙ is)))

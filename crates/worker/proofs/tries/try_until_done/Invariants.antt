@@ -1,0 +1,5 @@
+use Rattle.worker.specs.WorkingLaws.{IsWaiting}
+use Rattle.worker.proofs.tries.try_until_done.Given as goal
+
+abbrev pub invariant-loop : goal.invariant-loop
+invariant-loop g l = IsWaiting l.initial.ticket l.ticket l.initial.taker l.taker

@@ -1,0 +1,70 @@
+-- What is known of a lane's post, and what a call makes of it.
+--     given_after, given_since      the items given since a transaction began
+--     Posted, posted      what a post knows, and that of its parts
+--     IsPost      what its type keeps
+--     SendsOn, GoesOn      more may be sent, and the rest is as it was
+--     HandsOn, IsSameMeeting      the items that aren't done are handed out
+use Rattle.std.specs.Prelude.{◌≡◌, ◌≤◌, ℕ, Bool, false, List, [], ◌∷◌, ◌++◌, Option, Some, None, IsSome, MatchOption, fold}
+use Rattle.atomic_table.specs.Seated.{TableId}
+use Rattle.model.specs.declared.item.Item.{Item}
+use Rattle.tokens.specs.Half.{Name, no_name}
+use Rattle.ring.specs.Ends.{Sending, Meeting}
+use Rattle.worker.specs.declared.post.PostEvent.{PostEvent}
+use Rattle.worker.specs.declared.post.PostEvent.TheVariants.{Begun, Given}
+
+-- the items given since a transaction began, once one more event has come
+abbrev pub given_after : List Item → PostEvent → List Item
+given_after items Begun = []
+given_after items (Given item) = items ++ item ∷ []
+
+-- the items given since the last transaction began
+abbrev pub given_since : List PostEvent → List Item
+given_since events = fold given_after [] events
+
+-- what a post knows
+pub record Posted : Type 0 where
+  -- the number of its lane
+  pub lane : ℕ
+  -- what the leader did with it
+  pub events : List PostEvent
+  -- its end of the lane's ring
+  pub sending : Sending Item
+  -- the items that are still to be sent
+  pub late : List Item
+
+-- the end of a ring, which a post has but while it is collected
+abbrev pub the_end : Option (Sending Item) → Sending Item
+the_end (Some s) = s
+the_end None = record { ring = no_name; before = 0; sent = []; counted = 0; dooms = false }
+
+-- what a post knows, by its parts
+abbrev pub posted : ℕ → List PostEvent → Option (Sending Item) → List Item → Posted
+posted its_lane its_events its_end its_late = record { lane = its_lane; events = its_events; sending = the_end its_end; late = its_late }
+
+-- Its end is that of this ring, and its list has this name; what was given since the transaction began was sent, or is late.
+pub record IsPost (its_ring : TableId) (its_name its_list : Name) (its_end : Option (Sending Item)) (p : Posted) : Type 0 where
+  pub has_end : IsSome its_end
+  pub ring : p.sending.ring ≡ its_ring
+  pub name : its_list ≡ its_name
+  pub given : given_since p.events ≡ p.sending.sent ++ p.late
+
+-- more may be sent, and the rest is as it was
+pub record SendsOn {T : Type 0} (old new : Sending T) : Type 0 where
+  pub ring : new.ring ≡ old.ring
+  pub before : new.before ≡ old.before
+  pub dooms : new.dooms ≡ old.dooms
+  pub grows : old.counted ≤ new.counted
+
+-- the same lane, from which more may be sent
+abbrev pub GoesOn : Posted → Posted → Type 0
+GoesOn old new = (new.lane ≡ old.lane) × SendsOn old.sending new.sending
+
+-- the first item is handed out, and the others follow it
+abbrev pub HandsOn : {T : Type 0} → List T → Option T → List T → Type 0
+HandsOn old item new = MatchOption item ((old ≡ []) × (new ≡ [])) (λ x. old ≡ x ∷ new)
+
+-- the same ring, through which the same was sent
+pub record IsSameMeeting {T : Type 0} (old new : Meeting T) : Type 0 where
+  pub ring : new.ring ≡ old.ring
+  pub before : new.before ≡ old.before
+  pub sent : new.sent ≡ old.sent

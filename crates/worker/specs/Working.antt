@@ -1,0 +1,119 @@
+-- What a job knows of its transaction and of its ring, and what work makes of it.
+--     Working, working      what it knows, and that of its parts
+--     done_in, wanted_in      the items that the transaction has done; the change that waits or clashed
+--     IsTaken      a change that waits or clashed is the item taken
+--     IsInStep      what the type of a job keeps
+--     GoesOn      the same transaction in the same lane, with more done
+--     HasNext, HasDone      an item of the transaction is taken, and not done; it is done
+--     IsEndedBy      why a worker came back
+--     Wanted, Comes      the events of a transaction once an item was tried
+--     ComesTo      what the transaction has done once it was tried until it was done or refused
+use Rattle.std.specs.Prelude.{◌≡◌, ◌≢◌, ℕ, true, List, [], ◌∷◌, ◌++◌, Option, Some, None, IsSome, MatchOption, Result, Ok, Err}
+use Rattle.atomic_table.specs.Seated.{TableId}
+use Rattle.model.specs.declared.change.Change as change_type
+use Rattle.model.specs.declared.item.Item.{Item}
+use Rattle.model.specs.declared.item.Item.TheVariants.{Change, Last}
+use Rattle.tokens.specs.Half.{Begins}
+use Rattle.tokens.specs.Lists.{OpenList}
+use Rattle.ring.specs.Ends.{Taking}
+use Rattle.world.specs.World.{Opened}
+use Rattle.engine.specs.declared.events.Event.{Event}
+use Rattle.engine.specs.declared.events.Event.TheVariants.{Done, Wants}
+use Rattle.engine.specs.declared.answers.EngineFault.{EngineFault}
+use Rattle.engine.specs.declared.answers.EngineFault.TheVariants.{AlreadyOpen, TooManyOpen, Clash as ClashFault, Stopped as StoppedFault, OutOfMemory as NoMemory}
+use Rattle.engine.specs.Events.{opened_by}
+use Rattle.worker.specs.declared.ended.Ended.{Ended}
+use Rattle.worker.specs.declared.ended.Ended.TheVariants.{Last as AtLast, Doomed, Clashed, Stopped, OutOfMemory}
+use Rattle.worker.specs.declared.ended.Tried.{Tried}
+use Rattle.worker.specs.declared.ended.Tried.TheVariants.{Done as WasDone, Held as WasHeld}
+
+-- what a job knows
+pub record Working : Type 0 where
+  -- the number of its lane
+  pub lane : ℕ
+  -- the number of its transaction
+  pub xid : ℕ
+  -- what happened to the transaction
+  pub events : List Event
+  -- its end of the lane's ring
+  pub taker : Taking Item
+
+-- what it knows, by lane, ticket and ring
+abbrev pub working : ℕ → OpenList Event → Taking Item → Working
+working its_lane ticket its_taker = record { lane = its_lane; xid = ticket.number; events = ticket.list; taker = its_taker }
+
+-- the items that its transaction has done
+abbrev pub done_in : Working → List Item
+done_in j = (opened_by j.events).items
+
+-- the change of it that waits or clashed, and the subtransaction that made it
+abbrev pub wanted_in : Working → Option (ℕ × change_type.Change)
+wanted_in j = (opened_by j.events).wants
+
+-- a change that waits or clashed is the item taken
+abbrev pub IsTaken : Option (ℕ × change_type.Change) → Option Item → Type 0
+IsTaken wants taken = MatchOption wants (Unit {0}) (λ w. taken ≡ Some (Change w.0 w.1))
+
+-- Its end is that of this ring; what its transaction has done are the items acknowledged, and a change of it that waits
+-- or clashed is the first item after them.
+pub record IsInStep (its_ring : TableId) (j : Working) : Type 0 where
+  pub ring : j.taker.ring ≡ its_ring
+  pub done : done_in j ≡ j.taker.acked
+  pub next : IsTaken (wanted_in j) j.taker.taken
+
+-- It has the same transaction and the same lane, and all that was done before.
+pub record GoesOn (old new : Working) : Type 0 where
+  pub lane : new.lane ≡ old.lane
+  pub xid : new.xid ≡ old.xid
+  pub ring : new.taker.ring ≡ old.taker.ring
+  pub events : Begins old.events new.events
+  pub done : Begins (done_in old) (done_in new)
+  pub doomed : old.taker.doomed ≡ true → new.taker.doomed ≡ true
+
+-- an item of the transaction is taken, and not done
+abbrev pub HasNext : Working → Type 0
+HasNext j = (item : Item) × (j.taker.taken ≡ Some item) × (item ≢ Last)
+
+-- the item that was taken is done
+abbrev pub HasDone : Working → Working → Type 0
+HasDone old new = (item : Item) × (old.taker.taken ≡ Some item) × (done_in new ≡ done_in old ++ item ∷ [])
+
+-- why a worker came back, as its job then shows it
+abbrev pub IsEndedBy : Ended → Working → Type 0
+IsEndedBy AtLast j = j.taker.taken ≡ Some Last
+IsEndedBy Doomed j = j.taker.doomed ≡ true
+IsEndedBy Clashed j = HasNext j × IsSome (wanted_in j)
+IsEndedBy Stopped j = HasNext j
+IsEndedBy OutOfMemory j = HasNext j
+
+-- why a worker comes back whose item was refused
+abbrev pub ended_by : EngineFault → Ended
+ended_by (ClashFault clash) = Clashed
+ended_by StoppedFault = Stopped
+ended_by NoMemory = OutOfMemory
+ended_by AlreadyOpen = OutOfMemory
+ended_by TooManyOpen = OutOfMemory
+
+-- the item is a change, and what became of it is told as one that waits or clashed
+abbrev pub Wanted : Item → List Event → List Event → Type 0
+Wanted item old new = (sub : ℕ) × (c : change_type.Change) × (item ≡ Change sub c) × (new ≡ old ++ Wants sub c ∷ [])
+
+-- the events of a transaction before and after an item was tried
+abbrev pub Comes : Result Tried Ended → Item → List Event → List Event → Type 0
+Comes (Ok WasDone) item old new = new ≡ old ++ Done item ∷ []
+Comes (Ok WasHeld) item old new = Wanted item old new
+Comes (Err AtLast) item old new = ⊥
+Comes (Err Doomed) item old new = ⊥
+Comes (Err Clashed) item old new = Wanted item old new
+Comes (Err Stopped) item old new = new ≡ old
+Comes (Err OutOfMemory) item old new = new ≡ old
+
+-- what a transaction has done before and after an item was tried until it was done or refused
+abbrev pub ComesTo : Result (Unit {0}) Ended → Taking Item → Opened → Opened → Type 0
+ComesTo (Ok u) t old new =
+    (new.wants ≡ None) × MatchOption t.taken ⊥ (λ item. new.items ≡ old.items ++ item ∷ [])
+ComesTo (Err AtLast) t old new = ⊥
+ComesTo (Err Doomed) t old new = (t.doomed ≡ true) × (new.items ≡ old.items) × IsTaken new.wants t.taken
+ComesTo (Err Clashed) t old new = IsSome new.wants × (new.items ≡ old.items) × IsTaken new.wants t.taken
+ComesTo (Err Stopped) t old new = (new.items ≡ old.items) × IsTaken new.wants t.taken
+ComesTo (Err OutOfMemory) t old new = (new.items ≡ old.items) × IsTaken new.wants t.taken

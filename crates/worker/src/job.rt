@@ -1,0 +1,146 @@
+// What a worker has of its transaction.
+ghost use Rattle.std.specs.Prelude.{◌≡◌, ◌≢◌, [], None, Some, IfErr, OnOk, OnErr, MatchBool};
+ghost use Rattle.model.specs.declared.item.Item.TheVariants.{Last};
+ghost use Rattle.tokens.specs.Lists.{open_list};
+ghost use Rattle.engine.specs.Events.{opened_by};
+ghost use Rattle.worker.specs.Working.{working, done_in, IsInStep, GoesOn, HasNext, HasDone, IsEndedBy};
+
+use crate::ended::Ended;
+use crate::gate::Gate;
+use crate::item::WorkItem;
+use crate::names::LaneNames;
+use crate::tries::try_until_done;
+use engine::{SharedStore, StoreNames, Ticket};
+use model::{Item, Xid};
+use ring::Taker;
+use std::alloc::Global;
+use std::marker::{Model, PhantomData};
+use std::sync::{Condvar, Mutex, Wait};
+
+/// A transaction's ticket, and the end of its lane's ring from which its items come.
+///
+/// What the transaction has done are the items that were acknowledged, and a change of it that waits
+/// or clashed is the first item after them (`IsInStep`). So whoever brings the two ends of the ring
+/// together knows which items are done and which are left.
+#[derive(Drop)]
+pub struct Job<N: StoreNames, L: LaneNames> {
+    ticket: Ticket,
+    taker: Taker<WorkItem<N>>,
+    lane: usize,
+    of: PhantomData<L>,
+}
+
+impl<N: StoreNames, L: LaneNames> Model for Job<N, L> {
+    ghost use Rattle.worker.specs.Working.{Working, working, IsInStep};
+    ghost use Rattle.std.specs.Prelude.{◌≡◌};
+
+    ghost Value = { Working };
+
+    ghost view = { λ j. working j.lane j.ticket j.taker };
+
+    ghost invariant = { λ j. (j.ticket.name ≡ N.tickets) × IsInStep (L.ring j.lane) (working j.lane j.ticket j.taker) };
+}
+
+impl<N: StoreNames, L: LaneNames> Job<N, L> {
+    /// A job of a transaction that has done nothing yet, by a ring of which nothing is acknowledged.
+    pub fn new(ticket: Ticket, taker: Taker<WorkItem<N>>, lane: usize) -> Job<N, L>
+        requires belongs { ticket.name ≡ N.tickets }
+        requires ring { taker.ring ≡ L.ring lane }
+        requires first { opened_by ticket.list ≡ record { items = []; wants = None } }
+        requires acked { taker.acked ≡ [] }
+        ensures { result ≡ working lane ticket taker }
+    {
+        Job {
+            ticket,
+            taker,
+            lane,
+            of: PhantomData,
+        }
+    }
+
+    /// Ticket and ring end, with what the type kept of them.
+    pub fn split(self) -> (Ticket, Taker<WorkItem<N>>)
+        ensures ticket { result.0 ≡ open_list N.tickets self.xid self.events }
+        ensures taker { result.1 ≡ self.taker }
+        ensures step { IsInStep (L.ring self.lane) self }
+    {
+        let Job {
+            ticket,
+            taker,
+            lane: _,
+            of: _,
+        } = self;
+        (ticket, taker)
+    }
+
+    /// The number of its lane.
+    pub fn lane(&self) -> usize
+        ensures { result ≡ self.now.lane }
+    {
+        self.lane
+    }
+
+    /// The number of its transaction.
+    pub fn xid(&self) -> Xid
+        ensures { result ≡ self.now.xid }
+    {
+        self.ticket.xid()
+    }
+
+    /// Waits for the next item of the transaction. There is none to come where its commit was read, nor
+    /// where the worker is told to give up.
+    pub(crate) fn wait_next<R: Wait>(&mut self, rt: &R) -> Result<(), Ended>
+        ensures goes_on { GoesOn self.old self.new }
+        ensures same { self.new.events ≡ self.old.events }
+        ensures ok { OnOk result (HasNext self.new) }
+        ensures err { IfErr result (λ ended. IsEndedBy ended self.new) }
+    {
+        self.taker.wait_more(rt);
+        if self.taker.doomed() {
+            return Err(Ended::Doomed);
+        }
+        let Some(item) = self.taker.take() else {
+            unreachable!()
+        };
+        if is_last(item.item()) {
+            return Err(Ended::Last);
+        }
+        Ok(())
+    }
+
+    /// Does the item that was taken and acknowledges it; waits first where another transaction holds
+    /// a cell of it. Refused, the item stays taken.
+    pub(crate) fn do_next<G: Gate, R: Wait>(
+        &mut self,
+        rt: &R,
+        alloc: Global,
+        store: &Mutex<SharedStore<N>>,
+        changed: &Condvar,
+        gate: &mut G,
+    ) -> Result<(), Ended>
+        requires { HasNext self.old }
+        ensures goes_on { GoesOn self.old self.new }
+        ensures ok { OnOk result (HasDone self.old self.new) }
+        ensures same { OnErr result (done_in self.new ≡ done_in self.old) }
+        ensures err { IfErr result (λ ended. IsEndedBy ended self.new) }
+    {
+        try_until_done(
+            rt,
+            alloc,
+            store,
+            changed,
+            &mut self.ticket,
+            &mut self.taker,
+            gate,
+        )?;
+        self.taker.ack();
+        Ok(())
+    }
+}
+
+// Whether this says that the transaction's commit was read.
+fn is_last(item: &Item) -> bool
+    ensures { MatchBool result (item.now ≡ Last) (item.now ≢ Last) }
+{
+    matches!(item, Item::Last)
+}

@@ -1,0 +1,65 @@
+#![tactic(auto)]
+
+// A worker: it applies one transaction while its items come.
+//
+// It is given a `Job`, the ticket of an open transaction and the end of a lane's ring from which the
+// transaction's items come. It does each item in the store and then acknowledges it. The type of a
+// job keeps that what the transaction has done are the items acknowledged, in order, and that a
+// change of it that waits or clashed is the first item after them. So when the job comes back and
+// both ends of the ring meet, the items done and those left are the items sent.
+//
+// `work` takes the store's lock for each item alone, and does so many items before it comes back that
+//
+//   - the transaction's commit was read: `Last`, which is no item of it and is not acknowledged;
+//   - or it is told to give up, by the ring's doom;
+//   - or the store is stopped, by a clash of this very transaction or by others;
+//   - or memory is refused for an item.
+//
+// It says which, and the job shows it. An item that was not done stays the one taken.
+//
+// Who waits for what, and who wakes it:
+//
+//   a worker waits                      it is woken by
+//   for an item, at its ring            `try_send`, and `doom`
+//   for a cell that another             `notify_all` under the store's lock, by whoever commits or
+//   transaction holds, at `changed`     aborts a transaction, stops the store, or doomed a worker; of
+//                                       the workers, one that rolls back or whose change clashes
+//   for the store's lock                whoever has it, which nobody keeps while they wait
+//   at a gate                           the gate; it holds no lock there
+//
+// A wake that comes early is kept: a ring keeps it, and at `changed` a worker looks for a doom and
+// tries its change under the lock that it gives back only as it waits. An ordinary item lets no cell
+// go, so it wakes nobody. A worker that goes to wait tells its gate first, so that the leader of a run
+// can look whether all wait.
+//
+//   job        `Job`
+//   item       `WorkItem`, what goes through the ring
+//   gate       `Gate`, who is told how far a worker came
+//   progress   `work`, `work_on`
+//   tries      one item under the lock
+//   ended      why a worker came back
+//   post       `Post`, where the leader gives the items of a lane's transaction
+//   names      `LaneNames`, which rings; with the store's names it stands in the types of all of these
+//
+// `specs/Working` says what a job knows and what work makes of it, `specs/WorkingLaws` what follows of
+// its items and events; `specs/Post` says what is known of a post. It stands on `engine` for the
+// store, on `ring` for the lane, on `tokens` for what the leader knows of a post, and on `model`.
+mod ended;
+mod gate;
+mod item;
+mod job;
+mod names;
+mod post;
+mod progress;
+mod tries;
+
+pub use ended::Ended;
+pub use gate::{Gate, Point};
+pub use item::WorkItem;
+pub use job::Job;
+pub use names::LaneNames;
+pub use post::{Collected, Post, PostEvent, PostNames, lock_post};
+pub use progress::{work, work_on};
+
+#[cfg(test)]
+mod post_tests;

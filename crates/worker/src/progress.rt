@@ -1,0 +1,79 @@
+// A worker with its job.
+ghost use Rattle.std.specs.Prelude.{IfErr};
+ghost use Rattle.worker.specs.Working.{GoesOn, IsEndedBy};
+ghost use Rattle.worker.specs.declared.ended.Ended.{Ended as EndedBy};
+
+use crate::ended::Ended;
+use crate::gate::{Gate, Point};
+use crate::job::Job;
+use crate::names::LaneNames;
+use engine::{SharedStore, StoreNames};
+use std::alloc::Global;
+use std::sync::{Condvar, Mutex, Wait};
+
+/// Does the items of a job as they come, and gives the job back.
+pub fn work<N: StoreNames, L: LaneNames, G: Gate, R: Wait>(
+    rt: &R,
+    alloc: Global,
+    store: &Mutex<SharedStore<N>>,
+    changed: &Condvar,
+    mut job: Job<N, L>,
+    gate: &mut G,
+) -> Job<N, L>
+    ensures goes_on { GoesOn job result }
+    ensures ended { (ended : EndedBy) × IsEndedBy ended result }
+{
+    work_on(rt, alloc, store, changed, &mut job, gate);
+    job
+}
+
+/// Does the items of a job as they come: until the transaction's commit was read, it is told to give
+/// up, the store is stopped or memory is refused. It says which of these.
+///
+/// The store's lock is taken for each item alone. Whoever commits or aborts a transaction of the
+/// store, stops it, or tells a worker to give up notifies all under that lock.
+pub fn work_on<N: StoreNames, L: LaneNames, G: Gate, R: Wait>(
+    rt: &R,
+    alloc: Global,
+    store: &Mutex<SharedStore<N>>,
+    changed: &Condvar,
+    job: &mut Job<N, L>,
+    gate: &mut G,
+) -> Ended
+    ensures goes_on { GoesOn job.old job.new }
+    ensures ended { IsEndedBy result job.new }
+{
+    let mut number = 1u64;
+    for _ in rt.forever() {
+        if let Err(ended) = work_once(rt, alloc, store, changed, job, gate, number) {
+            return ended;
+        }
+        number = number.saturating_add(1);
+    }
+    unreachable!()
+}
+
+// Does the next item, and tells the gate.
+fn work_once<N: StoreNames, L: LaneNames, G: Gate, R: Wait>(
+    rt: &R,
+    alloc: Global,
+    store: &Mutex<SharedStore<N>>,
+    changed: &Condvar,
+    job: &mut Job<N, L>,
+    gate: &mut G,
+    number: u64,
+) -> Result<(), Ended>
+    ensures goes_on { GoesOn job.old job.new }
+    ensures err { IfErr result (λ ended. IsEndedBy ended job.new) }
+{
+    let xid = job.xid();
+    job.wait_next(rt)?;
+    gate.pass(xid, Point::Before(number));
+    let done = job.do_next(rt, alloc, store, changed, gate);
+    match done {
+        Ok(()) => gate.pass(xid, Point::After(number)),
+        Err(Ended::Clashed) => gate.pass(xid, Point::Clash(number)),
+        Err(_) => {}
+    }
+    done
+}

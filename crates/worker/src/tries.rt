@@ -1,0 +1,143 @@
+// One item of a transaction under the store's lock.
+ghost use Rattle.std.specs.Prelude.{◌≡◌, ◌≢◌, Some, length};
+ghost use Rattle.tokens.specs.Half.{Begins};
+ghost use Rattle.model.specs.Named.{NamesTables};
+ghost use Rattle.model.specs.declared.item.Item.{Item as AnyItem};
+ghost use Rattle.model.specs.declared.item.Item.TheVariants.{Change as ChangeItem, Touch, Last};
+ghost use Rattle.ring.specs.Ends.{Waited};
+ghost use Rattle.engine.specs.Events.{opened_by};
+ghost use Rattle.engine.specs.declared.answers.EngineFault.TheVariants.{AlreadyOpen as AlreadyOpenFault, TooManyOpen as TooManyOpenFault};
+ghost use Rattle.worker.specs.Working.{IsTaken, Comes, ComesTo, ended_by};
+
+use crate::ended::{Ended, Tried};
+use crate::gate::Gate;
+use crate::item::WorkItem;
+use engine::{Acted, EngineFault, SharedStore, StoreNames, Ticket};
+use model::{Change, Item, Xid};
+use ring::Taker;
+use std::alloc::Global;
+use std::sync::{Condvar, Mutex, Wait};
+
+/// Does the item that was taken, under the store's lock. While another transaction holds a cell of it,
+/// it waits and tries again, unless it is doomed. It looks for the doom under the lock that it gives
+/// back only as it waits, so it hears whoever dooms it and then notifies under that lock.
+pub fn try_until_done<N: StoreNames, G: Gate, R: Wait>(
+    rt: &R,
+    alloc: Global,
+    store: &Mutex<SharedStore<N>>,
+    changed: &Condvar,
+    ticket: &mut Ticket,
+    taker: &mut Taker<WorkItem<N>>,
+    gate: &mut G,
+) -> Result<(), Ended>
+    requires belongs { ticket.old.name ≡ N.tickets }
+    requires taken { (item : AnyItem) × (taker.old.taken ≡ Some item) × (item ≢ Last) }
+    requires next { IsTaken (opened_by ticket.old.list).wants taker.old.taken }
+    ensures taker { Waited taker.old taker.new }
+    ensures name { ticket.new.name ≡ ticket.old.name }
+    ensures number { ticket.new.number ≡ ticket.old.number }
+    ensures events { Begins ticket.old.list ticket.new.list }
+    ensures comes { ComesTo result taker.new (opened_by ticket.old.list) (opened_by ticket.new.list) }
+{
+    let xid = ticket.xid();
+    let mut locked = store.lock(rt);
+    for _ in rt.forever() {
+        let Some(item) = taker.take() else {
+            unreachable!()
+        };
+        match try_item(alloc, &mut locked, changed, ticket, item)? {
+            Tried::Done => return Ok(()),
+            Tried::Held => {}
+        }
+        if taker.doomed() {
+            return Err(Ended::Doomed);
+        }
+        gate.held(xid);
+        locked = changed.wait(rt, locked);
+    }
+    unreachable!()
+}
+
+// Tries an item, and wakes those that wait where it stops the store or may let cells go.
+fn try_item<N: StoreNames>(
+    alloc: Global,
+    store: &mut SharedStore<N>,
+    changed: &Condvar,
+    ticket: &mut Ticket,
+    item: &WorkItem<N>,
+) -> Result<Tried, Ended>
+    requires belongs { ticket.old.name ≡ N.tickets }
+    requires next { item.now ≢ Last }
+    ensures name { ticket.new.name ≡ ticket.old.name }
+    ensures number { ticket.new.number ≡ ticket.old.number }
+    ensures comes { Comes result item.now ticket.old.list ticket.new.list }
+{
+    match item.item() {
+        Item::Change { sub, change } => try_change(alloc, store, changed, ticket, *sub, change),
+        Item::Touch(sub) => try_touch(store, ticket, *sub),
+        Item::BackTo(sub) => {
+            store.back_to(ticket, *sub);
+            changed.notify_all();
+            Ok(Tried::Done)
+        }
+        Item::Last => unreachable!(),
+    }
+}
+
+// A change under the lock. One that clashes has stopped the store, of which those that wait are told.
+fn try_change<N: StoreNames>(
+    alloc: Global,
+    store: &mut SharedStore<N>,
+    changed: &Condvar,
+    ticket: &mut Ticket,
+    sub: Xid,
+    change: &Change,
+) -> Result<Tried, Ended>
+    requires belongs { ticket.old.name ≡ N.tickets }
+    requires names { NamesTables (length N.schema) change.now }
+    ensures name { ticket.new.name ≡ ticket.old.name }
+    ensures number { ticket.new.number ≡ ticket.old.number }
+    ensures comes { Comes result (ChangeItem sub change.now) ticket.old.list ticket.new.list }
+{
+    match store.act(alloc, ticket, sub, change) {
+        Ok(Acted::Held(_)) => Ok(Tried::Held),
+        Ok(_) => Ok(Tried::Done),
+        Err(fault) => {
+            let ended = ended_by(fault);
+            if ended == Ended::Clashed {
+                changed.notify_all();
+            }
+            Err(ended)
+        }
+    }
+}
+
+// An item that names a subtransaction, under the lock.
+fn try_touch<N: StoreNames>(
+    store: &mut SharedStore<N>,
+    ticket: &mut Ticket,
+    sub: Xid,
+) -> Result<Tried, Ended>
+    requires belongs { ticket.old.name ≡ N.tickets }
+    ensures name { ticket.new.name ≡ ticket.old.name }
+    ensures number { ticket.new.number ≡ ticket.old.number }
+    ensures comes { Comes result (Touch sub) ticket.old.list ticket.new.list }
+{
+    match store.touch(ticket, sub) {
+        Ok(()) => Ok(Tried::Done),
+        Err(fault) => Err(ended_by(fault)),
+    }
+}
+
+// Why a worker comes back whose item was refused.
+fn ended_by(fault: EngineFault) -> Ended
+    requires { (fault ≢ AlreadyOpenFault) × (fault ≢ TooManyOpenFault) }
+    ensures { result ≡ ended_by fault }
+{
+    match fault {
+        EngineFault::Clash(clash) => Ended::Clashed,
+        EngineFault::Stopped => Ended::Stopped,
+        EngineFault::OutOfMemory => Ended::OutOfMemory,
+        EngineFault::AlreadyOpen | EngineFault::TooManyOpen => unreachable!(),
+    }
+}
