@@ -40,3 +40,5 @@ pub mod StopLaws
 pub mod RowsAfterLaws
 pub mod Shared
 pub mod SharedLaws
+pub mod Shut
+pub mod ShutLaws

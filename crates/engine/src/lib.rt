@@ -27,6 +27,7 @@
 //
 //   store               `Store`: each call with its ticket or line
 //   shared              `SharedStore`: a store under a lock
+//   shut                the end of a store in which transactions are still open
 //   tickets, events     `Ticket`, `Line`, `Seen`, and what they list
 //   answers, entry      what calls answer; a committed transaction as the journal has it
 //   live, transaction   `Live`, and what it keeps of an open transaction
@@ -35,6 +36,7 @@
 //
 //   specs/Engine, EngineCode      a store as its callers see it; what its type keeps
 //   specs/Shared, SharedLaws      what the type of a store under a lock keeps
+//   specs/Shut, ShutLaws          a store that is given up while transactions are open
 //   specs/Events, EventLaws       the world that tickets and line tell
 //   specs/Answers                 what the answers tell of a world
 //   specs/StoreLaws               what the type keeps, once a call has altered the parts
@@ -79,6 +81,7 @@ pub mod laws_of_reads;
 mod live;
 mod rows_after;
 mod shared;
+mod shut;
 pub mod stood;
 mod store;
 mod tickets;

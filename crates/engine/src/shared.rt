@@ -6,20 +6,23 @@ ghost use Rattle.model.specs.Named.{NamesTables};
 ghost use Rattle.model.specs.declared.item.Item.TheVariants.{Touch, BackTo};
 ghost use Rattle.tokens.specs.Half.{Begins};
 ghost use Rattle.tokens.specs.Lists.{open_list};
-ghost use Rattle.world.specs.World.{starting, entry_of};
-ghost use Rattle.world.specs.Steps.{Opens, Acts, Touches, GoesBack, Commits, Aborts, StopsHeld, ReadsLive, ReadsCommitted, TellsJournal, Watches, Looks};
+ghost use Rattle.world.specs.World.{World, starting, entry_of};
+ghost use Rattle.world.specs.Steps.{Opens, Acts, Touches, GoesBack, Commits, Aborts, StopsHeld, ReadsLive, ReadsCommitted, TellsJournal, Closes, Watches, Looks, Reaches};
 ghost use Rattle.engine.specs.declared.answers.EngineFault.TheVariants.{OutOfMemory as NoMemory};
 ghost use Rattle.engine.specs.declared.events.Event.TheVariants.{Done};
 ghost use Rattle.engine.specs.declared.events.LineEvent.TheVariants.{Opened as WasOpened, Committed as WasCommitted, Aborted as WasAborted};
 ghost use Rattle.engine.specs.Answers.{told, told_call, TellsWhatStopped, TellsCause, IsNoClash};
 ghost use Rattle.engine.specs.Events.{opened_by, commits_in, events_of};
 ghost use Rattle.engine.specs.Engine.{entry_in, IsOtherwiseSame};
+ghost use Rattle.engine.specs.Journal.{rows_after};
 ghost use Rattle.engine.specs.Shared.{IsShared};
+ghost use Rattle.engine.specs.Shut.{IsShut};
 
 use crate::answers::{Acted, EngineFault, NotSettled, Stop};
 use crate::entry::Entry;
 use crate::store::Store;
 use crate::tickets::{Line, Seen, Ticket};
+use indexes::Tables;
 use model::{Change, CommitInfo, Key, Row, TableId, Xid};
 use std::alloc::Global;
 use std::marker::{Brand, Model, PhantomData};
@@ -258,5 +261,18 @@ impl<N: StoreNames> SharedStore<N> {
         ensures looks { Looks self.old.world (map entry_of (commits_in seen.old.list)) (map entry_of (commits_in seen.new.list)) }
     {
         self.store.look(seen);
+    }
+
+    /// The tables and the journal, once all that is open was aborted, as by `Store::shut`.
+    pub fn shut(self, line: Line) -> (Tables, Vec<Entry>)
+        requires line { line.name ≡ N.line }
+        ensures shut { (w : World) × IsShut N.schema self.world w × Closes w result.0.rows (map entry_in result.1.items) }
+        ensures reached { ∥ ((w : World) × Reaches N.schema (starting N.start) w × Closes w result.0.rows (map entry_in result.1.items)) ∥₁ }
+        ensures schema { result.0.schema ≡ N.schema }
+        ensures serial { result.0.rows ≡ rows_after N.schema N.start (map entry_in result.1.items) }
+        ensures met { line ≡ self.line }
+    {
+        let SharedStore { store, of: _ } = self;
+        store.shut(line)
     }
 }

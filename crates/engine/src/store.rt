@@ -38,11 +38,11 @@ const MOST_OPEN: usize = 4096;
 /// transaction has done, and what stopped it. Each call is a step of that world.
 #[derive(Drop)]
 pub struct Store {
-    live: Live,
-    start: Tables,
-    journal: Vec<Entry>,
-    book: Book<Event>,
-    line: Kept<LineEvent>,
+    pub(crate) live: Live,
+    pub(crate) start: Tables,
+    pub(crate) journal: Vec<Entry>,
+    pub(crate) book: Book<Event>,
+    pub(crate) line: Kept<LineEvent>,
 }
 
 impl Model for Store {

@@ -5,4 +5,5 @@ mod calls;
 mod refusals;
 mod scene;
 mod seeded;
+mod shut;
 mod worked;

@@ -1,0 +1,111 @@
+-- A store that is given up: one abort after another, and what is left then.
+--     open_there      a transaction that is kept is open in the world
+--     none_aborted, one_aborted      no abort yet, and one more
+--     fewer_kept      an abort leaves fewer
+--     none_left, all_aborted      what has no first entry is empty; with no transaction kept, all were aborted
+--     shut_closes, shut_serial      the tables and the journal of a store whose open transactions were all aborted
+--     reaches_on      calls after calls
+--     shared_ended, shared_shut, shared_serial      the same of a store under a lock
+use Rattle.std.proofs.Common.{◌≡◌, ℕ, zero, suc, ◌-◌, ◌<◌, List, Option, Some, None, true, false, refl, sym, ap, subst, ◌∙◌, arith}
+use Rattle.std.specs.Prelude.{cond, is_some, map, option_map}
+use Rattle.std.specs.Ordering.{nat_cmp}
+use Rattle.std.specs.Cmp.{nat_cmp_total}
+use Rattle.std.specs.BTreeMap as tree
+use Rattle.std.specs.BTreeMap.{btree_map_len}
+use Rattle.std.specs.FinMap as finite
+use Rattle.std.specs.FinMap.{get}
+use Rattle.std.proofs.lemmas.Bool.{false≢true}
+use mathlib.Core.Logic.{∥∥₁_map}
+use Rattle.model.specs.Rows.{Rows, Schema}
+use Rattle.model.specs.ValidLaws.{not_none}
+use Rattle.tokens.specs.Half.{Name}
+use Rattle.world.specs.World.{Opened, Entry, World, starting, entry_of}
+use Rattle.world.specs.Steps.{Closes, aborted_with, aborts, Reaches, at_start, by_step}
+use Rattle.engine.specs.declared.live.Live.{Live}
+use Rattle.engine.specs.declared.store.Store.TheInside.{Inside}
+use Rattle.engine.specs.declared.transaction.OpenTransaction.{OpenTransaction}
+use Rattle.engine.specs.Engine.{Engine, entry_in, world_in, IsStore}
+use Rattle.engine.specs.Events.{commits_in}
+use Rattle.engine.specs.Journal.{rows_after}
+use Rattle.engine.specs.JournalLaws.{entries_are_serial}
+use Rattle.engine.specs.Shared.{IsShared}
+use Rattle.engine.specs.Shut.{IsAborted, IsShut}
+use Rattle.engine.specs.Tied.{IsTied}
+
+-- ---- one abort after another
+
+-- a transaction that is kept is open in the world
+pub open_there : (w : World) (l : Live) → IsTied w l → (xid : ℕ) (kept : OpenTransaction) → tree.get nat_cmp l.transactions xid ≡ Some kept
+    → (o : Opened) × (get w.opened xid ≡ Some o)
+open_there w l tied xid kept is = by (get w.opened xid) refl
+  where
+    by : (found : Option Opened) → get w.opened xid ≡ found → (o : Opened) × (get w.opened xid ≡ Some o)
+    by None closed = absurd (not_none kept.record (sym (tied.kept.closed xid closed) ∙ ap (option_map (λ (k : OpenTransaction). k.record)) is))
+    by (Some o) at = (o, at)
+
+-- no transaction was aborted yet
+pub none_aborted : (schema : Schema) (w : World) → IsAborted schema w w
+none_aborted schema w = record { reached = at_start; start = refl; committed = refl; line = refl; stopped = refl }
+
+-- one more was
+pub one_aborted : (schema : Schema) (w v : World) → IsAborted schema w v → (xid : ℕ) (o : Opened) → get v.opened xid ≡ Some o
+    → IsAborted schema w (aborted_with v xid)
+one_aborted schema w v were xid o is = record {
+  reached = by_step v (aborted_with v xid) were.reached (aborts xid o (aborted_with v xid) is refl);
+  start = were.start;
+  committed = were.committed;
+  line = were.line;
+  stopped = were.stopped;
+}
+
+one_fewer : (all fewer were kept : ℕ) → all ≡ were → fewer ≡ all - 1 → fewer ≡ kept → 0 < were → kept < were
+one_fewer all fewer were kept same less now some = omega (arith, same, less, now, some)
+
+-- fewer are kept then
+pub fewer_kept : (w : World) (l n : Live) → IsTied w l → (xid : ℕ) (o : Opened) → get w.opened xid ≡ Some o → IsTied (aborted_with w xid) n
+    → 0 < btree_map_len l.transactions → btree_map_len n.transactions < btree_map_len l.transactions
+fewer_kept w l n tied xid o is later some =
+    one_fewer (finite.len w.opened) (finite.len (finite.remove w.opened xid)) (btree_map_len l.transactions) (btree_map_len n.transactions) tied.count
+    (finite.len-remove nat_cmp_total w.opened xid ∙ ap (λ b. cond b (finite.len w.opened - 1) (finite.len w.opened)) (ap is_some is))
+    later.count some
+
+-- what has no first entry is empty
+pub none_left : (n : ℕ) → (0 < n → false ≡ true) → n ≡ 0
+none_left zero never = refl
+none_left (suc n) never = absurd (false≢true (never (omega arith)))
+
+-- with no transaction kept, all were aborted
+pub all_aborted : (schema : Schema) (w v : World) → IsAborted schema w v → (l : Live) → IsTied v l → btree_map_len l.transactions ≡ 0 → IsShut schema w v
+all_aborted schema w v were l tied none = record { aborted = were; none = finite.empty_of_len v.opened (tied.count ∙ none) }
+
+-- ---- the tables and the journal then
+
+module _ (s : Inside) (is : IsStore s) (v : World) (shut : IsShut s.live.tables.schema (world_in s) v) (rows : Rows) (are : rows ≡ v.committed) where
+  pub shut_closes : Closes v rows (map entry_in s.journal.items)
+  shut_closes = (shut.none, are, is.told ∙ ap (map entry_of) (sym shut.aborted.line))
+
+  pub shut_serial : rows ≡ rows_after s.live.tables.schema s.start.rows (map entry_in s.journal.items)
+  shut_serial =
+      are ∙ shut.aborted.committed ∙ sym (entries_are_serial s.live.tables.schema s.start.rows (commits_in s.line.list))
+      ∙ ap (rows_after s.live.tables.schema s.start.rows) (sym is.told)
+
+-- ---- under a lock
+
+-- calls after calls
+pub reaches_on : (schema : Schema) (from over : World) → Reaches schema from over → (to : World) → Reaches schema over to → Reaches schema from to
+reaches_on schema from over first _ at_start = first
+reaches_on schema from over first _ (by_step w new more step) = by_step w new (reaches_on schema from over first w more) step
+
+module _ (its_tickets its_line : Name) (keys : Schema) (first : Rows) (s : Engine) (shared : IsShared its_tickets its_line keys first s) (rows : Rows) (entries : List Entry) where
+  -- in the words of what its type keeps
+  pub shared_ended : ((w : World) × IsShut s.schema s.world w × Closes w rows entries) → (w : World) × IsShut keys s.world w × Closes w rows entries
+  shared_ended (w, shut, closed) = (w, subst (λ (k : Schema). IsShut k s.world w) shared.schema shut, closed)
+
+  pub shared_shut : ((w : World) × IsShut s.schema s.world w × Closes w rows entries)
+      → ∥ ((w : World) × Reaches keys (starting first) w × Closes w rows entries) ∥₁
+  shared_shut ended =
+      let (w, shut, closed) = shared_ended ended in
+      ∥∥₁_map shared.reached (λ (r : Reaches keys (starting first) s.world). (w, reaches_on keys (starting first) s.world r w shut.aborted.reached, closed))
+
+  pub shared_serial : rows ≡ rows_after s.schema s.world.start entries → rows ≡ rows_after keys first entries
+  shared_serial serial = serial ∙ (λ i. rows_after (shared.schema i) (shared.start i) entries)
