@@ -8,3 +8,4 @@ mod Running
 mod Reading
 mod Leaving
 mod ReportLoops
+mod Leading

@@ -105,7 +105,7 @@ module _ {H : Type 0} (g : Setting) (IsAt : H → Progress → Type 0) (HasEnded
     times = at.times;
     told = at.told;
     counted = at.counted;
-    why = elim at.why [ | inl ended ↦ inl ended | inr cut ↦ inr (inl cut) ];
+    why = elim at.why [ inl ended ↦ inl ended | inr cut ↦ inr (inl cut) ];
   }
 
   -- the run came to the end of what it read

@@ -263,7 +263,7 @@ All-sized_surviving P top survived [] all more = all
 All-sized_surviving P top survived (i ∷ items) all more =
     All-sized_surviving P top (sized_after_item top survived i.0 i.1) items (All-sized_after_item P top survived i.0 i.1 all (All-head P i.0 (map item_of items) more)) (All-tail P i.0 (map item_of items) more)
 
-handed_named : (P : Item → Type 0) (xid : ℕ) (way : Way) (items : SizedItems) → All P (map item_of items) → All P (items_handed_out xid way items)
+pub handed_named : (P : Item → Type 0) (xid : ℕ) (way : Way) (items : SizedItems) → All P (map item_of items) → All P (items_handed_out xid way items)
 handed_named P xid Direct items all = All-nil P
 handed_named P xid Worker items all = All-nil P
 handed_named P xid Spooled items all = All-sized_surviving P xid [] items (All-nil P) all

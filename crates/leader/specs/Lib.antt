@@ -11,3 +11,5 @@ pub mod Devices
 pub mod Run
 pub mod Handler
 pub mod Applier
+pub mod Lanes
+pub mod Threads

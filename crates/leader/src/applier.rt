@@ -120,8 +120,7 @@ impl<'a> Handler for Applier<'a> {
 
     ghost ended = { HasEnded };
 
-    fn handle(&mut self, item: CopyItem) -> Result<bool, End>
-    {
+    fn handle(&mut self, item: CopyItem) -> Result<bool, End> {
         match item {
             CopyItem::Wal {
                 start,

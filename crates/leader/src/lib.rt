@@ -8,9 +8,12 @@
 // applied at its Stream Commit, so commits keep the stream's order. Whatever ends a run, the work of
 // open transactions is undone before it is answered: the tables are those of the commits.
 //
-//   run       reads the items of a stream, and sends status updates
+//   stream    reads the items of a stream, and sends status updates
 //   handler   what takes the items of a stream, as that loop knows it
 //   applier   what each item does, where no transaction has a worker
+//   threads   what each item does, where streamed transactions have workers: `lead` the items, with the
+//             session; `transactions` which are open and where, with the store; `lanes` the leader's side
+//             of a worker; `shop` what leader and workers share; `ends` the ends that a store gives
 //   work      the tables with the changes of one open transaction in them, and what takes these back
 //   outcome   what a run is given and what it leaves; the journal; the clock
 //   end       why a run ended
@@ -37,7 +40,8 @@ mod end;
 mod handler;
 mod outcome;
 mod printing;
-mod run;
+mod stream;
+mod threads;
 mod work;
 
 pub use bytes::ByteStr;
@@ -52,6 +56,6 @@ pub use outcome::{Clock, Config, Outcome};
 pub use printing::report;
 pub use relcache::RelFault;
 pub use rows::{RowView, ValueRef, Walk};
-pub use run::{Devices, run_over, run_spooled};
 pub use savepoint::Xid;
 pub use session::SessionFault;
+pub use stream::{Devices, run_over, run_spooled};

@@ -5,7 +5,7 @@ use Rattle.session.specs.State.{Setting}
 use Rattle.leader.specs.Progress.{start_progress}
 use Rattle.leader.specs.Handler.{IsUnderWay}
 use Rattle.leader.proofs.Reading.{SoFar}
-use Rattle.leader.proofs.run.read_all.Given as goal
+use Rattle.leader.proofs.stream.read_all.Given as goal
 
 -- the items of the bytes so far were handled, and none is kept
 abbrev pub invariant-pulls : goal.invariant-pulls

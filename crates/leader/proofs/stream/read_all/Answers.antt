@@ -7,7 +7,7 @@ use Rattle.frames.specs.declared.fault.FrameFault.TheVariants as frames
 use Rattle.frames.specs.Stream.{Ending}
 use Rattle.frames.specs.Reads.{Reads, Answers, fault_of, AtEndOf}
 use Rattle.leader.proofs.Reading.{SoFar, piece_read, read_failed, over_by_item, over_by_fault, over_inside, over_at_edge, come_none, none_kept, broken_by, failed_now, ends_as}
-use Rattle.leader.proofs.run.read_all.Goals as goal
+use Rattle.leader.proofs.stream.read_all.Goals as goal
 
 -- what a read that ends the input tells
 abbrev EndsAs : Ending → Option (List ℕ) → Result Bool FrameFault → Type 0

@@ -97,7 +97,7 @@ pub fn run_over<R: Source, W: Sink, C: Clock>(
 }
 
 /// Handles the items of a stream until it ends or an item ends the run. A failed read is the last.
-fn read_all<R: Source, W: Sink, C: Clock, H: Handler>(
+pub fn read_all<R: Source, W: Sink, C: Clock, H: Handler>(
     alloc: Global,
     devices: &mut Devices<R, W, C>,
     handler: &mut H,

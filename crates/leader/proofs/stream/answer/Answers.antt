@@ -5,7 +5,7 @@ use Rattle.std.proofs.Common.{rules, refl, sym, ap, subst}
 use Rattle.std.specs.Prelude.{Err}
 use Rattle.leader.specs.Handler.{HasCome, HasHandled}
 use Rattle.leader.proofs.Running.{under_way, come_on, come_told, stopped, unsent}
-use Rattle.leader.proofs.run.answer.Goals as goal
+use Rattle.leader.proofs.stream.answer.Goals as goal
 
 pub returns-in_err-handle-clause-answer : goal.returns-in_err-handle-clause-answer
 returns-in_err-handle-clause-answer g c = λ h rows old handled come.

@@ -5,8 +5,8 @@ use Rattle.leader.specs.Run.{spooling}
 use Rattle.leader.specs.Handler.{IsRunOver, end_of}
 use Rattle.leader.specs.Applier.{IsAt, HasEnded}
 use Rattle.leader.proofs.Leaving.{is_run}
-use Rattle.leader.proofs.run.run_over.Goals as goal
-use Rattle.leader.proofs.run.run_over.Goals.{in-Ok, in-Err}
+use Rattle.leader.proofs.stream.run_over.Goals as goal
+use Rattle.leader.proofs.stream.run_over.Goals.{in-Ok, in-Err}
 
 pub read_all-requires : goal.read_all-requires
 read_all-requires g c = (spooling c.args.catalog.now c.args.config.now, c.args.start.rows, [], start_progress, refl, c.new-applier.ensures)

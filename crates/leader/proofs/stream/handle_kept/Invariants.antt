@@ -5,7 +5,7 @@ use Rattle.frames.specs.Reads.{HasRead}
 use Rattle.session.specs.State.{Setting}
 use Rattle.leader.specs.Devices.{DeviceState}
 use Rattle.leader.specs.Handler.{IsUnderWay, HasCome}
-use Rattle.leader.proofs.run.handle_kept.Given as goal
+use Rattle.leader.proofs.stream.handle_kept.Given as goal
 
 -- the items handed out so far were handled
 abbrev pub invariant-loop-item : goal.invariant-loop-item

@@ -1,6 +1,6 @@
 use Rattle.std.proofs.Common.{◌∙◌}
 use Rattle.leader.proofs.Reading.{kept_on, kept_stopped}
-use Rattle.leader.proofs.run.handle_kept.Goals as goal
+use Rattle.leader.proofs.stream.handle_kept.Goals as goal
 
 pub loop-item-preserved : goal.loop-item-preserved
 loop-item-preserved g c = record {

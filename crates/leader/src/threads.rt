@@ -1,0 +1,23 @@
+// A run whose streamed transactions have workers.
+//
+// A leader takes each item of the stream and never waits for a worker but at its commit, its abort and
+// the end of the run; a worker waits for nobody but those that hold a cell, and for its items.
+//
+//   who waits                             for what                    and is woken by
+//   the leader, at a change of its own    a cell that another holds   the bell: a worker's gate, behind each item and
+//                                                                     before it waits itself; a job that came back
+//   the leader, at a commit               the worker's job            the same
+//   the leader, at an abort and the end   the worker's job            its desk; the worker was doomed before, and was
+//                                                                     notified under the store's lock
+//   a worker, at its ring                 its next item               whoever sends: the leader, or itself behind an item
+//   a worker, at a cell                   whoever holds it            a commit, an abort, a stop or a doom, each notified
+//                                                                     under the store's lock
+//
+// Before the leader waits it notes how often the bell was rung, and looks at all that may have moved. It
+// looks too whether the store was stopped and whether nothing more can come: either ends the run.
+//
+pub mod ends;
+pub mod lanes;
+pub mod lead;
+pub mod shop;
+pub mod transactions;

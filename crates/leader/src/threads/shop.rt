@@ -1,0 +1,84 @@
+// What a leader and its workers share.
+ghost use Rattle.std.specs.Prelude.{◌≡◌};
+
+use crew::{Bell, Work};
+use engine::{SharedStore, StoreNames};
+use model::Xid;
+use std::alloc::Global;
+use std::sync::{Condvar, Mutex, Wait};
+use worker::{Gate, Job, Point, Post, PostNames, work_on};
+
+/// What a leader and its workers share: the store, and a seat for each lane.
+#[derive(Drop)]
+pub struct Shop<N: StoreNames, L: PostNames, G: Drop> {
+    pub alloc: Global,
+    pub store: Mutex<SharedStore<N>>,
+    /// Notified under the store's lock whenever holds change, the store is stopped, or a worker is told
+    /// to give up.
+    pub changed: Condvar,
+    pub seats: Vec<Seat<N, L, G>>,
+    /// Wakes the leader, where it waits for anything that moves.
+    pub bell: Bell,
+}
+
+/// Where the worker of a lane gets its items, and whom it tells how far it came.
+#[derive(Drop)]
+pub struct Seat<N: StoreNames, L: PostNames, G: Drop> {
+    pub post: Mutex<Post<N, L>>,
+    pub gate: Mutex<G>,
+}
+
+// A worker's gate: behind each item it sends on what is late, and it wakes the leader.
+#[derive(Drop)]
+struct Ringing<'a, R: Wait, N: StoreNames, L: PostNames, G: Gate> {
+    rt: &'a R,
+    post: &'a Mutex<Post<N, L>>,
+    bell: &'a Bell,
+    gate: &'a mut G,
+}
+
+impl<'a, R: Wait, N: StoreNames, L: PostNames, G: Gate> Gate for Ringing<'a, R, N, L, G> {
+    fn pass(&mut self, xid: Xid, at: Point) {
+        if let Point::After(_) = at {
+            self.post.lock(self.rt).send_on();
+        }
+        self.bell.ring(self.rt);
+        self.gate.pass(xid, at);
+    }
+
+    fn held(&mut self, xid: Xid) {
+        self.bell.ring(self.rt);
+        self.gate.held(xid);
+    }
+}
+
+impl<N: StoreNames, L: PostNames, G: Gate + Drop> Work<Job<N, L>> for Shop<N, L, G> {
+    ghost use Rattle.worker.specs.Working.{GoesOn};
+
+    ghost keeps = { GoesOn };
+
+    fn work<R: Wait>(&self, rt: &R, job: &mut Job<N, L>) {
+        let Some(seat) = self.seats.get(job.lane()) else {
+            return;
+        };
+        let mut gate = seat.gate.lock(rt);
+        let mut ringing = Ringing {
+            rt,
+            post: &seat.post,
+            bell: &self.bell,
+            gate: &mut *gate,
+        };
+        let _ = work_on(
+            rt,
+            self.alloc,
+            &self.store,
+            &self.changed,
+            job,
+            &mut ringing,
+        );
+    }
+
+    fn came_back<R: Wait>(&self, rt: &R) {
+        self.bell.ring(rt);
+    }
+}
