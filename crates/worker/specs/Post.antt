@@ -4,7 +4,7 @@
 --     IsPost      what its type keeps
 --     SendsOn, GoesOn      more may be sent, and the rest is as it was
 --     HandsOn, IsSameMeeting      the items that aren't done are handed out
-use Rattle.std.specs.Prelude.{◌≡◌, ◌≤◌, ℕ, Bool, false, List, [], ◌∷◌, ◌++◌, Option, Some, None, IsSome, MatchOption, fold}
+use Rattle.std.specs.Prelude.{◌≡◌, ◌≤◌, ℕ, false, List, [], ◌∷◌, ◌++◌, Option, Some, None, IsSome, MatchOption, fold}
 use Rattle.atomic_table.specs.Seated.{TableId}
 use Rattle.model.specs.declared.item.Item.{Item}
 use Rattle.tokens.specs.Half.{Name, no_name}
