@@ -17,7 +17,7 @@ use Rattle.tokens.specs.Lists.{OpenList}
 use Rattle.world.specs.World.{Past}
 use Rattle.engine.specs.declared.events.Event.{Event}
 use Rattle.engine.specs.declared.events.LineEvent.{LineEvent}
-use Rattle.engine.specs.Events.{commits_in}
+use Rattle.engine.specs.Events.{commits_in, last_end as last_end_of}
 use Rattle.messages.specs.declared.message.Message.{Message}
 use Rattle.frames.specs.declared.item.CopyItem.{CopyItem}
 use Rattle.session.specs.declared.session.Session.{Session}
@@ -58,9 +58,11 @@ pub record Standing : Type 0 where
 abbrev pub standing : ℕ → List LineEvent → Standing
 standing count line = record { tables = count; commits = numbers_in line }
 
--- The line has this name, and the ticket of the transaction that was begun has that of the store's tickets.
-pub record HasNames (its_line its_tickets : Name) (events : Half LineEvent) (ticket : Option (OpenList Event)) : Type 0 where
+-- The line has this name, its last commit ends here, and the ticket of the transaction that was begun has the name of
+-- the store's tickets.
+pub record HasNames (its_line its_tickets : Name) (events : Half LineEvent) (its_end : ℕ) (ticket : Option (OpenList Event)) : Type 0 where
   pub line : events.name ≡ its_line
+  pub ended : last_end_of events.list ≡ its_end
   pub begun : MatchOption ticket (Unit {0}) (λ t. t.name ≡ its_tickets)
 
 -- what a leader knows

@@ -11,7 +11,7 @@ use crate::threads::lanes::Lane;
 use crate::threads::shop::Shop;
 use crew::Desk;
 use engine::{Acted, Line, Stop, StoreNames, Ticket};
-use model::{Change, CommitInfo, Item, Xid};
+use model::{Change, CommitInfo, Item, Lsn, Xid};
 use session::SessionFault;
 use std::alloc::Global;
 use std::marker::Model;
@@ -36,6 +36,8 @@ pub struct Transactions<'a, N: StoreNames, L: PostNames, R: Wait, G: Gate + Drop
     given: Vec<(Xid, u64)>,
     /// The transaction between Begin and Commit.
     begun: Option<Ticket>,
+    /// Where the last commit ends; 0 before the first.
+    ended: Lsn,
 }
 
 impl<'a, N: StoreNames, L: PostNames, R: Wait, G: Gate + Drop> Model
@@ -47,7 +49,7 @@ impl<'a, N: StoreNames, L: PostNames, R: Wait, G: Gate + Drop> Model
 
     ghost view = { λ t. standing (length N.schema) t.line.list };
 
-    ghost invariant = { λ t. HasNames N.line N.tickets t.line t.begun };
+    ghost invariant = { λ t. HasNames N.line N.tickets t.line t.ended t.begun };
 }
 
 /// The end of a run that lost a transaction of which the session knows. None does.
@@ -76,6 +78,7 @@ impl<'a, N: StoreNames, L: PostNames, R: Wait, G: Gate + Drop> Transactions<'a, 
             lanes,
             given,
             begun: None,
+            ended: 0,
         }
     }
 
@@ -439,11 +442,16 @@ impl<'a, N: StoreNames, L: PostNames, R: Wait, G: Gate + Drop> Transactions<'a, 
         if ticket.xid() != xid {
             return Err(LOST);
         }
+        // The session has refused a commit that doesn't end above the last.
+        if info.end <= self.ended {
+            return Err(End::Session(SessionFault::OldCommit));
+        }
         let mut store = self.shop.store.lock(self.rt);
         if let Some(stop) = store.stop() {
             return Err(end_of_stop(stop));
         }
         store.commit(&mut self.line, ticket, info);
+        self.ended = info.end;
         self.shop.changed.notify_all();
         Ok(())
     }
