@@ -33,7 +33,8 @@
 // tables with their keys, rows and values, and the faults that an end names.
 //
 // It stands on `frames` for the stream, `session` for what its messages ask for, `change` and `undo`
-// for the tables, `engine` for the journal's entries, and `catalog` for their names.
+// for the tables, `engine` for the journal's entries, and `catalog` for their names; for `threads` on
+// `engine`'s store, on `worker`, `crew` and `ring`. No run goes by `threads` yet.
 mod advice;
 mod applier;
 mod end;

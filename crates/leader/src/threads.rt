@@ -15,7 +15,6 @@
 //
 // Before the leader waits it notes how often the bell was rung, and looks at all that may have moved. It
 // looks too whether the store was stopped and whether nothing more can come: either ends the run.
-//
 pub mod ends;
 pub mod lanes;
 pub mod lead;
