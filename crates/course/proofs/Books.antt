@@ -9,7 +9,7 @@ use Rattle.model.specs.Rows.{Rows}
 use Rattle.model.specs.Effect.{ClashCause}
 use Rattle.frames.specs.declared.item.CopyItem.{CopyItem}
 use Rattle.session.specs.State.{Spooled, Open, State, Setting, begun_at}
-use Rattle.leader.specs.Cause.{schema_of}
+use Rattle.spooled.specs.Cause.{schema_of}
 use Rattle.world.specs.FineLaws.{IsFine}
 use Rattle.world.specs.Settled.{WaitsFor, IsSettled}
 use Rattle.world.specs.Steps.{IsStuck}

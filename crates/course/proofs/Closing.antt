@@ -8,9 +8,9 @@ use Rattle.std.specs.FinMap as finite
 use Rattle.std.specs.FinMap.{get, entries, find, get-entries, nat_cmp-IsAntisymmetric}
 use Rattle.model.specs.Rows.{Rows, Schema}
 use Rattle.session.specs.State.{Setting}
-use Rattle.leader.specs.declared.outcome.Outcome.{Outcome}
-use Rattle.leader.specs.Cause.{schema_of}
-use Rattle.leader.specs.Devices.{DeviceState}
+use Rattle.spooled.specs.declared.outcome.Outcome.{Outcome}
+use Rattle.spooled.specs.Cause.{schema_of}
+use Rattle.spooled.specs.Devices.{DeviceState}
 use Rattle.world.specs.FineLaws.{gone_cases}
 use Rattle.world.specs.ListingLaws.{is_xid, same_by_xid}
 use Rattle.world.specs.World.{Opened, World, starting, journal}

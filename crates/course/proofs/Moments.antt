@@ -7,7 +7,7 @@ use Rattle.frames.specs.declared.item.CopyItem.TheVariants.{Wal, Keepalive, Done
 use Rattle.session.specs.Lawful.{Admits}
 use Rattle.session.specs.State.{Way, Direct, Worker, Spooled, Committed, Setting}
 use Rattle.session.specs.Told.{Told, Nothing, Opens, Gives, Commits, Aborts, Tells, IsCommitting}
-use Rattle.leader.specs.Cause.{schema_of}
+use Rattle.spooled.specs.Cause.{schema_of}
 use Rattle.world.specs.World.{World}
 use Rattle.world.specs.Steps.{committed_with, aborted_with}
 use Rattle.course.specs.Leading.{AreInStep}

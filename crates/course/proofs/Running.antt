@@ -18,15 +18,15 @@ use Rattle.session.specs.Sized.{item_of}
 use Rattle.session.specs.State.{Way, Direct, Worker, Spooled, Committed, State, Setting}
 use Rattle.session.specs.Lawful.{Admits}
 use Rattle.session.specs.Told.{Told, Nothing, Opens, Gives, Commits, Aborts, Tells, IsChange}
-use Rattle.leader.specs.declared.end.End.{End}
-use Rattle.leader.specs.declared.end.End.TheVariants as ends
-use Rattle.leader.specs.declared.outcome.Outcome.{Outcome}
-use Rattle.leader.specs.Commits.{transaction, committed_changes, all_changes, last_end}
-use Rattle.leader.specs.Work.{IsClear, ClashesIn, ClashesAs}
-use Rattle.leader.specs.Progress.{Progress, Leads, start_progress, commits_from}
-use Rattle.leader.specs.Cause.{schema_of, IsCause, HasGoneWell, HasNotClashed, LastClashed, NextClashes, IsNext}
-use Rattle.leader.specs.Devices.{DeviceState}
-use Rattle.leader.specs.Run.{IsRun}
+use Rattle.spooled.specs.declared.end.End.{End}
+use Rattle.spooled.specs.declared.end.End.TheVariants as ends
+use Rattle.spooled.specs.declared.outcome.Outcome.{Outcome}
+use Rattle.spooled.specs.Commits.{transaction, committed_changes, all_changes, last_end}
+use Rattle.spooled.specs.Work.{IsClear, ClashesIn, ClashesAs}
+use Rattle.spooled.specs.Progress.{Progress, Leads, start_progress, commits_from}
+use Rattle.spooled.specs.Cause.{schema_of, IsCause, HasGoneWell, HasNotClashed, LastClashed, NextClashes, IsNext}
+use Rattle.spooled.specs.Devices.{DeviceState}
+use Rattle.spooled.specs.Run.{IsRun}
 use Rattle.std.specs.Ordering.{nat_cmp}
 use Rattle.std.specs.FinMap.{get, get-empty}
 use Rattle.model.specs.SurvivorLaws.{survivors_with}

@@ -17,7 +17,7 @@ use Rattle.session.specs.Sized.{SizedItems, item_of}
 use Rattle.session.specs.Lawful.{Admits}
 use Rattle.session.specs.State.{Way, Direct, Worker, Spooled, Open, Committed, State, Setting, start}
 use Rattle.session.specs.Told.{Same, IsOpening, IsGiving, IsCommitting, IsAborting}
-use Rattle.leader.specs.Cause.{schema_of}
+use Rattle.spooled.specs.Cause.{schema_of}
 use Rattle.world.specs.ListingLaws.{xid_cases, got_same, got_other, gone_same, gone_other}
 use Rattle.world.specs.Steps.{Opens, Step, opens, commits, aborts, Reaches, at_start, by_step, done_with, wanting, committed_with, aborted_with}
 use Rattle.world.specs.World.{Opened, Stop, World, starting}

@@ -22,14 +22,14 @@ use Rattle.session.specs.State.{Way, Direct, Worker, Spooled, Open, Committed, S
 use Rattle.session.specs.Lawful.{Admits}
 use Rattle.session.specs.Table.{step}
 use Rattle.session.specs.Told.{Told, Nothing, Opens, Gives, Commits, Aborts, Tells}
-use Rattle.leader.specs.declared.end.End.TheVariants as ends
-use Rattle.leader.specs.declared.outcome.Outcome.{Outcome}
-use Rattle.leader.specs.Cause.{schema_of}
-use Rattle.leader.specs.Commits.{Transaction, transaction, transaction_of, commits, changes_in as told_changes, last_end}
-use Rattle.leader.specs.Devices.{DeviceState}
-use Rattle.leader.specs.Progress.{Progress, Leads, start_progress}
-use Rattle.leader.specs.Run.{IsRun}
-use Rattle.leader.specs.Work.{IsClear}
+use Rattle.spooled.specs.declared.end.End.TheVariants as ends
+use Rattle.spooled.specs.declared.outcome.Outcome.{Outcome}
+use Rattle.spooled.specs.Cause.{schema_of}
+use Rattle.spooled.specs.Commits.{Transaction, transaction, transaction_of, commits, changes_in as told_changes, last_end}
+use Rattle.spooled.specs.Devices.{DeviceState}
+use Rattle.spooled.specs.Progress.{Progress, Leads, start_progress}
+use Rattle.spooled.specs.Run.{IsRun}
+use Rattle.spooled.specs.Work.{IsClear}
 use Rattle.world.specs.CallLaws.{committed_is_serial}
 use Rattle.world.specs.World.{Opened, Past, World, starting, entry_of, changes_in}
 use Rattle.world.specs.Steps.{Reaches}

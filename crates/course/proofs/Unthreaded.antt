@@ -19,15 +19,15 @@ use Rattle.session.specs.State.{Committed, State, Setting, in_block}
 use Rattle.session.specs.Lawful.{Admits, Refuses, TableRefuses}
 use Rattle.session.specs.Table.{step}
 use Rattle.session.specs.Told.{Told, Nothing, Opens, Gives, Commits, Aborts, Tells}
-use Rattle.leader.specs.declared.end.End.{End}
-use Rattle.leader.specs.declared.end.End.TheVariants as ends
-use Rattle.leader.specs.declared.outcome.Outcome.{Outcome}
-use Rattle.leader.specs.Cause.{schema_of, IsCause, RefusesNext, NextClashes}
-use Rattle.leader.specs.Commits.{Transaction, transaction, transaction_of, commits, committed_changes, all_changes, changes_in as told_changes, last_end}
-use Rattle.leader.specs.Devices.{DeviceState}
-use Rattle.leader.specs.Progress.{Progress, Handles, Leads, start_progress, due_updates, commits_from}
-use Rattle.leader.specs.Run.{IsRun}
-use Rattle.leader.specs.Work.{IsClear, ClashesIn}
+use Rattle.spooled.specs.declared.end.End.{End}
+use Rattle.spooled.specs.declared.end.End.TheVariants as ends
+use Rattle.spooled.specs.declared.outcome.Outcome.{Outcome}
+use Rattle.spooled.specs.Cause.{schema_of, IsCause, RefusesNext, NextClashes}
+use Rattle.spooled.specs.Commits.{Transaction, transaction, transaction_of, commits, committed_changes, all_changes, changes_in as told_changes, last_end}
+use Rattle.spooled.specs.Devices.{DeviceState}
+use Rattle.spooled.specs.Progress.{Progress, Handles, Leads, start_progress, due_updates, commits_from}
+use Rattle.spooled.specs.Run.{IsRun}
+use Rattle.spooled.specs.Work.{IsClear, ClashesIn}
 use Rattle.world.specs.World.{starting}
 use Rattle.course.specs.Begun.{IsSane, begun, Moves}
 use Rattle.course.specs.ThreadedRun.{IsThreadedCause, IsThreadedRun}

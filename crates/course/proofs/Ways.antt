@@ -25,8 +25,8 @@ use Rattle.session.specs.declared.phase.Phase.TheVariants.{Outside, Begun, Block
 use Rattle.session.specs.Sized.{SizedItems}
 use Rattle.session.specs.State.{Way, Direct, Worker, Spooled, Open, OpenTransactions, Committed, State, Setting, in_block, worker_count}
 use Rattle.session.specs.Table.{room_fault, new_open, opens, next_way, goes_on, streams, gives, has_room, is_open, touches, changes, closes, commits as commits_line, commits_begun, aborts_open, aborts, subtransaction_named, step}
-use Rattle.leader.specs.Commits.{transaction, commits}
-use Rattle.leader.specs.Progress.{Update, Progress, Handles, Leads, start_progress, due_updates, commits_from}
+use Rattle.spooled.specs.Commits.{transaction, commits}
+use Rattle.spooled.specs.Progress.{Update, Progress, Handles, Leads, start_progress, due_updates, commits_from}
 use Rattle.world.specs.ListingLaws.{xid_cases, got_same, got_other, gone_other, gone_same}
 use Rattle.course.proofs.Telling.{was_fault_free, was_open, was_so, was_not_so, went_to, ok_is, same_open, not_there}
 

@@ -10,7 +10,7 @@ use Rattle.model.specs.Effect.{serial}
 use Rattle.model.specs.Survivors.{survivors}
 use Rattle.session.specs.Sized.{item_of}
 use Rattle.session.specs.State.{Committed, State}
-use Rattle.leader.specs.Commits.{committed_changes}
+use Rattle.spooled.specs.Commits.{committed_changes}
 use Rattle.world.specs.World.{Past, OpenOnes, World}
 use Rattle.course.specs.Begun.{begun}
 

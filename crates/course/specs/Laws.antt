@@ -12,14 +12,14 @@ use Rattle.frames.specs.declared.item.CopyItem.{CopyItem}
 use Rattle.session.specs.Lawful.{IsLawful}
 use Rattle.session.specs.State.{State, Setting, begun_at}
 use Rattle.session.specs.Table.{step}
-use Rattle.leader.specs.Cause.{schema_of}
-use Rattle.leader.specs.Commits.{transaction_of, commits, all_changes, changes_in, last_end}
-use Rattle.leader.specs.Devices.{DeviceState}
-use Rattle.leader.specs.Progress.{Progress, Leads, start_progress}
-use Rattle.leader.specs.Run.{IsRun}
-use Rattle.leader.specs.Work.{IsClear}
-use Rattle.leader.specs.declared.end.End.TheVariants as ends
-use Rattle.leader.specs.declared.outcome.Outcome.{Outcome}
+use Rattle.spooled.specs.Cause.{schema_of}
+use Rattle.spooled.specs.Commits.{transaction_of, commits, all_changes, changes_in, last_end}
+use Rattle.spooled.specs.Devices.{DeviceState}
+use Rattle.spooled.specs.Progress.{Progress, Leads, start_progress}
+use Rattle.spooled.specs.Run.{IsRun}
+use Rattle.spooled.specs.Work.{IsClear}
+use Rattle.spooled.specs.declared.end.End.TheVariants as ends
+use Rattle.spooled.specs.declared.outcome.Outcome.{Outcome}
 use Rattle.world.specs.FineLaws.{IsFine}
 use Rattle.world.specs.Steps.{Reaches, Closes, IsStuck}
 use Rattle.world.specs.World.{Opened, ByClash, World, starting, journal}

@@ -12,7 +12,7 @@ use Rattle.model.specs.declared.item.Item.TheVariants.{Change}
 use Rattle.model.specs.Rows.{Rows}
 use Rattle.frames.specs.declared.item.CopyItem.{CopyItem}
 use Rattle.session.specs.State.{Spooled, Open, State, Setting}
-use Rattle.leader.specs.Cause.{schema_of}
+use Rattle.spooled.specs.Cause.{schema_of}
 use Rattle.world.specs.World.{Opened, World, starting}
 use Rattle.world.specs.Steps.{Reaches}
 use Rattle.course.specs.Runs.{CommitsNext}

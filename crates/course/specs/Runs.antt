@@ -20,11 +20,11 @@ use Rattle.frames.specs.declared.item.CopyItem.{CopyItem}
 use Rattle.session.specs.Sized.{item_of}
 use Rattle.session.specs.State.{Committed, State, Setting}
 use Rattle.session.specs.Lawful.{Admits}
-use Rattle.leader.specs.declared.end.End.{End}
-use Rattle.leader.specs.declared.end.End.TheVariants as ends
-use Rattle.leader.specs.declared.outcome.Outcome.{Outcome}
-use Rattle.leader.specs.Commits.{Transaction, transaction_of}
-use Rattle.leader.specs.Cause.{schema_of, IsNext}
+use Rattle.spooled.specs.declared.end.End.{End}
+use Rattle.spooled.specs.declared.end.End.TheVariants as ends
+use Rattle.spooled.specs.declared.outcome.Outcome.{Outcome}
+use Rattle.spooled.specs.Commits.{Transaction, transaction_of}
+use Rattle.spooled.specs.Cause.{schema_of, IsNext}
 use Rattle.world.specs.World.{Opened, OpenOnes, Past, Entry, World, starting, journal}
 use Rattle.world.specs.Steps.{Clashed, Acts, Reaches}
 use Rattle.course.specs.Begun.{begun}

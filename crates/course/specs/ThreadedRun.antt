@@ -19,13 +19,13 @@ use Rattle.frames.specs.Reads.{fault_at_end, AtEndOf}
 use Rattle.frames.specs.Stream.{copy_items, ending_of}
 use Rattle.session.specs.declared.fault.Refused.TheVariants as refusals
 use Rattle.session.specs.State.{Spooled, Open, State, Setting, begun_at}
-use Rattle.leader.specs.declared.end.End.{End}
-use Rattle.leader.specs.declared.end.End.TheVariants as ends
-use Rattle.leader.specs.declared.outcome.Outcome.{Outcome}
-use Rattle.leader.specs.Cause.{schema_of, RefusesNext, HasGoneWell, CouldNotSend, HadNoMemoryToSend, CouldNotRead, IsOver}
-use Rattle.leader.specs.Clock.{Ticks}
-use Rattle.leader.specs.Devices.{DeviceState}
-use Rattle.leader.specs.Progress.{Progress, start_progress, Leads}
+use Rattle.spooled.specs.declared.end.End.{End}
+use Rattle.spooled.specs.declared.end.End.TheVariants as ends
+use Rattle.spooled.specs.declared.outcome.Outcome.{Outcome}
+use Rattle.spooled.specs.Cause.{schema_of, RefusesNext, HasGoneWell, CouldNotSend, HadNoMemoryToSend, CouldNotRead, IsOver}
+use Rattle.spooled.specs.Clock.{Ticks}
+use Rattle.spooled.specs.Devices.{DeviceState}
+use Rattle.spooled.specs.Progress.{Progress, start_progress, Leads}
 use Rattle.world.specs.FineLaws.{IsClashing}
 use Rattle.world.specs.World.{Opened, World, own_rows, IsHeldBy}
 use Rattle.course.specs.Runs.{CommitsNext, NextChange, Leaves}

@@ -13,7 +13,7 @@ use Rattle.frames.specs.declared.item.CopyItem.{CopyItem}
 use Rattle.frames.specs.declared.item.CopyItem.TheVariants.{Wal, Keepalive, Done}
 use Rattle.session.specs.Sized.{SizedItems, item_of}
 use Rattle.session.specs.State.{Way, Direct, Worker, Spooled, Open, Committed, State, Setting}
-use Rattle.leader.specs.Cause.{schema_of}
+use Rattle.spooled.specs.Cause.{schema_of}
 use Rattle.world.specs.World.{Opened, Past, World, starting}
 use Rattle.world.specs.Steps.{Reaches}
 use Rattle.course.specs.Runs.{CommitsNext}

@@ -16,7 +16,7 @@ use Rattle.frames.specs.declared.item.CopyItem.TheVariants.{Wal, Keepalive, Done
 use Rattle.session.specs.Lawful.{Admits}
 use Rattle.session.specs.State.{Direct, Worker, Spooled, Open, State, Setting, start}
 use Rattle.session.specs.Told.{Told, Nothing, Opens, Gives, Commits, Aborts, Tells}
-use Rattle.leader.specs.Cause.{schema_of}
+use Rattle.spooled.specs.Cause.{schema_of}
 use Rattle.world.specs.Steps.{Opens as OpensIn, Step, done_with, wanting, committed_with, aborted_with}
 use Rattle.world.specs.World.{Opened, Stop, World, starting}
 use Rattle.course.specs.Leading.{Lane, AreInStep, IsWith}

@@ -24,17 +24,17 @@ use Rattle.session.specs.Table.{new_open}
 use Rattle.session.specs.Told.{Told, Nothing, Opens, Gives, Commits, Aborts, Tells, items_handed_out}
 use Rattle.session.specs.Represents.{Represents}
 use Rattle.session.specs.Answers.{IsOfTables, Says, HandsOut, IsWithin}
-use Rattle.leader.specs.Commits.{last_end}
-use Rattle.leader.specs.Progress.{Progress, start_progress, commits_from, due_updates}
-use Rattle.leader.specs.declared.threads.lead.Stream.{Stream}
+use Rattle.spooled.specs.Commits.{last_end}
+use Rattle.spooled.specs.Progress.{Progress, start_progress, commits_from, due_updates}
+use Rattle.leader.specs.declared.lead.Stream.{Stream}
 use Rattle.leader.specs.Threads.{Numbered, numbered, Standing, Led, led, after_commit, AreNamed, HasCommitted, IsLeadAt, HasLed, HasLedTo, LeadTakes}
-use Rattle.leader.proofs.States.{get-inserted, get-other, get-left, get-gone, last_end-push}
+use Rattle.spooled.proofs.States.{get-inserted, get-other, get-left, get-gone, last_end-push}
 use Rattle.frames.specs.declared.item.CopyItem.{CopyItem}
 use Rattle.frames.specs.declared.item.CopyItem.TheVariants.{Wal, Keepalive, Done}
-use Rattle.leader.specs.declared.end.End.{End}
-use Rattle.leader.specs.Handler.{HandlesItem, HasHandled}
-use Rattle.leader.proofs.Handling.{with_seen}
-use Rattle.leader.proofs.Taking.{handed_named}
+use Rattle.spooled.specs.declared.end.End.{End}
+use Rattle.spooled.specs.Handler.{HandlesItem, HasHandled}
+use Rattle.spooled.proofs.Handling.{with_seen}
+use Rattle.spooled.proofs.Taking.{handed_named}
 
 -- ---- names
 

@@ -1,11 +1,1 @@
-mod Working
-mod States
-mod Begun
-mod Taking
-mod Ending
-mod Handling
-mod Running
-mod Reading
-mod Leaving
-mod ReportLoops
 mod Leading

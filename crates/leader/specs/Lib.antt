@@ -1,15 +1,2 @@
-pub mod Text
-pub mod Report
-pub mod Work
-pub mod WorkInside
-pub mod Commits
-pub mod Progress
-pub mod Clock
-pub mod Ends
-pub mod Cause
-pub mod Devices
-pub mod Run
-pub mod Handler
-pub mod Applier
 pub mod Lanes
 pub mod Threads

@@ -26,11 +26,11 @@ use Rattle.session.specs.Sized.{item_of}
 use Rattle.session.specs.State.{Open, OpenTransactions, Committed, State, Setting}
 use Rattle.session.specs.Lawful.{Admits}
 use Rattle.session.specs.Represents.{Represents}
-use Rattle.leader.specs.declared.end.End.{End}
-use Rattle.leader.specs.declared.end.End.TheVariants.{Clean}
-use Rattle.leader.specs.declared.threads.lead.Stream.{Stream}
-use Rattle.leader.specs.Commits.{last_end}
-use Rattle.leader.specs.Progress.{Progress, start_progress, due_updates, commits_from}
+use Rattle.spooled.specs.declared.end.End.{End}
+use Rattle.spooled.specs.declared.end.End.TheVariants.{Clean}
+use Rattle.leader.specs.declared.lead.Stream.{Stream}
+use Rattle.spooled.specs.Commits.{last_end}
+use Rattle.spooled.specs.Progress.{Progress, start_progress, due_updates, commits_from}
 
 -- a commit, without what it made final: the number of its transaction, and where it stands in the log
 pub record Numbered : Type 0 where

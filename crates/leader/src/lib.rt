@@ -1,62 +1,41 @@
 #![tactic(auto)]
 
-// From a replication stream to exact tables.
+// A run whose streamed transactions have workers.
 //
-// A run reads frames from a source, takes each item in stream order, and leaves the tables, the
-// journal of commits, the position and why it ended. Changes of a transaction between Begin and
-// Commit are applied as they come; those of a streamed transaction are kept by the session and
-// applied at its Stream Commit, so commits keep the stream's order. Whatever ends a run, the work of
-// open transactions is undone before it is answered: the tables are those of the commits.
+// A leader takes each item of the stream and never waits for a worker but at its commit, its abort and
+// the end of the run; a worker waits for nobody but those that hold a cell, and for its items.
 //
-//   stream    reads the items of a stream, and sends status updates
-//   handler   what takes the items of a stream, as that loop knows it
-//   applier   what each item does, where no transaction has a worker
-//   threads   what each item does, where streamed transactions have workers: `lead` the items, with the
-//             session; `transactions` which are open and where, with the store; `lanes` the leader's side
-//             of a worker; `shop` what leader and workers share; `ends` the ends that a store gives
-//   work      the tables with the changes of one open transaction in them, and what takes these back
-//   outcome   what a run is given and what it leaves; the journal; the clock
-//   end       why a run ended
-//   advice    what an end means, and what to do about it, as text
-//   printing  the report: the rows, the position and the end as text
+//   who waits                             for what                    and is woken by
+//   the leader, at a change of its own    a cell that another holds   the bell: a worker's gate, behind each item and
+//                                                                     before it waits itself; a job that came back
+//   the leader, at a commit               the worker's job            the same
+//   the leader, at an abort and the end   the worker's job            its desk; the worker was doomed before, and was
+//                                                                     notified under the store's lock
+//   a worker, at its ring                 its next item               whoever sends: the leader, or itself behind an item
+//   a worker, at a cell                   whoever holds it            a commit, an abort, a stop or a doom, each notified
+//                                                                     under the store's lock
 //
-// A status update goes to the sink after each commit, and after each keepalive that wants a reply
-// (PostgreSQL manual: Streaming Replication Protocol, Standby status update).
+// Before the leader waits it notes how often the bell was rung, and looks at all that may have moved. It
+// looks too whether the store was stopped and whether nothing more can come: either ends the run.
 //
-// `specs/Run` says what a run leaves: the items that it handled are a beginning of those of the bytes,
-// each lawful after those before it, up to the first cause of an end; the journal is the commits among
-// them, and the tables are their surviving changes applied in commit order. `run_over` ensures it, from
-// the public contracts of the layers below alone: an item leads from what the run keeps for one
-// progress to what it keeps for the next (`specs/Applier`).
+//   lead           what each item of the stream does, with the session
+//   transactions   which are open and where, with the store
+//   lanes          the leader's side of a worker
+//   shop           what leader and workers share
+//   ends           the ends that a store gives
 //
-// What a caller of a run needs of the layers below stands here too: sources and sinks, the catalog, the
-// tables with their keys, rows and values, and the faults that an end names.
-//
-// It stands on `frames` for the stream, `session` for what its messages ask for, `change` and `undo`
-// for the tables, `engine` for the journal's entries, and `catalog` for their names; for `threads` on
-// `engine`'s store, on `worker`, `crew` and `ring`. No run goes by `threads` yet.
-mod advice;
-mod applier;
-mod end;
-mod handler;
-mod outcome;
-mod printing;
-mod stream;
-mod threads;
-mod work;
+// It stands on `spooled` for the loop over a stream and the ends of a run, `session` for what messages ask
+// for, `engine`'s store, and `worker`, `crew` and `ring`. No run goes by it yet. All that a caller of a run
+// needs stands here, as in `spooled`.
+mod ends;
+mod lanes;
+mod lead;
+mod shop;
+mod transactions;
 
-pub use bytes::ByteStr;
-pub use catalog::{Catalog, CatalogFault, TableDef};
-pub use end::End;
-pub use engine::{Changes, ChangesIter, Entry};
-pub use frames::{Failed, FrameFault, Lsn, ReadSource, Sink, Source, WriteSink};
-pub use indexes::Tables;
-pub use messages::MsgFault;
-pub use model::{Change, Key, KeyValues, OutOfMemory, Row, TableId, Value};
-pub use outcome::{Clock, Config, Outcome};
-pub use printing::report;
-pub use relcache::RelFault;
-pub use rows::{RowView, ValueRef, Walk};
-pub use savepoint::Xid;
-pub use session::SessionFault;
-pub use stream::{Devices, run_over, run_spooled};
+pub use spooled::{
+    ByteStr, Catalog, CatalogFault, Change, Changes, ChangesIter, Clock, Config, Devices, End, Entry, Failed,
+    FrameFault, Key, KeyValues, Lsn, MsgFault, OutOfMemory, Outcome, ReadSource, RelFault, Row, RowView,
+    SessionFault, Sink, Source, TableDef, TableId, Tables, Value, ValueRef, Walk, WriteSink, Xid, report,
+    run_over, run_spooled,
+};

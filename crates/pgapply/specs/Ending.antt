@@ -5,13 +5,13 @@ use Rattle.catalog.specs.Definition.{Definition}
 use Rattle.catalog.specs.Catalog.{catalog_of}
 use Rattle.catalog.specs.declared.fault.CatalogFault.{CatalogFault}
 use Rattle.catalog.specs.declared.fault.CatalogFault.TheVariants.{NotToml, UnknownField, DuplicateTable, DuplicateColumn, NoPrimaryKey, KeyColumnUnknown, BadDefault, OverLimit, OutOfMemory}
-use Rattle.leader.specs.declared.end.End.{End}
-use Rattle.leader.specs.declared.end.End.TheVariants as ends
-use Rattle.leader.specs.declared.outcome.Config.{Config}
-use Rattle.leader.specs.declared.outcome.Outcome.{Outcome}
-use Rattle.leader.specs.Devices.{DeviceState}
-use Rattle.leader.specs.Run.{IsRun, spooling}
-use Rattle.leader.specs.Report.{report_text}
+use Rattle.spooled.specs.declared.end.End.{End}
+use Rattle.spooled.specs.declared.end.End.TheVariants as ends
+use Rattle.spooled.specs.declared.outcome.Config.{Config}
+use Rattle.spooled.specs.declared.outcome.Outcome.{Outcome}
+use Rattle.spooled.specs.Devices.{DeviceState}
+use Rattle.spooled.specs.Run.{IsRun, spooling}
+use Rattle.spooled.specs.Report.{report_text}
 use Rattle.pgapply.specs.declared.execute.Ended.{Ended}
 
 -- ---- what is said

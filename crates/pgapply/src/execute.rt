@@ -2,7 +2,7 @@
 ghost use Rattle.std.specs.Prelude.{◌≡◌, ◌≢◌, map, IfOk, IfErr};
 ghost use Rattle.catalog.specs.declared.fault.CatalogFault.TheVariants as faults;
 ghost use Rattle.model.specs.Rows.{keys_of};
-ghost use Rattle.leader.specs.Devices.{DeviceState, device_state, health};
+ghost use Rattle.spooled.specs.Devices.{DeviceState, device_state, health};
 ghost use Rattle.pgapply.specs.Ending.{Says, IsCatalog, IsFault, Executes, Tells, end_status, fault_status, fault_line};
 
 use catalog::{Catalog, CatalogFault};

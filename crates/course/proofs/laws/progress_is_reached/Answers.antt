@@ -1,4 +1,4 @@
-use Rattle.leader.specs.Cause.{schema_of}
+use Rattle.spooled.specs.Cause.{schema_of}
 use Rattle.course.proofs.Reaching.{reached}
 use Rattle.course.proofs.laws.progress_is_reached.Goals as goal
 

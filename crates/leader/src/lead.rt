@@ -1,0 +1,168 @@
+// What each item of a stream does, where streamed transactions have workers.
+ghost use Rattle.std.specs.Prelude.{◌≡◌, ◌≢◌, [], max, length, All, OnOk, OnErr, IfErr};
+ghost use Rattle.model.specs.Rows.{Rows};
+ghost use Rattle.session.specs.Answers.{IsOfTables};
+ghost use Rattle.session.specs.State.{Setting};
+ghost use Rattle.spooled.specs.declared.end.End.TheVariants.{Clean};
+ghost use Rattle.spooled.specs.Progress.{Progress, start_progress};
+
+use spooled::End;
+use spooled::Handler;
+use crate::transactions::Transactions;
+use bytes::Bytes;
+use catalog::Catalog;
+use engine::{Line, StoreNames};
+use frames::{CopyItem, Lsn};
+use model::{CommitInfo, Item, Xid};
+use session::{Session, Step};
+use std::alloc::Global;
+use std::sync::Wait;
+use worker::{Gate, PostNames};
+
+/// How far a leader is in its stream.
+#[derive(Drop)]
+pub struct Stream<'a> {
+    alloc: Global,
+    catalog: &'a Catalog,
+    session: Session,
+    position: Lsn,
+    /// The greatest position of the publisher's log so far.
+    written: Lsn,
+}
+
+impl Stream<'_> {
+    // The log was seen up to here.
+    fn see(&mut self, lsn: Lsn)
+        ensures { self.new ≡ record self.old { written = max self.old.written lsn } }
+    {
+        self.written = self.written.max(lsn);
+    }
+}
+
+/// What the items of a stream have done so far, where streamed transactions have workers.
+#[derive(Drop)]
+pub struct Lead<'a, N: StoreNames, L: PostNames, R: Wait, G: Gate + Drop> {
+    stream: Stream<'a>,
+    transactions: Transactions<'a, N, L, R, G>,
+}
+
+impl<'a, N: StoreNames, L: PostNames, R: Wait, G: Gate + Drop> Lead<'a, N, L, R, G> {
+    ghost use Rattle.leader.specs.Threads.{numbers_in, led, IsLeadAt, IsLeadAtSome, LeadTakes, Decides, after_commit};
+
+    /// Before the first item: no transaction is open, so many may have a worker, and the spools may keep
+    /// so many bytes.
+    pub fn new(
+        alloc: Global,
+        catalog: &'a Catalog,
+        workers: usize,
+        spool: u64,
+        transactions: Transactions<'a, N, L, R, G>,
+    ) -> Lead<'a, N, L, R, G>
+        requires { transactions ≡ record { tables = length catalog.now; commits = [] } }
+        ensures { (rows : Rows) → IsLeadAt (record { workers = workers; spool = spool; catalog = catalog.now }) rows (led result.stream result.transactions) start_progress }
+    {
+        let stream = Stream {
+            alloc,
+            catalog,
+            session: Session::new(alloc, workers, spool),
+            position: 0,
+            written: 0,
+        };
+        Lead {
+            stream,
+            transactions,
+        }
+    }
+
+    /// The line of its store, and the position that the commits reach.
+    pub fn into_line(self) -> (Line, Lsn)
+        ensures name { result.0.name ≡ N.line }
+        ensures commits { numbers_in result.0.list ≡ self.entry.transactions.commits }
+        ensures position { result.1 ≡ self.entry.stream.position }
+    {
+        let Lead {
+            stream,
+            transactions,
+        } = self;
+        (transactions.into_line(), stream.position)
+    }
+
+    /// Ends a run: all workers have given up. Answers the end.
+    pub fn leave(&mut self, end: End) -> End
+        ensures decides { Decides end result }
+        ensures stream { self.new.stream ≡ self.old.stream }
+        ensures same { self.new.transactions ≡ self.old.transactions }
+    {
+        self.transactions.leave(end)
+    }
+
+    // Takes the next message. It answers whether a transaction committed.
+    fn take_message(&mut self, payload: &Bytes) -> Result<bool, End>
+        requires { IsLeadAtSome (led self.old.stream self.old.transactions) }
+        ensures { (g : Setting) (rows : Rows) (p : Progress) → IsLeadAt g rows (led self.old.stream self.old.transactions) p
+            → LeadTakes g rows (led self.new.stream self.new.transactions) p payload.now result }
+    {
+        let stream = &mut self.stream;
+        match stream.session.admit(stream.alloc, stream.catalog, payload)? {
+            Step::Nothing => {}
+            Step::Begin(xid) => self.transactions.begin(xid)?,
+            Step::Open(xid) => self.transactions.hand_out(xid)?,
+            Step::Item(xid, item) => self.transactions.take(xid, item)?,
+            Step::Commit(xid, info, items) => {
+                self.commit(xid, info, items)?;
+                return Ok(true);
+            }
+            Step::Abort(xid) => self.transactions.abort(xid)?,
+        }
+        Ok(false)
+    }
+
+    // A transaction commits, and the position with it.
+    fn commit(&mut self, xid: Xid, info: CommitInfo, items: Vec<Item>) -> Result<(), End>
+        requires { All (IsOfTables self.old.transactions.tables) items.items }
+        ensures ok { OnOk result (led self.new.stream self.new.transactions ≡ after_commit (led self.old.stream self.old.transactions) xid info) }
+        ensures session { self.new.stream.session ≡ self.old.stream.session }
+        ensures stream { OnErr result (self.new.stream ≡ self.old.stream) }
+        ensures same { OnErr result (self.new.transactions ≡ self.old.transactions) }
+        ensures err { IfErr result (λ end. end ≢ Clean) }
+    {
+        self.transactions.commit(xid, info, items)?;
+        self.stream.position = info.end;
+        self.stream.see(info.end);
+        Ok(())
+    }
+}
+
+impl<'a, N: StoreNames, L: PostNames, R: Wait, G: Gate + Drop> Handler for Lead<'a, N, L, R, G> {
+    ghost use Rattle.leader.specs.Threads.{led, IsLeadAt, HasLedTo};
+
+    ghost at = { λ g rows l p. IsLeadAt g rows (led l.stream l.transactions) p };
+
+    ghost ended = { λ g rows l handled p rest end. HasLedTo g rows (led l.stream l.transactions) handled p rest end };
+
+    fn handle(&mut self, item: CopyItem) -> Result<bool, End> {
+        match item {
+            CopyItem::Wal {
+                start,
+                end,
+                payload,
+            } => {
+                self.stream.see(start.max(end));
+                self.take_message(&payload)
+            }
+            CopyItem::Keepalive { end, reply } => {
+                self.stream.see(end);
+                Ok(reply)
+            }
+            CopyItem::Done => Ok(false),
+        }
+    }
+
+    fn written(&self) -> Lsn {
+        self.stream.written
+    }
+
+    fn position(&self) -> Lsn {
+        self.stream.position
+    }
+}

@@ -1,0 +1,138 @@
+-- What a change leaves of the work that is open.
+use Rattle.std.specs.Prelude.{◌≡◌, ℕ, List, [], ◌∷◌, ◌++◌, map, refl, Result, Ok, Err, IsErrAnd, IfErr}
+use Rattle.std.specs.Iterator.{Yields}
+use Rattle.std.specs.Vec.Iter.{into_iter_items, into_iter_steps}
+use Rattle.std.specs.declared.vec.IntoIter.{IntoIter}
+use Rattle.std.proofs.Common.{sym, ◌∙◌, ap, subst, append_assoc}
+use Rattle.model.specs.declared.change.Change.{Change}
+use Rattle.model.specs.Rows.{Rows, Schema}
+use Rattle.model.specs.Effect.{effect, inverse, back, all_back, serial}
+use Rattle.model.specs.EffectLaws.{back_of_inverse, serial_append}
+use Rattle.indexes.specs.Content.{Content}
+use Rattle.change.specs.declared.inverse.Inverse.{Inverse}
+use Rattle.change.specs.Inverse.{edits_of, IsKnown}
+use Rattle.change.specs.declared.outcome.Clash.{Clash}
+use Rattle.undo.specs.Undo.{content_back, CanUndo, AreKnownAll}
+use Rattle.undo.specs.UndoLaws.{rows_undone, content_undone_last, schema_undone}
+use Rattle.model.specs.declared.item.Item.{Item}
+use Rattle.model.specs.declared.item.Item.TheVariants.{Change as ItemChange, Touch, BackTo, Last}
+use Rattle.model.specs.Survivors.{changes_of}
+use Rattle.spooled.specs.Work.{OpenWork, rows_now, IsClear, ClashesAs, ClashesIn}
+
+-- putting the inverse of a change back gives the rows before it
+pub rows_back : (old new : Content) (c : Change) (i : Inverse) → new.rows ≡ effect old.schema old.rows c → edits_of i ≡ inverse old.schema old.rows c → back new.rows (edits_of i) ≡ old.rows
+rows_back old new c i rows edits =
+    ap (λ (r : Rows). back r (edits_of i)) rows ∙ ap (back (effect old.schema old.rows c)) edits ∙ back_of_inverse old.schema old.rows c
+
+-- the rows without the open work are the same with one change more
+pub base_back : (old new : Content) (is : List Inverse) (i : Inverse) → back new.rows (edits_of i) ≡ old.rows → all_back new.rows (map edits_of (is ++ i ∷ [])) ≡ all_back old.rows (map edits_of is)
+base_back old new is i rows =
+    sym (rows_undone new (is ++ i ∷ []))
+    ∙ ap (λ (t : Content). t.rows) (content_undone_last new is i)
+    ∙ rows_undone (content_back new i) is
+    ∙ ap (λ (r : Rows). all_back r (map edits_of is)) rows
+
+-- what can be undone is of tables that are there
+pub known_all : (t : Content) (is : List Inverse) → CanUndo t is → AreKnownAll t.schema is
+known_all t [] can = tt
+known_all t (i ∷ is) can = (subst (λ (s : Schema). IsKnown s i) (schema_undone t is) can.1.known, known_all t is can.0)
+
+-- one change more
+pub serial_last : (schema : Schema) (rows : Rows) (cs : List Change) (c : Change) → serial schema rows (cs ++ c ∷ []) ≡ effect schema (serial schema rows cs) c
+serial_last schema rows cs c = serial_append schema rows cs (c ∷ [])
+
+pub IsClear-append : (schema : Schema) (rows : Rows) (cs ds : List Change) → IsClear schema rows cs → IsClear schema (serial schema rows cs) ds → IsClear schema rows (cs ++ ds)
+IsClear-append schema rows [] ds first second = second
+IsClear-append schema rows (c ∷ cs) ds first second = (first.0, IsClear-append schema (effect schema rows c) cs ds first.1 second)
+
+-- a refusal among later changes is one among all
+pub ClashesIn-behind : (schema : Schema) (rows : Rows) (cs ds : List Change) (clash : Clash) → IsClear schema rows cs → ClashesIn schema (serial schema rows cs) ds clash → ClashesIn schema rows (cs ++ ds) clash
+ClashesIn-behind schema rows cs ds clash clear r = record {
+  before = cs ++ r.before;
+  change = r.change;
+  after = r.after;
+  split = ap (λ (es : List Change). cs ++ es) r.split ∙ sym (append_assoc cs r.before (r.change ∷ r.after));
+  clear = IsClear-append schema rows cs r.before clear r.clear;
+  refused = subst (λ (at : Rows). ClashesAs schema at r.change clash) (sym (serial_append schema rows cs r.before)) r.refused;
+}
+
+-- a refusal among changes is one among those and later ones
+pub ClashesIn-before : (schema : Schema) (rows : Rows) (cs ds : List Change) (clash : Clash) → ClashesIn schema rows cs clash → ClashesIn schema rows (cs ++ ds) clash
+ClashesIn-before schema rows cs ds clash r = record {
+  before = r.before;
+  change = r.change;
+  after = r.after ++ ds;
+  split = ap (λ (es : List Change). es ++ ds) r.split ∙ append_assoc r.before (r.change ∷ r.after) ds;
+  clear = r.clear;
+  refused = r.refused;
+}
+
+-- one change that is refused
+pub ClashesIn-one : (schema : Schema) (rows : Rows) (c : Change) (clash : Clash) → ClashesAs schema rows c clash → ClashesIn schema rows (c ∷ []) clash
+ClashesIn-one schema rows c clash r = record { before = []; change = c; after = []; split = refl; clear = tt; refused = r }
+
+-- the rows with one change more, kept in other words
+pub rows_kept : (schema new_schema : Schema) (rows new_rows base new_base : Rows) (cs new_cs : List Change) (c : Change) → new_schema ≡ schema → new_base ≡ base → new_cs ≡ cs ++ c ∷ [] → rows ≡ serial schema base cs → new_rows ≡ effect schema rows c → new_rows ≡ serial new_schema new_base new_cs
+rows_kept schema new_schema rows new_rows base new_base cs new_cs c s b e done more =
+    more
+    ∙ ap (λ (at : Rows). effect schema at c) done
+    ∙ sym (serial_last schema base cs c)
+    ∙ ap (λ (at : Schema). serial at base (cs ++ c ∷ [])) (sym s)
+    ∙ ap (λ (at : Rows). serial new_schema at (cs ++ c ∷ [])) (sym b)
+    ∙ ap (λ (es : List Change). serial new_schema new_base es) (sym e)
+
+-- ---- items in turn
+
+pub changes_of-append : (items more : List Item) → changes_of (items ++ more) ≡ changes_of items ++ changes_of more
+changes_of-append [] more = refl
+changes_of-append (ItemChange sub c ∷ items) more = ap (λ (cs : List Change). c ∷ cs) (changes_of-append items more)
+changes_of-append (Touch sub ∷ items) more = changes_of-append items more
+changes_of-append (BackTo sub ∷ items) more = changes_of-append items more
+changes_of-append (Last ∷ items) more = changes_of-append items more
+
+-- with these changes more
+abbrev pub with_changes : OpenWork → List Change → OpenWork
+with_changes w cs = record { schema = w.schema; base = w.base; changes = w.changes ++ cs }
+
+pub rows_with : (w : OpenWork) (cs : List Change) → rows_now (with_changes w cs) ≡ serial w.schema (rows_now w) cs
+rows_with w cs = serial_append w.schema w.base w.changes cs
+
+-- one item more was applied
+pub item_applied : (w v u : OpenWork) (items : List Item) (item : Item) → v ≡ with_changes w (changes_of items) → u ≡ with_changes v (changes_of (item ∷ [])) → u ≡ with_changes w (changes_of (items ++ item ∷ []))
+item_applied w v u items item first second =
+    second
+    ∙ ap (λ (x : OpenWork). with_changes x (changes_of (item ∷ []))) first
+    ∙ ap (λ (cs : List Change). record { schema = w.schema; base = w.base; changes = cs }) (append_assoc w.changes (changes_of items) (changes_of (item ∷ [])) ∙ ap (λ (cs : List Change). w.changes ++ cs) (sym (changes_of-append items (item ∷ []))))
+
+pub item_clear : (w v : OpenWork) (items : List Item) (item : Item) → v ≡ with_changes w (changes_of items) → IsClear w.schema (rows_now w) (changes_of items) → IsClear v.schema (rows_now v) (changes_of (item ∷ [])) → IsClear w.schema (rows_now w) (changes_of (items ++ item ∷ []))
+item_clear w v items item first clear here =
+    let there : IsClear w.schema (rows_now (with_changes w (changes_of items))) (changes_of (item ∷ [])) = subst (λ (x : OpenWork). IsClear x.schema (rows_now x) (changes_of (item ∷ []))) first here in
+    subst (IsClear w.schema (rows_now w)) (sym (changes_of-append items (item ∷ [])))
+    (IsClear-append w.schema (rows_now w) (changes_of items) (changes_of (item ∷ [])) clear
+    (subst (λ (at : Rows). IsClear w.schema at (changes_of (item ∷ []))) (rows_with w (changes_of items)) there))
+
+-- an item among others was refused
+pub item_refused : (w v : OpenWork) (items more : List Item) (item : Item) (clash : Clash) → v ≡ with_changes w (changes_of items) → IsClear w.schema (rows_now w) (changes_of items) → ClashesIn v.schema (rows_now v) (changes_of (item ∷ [])) clash → ClashesIn w.schema (rows_now w) (changes_of (items ++ item ∷ more)) clash
+item_refused w v items more item clash first clear here =
+    let there : ClashesIn w.schema (rows_now (with_changes w (changes_of items))) (changes_of (item ∷ [])) clash = subst (λ (x : OpenWork). ClashesIn x.schema (rows_now x) (changes_of (item ∷ [])) clash) first here in
+    let at_rows : ClashesIn w.schema (serial w.schema (rows_now w) (changes_of items)) (changes_of (item ∷ [])) clash = subst (λ (at : Rows). ClashesIn w.schema at (changes_of (item ∷ [])) clash) (rows_with w (changes_of items)) there in
+    subst (λ (cs : List Change). ClashesIn w.schema (rows_now w) cs clash)
+    (ap (λ (cs : List Change). changes_of items ++ cs) (sym (changes_of-append (item ∷ []) more)) ∙ sym (changes_of-append items (item ∷ more)))
+    (ClashesIn-behind w.schema (rows_now w) (changes_of items) (changes_of (item ∷ []) ++ changes_of more) clash clear
+    (ClashesIn-before w.schema (serial w.schema (rows_now w) (changes_of items)) (changes_of (item ∷ [])) (changes_of more) clash at_rows))
+
+-- ---- answers
+
+-- what holds of an error holds of the result that passes it on
+pub if_err : {T E : Type 0} (result : Result T E) (e : E) (P : E → Type 0) → IsErrAnd result (λ x. x ≡ e) → P e → IfErr result P
+if_err (Ok x) e P is p = absurd is
+if_err (Err x) e P is p = subst P (sym is) p
+
+-- what the iterator of a vector has given is a front of its items
+pub taken_front : {X A : Type 0} (s : IntoIter X A) (xs : List X) (t : IntoIter X A) → Yields into_iter_steps s xs t → into_iter_items s ≡ xs ++ into_iter_items t
+taken_front s [] t y = ap into_iter_items y
+taken_front s (x ∷ xs) t y = y.1.0 ∙ ap (λ ys. x ∷ ys) (taken_front y.0 xs t y.2)
+
+-- a change more is kept, behind room that was made
+pub change_kept : (old room new : List Item) (sub : ℕ) (c : Change) → room ≡ old → new ≡ room ++ ItemChange sub c ∷ [] → changes_of new ≡ changes_of old ++ c ∷ []
+change_kept old room new sub c made pushed = ap changes_of (pushed ∙ ap (λ (items : List Item). items ++ ItemChange sub c ∷ []) made) ∙ changes_of-append old (ItemChange sub c ∷ [])

@@ -1,0 +1,16 @@
+use Rattle.std.proofs.Common.{◌∙◌, ap, ◌++◌, arith}
+use Rattle.std.specs.List.{flat_map}
+use Rattle.spooled.specs.Report.{numbered_text}
+use Rattle.spooled.proofs.ReportLoops.{numbered_more, numbered_all}
+use Rattle.spooled.proofs.printing.push_tables.Goals as goal
+
+pub loop-table-preserved : goal.loop-table-preserved
+loop-table-preserved c =
+    let definition = c.index-definitions-table.result in
+    c.in_ok-push_table.ensures ∙ ap (λ t. t ++ numbered_text c.args.tables.now.rows (c.loop-table.table, definition)) c.loop-table.invariant
+    ∙ numbered_more (numbered_text c.args.tables.now.rows) c.args.text.now.items c.args.definitions.now c.loop-table.table definition (omega arith) c.index-definitions-table.is
+
+pub returns : goal.returns
+returns c =
+    c.loop-table.invariant
+    ∙ ap (λ es. c.args.text.now.items ++ flat_map (numbered_text c.args.tables.now.rows) es) (numbered_all c.args.definitions.now c.loop-table.table (omega arith))

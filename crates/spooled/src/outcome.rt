@@ -1,0 +1,40 @@
+// What a run is given, and what it leaves.
+ghost use Rattle.std.specs.Prelude.{ℤ, Option, List, [], ◌∷◌};
+ghost use Rattle.spooled.specs.Clock.{Ticks};
+
+use crate::end::End;
+use engine::Entry;
+use frames::Lsn;
+use indexes::Tables;
+
+/// The limits of a run.
+#[derive(Clone, Copy, Debug, PartialEq, Eq)]
+pub struct Config {
+    /// How many workers apply streamed transactions: 0 to 16.
+    pub workers: usize,
+    /// The slots of a worker's ring: 1 to 1024.
+    pub ring: usize,
+    /// The payload bytes that spooled transactions may take.
+    pub spool: u64,
+}
+
+/// What a run leaves.
+#[derive(Drop)]
+pub struct Outcome {
+    pub tables: Tables,
+    /// The commits, in order.
+    pub journal: Vec<Entry>,
+    /// The end LSN of the last commit, or 0.
+    pub position: Lsn,
+    pub end: End,
+}
+
+/// A clock: microseconds since 2000-01-01.
+pub trait Clock {
+    /// The times that it has answered, where it tells them. The system's clock doesn't.
+    ghost told: { Self → Option (List ℤ) };
+
+    /// The time now.
+    fn micros(&mut self) -> i64
+        ensures { Ticks (told self.old) (told self.new) (result ∷ []) };
+}

@@ -1,0 +1,151 @@
+// The tables while work is open in them.
+ghost use Rattle.std.specs.Prelude.{◌≡◌, ◌<◌, [], ◌∷◌, ◌++◌, OnOk, OnErr, IfErr, All, length, map};
+ghost use Rattle.model.specs.Effect.{effect, all_back};
+ghost use Rattle.change.specs.Inverse.{edits_of};
+ghost use Rattle.undo.specs.Undo.{CanUndo};
+ghost use Rattle.model.specs.Survivors.{changes_of};
+ghost use Rattle.model.specs.Named.{NamesTables};
+ghost use Rattle.session.specs.Answers.{IsOfTables};
+ghost use Rattle.spooled.specs.Work.{HasNoClash, IsClear, ClashesAs, ClashesIn, rows_now};
+
+use change::{Applied, Clash, apply};
+use engine::Changes;
+use indexes::Tables;
+use model::{Change, Xid};
+use savepoint::Item;
+use std::alloc::Global;
+use std::marker::Model;
+use std::mem;
+use undo::UndoLog;
+
+/// Tables with the changes of one open transaction in them, and what takes these back.
+///
+/// A clause sees the rows without the open work, and the changes that are open.
+#[derive(Drop)]
+pub struct Work {
+    tables: Tables,
+    undo: UndoLog,
+    items: Vec<Item>,
+}
+
+impl Model for Work {
+    ghost use Rattle.spooled.specs.Work.{OpenWork, open_work_code};
+
+    ghost Value = { OpenWork };
+
+    ghost coded = { open_work_code };
+
+    ghost use Rattle.spooled.specs.WorkInside.{open_work_of, HasWork};
+
+    ghost view = { open_work_of };
+
+    ghost invariant = { HasWork };
+}
+
+impl Work {
+    /// The tables, with no work open.
+    pub fn new(alloc: Global, tables: Tables) -> Work
+        ensures { result ≡ record { schema = tables.schema; base = tables.rows; changes = [] } }
+    {
+        Work {
+            tables,
+            undo: UndoLog::new(alloc),
+            items: Vec::new(alloc),
+        }
+    }
+
+    // Applies a change of a subtransaction as open work. A refusal leaves all as it was.
+    fn apply(&mut self, alloc: Global, sub: Xid, change: Change) -> Result<(), Clash>
+        requires { NamesTables (length self.old.schema) change }
+        ensures passes { OnOk result (HasNoClash self.old.schema (rows_now self.old) change) }
+        ensures ok { OnOk result (self.new ≡ record self.old { changes = self.old.changes ++ change ∷ [] }) }
+        ensures refused { IfErr result (ClashesAs self.old.schema (rows_now self.old) change) }
+        ensures err { OnErr result (self.new ≡ self.old) }
+    {
+        self.items.reserve(1)?;
+        apply_logged(alloc, &mut self.tables, &mut self.undo, &change)?;
+        self.items.push_reserved(Item::Change { sub, change });
+        Ok(())
+    }
+
+    /// Applies an item's change, if it has one, as open work. A refusal leaves all as it was.
+    pub fn take(&mut self, alloc: Global, item: Item) -> Result<(), Clash>
+        requires { IsOfTables (length self.old.schema) item }
+        ensures clear { OnOk result (IsClear self.old.schema (rows_now self.old) (changes_of (item ∷ []))) }
+        ensures ok { OnOk result (self.new ≡ record self.old { changes = self.old.changes ++ changes_of (item ∷ []) }) }
+        ensures refused { IfErr result (ClashesIn self.old.schema (rows_now self.old) (changes_of (item ∷ []))) }
+        ensures err { OnErr result (self.new ≡ self.old) }
+    {
+        match item {
+            Item::Change { sub, change } => self.apply(alloc, sub, change),
+            Item::Touch(_) | Item::BackTo(_) | Item::Last => Ok(()),
+        }
+    }
+
+    /// Applies the changes of items in turn, as open work. A refusal leaves the rows without the open work.
+    pub fn take_all(&mut self, alloc: Global, items: Vec<Item>) -> Result<(), Clash>
+        requires { All (IsOfTables (length self.old.schema)) items.items }
+        ensures clear { OnOk result (IsClear self.old.schema (rows_now self.old) (changes_of items.items)) }
+        ensures ok { OnOk result (self.new ≡ record self.old { changes = self.old.changes ++ changes_of items.items }) }
+        ensures refused { IfErr result (ClashesIn self.old.schema (rows_now self.old) (changes_of items.items)) }
+        ensures base { self.new.base ≡ self.old.base }
+        ensures schema { self.new.schema ≡ self.old.schema }
+    {
+        for item in items {
+            self.take(alloc, item)?;
+        }
+        Ok(())
+    }
+
+    /// The open work stands from here on. It answers its changes.
+    pub fn settle(&mut self, alloc: Global) -> Changes
+        ensures changes { result ≡ self.old.changes }
+        ensures settled { self.new ≡ record { schema = self.old.schema; base = rows_now self.old; changes = [] } }
+    {
+        self.undo.settle(&mut self.tables);
+        self.undo = UndoLog::new(alloc);
+        Changes::of_items(mem::replace(&mut self.items, Vec::new(alloc)))
+    }
+
+    /// Undoes the open work, and gives the tables back. It takes no memory.
+    pub fn undo(self) -> Tables
+        ensures rows { result.rows ≡ self.base }
+        ensures schema { result.schema ≡ self.schema }
+    {
+        let Work {
+            mut tables,
+            mut undo,
+            items: _,
+        } = self;
+        undo.undo_to(&mut tables, 0);
+        tables
+    }
+}
+
+/// Applies a change, and logs what takes it back. A refusal changes no row.
+fn apply_logged(
+    alloc: Global,
+    tables: &mut Tables,
+    undo: &mut UndoLog,
+    change: &Change,
+) -> Result<(), Clash>
+    requires tables { NamesTables (length tables.old.schema) change.now }
+    requires can_undo { CanUndo tables.old undo.old.inverses }
+    ensures passes { OnOk result (HasNoClash tables.old.schema tables.old.rows change.now) }
+    ensures ok { OnOk result (tables.new.rows ≡ effect tables.old.schema tables.old.rows change.now) }
+    ensures refused { IfErr result (ClashesAs tables.old.schema tables.old.rows change.now) }
+    ensures err { OnErr result (tables.new.rows ≡ tables.old.rows) }
+    ensures base { all_back tables.new.rows (map edits_of undo.new.inverses) ≡ all_back tables.old.rows (map edits_of undo.old.inverses) }
+    ensures schema { tables.new.schema ≡ tables.old.schema }
+    ensures can_undo { CanUndo tables.new undo.new.inverses }
+{
+    undo.reserve()?;
+    match apply(alloc, tables, change) {
+        Ok(Applied::Done(inverse)) => {
+            undo.push_reserved(inverse);
+            Ok(())
+        }
+        Ok(Applied::Skipped) => Ok(()),
+        Err(clash) => Err(clash),
+    }
+}
