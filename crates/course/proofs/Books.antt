@@ -5,12 +5,11 @@ use Rattle.std.specs.FinMap.{get}
 use Rattle.model.specs.declared.change.Change as change_type
 use Rattle.model.specs.declared.item.Item.{Item}
 use Rattle.model.specs.declared.item.Item.TheVariants.{Change}
-use Rattle.model.specs.Rows.{Rows}
+use Rattle.model.specs.Rows.{Rows, IsValid}
 use Rattle.model.specs.Effect.{ClashCause}
 use Rattle.frames.specs.declared.item.CopyItem.{CopyItem}
 use Rattle.session.specs.State.{Spooled, Open, State, Setting, begun_at}
 use Rattle.spooled.specs.Cause.{schema_of}
-use Rattle.world.specs.FineLaws.{IsFine}
 use Rattle.world.specs.Settled.{WaitsFor, IsSettled}
 use Rattle.world.specs.Steps.{IsStuck}
 use Rattle.world.specs.World.{Opened, World, ByClash}
@@ -18,7 +17,7 @@ use Rattle.course.specs.Runs.{CommitsNext}
 use Rattle.course.specs.Threads.{work_of, IsWorldOf}
 use Rattle.course.specs.ThreadedRun.{HasConflict, WaitsOn, HasDoneAll, AllWait, IsStuckBy}
 use Rattle.course.specs.Leading.{Lane, InStep, IsAgreed, AreInStep, AreCounts}
-use Rattle.course.proofs.Noted.{is_wanted}
+use Rattle.course.proofs.Noted.{is_wanted, still_clashes}
 
 -- ---- one transaction
 
@@ -90,10 +89,10 @@ module _ (g : Setting) (rows : Rows) (s : State) (rest : List CopyItem) (lanes :
   }
 
   -- what clashed and stopped the world is a conflict, while its transaction wants a change
-  pub noted_conflict : IsFine (schema_of g) w → (xid : ℕ) (c : change_type.Change) (cause : ClashCause)
+  pub noted_conflict : IsValid (schema_of g) rows → (xid : ℕ) (c : change_type.Change) (cause : ClashCause)
       → w.stopped ≡ Some (ByClash xid c cause) → (done : Opened) → get w.opened xid ≡ Some done
       → (sub : ℕ) (e : change_type.Change) → done.wants ≡ Some (sub, e) → HasConflict g s w cause
-  noted_conflict fine xid c cause stopped done at sub e wanted =
+  noted_conflict valid xid c cause stopped done at sub e wanted =
       let is = there xid done at in
       let same = is_wanted (schema_of g) rows w are.reached xid c cause stopped done sub e at wanted in
       let wants : done.wants ≡ Some (sub, c) = wanted ∙ ap (λ (d : change_type.Change). Some (sub, d)) same in (
@@ -107,7 +106,7 @@ module _ (g : Setting) (rows : Rows) (s : State) (rest : List CopyItem) (lanes :
           change = c;
           after = (is.4.wants sub c wants).0 ++ is.2.late;
           in_turn = wanted_next g s rest xid is.0 is.2 done is.4 sub c wants;
-          so = fine.noted xid c cause stopped done sub at wants;
+          so = still_clashes (schema_of g) rows w valid are.reached xid c cause stopped done sub at wants;
         },
       )
 
@@ -142,15 +141,9 @@ module _ (g : Setting) (rows : Rows) (s : State) (rest : List CopyItem) (lanes :
   all_wait named counts settled xid o at not =
       let is = streamed_in_step g s rest xid (get s.transactions xid) (lanes xid) (get w.opened xid) o at not (are.agree xid) in
       elim (settled xid is.2 is.3) [
-        | inl name ↦
-            let counted = counts xid (length is.2.items) name.0 in
-            let same : counted.0 ≡ is.0 = same_lane counted.0 is.0 (sym counted.1 ∙ is.1) in
-            inl (has_done_all xid o is.0 is.2 is.3 is.4 (counted.2 ∙ ap (λ (l : Lane). length (l.sent ++ l.late)) same))
+        | inl name ↦ inl (has_done_all xid o is.0 is.2 is.3 is.4 (counts xid (length is.2.items) is.0 name.0 name.1 is.1))
         | inr waits ↦ inr (waits.0, waits_on xid waits.0 o is.0 is.2 is.3 is.4 waits.1)
       ]
-    where
-      same_lane : (l k : Lane) → Some l ≡ Some k → l ≡ k
-      same_lane l k e = cc
 
   -- where all wait, and a transaction whose turn it is waits for a holder
   pub stuck_by : (named : List (ℕ × ℕ)) (waiter holder : ℕ) → AreCounts lanes named

@@ -20,7 +20,6 @@ use Rattle.spooled.specs.Run.{IsRun}
 use Rattle.spooled.specs.Work.{IsClear}
 use Rattle.spooled.specs.declared.end.End.TheVariants as ends
 use Rattle.spooled.specs.declared.outcome.Outcome.{Outcome}
-use Rattle.world.specs.FineLaws.{IsFine}
 use Rattle.world.specs.Steps.{Reaches, Closes, IsStuck}
 use Rattle.world.specs.World.{Opened, ByClash, World, starting, journal}
 use Rattle.course.specs.Begun.{IsSane, IsTold}
@@ -157,7 +156,7 @@ InStepIsWorld =
 abbrev pub NotedClashIsConflict : Type 0
 NotedClashIsConflict =
     (g : Setting) (rows : Rows) (s : State) (rest : List CopyItem) (lanes : ℕ → Option Lane) (w : World)
-    → AreInStep g rows s rest lanes w → IsFine (schema_of g) w
+    → AreInStep g rows s rest lanes w → IsValid (schema_of g) rows
     → (xid : ℕ) (c : change_type.Change) (cause : ClashCause) → w.stopped ≡ Some (ByClash xid c cause)
     → (done : Opened) → get w.opened xid ≡ Some done
     → (sub : ℕ) (e : change_type.Change) → done.wants ≡ Some (sub, e) → HasConflict g s w cause

@@ -4,7 +4,7 @@
 --     InStep      an open transaction, its lane, and what it has done in the world
 --     IsAgreed, AreInStep      so it is with one transaction; with all of them, and with the commits
 --     AreCounts      how many items each transaction has to do
-use Rattle.std.specs.Prelude.{◌≡◌, ◌≢◌, ℕ, List, ◌∷◌, ◌++◌, length, map, Contains, Option, Some, None}
+use Rattle.std.specs.Prelude.{◌≡◌, ◌≢◌, ℕ, ◌-◌, ◌^◌, ◌<◌, List, ◌∷◌, ◌++◌, length, map, Contains, Option, Some, None}
 use Rattle.std.specs.FinMap.{get}
 use Rattle.model.specs.declared.change.Change as change_type
 use Rattle.model.specs.declared.item.Item.{Item}
@@ -57,8 +57,9 @@ pub record AreInStep (g : Setting) (rows : Rows) (s : State) (rest : List CopyIt
   pub line : w.line ≡ map done_by_commit s.past
   pub agree : (xid : ℕ) → IsAgreed g s rest xid (get s.transactions xid) (lanes xid) (get w.opened xid)
 
--- Each count that is named is of all items of a transaction's lane.
+-- Each count that is named of a transaction with a lane is of all items of the lane. The last number of a u64 is no
+-- count: it stands where there were more, or where a name is of no transaction.
 abbrev pub AreCounts : (ℕ → Option Lane) → List (ℕ × ℕ) → Type 0
 AreCounts lanes named =
-    (xid count : ℕ) → Contains named (xid, count)
-    → (lane : Lane) × (lanes xid ≡ Some lane) × (count ≡ length (lane.sent ++ lane.late))
+    (xid count : ℕ) (lane : Lane) → Contains named (xid, count) → count < 2 ^ 64 - 1 → lanes xid ≡ Some lane
+    → count ≡ length (lane.sent ++ lane.late)

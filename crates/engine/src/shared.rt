@@ -1,5 +1,5 @@
 // A store as it lies under a lock.
-ghost use Rattle.std.specs.Prelude.{◌≡◌, ◌<◌, ◌≤◌, ◌++◌, ◌∷◌, [], Some, Ok, IfOk, IfErr, OnOk, OnErr, length, map};
+ghost use Rattle.std.specs.Prelude.{◌≡◌, ℕ, ◌<◌, ◌≤◌, ◌++◌, ◌∷◌, [], Some, Ok, IfOk, IfErr, OnOk, OnErr, is_some, length, map};
 ghost use Rattle.std.specs.FinMap as finite;
 ghost use Rattle.std.specs.List.Sorted.{IsStrictlyIncreasing};
 ghost use Rattle.std.specs.Result.{result_ok};
@@ -14,7 +14,7 @@ ghost use Rattle.engine.specs.declared.answers.EngineFault.TheVariants.{OutOfMem
 ghost use Rattle.engine.specs.declared.events.Event.TheVariants.{Done};
 ghost use Rattle.engine.specs.declared.events.LineEvent.TheVariants.{Opened as WasOpened, Committed as WasCommitted, Aborted as WasAborted};
 ghost use Rattle.engine.specs.Answers.{told, told_call, TellsWhatStopped, TellsCause, IsNoClash};
-ghost use Rattle.engine.specs.Events.{opened_by, commits_in, ends_in, last_end, events_of};
+ghost use Rattle.engine.specs.Events.{opened_by, commits_in, ends_in, last_end, is_open_in, events_of};
 ghost use Rattle.engine.specs.declared.entry.Entry.{Entry as AnyEntry};
 ghost use Rattle.engine.specs.Engine.{entry_in, IsOtherwiseSame};
 ghost use Rattle.engine.specs.Journal.{rows_after};
@@ -169,6 +169,17 @@ impl<N: StoreNames> SharedStore<N> {
         self.store.back_to(t, sub);
     }
 
+    /// Whether an open transaction waits with a change, or has one that clashed.
+    pub fn wants(&mut self, t: &mut Ticket) -> bool
+        requires { t.old.name ≡ N.tickets }
+        ensures stood { finite.get self.old.world.opened t.old.number ≡ Some (opened_by t.old.list) }
+        ensures wants { result ≡ is_some (opened_by t.old.list).wants }
+        ensures ticket { t.new ≡ t.old }
+        ensures same { self.new ≡ self.old }
+    {
+        self.store.wants(t)
+    }
+
     /// An open transaction is committed, as by `Store::commit`.
     pub fn commit(&mut self, line: &mut Line, t: Ticket, info: CommitInfo)
         requires belongs { t.name ≡ N.tickets }
@@ -203,11 +214,12 @@ impl<N: StoreNames> SharedStore<N> {
         ensures count { result ≡ length N.schema }
 
         // Its world has the commits that its line tells, each of which ends above the ones before it,
-        // and the committed rows are their changes.
+        // and the committed rows are their changes. The line tells too which transactions are open.
         ensures start { self.now.world.start ≡ N.start }
         ensures line { self.now.world.line ≡ commits_in self.now.line.list }
         ensures rising { IsStrictlyIncreasing (0 ∷ ends_in self.now.line.list) }
         ensures committed { self.now.world.committed ≡ serial N.schema N.start (changes_in self.now.world.line) }
+        ensures opened { (xid : ℕ) → is_open_in self.now.line.list xid ≡ is_some (finite.get self.now.world.opened xid) }
     {
         self.store.table_count()
     }

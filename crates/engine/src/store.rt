@@ -1,5 +1,5 @@
 // Several open transactions on one live set of tables.
-ghost use Rattle.std.specs.Prelude.{◌≡◌, ◌+◌, ◌<◌, ◌≤◌, ◌==◌, if◌then◌else◌, [], ◌∷◌, ◌++◌, Some, Ok, IfOk, IfErr, OnOk, OnErr, length, map, vec_len, vec_capacity};
+ghost use Rattle.std.specs.Prelude.{◌≡◌, ℕ, ◌+◌, ◌<◌, ◌≤◌, ◌==◌, if◌then◌else◌, [], ◌∷◌, ◌++◌, Some, Ok, IfOk, IfErr, OnOk, OnErr, is_some, length, map, vec_len, vec_capacity};
 ghost use Rattle.std.specs.List.Sorted.{IsStrictlyIncreasing};
 ghost use Rattle.std.specs.BTreeMap.{btree_map_len};
 ghost use Rattle.std.specs.FinMap as finite;
@@ -16,7 +16,7 @@ ghost use Rattle.engine.specs.declared.events.Event.TheVariants.{Done};
 ghost use Rattle.engine.specs.declared.events.LineEvent.TheVariants.{Opened as WasOpened, Committed as WasCommitted, Aborted as WasAborted};
 ghost use Rattle.std.specs.Result.{result_ok};
 ghost use Rattle.engine.specs.Answers.{told, told_call, after_open, after_touch, stop_of, TellsWhatStopped, TellsCause, IsNoClash};
-ghost use Rattle.engine.specs.Events.{opened_by, commits_in, ends_in, last_end, events_of, events_of_touch};
+ghost use Rattle.engine.specs.Events.{opened_by, commits_in, ends_in, last_end, is_open_in, events_of, events_of_touch};
 ghost use Rattle.engine.specs.Journal.{rows_after as rows_behind};
 ghost use Rattle.engine.specs.declared.entry.Entry.{Entry as AnyEntry};
 ghost use Rattle.engine.specs.Engine.{entry_in, IsOtherwiseSame};
@@ -172,6 +172,20 @@ impl Store {
         self.book.grow(&mut t.slip, &Event::Done(Item::BackTo(sub)));
     }
 
+    /// Whether an open transaction waits with a change, or has one that clashed. Nothing changes, and
+    /// it takes no memory.
+    pub fn wants(&mut self, t: &mut Ticket) -> bool
+        requires { t.old.name ≡ self.old.tickets }
+        ensures stood { finite.get self.old.world.opened t.old.number ≡ Some (opened_by t.old.list) }
+        ensures wants { result ≡ is_some (opened_by t.old.list).wants }
+        ensures ticket { t.new ≡ t.old }
+        ensures same { self.new ≡ self.old }
+    {
+        let xid = t.slip.number();
+        self.book.meet(&mut t.slip);
+        self.live.wants(xid)
+    }
+
     /// An open transaction is committed, also in a store that is stopped: its changes that survived
     /// its rollbacks are an entry of the journal, and what it held is let go. The log goes on behind it
     /// above where it went on behind the commit before, and above 0 behind the first: so an end names
@@ -223,10 +237,11 @@ impl Store {
         ensures count { result ≡ length self.now.schema }
 
         // Its world has the commits that its line tells, each of which ends above the ones before it,
-        // and the committed rows are their changes.
+        // and the committed rows are their changes. The line tells too which transactions are open.
         ensures line { self.now.world.line ≡ commits_in self.now.line.list }
         ensures rising { IsStrictlyIncreasing (0 ∷ ends_in self.now.line.list) }
         ensures committed { self.now.world.committed ≡ serial self.now.schema self.now.world.start (changes_in self.now.world.line) }
+        ensures opened { (xid : ℕ) → is_open_in self.now.line.list xid ≡ is_some (finite.get self.now.world.opened xid) }
     {
         self.live.tables.len()
     }

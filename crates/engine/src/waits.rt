@@ -1,13 +1,14 @@
 // Who waits for whom, by the live tables and the cells that are held. All is read in place, and it
 // takes no memory.
-ghost use Rattle.std.specs.Prelude.{◌≡◌, ◌↔◌, ◌∷◌, [], ℕ, true, false, Some, IfSome, IfNone, IsTrue, All, length};
+ghost use Rattle.std.specs.Prelude.{◌≡◌, ◌↔◌, ◌∷◌, [], ℕ, true, false, Some, IfSome, IfNone, IsTrue, All, is_some, length};
 ghost use Rattle.std.specs.Ordering.{nat_cmp};
 ghost use Rattle.std.specs.BTreeMap as tree;
+ghost use Rattle.std.specs.FinMap as finite;
 ghost use Rattle.model.specs.declared.change.Change.{Change as AnyChange};
 ghost use Rattle.model.specs.declared.cell.Cell.TheVariants.{Row as RowCell};
 ghost use Rattle.model.specs.Named.{NamesTables};
 ghost use Rattle.model.specs.Footprint.{looked_up, footprint, shares_cell};
-ghost use Rattle.world.specs.World.{World};
+ghost use Rattle.world.specs.World.{Opened, World};
 ghost use Rattle.world.specs.Steps.{StopsHeld};
 ghost use Rattle.keyholds.specs.Holds.{cells_held, IsFree};
 ghost use Rattle.engine.specs.Answers.{after_stop};
@@ -73,6 +74,16 @@ impl Live {
             return None;
         }
         self.find_holder(waiter, &transaction.wants)
+    }
+
+    /// Whether an open transaction waits with a change, or has one that clashed.
+    pub(crate) fn wants(&self, xid: Xid) -> bool
+        ensures { (w : World) (o : Opened) → IsTied w self.now → finite.get w.opened xid ≡ Some o → result ≡ is_some o.wants }
+    {
+        match self.transactions.get(&xid) {
+            Some(transaction) => transaction.wants.is_some(),
+            None => false,
+        }
     }
 
     // Whether each open transaction has done as many items as were sent to it, or waits.

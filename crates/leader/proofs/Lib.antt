@@ -1,1 +1,3 @@
 mod Leading
+mod Deciding
+pub mod Held

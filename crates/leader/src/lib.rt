@@ -23,10 +23,12 @@
 //   lanes          the leader's side of a worker
 //   shop           what leader and workers share
 //   ends           the ends that a store gives
+//   ending         the end of a run, decided once all workers have given up
 //
 // It stands on `spooled` for the loop over a stream and the ends of a run, `session` for what messages ask
 // for, `engine`'s store, and `worker`, `crew` and `ring`. No run goes by it yet. All that a caller of a run
 // needs stands here, as in `spooled`.
+mod ending;
 mod ends;
 mod lanes;
 mod lead;

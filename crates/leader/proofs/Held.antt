@@ -1,0 +1,342 @@
+-- From what a leader has of its transactions as a run ends, and the world at which it ended, to why the run with workers
+-- ended.
+use Rattle.std.proofs.Common.{◌≡◌, ◌≢◌, ℕ, true, false, List, [], ◌∷◌, ◌++◌, length, Option, Some, None, refl, sym, ap, subst, ◌∙◌, append-nil, inl, inr}
+use Rattle.std.specs.Prelude.{ℤ, map, fold, IsSome, IfSome, Contains, is_some}
+use Rattle.std.specs.FinMap.{get}
+use Rattle.std.proofs.lemmas.List.Elements.{All-contains}
+use Rattle.model.specs.declared.change.Change as change_type
+use Rattle.model.specs.Rows.{Rows, IsValid}
+use Rattle.model.specs.Effect.{ClashCause, NullKey, Unique}
+use Rattle.world.specs.World.{Opened, Past, Entry, World}
+use Rattle.world.specs.Steps.{IsStuck}
+use Rattle.engine.specs.declared.events.LineEvent.{LineEvent}
+use Rattle.engine.specs.declared.entry.Entry as entry_type
+use Rattle.engine.specs.Engine.{entry_in}
+use Rattle.engine.specs.Events.{commits_in, last_end}
+use Rattle.frames.specs.declared.fault.FrameFault.{FrameFault}
+use Rattle.frames.specs.declared.fault.FrameFault.TheVariants as frames
+use Rattle.frames.specs.declared.item.CopyItem.{CopyItem}
+use Rattle.session.specs.State.{Way, Direct, Worker, Spooled, Open, State, Setting}
+use Rattle.spooled.specs.declared.end.End.{End}
+use Rattle.spooled.specs.declared.end.End.TheVariants as ends
+use Rattle.spooled.specs.Cause.{schema_of, HasGoneWell, IsOver, IsSendCause, IsInputCause}
+use Rattle.spooled.specs.Commits.{transaction_of}
+use Rattle.spooled.specs.Devices.{DeviceState}
+use Rattle.spooled.specs.Handler.{IsRunOver}
+use Rattle.spooled.specs.declared.outcome.Outcome.{Outcome}
+use Rattle.spooled.specs.Progress.{Progress}
+use Rattle.course.specs.Leading.{Lane, InStep, IsAgreed, AreInStep, AreCounts}
+use Rattle.course.specs.Runs.{told_of, end_of}
+use Rattle.course.specs.Threads.{work_of, IsWorldOf}
+use Rattle.course.specs.ThreadedRun.{HasConflict, IsStuckBy, Clear, HasWorkedOn, IsThreadedCause, IsThreadedRun}
+use Rattle.course.proofs.Books.{is_world, noted_conflict, stuck_by}
+use Rattle.leader.specs.Ending.{Holding, Hand, IsNoted, end_for, EndsAsNoted, IsDecided, HasFinished, KeepsToWork, AreInHand, AreGiven, Proposes}
+
+-- ---- lanes that the world and the state show
+
+-- a lane to which all work of a transaction was sent
+abbrev pub whole_lane : ℕ → Open → Lane
+whole_lane xid o = record { sent = work_of xid o.way o.items; late = [] }
+
+abbrev pub lane_at : ℕ → Option Open → Option Opened → Option Lane
+lane_at xid (Some o) (Some done) = Some (whole_lane xid o)
+lane_at xid (Some o) None = None
+lane_at xid None there = None
+
+-- each transaction that is open in both has such a lane
+abbrev pub lanes_at : State → World → ℕ → Option Lane
+lanes_at s w xid = lane_at xid (get s.transactions xid) (get w.opened xid)
+
+same_open : (o p : Open) → Some o ≡ Some p → o ≡ p
+same_open o p e = cc
+
+same_opened : (d e : Opened) → Some d ≡ Some e → d ≡ e
+same_opened d e is = cc
+
+same_lane : (l k : Lane) → Some l ≡ Some k → l ≡ k
+same_lane l k e = cc
+
+none_is : {X : Type 0} (x : X) → None ≡ Some x → ⊥
+none_is x e = cc
+
+not_some : (d : Opened) → true ≡ is_some (Some d)
+not_some d = refl
+
+is_spooled : (way : Way) → (way ≢ Spooled → ⊥) → way ≡ Spooled
+is_spooled Direct not = absurd (not (λ e. cc))
+is_spooled Worker not = absurd (not (λ e. cc))
+is_spooled Spooled not = refl
+
+module _ (g : Setting) (s : State) (rest : List CopyItem) (xid : ℕ) where
+  in_step : (o : Open) (done : Opened) → KeepsToWork g s rest xid o done → InStep g s rest xid o (whole_lane xid o) done
+  in_step o done held = record {
+    all_work = append-nil (work_of xid o.way o.items);
+    left = held.left;
+    begins = held.begins;
+    wants = held.wants;
+    next = held.next;
+  }
+
+  agrees : (o : Option Open) (d : Option Opened) → ((done : Opened) → d ≡ Some done → (p : Open) × (o ≡ Some p) × KeepsToWork g s rest xid p done)
+      → ((p : Open) → o ≡ Some p → p.way ≢ Spooled → is_some d ≡ true) → IsAgreed g s rest xid o (lane_at xid o d) d
+  agrees None None held streamed = tt
+  agrees (Some o) None held streamed = is_spooled o.way (λ not. let no : false ≡ true = streamed o refl not in cc)
+  agrees None (Some done) held streamed = let is = held done refl in absurd (none_is is.0 is.1)
+  agrees (Some o) (Some done) held streamed =
+      let is = held done refl in in_step o done (subst (λ p. KeepsToWork g s rest xid p done) (sym (same_open o is.0 is.1)) is.2)
+
+  lane_is : (o : Option Open) (d : Option Opened) (lane : Lane) → lane_at xid o d ≡ Some lane → (p : Open) × (o ≡ Some p) × (whole_lane xid p ≡ lane)
+  lane_is None d lane e = absurd (none_is lane e)
+  lane_is (Some o) None lane e = absurd (none_is lane e)
+  lane_is (Some o) (Some done) lane e = (o, refl, same_lane (whole_lane xid o) lane e)
+
+-- ---- the world at which a run ended
+
+module _ (g : Setting) (rows : Rows) (s : State) (rest : List CopyItem) (line : List LineEvent) (hand : Hand) (given : List (ℕ × ℕ)) (proposed end : End)
+    (left_rows : Rows) (entries : List Entry) (f : HasFinished (schema_of g) rows line hand given proposed end left_rows entries) (are : AreInHand g s rest line hand) where
+  -- a transaction in hand is open in the world
+  stands : (h : Holding) → Contains hand (Some h) → get f.world.opened h.xid ≡ Some h.done
+  stands h among = All-contains (λ slot. IfSome slot (λ (k : Holding). get f.world.opened k.xid ≡ Some k.done)) hand (Some h) f.stood among
+
+  -- and open in the state
+  keeps_to : (h : Holding) → Contains hand (Some h) → (o : Open) × (get s.transactions h.xid ≡ Some o) × KeepsToWork g s rest h.xid o h.done
+  keeps_to h among =
+      All-contains (λ slot. IfSome slot (λ (k : Holding). (o : Open) × (get s.transactions k.xid ≡ Some o) × KeepsToWork g s rest k.xid o k.done)) hand (Some h) are.held among
+
+  held_there : (xid : ℕ) (done : Opened) → get f.world.opened xid ≡ Some done → (o : Open) × (get s.transactions xid ≡ Some o) × KeepsToWork g s rest xid o done
+  held_there xid done at =
+      let there = are.all xid (f.opened xid ∙ ap is_some at) in
+      let same : there.0.done ≡ done = same_opened there.0.done done (sym (stands there.0 there.1) ∙ ap (get f.world.opened) there.2 ∙ at) in
+      let is = keeps_to there.0 there.1 in (
+        is.0,
+        sym (ap (get s.transactions) there.2) ∙ is.1,
+        subst (λ (n : ℕ). KeepsToWork g s rest n is.0 done) there.2 (subst (λ (d : Opened). KeepsToWork g s rest there.0.xid is.0 d) same is.2),
+      )
+
+  pub are_in_step : AreInStep g rows s rest (lanes_at s f.world) f.world
+  are_in_step = record {
+    reached = f.reached;
+    line = f.commits ∙ are.commits;
+    agree = λ xid.
+        agrees g s rest xid (get s.transactions xid) (get f.world.opened xid) (held_there xid) (λ o at not. sym (f.opened xid) ∙ are.streamed xid o at not);
+  }
+
+  pub ends_in_world : IsWorldOf g rows s rest f.world
+  ends_in_world = is_world g rows s rest (lanes_at s f.world) f.world are_in_step
+
+  are_counts : AreGiven s given → AreCounts (lanes_at s f.world) given
+  are_counts counts xid count lane named short at =
+      let is = lane_is g s rest xid (get s.transactions xid) (get f.world.opened xid) lane at in
+      counts xid count is.0 named short is.1
+      ∙ ap length (sym (append-nil (work_of xid is.0.way is.0.items)) ∙ ap (λ (l : Lane). l.sent ++ l.late) is.2)
+
+  -- ---- why it ended
+
+  wanted : (wants : Option (ℕ × change_type.Change)) → IsSome wants → (sub : ℕ) × (c : change_type.Change) × (wants ≡ Some (sub, c))
+  wanted None is = let no : false ≡ true = is in cc
+  wanted (Some p) is = (p.0, p.1, refl)
+
+  -- a clash that is noted is a conflict
+  conflicts : IsValid (schema_of g) rows → (cause : ClashCause) → IsNoted f.world hand cause → HasConflict g s f.world cause
+  conflicts valid cause (h, c, among, stopped, wants) =
+      let want = wanted h.done.wants wants in
+      noted_conflict g rows s rest (lanes_at s f.world) f.world are_in_step valid h.xid c cause stopped h.done (stands h among) want.0 want.1 want.2
+
+  stuck : (xid holder : ℕ) → Proposes g s rest given (ends.HeldKey xid holder) → (other : ℕ) → IsStuck (schema_of g) f.world given xid other
+      → IsStuckBy g s rest f.world xid other
+  stuck xid holder (counts, turn) other is =
+      stuck_by g rows s rest (lanes_at s f.world) f.world are_in_step given xid other (are_counts counts) turn is
+
+-- with the devices, at the progress that the items handled led to
+module _ (g : Setting) (rows : Rows) (rest : List CopyItem) (line : List LineEvent) (hand : Hand) (given : List (ℕ × ℕ)) (proposed end : End) (left_rows : Rows)
+    (entries : List Entry) (old new : DeviceState) (handled : List CopyItem) (p : Progress) (times : List ℤ) (bytes : List ℕ) (valid : IsValid (schema_of g) rows)
+    (f : HasFinished (schema_of g) rows line hand given proposed end left_rows entries) where
+  abbrev Cause : End → Type 0
+  Cause = IsThreadedCause g old new handled p times bytes rest f.world
+
+  abbrev Worked : Type 0
+  Worked = HasWorkedOn g old new handled p times
+
+  of_cause : Worked → (cause : ClashCause) → HasConflict g p.state f.world cause → Cause (end_for cause)
+  of_cause well (Unique table key) is = (well, is)
+  of_cause well (NullKey table) is = (well, is)
+
+  by_noted : AreInHand g p.state rest line hand → Worked → (e : End) → EndsAsNoted f.world hand e → Cause e
+  by_noted are well e (inl (cause, noted, is)) =
+      subst Cause (sym is)
+      (of_cause well cause (conflicts g rows p.state rest line hand given proposed end left_rows entries f are valid cause noted))
+  by_noted are well e (inr (none, is)) = subst Cause (sym is) (inl well)
+
+  -- an item ended it
+  by_item : AreInHand g p.state rest line hand → Worked → (first e : End) → Proposes g p.state rest given first
+      → IsDecided (schema_of g) f.world hand given first e → Cause e
+  by_item are well ends.Clean e why decided = absurd why
+  by_item are well (ends.Frame fault) e why decided = absurd why
+  by_item are well (ends.Msg fault) e why decided = subst Cause (sym decided) (well, why)
+  by_item are well (ends.Session fault) e why decided = subst Cause (sym decided) (well, why)
+  by_item are well (ends.Rel fault) e why decided = subst Cause (sym decided) (well, why)
+  by_item are well (ends.Unique table key) e why decided = by_noted are well e decided
+  by_item are well (ends.NullKey table) e why decided = by_noted are well e decided
+  by_item are well (ends.HeldKey xid holder) e why (inl (other, is, so)) =
+      subst Cause (sym so) (well, stuck g rows p.state rest line hand given proposed end left_rows entries f are xid holder why other is)
+  by_item are well (ends.HeldKey xid holder) e why (inr (none, so)) = subst Cause (sym so) (inl well)
+  by_item are well ends.OutOfMemory e why decided = subst Cause (sym decided) (inl well)
+
+  -- where the devices worked, whatever else is clear
+  goes_well : {X : Type 0} → HasGoneWell g X old new handled p times → Worked
+  goes_well well = record { clear = tt; read = well.read; sent = well.sent }
+
+  is_over : {X : Type 0} (why : Option FrameFault) → IsOver g X old new handled p times bytes rest why → IsOver g Clear old new handled p times bytes rest why
+  is_over why over = record { well = goes_well over.well; all_handled = over.all_handled; fault = over.fault; asked = over.asked }
+
+  -- an update that was due did
+  by_send : (X : Type 0) (first e : End) → IsSendCause g X old new handled p times first → IsDecided (schema_of g) f.world hand given first e → Cause e
+  by_send X ends.Clean e why decided = absurd why
+  by_send X (ends.Frame frames.UnknownFrame) e why decided = absurd why
+  by_send X (ends.Frame frames.BadLength) e why decided = absurd why
+  by_send X (ends.Frame frames.TooLarge) e why decided = absurd why
+  by_send X (ends.Frame frames.Truncated) e why decided = absurd why
+  by_send X (ends.Frame frames.UnknownCopyTag) e why decided = absurd why
+  by_send X (ends.Frame frames.ServerError) e why decided = absurd why
+  by_send X (ends.Frame frames.Device) e why decided =
+      subst Cause (sym decided) (inr (record { clear = tt; read = why.read; failed = why.failed; cut = why.cut }))
+  by_send X (ends.Frame frames.OutOfMemory) e why decided = absurd why
+  by_send X (ends.Msg fault) e why decided = absurd why
+  by_send X (ends.Session fault) e why decided = absurd why
+  by_send X (ends.Rel fault) e why decided = absurd why
+  by_send X (ends.Unique table key) e why decided = absurd why
+  by_send X (ends.NullKey table) e why decided = absurd why
+  by_send X (ends.HeldKey xid holder) e why decided = absurd why
+  by_send X ends.OutOfMemory e why decided =
+      subst Cause (sym decided) (inr (record { clear = tt; read = why.read; written = why.written; cut = why.cut; nothing = why.nothing }))
+
+  -- the input did
+  by_input : (X : Type 0) → AreInHand g p.state rest line hand → (first e : End) → IsInputCause g X old new handled p times bytes rest first
+      → IsDecided (schema_of g) f.world hand given first e → Cause e
+  by_input X are ends.Clean e why (inl (runs, so)) = subst Cause (sym so) (is_over None why, runs)
+  by_input X are ends.Clean e why (inr (stopped, noted)) = by_noted are (goes_well why.well) e noted
+  by_input X are (ends.Frame frames.UnknownFrame) e why decided = subst Cause (sym decided) (is_over (Some frames.UnknownFrame) why)
+  by_input X are (ends.Frame frames.BadLength) e why decided = subst Cause (sym decided) (is_over (Some frames.BadLength) why)
+  by_input X are (ends.Frame frames.TooLarge) e why decided = subst Cause (sym decided) (is_over (Some frames.TooLarge) why)
+  by_input X are (ends.Frame frames.Truncated) e why decided = subst Cause (sym decided) (is_over (Some frames.Truncated) why)
+  by_input X are (ends.Frame frames.UnknownCopyTag) e why decided = subst Cause (sym decided) (is_over (Some frames.UnknownCopyTag) why)
+  by_input X are (ends.Frame frames.ServerError) e why decided = subst Cause (sym decided) (is_over (Some frames.ServerError) why)
+  by_input X are (ends.Frame frames.Device) e why decided =
+      subst Cause (sym decided) (inl (record { clear = tt; all_handled = why.all_handled; failed = why.failed; sent = why.sent }))
+  by_input X are (ends.Frame frames.OutOfMemory) e why decided = subst Cause (sym decided) (is_over (Some frames.OutOfMemory) why)
+  by_input X are (ends.Msg fault) e why decided = absurd why
+  by_input X are (ends.Session fault) e why decided = absurd why
+  by_input X are (ends.Rel fault) e why decided = absurd why
+  by_input X are (ends.Unique table key) e why decided = absurd why
+  by_input X are (ends.NullKey table) e why decided = absurd why
+  by_input X are (ends.HeldKey xid holder) e why decided = absurd why
+  by_input X are ends.OutOfMemory e why decided = subst Cause (sym decided) (inl (goes_well why))
+
+-- ---- the run
+
+pub ends_at : (line : List Past) → end_of line ≡ fold (λ (before end : ℕ). end) 0 (map (λ (p : Past). p.info.end) line)
+ends_at [] = refl
+ends_at (p ∷ []) = refl
+ends_at (p ∷ q ∷ line) = ends_at (q ∷ line)
+
+told_alike : (entries : List entry_type.Entry) → map transaction_of entries ≡ map told_of (map entry_in entries)
+told_alike [] = refl
+told_alike (e ∷ entries) = ap (λ ts. transaction_of e ∷ ts) (told_alike entries)
+
+-- Where the handler stands as the loop ends, or says that it ended the run, its transactions are held. Then what it
+-- leaves is a run with workers.
+module _ {H : Type 0} (g : Setting) (rows : Rows) (At : H → Progress → Type 0) (Ended : H → List CopyItem → Progress → List CopyItem → End → Type 0)
+    (old new : DeviceState) (h : H) (proposed : End) (over : IsRunOver g At Ended old new h proposed) (valid : IsValid (schema_of g) rows)
+    (line : List LineEvent) (hand : Hand) (given : List (ℕ × ℕ)) (o : Outcome)
+    (f : HasFinished (schema_of g) rows line hand given proposed o.end o.tables.rows (map entry_in o.journal.items))
+    (schema : o.tables.schema ≡ schema_of g) (position : o.position ≡ last_end line)
+    (at_held : (p : Progress) (rest : List CopyItem) → At h p → AreInHand g p.state rest line hand)
+    (ended_held : (handled : List CopyItem) (p : Progress) (rest : List CopyItem) → Ended h handled p rest proposed
+    → AreInHand g p.state rest line hand × Proposes g p.state rest given proposed) where
+  abbrev Why : Type 0
+  Why = AreInHand g over.progress.state over.rest line hand
+      × IsThreadedCause g old new over.handled over.progress over.times over.bytes over.rest f.world o.end
+
+  by_at : At h over.progress
+      → (AreInHand g over.progress.state over.rest line hand → IsThreadedCause g old new over.handled over.progress over.times over.bytes over.rest f.world o.end) → Why
+  by_at at why = let are = at_held over.progress over.rest at in (are, why are)
+
+  held_in_send : (e : End) → IsSendCause g (At h over.progress) old new over.handled over.progress over.times e → At h over.progress
+  held_in_send ends.Clean why = absurd why
+  held_in_send (ends.Frame frames.UnknownFrame) why = absurd why
+  held_in_send (ends.Frame frames.BadLength) why = absurd why
+  held_in_send (ends.Frame frames.TooLarge) why = absurd why
+  held_in_send (ends.Frame frames.Truncated) why = absurd why
+  held_in_send (ends.Frame frames.UnknownCopyTag) why = absurd why
+  held_in_send (ends.Frame frames.ServerError) why = absurd why
+  held_in_send (ends.Frame frames.Device) why = why.clear
+  held_in_send (ends.Frame frames.OutOfMemory) why = absurd why
+  held_in_send (ends.Msg fault) why = absurd why
+  held_in_send (ends.Session fault) why = absurd why
+  held_in_send (ends.Rel fault) why = absurd why
+  held_in_send (ends.Unique table key) why = absurd why
+  held_in_send (ends.NullKey table) why = absurd why
+  held_in_send (ends.HeldKey xid holder) why = absurd why
+  held_in_send ends.OutOfMemory why = why.clear
+
+  held_in_input : (e : End) → IsInputCause g (At h over.progress) old new over.handled over.progress over.times over.bytes over.rest e → At h over.progress
+  held_in_input ends.Clean why = why.well.clear
+  held_in_input (ends.Frame frames.UnknownFrame) why = why.well.clear
+  held_in_input (ends.Frame frames.BadLength) why = why.well.clear
+  held_in_input (ends.Frame frames.TooLarge) why = why.well.clear
+  held_in_input (ends.Frame frames.Truncated) why = why.well.clear
+  held_in_input (ends.Frame frames.UnknownCopyTag) why = why.well.clear
+  held_in_input (ends.Frame frames.ServerError) why = why.well.clear
+  held_in_input (ends.Frame frames.Device) why = why.clear
+  held_in_input (ends.Frame frames.OutOfMemory) why = why.well.clear
+  held_in_input (ends.Msg fault) why = absurd why
+  held_in_input (ends.Session fault) why = absurd why
+  held_in_input (ends.Rel fault) why = absurd why
+  held_in_input (ends.Unique table key) why = absurd why
+  held_in_input (ends.NullKey table) why = absurd why
+  held_in_input (ends.HeldKey xid holder) why = absurd why
+  held_in_input ends.OutOfMemory why = why.clear
+
+  by_why : Why
+  by_why = elim over.why [
+    | inl item ↦
+        let is = ended_held over.handled over.progress over.rest item.ended in (
+          is.0,
+          by_item g rows over.rest line hand given proposed o.end o.tables.rows (map entry_in o.journal.items) old new over.handled over.progress over.times over.bytes valid f is.0
+              (record { clear = tt; read = item.read; sent = item.sent }) proposed o.end is.1 f.decided,
+        )
+    | inr later ↦
+        elim later [
+          | inl send ↦
+              by_at (held_in_send proposed send) (λ are.
+              by_send g rows over.rest line hand given proposed o.end o.tables.rows (map entry_in o.journal.items) old new over.handled over.progress over.times over.bytes valid f
+              (At h over.progress) proposed o.end send f.decided)
+          | inr input ↦
+              by_at (held_in_input proposed input) (λ are.
+              by_input g rows over.rest line hand given proposed o.end o.tables.rows (map entry_in o.journal.items) old new over.handled over.progress over.times over.bytes valid f
+              (At h over.progress) are proposed o.end input f.decided)
+        ]
+  ]
+
+  pub is_threaded_run : IsThreadedRun g rows old new o
+  is_threaded_run = record {
+    bytes = over.bytes;
+    read = over.read;
+    handled = over.handled;
+    rest = over.rest;
+    items = over.items;
+    progress = over.progress;
+    lawful = over.lawful;
+    times = over.times;
+    told = over.told;
+    counted = over.counted;
+    world = f.world;
+    is_world = ends_in_world g rows over.progress.state over.rest line hand given proposed o.end o.tables.rows (map entry_in o.journal.items) f by_why.0;
+    cause = by_why.1;
+    left = record {
+      entries = told_alike o.journal.items ∙ ap (map told_of) f.entries_are;
+      position = position ∙ sym (ap end_of f.commits ∙ ends_at (commits_in line));
+      tables = f.rows_are;
+    };
+    schema = schema;
+  }
