@@ -4,10 +4,7 @@ use frames::{ReadSource, WriteSink};
 use std::io;
 use std::net::{Net, TcpStream};
 
-/// The stream of a connection, which is read and written.
-pub type StreamEnd<'a> = Retried<&'a TcpStream>;
-
-/// A connection to whoever sends a stream. It is closed where it is dropped.
+/// A connection to whoever sends a stream. It is closed where it is dropped, unless its ends were taken.
 #[derive(Drop)]
 pub struct Connection {
     stream: TcpStream,
@@ -27,18 +24,20 @@ impl Connection {
         Ok(Connection { stream })
     }
 
-    /// Its stream, for whoever reads or writes it another way.
-    pub fn stream(&self) -> StreamEnd<'_> {
-        Retried::new(&self.stream)
-    }
-
     /// What comes over it.
-    pub fn source(&self) -> ReadSource<StreamEnd<'_>> {
-        ReadSource::new(self.stream())
+    pub fn source(&self) -> ReadSource<Retried<&TcpStream>> {
+        ReadSource::new(Retried::new(&self.stream))
     }
 
     /// What goes over it.
-    pub fn sink(&self) -> WriteSink<StreamEnd<'_>> {
-        WriteSink::new(self.stream())
+    pub fn sink(&self) -> WriteSink<Retried<&TcpStream>> {
+        WriteSink::new(Retried::new(&self.stream))
+    }
+
+    /// The end that is read and the end that is written, for whoever keeps them apart. The socket is
+    /// closed once both are dropped.
+    pub fn into_ends(self) -> io::Result<(Retried<TcpStream>, Retried<TcpStream>)> {
+        let written = self.stream.try_clone()?;
+        Ok((Retried::new(self.stream), Retried::new(written)))
     }
 }

@@ -12,9 +12,9 @@
 // is the system's to say. Tests over sockets of this machine show it: bytes that come one at a time, an
 // end at a frame's edge and within a frame, a connection that breaks, updates that come back.
 //
-// How it works. Both ends are references to one stream, so they read and write it in turn and close it
-// together, when the connection is dropped. A status update is one write, sent at once, and is not kept
-// back until more comes.
+// How it works. Both ends are references to one stream, which is closed when the connection is dropped; or
+// handles of it (`into_ends`), which close it together. A status update is one write, sent at once, and is
+// not kept back until more comes.
 //
 //   connection   `Connection`
 //   retried      `Retried`, a reader or writer over one that signals may interrupt
@@ -28,5 +28,5 @@ mod retried;
 #[cfg(test)]
 mod tests;
 
-pub use connection::{Connection, StreamEnd};
+pub use connection::Connection;
 pub use retried::Retried;

@@ -1,10 +1,12 @@
 // Both sides of a connection over a socket of this machine. Where what is sent fits the system's
 // buffers, one thread plays both.
 use crate::Connection;
-use frames::{CopyItem, FrameFault, Frames, Source, Status, send_status, write_status};
+use frames::{
+    CopyItem, FrameFault, Frames, ReadSource, Source, Status, WriteSink, send_status, write_status,
+};
 use std::alloc::Global;
 use std::io::{Read, Write};
-use std::net::{TcpListener, TcpStream};
+use std::net::{Shutdown, TcpListener, TcpStream};
 use std::test::Fail;
 use std::thread;
 
@@ -131,6 +133,24 @@ fn bytes_one_at_a_time_and_updates_that_come_back(rt: HostRuntime) -> Result<(),
         || tell_slowly(alloc, peer, told),
     );
     assert_eq!(rt; (count, end, sent), (3, Ok(()), Ok(())));
+    let mut update = Vec::new(alloc);
+    write_status(&STATUS, &mut update)?;
+    assert_eq!(rt; heard.as_slice(), update.as_slice());
+    Ok(())
+}
+
+#[test]
+fn ends_that_are_kept_apart(rt: HostRuntime) -> Result<(), Fail> {
+    let alloc = rt.alloc();
+    let (connection, mut peer) = pair(&rt)?;
+    peer.write_all(keepalives(alloc)?.as_slice())?;
+    peer.shutdown(Shutdown::Write)?;
+    let (read, written) = connection.into_ends()?;
+    let (count, end) = read_all(alloc, ReadSource::new(read));
+    assert_eq!(rt; (count, end), (3, Ok(())));
+    send_status(alloc, &STATUS, &mut WriteSink::new(written))?;
+    let mut heard = Vec::new(alloc);
+    peer.read_to_end(&mut heard)?;
     let mut update = Vec::new(alloc);
     write_status(&STATUS, &mut update)?;
     assert_eq!(rt; heard.as_slice(), update.as_slice());
