@@ -1,14 +1,31 @@
-// A program that embeds a run: it applies a stream to tables of its own, and looks at their rows.
+// A program that keeps a cache exact: accounts, which a publisher changes and this program looks up.
 //
-// The stream comes on standard input, as the CopyData bytes that a replication connection carries. What a
-// caller of a run needs stands in `leader`: the catalog, the tables, keys and values, sources, sinks and the
-// clock. What a run leaves is said by the contract of `run_spooled`: the tables are the committed changes of
-// the bytes, applied in commit order.
+//     embed < FILE          the stream's bytes on standard input
+//     embed HOST:PORT       from whoever listens there: `publisher serve`, for one
+//
+// It is what a program of your own would be. `spooled` has all that a caller of a run without threads
+// needs: the catalog, the tables, keys and values, sources, sinks and the clock. A run applies the stream's
+// commits and answers with the tables; `accounts` asks these.
+//
+// What is promised. `keep` answers with the rows that the commits of the stream leave, applied one after
+// another, or says why there is no clean end (`IsKeptFrom` in `specs/Accounts.antt`, by the contract of
+// `run_spooled`). Each look-up answers with what stands in these rows, and with none only where there is
+// none. So no answer is of a transaction that was rolled back, or that has not come whole. Which bytes come
+// over a socket is said by no clause.
 #![tactic(auto)]
 
-use leader::{
-    ByteStr, Catalog, Clock, Config, End, Key, OutOfMemory, ReadSource, RowView, TableId, Tables,
-    Value, ValueRef, WriteSink, run_spooled,
+mod accounts;
+
+ghost use Rattle.std.specs.Prelude.{◌≡◌, None, IfOk};
+ghost use Rattle.spooled.specs.Devices.{device_state, health};
+ghost use Rattle.embed.specs.Accounts.{IsKeptFrom};
+
+use accounts::Accounts;
+use anyhow::bail;
+use connection::Connection;
+use spooled::{
+    Catalog, Clock, Config, End, ReadSource, RowView, Sink, Source, Tables, ValueRef, WriteSink,
+    run_spooled,
 };
 use std::alloc::{AllocError, Global};
 
@@ -30,18 +47,13 @@ name = "note"
 type = "text"
 "#;
 
-/// The place of `accounts` in the catalog, and of its unique key, from 1.
-const ACCOUNTS: TableId = 0;
-
-const EMAIL: usize = 1;
-
 const CONFIG: Config = Config {
     workers: 0,
     ring: 1,
     spool: 1 << 30,
 };
 
-/// Status updates that are kept here have no time.
+/// Status updates of this program have no time.
 #[derive(Drop)]
 struct NoClock;
 
@@ -57,50 +69,67 @@ impl Clock for NoClock {
 
 fn main(rt: HostRuntime) -> anyhow::Result<()> {
     let alloc = rt.alloc();
+    let words: Vec<String> = std::env::args(&rt)?.collect(alloc)?;
     let catalog = Catalog::read(alloc, CATALOG)?;
-    let start = Tables::empty(alloc, &catalog).map_err(End::from)?;
-    let stream = ReadSource::new(rt.reader());
-    let updates = WriteSink::new(Vec::new(alloc));
-    let outcome = run_spooled(alloc, stream, updates, &catalog, start, &CONFIG, NoClock);
-    if outcome.end != End::Clean {
-        return Err(outcome.end.into());
+    let tables = match words.get(1) {
+        Some(address) => {
+            let connection = Connection::open(&rt, address.as_str())?;
+            keep(
+                alloc,
+                &catalog,
+                &CONFIG,
+                connection.source(),
+                connection.sink(),
+            )?
+        }
+        None => {
+            let updates = WriteSink::new(Vec::new(alloc));
+            keep(
+                alloc,
+                &catalog,
+                &CONFIG,
+                ReadSource::new(rt.reader()),
+                updates,
+            )?
+        }
+    };
+    match Accounts::new(tables) {
+        Some(accounts) => show(&rt, alloc, &accounts),
+        None => bail!("the catalog has no accounts with a unique email"),
     }
-    show(&rt, alloc, &outcome.tables)
 }
 
-/// Looks a row up by its key and by a unique value, and then walks the table.
-fn show(rt: &impl Print, alloc: Global, tables: &Tables) -> anyhow::Result<()> {
-    let key = Key::from_value(alloc, Value::Int(2)).map_err(End::from)?;
-    let row = account_at(tables, &key);
+/// The tables that the commits of a stream leave; or why it did not end well, with what to do about it.
+fn keep<R: Source + Drop, W: Sink + Drop>(
+    alloc: Global,
+    catalog: &Catalog,
+    config: &Config,
+    reader: R,
+    writer: W,
+) -> Result<Tables, End>
+    ensures { IfOk result (λ tables. IsKeptFrom catalog.now config.now
+        (device_state (R.remaining reader) (W.contents writer) None (R.reads_left reader)
+        (health (R.failures reader) (R.failed_last reader)) (health (W.failures writer) (W.failed_last writer)))
+        tables.rows) }
+{
+    let start = Tables::empty(alloc, catalog)?;
+    let outcome = run_spooled(alloc, reader, writer, catalog, start, config, NoClock);
+    match outcome.end {
+        End::Clean => Ok(outcome.tables),
+        end => Err(end),
+    }
+}
+
+/// Looks an account up by its number and by its email, and then walks all of them.
+fn show(rt: &impl Print, alloc: Global, accounts: &Accounts) -> anyhow::Result<()> {
+    let row = accounts.by_number(alloc, 2).map_err(End::from)?;
     println!(rt; "account 2: {}", line_of(alloc, row)?)?;
-    let email = Value::Text(ByteStr::from_static("a"));
-    let values = Key::from_value(alloc, email).map_err(End::from)?;
-    let row = account_of(tables, &values);
+    let row = accounts.by_email(alloc, "a").map_err(End::from)?;
     println!(rt; "account with email a: {}", line_of(alloc, row)?)?;
-    if ACCOUNTS < tables.len() {
-        for row in tables.walk(ACCOUNTS) {
-            println!(rt; "{}", line_of(alloc, Some(row))?)?;
-        }
+    for row in accounts.walk() {
+        println!(rt; "{}", line_of(alloc, Some(row))?)?;
     }
     Ok(())
-}
-
-/// The account at a key.
-fn account_at<'a>(tables: &'a Tables, key: &Key) -> Option<RowView<'a>> {
-    if ACCOUNTS < tables.len() {
-        tables.get(ACCOUNTS, key)
-    } else {
-        None
-    }
-}
-
-/// The account with this email.
-fn account_of<'a>(tables: &'a Tables, email: &Key) -> Option<RowView<'a>> {
-    if ACCOUNTS < tables.len() && EMAIL <= tables.unique_count(ACCOUNTS) {
-        tables.get(ACCOUNTS, tables.find_unique(ACCOUNTS, EMAIL, email)?)
-    } else {
-        None
-    }
 }
 
 /// A row's values, divided by a comma.
