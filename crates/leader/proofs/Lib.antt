@@ -1,1 +1,7 @@
+mod Agreeing
+mod Giving
 mod Leading
+mod Leftover
+mod Serving
+mod Trying
+mod Turning
