@@ -1,7 +1,9 @@
 -- What a message that was taken leaves of a run with workers.
 use Rattle.std.proofs.Common.{◌≡◌, ◌≢◌, ℕ, ◌<◌, Bool, true, false, List, [], ◌∷◌, ◌++◌, length, Option, Some, None, refl, sym, ap, subst, ◌∙◌, append-nil, arith, ⊎_elim, length-append, inl, inr}
-use Rattle.std.specs.Prelude.{map, All, max, Result, Ok, Err}
+use Rattle.std.specs.Prelude.{map, fold, All, max, Result, Ok, Err, ◌⊎◌}
+use Rattle.std.specs.Result.{IsErrAnd}
 use Rattle.std.proofs.lemmas.Bool.{cases_eq, lt-ltb, le-ltb}
+use Rattle.std.proofs.lemmas.Grind.{flat_map-append}
 use Rattle.std.proofs.lemmas.List.{map-append}
 use Rattle.std.proofs.lemmas.List.Elements.{All-append, All-cons, All-nil}
 use Rattle.std.specs.declared.vec.Vec.{Vec}
@@ -14,27 +16,39 @@ use Rattle.model.specs.declared.item.Item.{Item}
 use Rattle.model.specs.declared.item.Item.TheVariants.{Change, Touch, BackTo, Last}
 use Rattle.model.specs.declared.item.CommitInfo.{CommitInfo}
 use Rattle.messages.specs.declared.message.Message.{Message}
+use Rattle.frames.specs.declared.item.CopyItem.{CopyItem}
+use Rattle.frames.specs.declared.item.CopyItem.TheVariants.{Wal, Keepalive, Done}
+use Rattle.world.specs.World.{Past}
+use Rattle.engine.specs.declared.events.LineEvent.{LineEvent}
+use Rattle.engine.specs.declared.events.LineEvent.TheVariants.{Aborted as WasAborted}
+use Rattle.engine.specs.Events.{past_of, commits_in, last_end as last_end_of}
 use Rattle.session.specs.declared.session.Session as session_type
+use Rattle.session.specs.declared.fault.Refused.{Refused}
+use Rattle.session.specs.declared.fault.Refused.TheVariants as refusals
 use Rattle.session.specs.declared.step.Step.{Step}
 use Rattle.session.specs.declared.step.Step.TheVariants as steps
 use Rattle.session.specs.Sized.{item_of}
 use Rattle.session.specs.State.{Way, Direct, Worker, Spooled, Open, OpenTransactions, Committed, State, Setting}
-use Rattle.session.specs.Lawful.{Admits}
+use Rattle.session.specs.Lawful.{Admits, Refuses}
 use Rattle.session.specs.Table.{new_open}
-use Rattle.session.specs.Told.{Told, Nothing, Opens, Gives, Commits, Aborts, Tells, items_handed_out}
+use Rattle.session.specs.Told.{Told, Nothing, Opens, Gives, Commits, Aborts, Tells, IsGiving, IsCommitting, items_handed_out}
 use Rattle.session.specs.Represents.{Represents}
 use Rattle.session.specs.Answers.{IsOfTables, Says, HandsOut, IsWithin}
-use Rattle.spooled.specs.Commits.{last_end}
-use Rattle.spooled.specs.Progress.{Progress, start_progress, commits_from, due_updates}
-use Rattle.leader.specs.declared.lead.Stream.{Stream}
-use Rattle.leader.specs.Threads.{Numbered, numbered, Standing, Led, led, after_commit, AreNamed, HasCommitted, IsLeadAt, HasLed, HasLedTo, LeadTakes}
-use Rattle.spooled.proofs.States.{get-inserted, get-other, get-left, get-gone, last_end-push}
-use Rattle.frames.specs.declared.item.CopyItem.{CopyItem}
-use Rattle.frames.specs.declared.item.CopyItem.TheVariants.{Wal, Keepalive, Done}
 use Rattle.spooled.specs.declared.end.End.{End}
+use Rattle.spooled.specs.declared.end.End.TheVariants as ends
+use Rattle.spooled.specs.Commits.{last_end}
+use Rattle.spooled.specs.Ends.{end_of_refusal}
 use Rattle.spooled.specs.Handler.{HandlesItem, HasHandled}
+use Rattle.spooled.specs.Progress.{Progress, Handles, start_progress, commits_from, due_updates}
 use Rattle.spooled.proofs.Handling.{with_seen}
+use Rattle.spooled.proofs.States.{get-inserted, get-other, get-left, get-gone, last_end-push}
 use Rattle.spooled.proofs.Taking.{handed_named}
+use Rattle.course.specs.Runs.{IsCommitOf, CommitsNext}
+use Rattle.course.specs.Threads.{done_by_commit}
+use Rattle.leader.specs.declared.lead.Stream.{Stream}
+use Rattle.leader.specs.Standing.{Standing, IsStoreEnd, IsStopEnd, IsBegun, IsHandedOut, IsTaken, IsMet, IsCommitted, HasTried, IsAborted}
+use Rattle.leader.specs.Threads.{Numbered, numbered, numbered_past, Led, led, after_commit, AreNamed, AreAgreed, HasCommitted, IsLeadAt, HasLed, HasLedTo, LeadTakes, AreLeft, HasTurn, MayEndBy, HasStopped, Stops}
+use Rattle.leader.proofs.Serving.{Committing, begun_agreed, handed_out_agreed, spooled_agreed, given_agreed, applied_agreed, kept_agreed, aborted_agreed, dropped_agreed, worker_commit, direct_commit, spooled_commit, unopened, all_held, met_held, tried_held}
 
 -- ---- names
 
@@ -124,26 +138,130 @@ item_named g (Aborts xid Direct) x i within says = absurd cc
 item_named g (Aborts xid Worker) x i within says = absurd cc
 item_named g (Aborts xid Spooled) x i within says = absurd cc
 
+-- ---- what is there of all transactions
+
+-- a message that asks for nothing
+pub nothing_agreed : (g : Setting) (s t : State) (told : Told) (st : Standing) → AreAgreed s.transactions st → Tells s t told → IsWithin g told → Says told steps.Nothing → AreAgreed t.transactions st
+nothing_agreed g s t Nothing st agreed tells within says = subst (λ m. AreAgreed m st) (sym tells.transactions) agreed
+nothing_agreed g s t (Opens xid Direct) st agreed tells within says = absurd cc
+nothing_agreed g s t (Opens xid Worker) st agreed tells within says = absurd cc
+nothing_agreed g s t (Opens xid Spooled) st agreed tells within says = spooled_agreed s t st xid agreed tells
+nothing_agreed g s t (Gives xid Direct item size) st agreed tells within says = absurd cc
+nothing_agreed g s t (Gives xid Worker item size) st agreed tells within says = absurd cc
+nothing_agreed g s t (Gives xid Spooled item size) st agreed tells within says = kept_agreed s t st xid item size tells.0 agreed tells.1 tells.2
+nothing_agreed g s t (Commits c) st agreed tells within says = absurd says
+nothing_agreed g s t (Aborts xid Direct) st agreed tells within says = absurd within
+nothing_agreed g s t (Aborts xid Worker) st agreed tells within says = absurd cc
+nothing_agreed g s t (Aborts xid Spooled) st agreed tells within says = dropped_agreed s t st xid tells.0 agreed tells.1 tells.2
+
+-- one that begins
+pub begin_agreed : (g : Setting) (s t : State) (told : Told) (x : ℕ) (old new : Standing) → AreAgreed s.transactions old → Tells s t told → IsWithin g told → Says told (steps.Begin x) → IsBegun old x new → AreAgreed t.transactions new
+begin_agreed g s t Nothing x old new agreed tells within says is = absurd cc
+begin_agreed g s t (Opens xid Direct) x old new agreed tells within says is = let same : x ≡ xid = cc in begun_agreed s t old new xid agreed tells (subst (λ n. IsBegun old n new) same is)
+begin_agreed g s t (Opens xid Worker) x old new agreed tells within says is = absurd cc
+begin_agreed g s t (Opens xid Spooled) x old new agreed tells within says is = absurd cc
+begin_agreed g s t (Gives xid Direct item size) x old new agreed tells within says is = absurd cc
+begin_agreed g s t (Gives xid Worker item size) x old new agreed tells within says is = absurd cc
+begin_agreed g s t (Gives xid Spooled item size) x old new agreed tells within says is = absurd cc
+begin_agreed g s t (Commits c) x old new agreed tells within says is = absurd says
+begin_agreed g s t (Aborts xid Direct) x old new agreed tells within says is = absurd within
+begin_agreed g s t (Aborts xid Worker) x old new agreed tells within says is = absurd cc
+begin_agreed g s t (Aborts xid Spooled) x old new agreed tells within says is = absurd cc
+
+-- one that goes to a worker
+pub open_agreed : (g : Setting) (s t : State) (told : Told) (x : ℕ) (old new : Standing) → AreAgreed s.transactions old → Tells s t told → IsWithin g told → Says told (steps.Open x) → IsHandedOut old x new → AreAgreed t.transactions new
+open_agreed g s t Nothing x old new agreed tells within says is = absurd cc
+open_agreed g s t (Opens xid Direct) x old new agreed tells within says is = absurd cc
+open_agreed g s t (Opens xid Worker) x old new agreed tells within says is = let same : x ≡ xid = cc in handed_out_agreed s t old new xid agreed tells (subst (λ n. IsHandedOut old n new) same is)
+open_agreed g s t (Opens xid Spooled) x old new agreed tells within says is = absurd cc
+open_agreed g s t (Gives xid Direct item size) x old new agreed tells within says is = absurd cc
+open_agreed g s t (Gives xid Worker item size) x old new agreed tells within says is = absurd cc
+open_agreed g s t (Gives xid Spooled item size) x old new agreed tells within says is = absurd cc
+open_agreed g s t (Commits c) x old new agreed tells within says is = absurd says
+open_agreed g s t (Aborts xid Direct) x old new agreed tells within says is = absurd within
+open_agreed g s t (Aborts xid Worker) x old new agreed tells within says is = absurd cc
+open_agreed g s t (Aborts xid Spooled) x old new agreed tells within says is = absurd cc
+
+-- an item that is handed on is given to an open transaction that isn't spooled
+pub record IsHandedOn (s t : State) (xid : ℕ) (item : Item) : Type 0 where
+  pub transaction : Open
+  pub size : ℕ
+  pub gives : IsGiving s t xid item size transaction
+  pub way : transaction.way ≢ Spooled
+
+pub handed_on : (g : Setting) (s t : State) (told : Told) (x : ℕ) (i : Item) → Tells s t told → IsWithin g told → Says told (steps.Item x i) → IsHandedOn s t x i
+handed_on g s t Nothing x i tells within says = absurd cc
+handed_on g s t (Opens xid Direct) x i tells within says = absurd cc
+handed_on g s t (Opens xid Worker) x i tells within says = absurd cc
+handed_on g s t (Opens xid Spooled) x i tells within says = absurd cc
+handed_on g s t (Gives xid Direct item size) x i tells within says =
+    let e : xid ≡ x = cc in
+    let f : item ≡ i = cc in
+    record { transaction = tells.0; size = size; gives = subst (λ n. IsGiving s t n i size tells.0) e (subst (λ j. IsGiving s t xid j size tells.0) f tells.2); way = λ is. let no : Direct ≡ Spooled = sym tells.1 ∙ is in absurd cc }
+handed_on g s t (Gives xid Worker item size) x i tells within says =
+    let e : xid ≡ x = cc in
+    let f : item ≡ i = cc in
+    record { transaction = tells.0; size = size; gives = subst (λ n. IsGiving s t n i size tells.0) e (subst (λ j. IsGiving s t xid j size tells.0) f tells.2); way = λ is. let no : Worker ≡ Spooled = sym tells.1 ∙ is in absurd cc }
+handed_on g s t (Gives xid Spooled item size) x i tells within says = absurd cc
+handed_on g s t (Commits c) x i tells within says = absurd says
+handed_on g s t (Aborts xid Direct) x i tells within says = absurd within
+handed_on g s t (Aborts xid Worker) x i tells within says = absurd cc
+handed_on g s t (Aborts xid Spooled) x i tells within says = absurd cc
+
+pub item_agreed : (s t : State) (xid : ℕ) (item : Item) (old new : Standing) → AreAgreed s.transactions old → IsHandedOn s t xid item → IsTaken old xid item new → AreAgreed t.transactions new
+item_agreed s t xid item old new agreed on is = by_way on.transaction.way refl
+  where
+    by_way : (w : Way) → on.transaction.way ≡ w → AreAgreed t.transactions new
+    by_way Direct e = applied_agreed s t old new xid item on.size on.transaction agreed e on.gives is
+    by_way Worker e = given_agreed s t old new xid item on.size on.transaction agreed e on.gives is
+    by_way Spooled e = absurd (on.way e)
+
+-- one that is dropped
+pub abort_agreed : (g : Setting) (s t : State) (told : Told) (x : ℕ) (old new : Standing) → AreAgreed s.transactions old → Tells s t told → IsWithin g told → Says told (steps.Abort x) → IsAborted old x new → AreAgreed t.transactions new
+abort_agreed g s t Nothing x old new agreed tells within says is = absurd cc
+abort_agreed g s t (Opens xid Direct) x old new agreed tells within says is = absurd cc
+abort_agreed g s t (Opens xid Worker) x old new agreed tells within says is = absurd cc
+abort_agreed g s t (Opens xid Spooled) x old new agreed tells within says is = absurd cc
+abort_agreed g s t (Gives xid Direct item size) x old new agreed tells within says is = absurd cc
+abort_agreed g s t (Gives xid Worker item size) x old new agreed tells within says is = absurd cc
+abort_agreed g s t (Gives xid Spooled item size) x old new agreed tells within says is = absurd cc
+abort_agreed g s t (Commits c) x old new agreed tells within says is = absurd says
+abort_agreed g s t (Aborts xid Direct) x old new agreed tells within says is = absurd within
+abort_agreed g s t (Aborts xid Worker) x old new agreed tells within says is = let same : x ≡ xid = cc in aborted_agreed s t old new xid tells.0 agreed tells.1 tells.2 (subst (λ n. IsAborted old n new) same is)
+abort_agreed g s t (Aborts xid Spooled) x old new agreed tells within says is = absurd cc
+
 -- where it stands then
 abbrev pub on_to : Progress → State → Progress
 on_to p t = record { state = t; seen = p.seen; updates = p.updates }
 
-none_more : (s t : State) → t.past ≡ s.past → commits_from s t ≡ false
+pub none_more : (s t : State) → t.past ≡ s.past → commits_from s t ≡ false
 none_more s t e = rw e (le-ltb (length s.past) (length s.past) (omega arith))
 
--- the leader knows the same, but for its session
+-- the leader knows the same, but for its session and for what is open
 pub record IsSameLed (a b : Led) : Type 0 where
   pub catalog : b.catalog ≡ a.catalog
-  pub standing : b.standing ≡ a.standing
+  pub tables : b.standing.tables ≡ a.standing.tables
+  pub line : commits_in b.standing.line ≡ commits_in a.standing.line
   pub position : b.position ≡ a.position
   pub written : b.written ≡ a.written
 
 pub same_commits : (a b : Led) (s : State) → IsSameLed a b → HasCommitted a s → HasCommitted b s
-same_commits a b s same has = record { commits = ap (λ (st : Standing). st.commits) same.standing ∙ has.commits; position = same.position ∙ has.position }
+same_commits a b s same has = record {
+  commits = ap (map numbered_past) same.line ∙ has.commits;
+  done = same.line ∙ has.done;
+  position = same.position ∙ has.position;
+}
 
-pub led_on : (g : Setting) (rows : Rows) (a b : Led) (p : Progress) (payload : List ℕ) (m : Message) (t : State) → IsLeadAt g rows a p → Admits g p.state payload m t → KeepsOn g p.state t → IsSameLed a b → Represents g b.session t
-    → HasLed g rows b p payload false
-led_on g rows a b p payload m t at admits on same session = record {
+kept_commits : (b : Led) (s t : State) → t.past ≡ s.past → HasCommitted b s → HasCommitted b t
+kept_commits b s t e has = record {
+  commits = has.commits ∙ ap (map numbered) (sym e);
+  done = has.done ∙ ap (map done_by_commit) (sym e);
+  position = has.position ∙ ap last_end (sym e);
+}
+
+pub led_on : (g : Setting) (rows : Rows) (a b : Led) (p : Progress) (payload : List ℕ) (m : Message) (t : State) → IsLeadAt g rows a p → Admits g p.state payload m t → KeepsOn g p.state t → IsSameLed a b → AreAgreed t.transactions b.standing
+    → Represents g b.session t → HasLed g rows b p payload false
+led_on g rows a b p payload m t at admits on same agreed session = record {
   message = m;
   progress = on_to p t;
   admits = admits;
@@ -152,25 +270,121 @@ led_on g rows a b p payload m t at admits on same session = record {
   updates = sym (append-nil p.updates);
   at = record {
     catalog = at.catalog ∙ sym same.catalog;
-    tables = ap (λ (st : Standing). st.tables) same.standing ∙ at.tables;
+    tables = same.tables ∙ at.tables;
     session = session;
     named = on.named;
-    committed = record { commits = ap (λ (st : Standing). st.commits) same.standing ∙ at.committed.commits ∙ ap (map numbered) (sym on.past); position = same.position ∙ at.committed.position ∙ ap last_end (sym on.past) };
+    agreed = agreed;
+    committed = kept_commits b p.state t on.past (same_commits a b p.state same at.committed);
     reached = on.position ∙ at.reached ∙ ap last_end (sym on.past);
     seen = same.written ∙ at.seen ∙ ap (max p.seen) (sym on.position);
   };
 }
+
+-- ---- a message that ends the run
+
+-- an error that was passed on
+pub takes_err : (g : Setting) (rows : Rows) (b : Led) (p : Progress) (payload : List ℕ) (r : Result Bool End) (is : End) → IsErrAnd r (λ end. end ≡ is) → Stops g b p payload is → LeadTakes g rows b p payload r
+takes_err g rows b p payload (Ok x) is err stops = absurd err
+takes_err g rows b p payload (Err end) is err stops = subst (Stops g b p payload) (sym err) stops
+
+-- an end of the store is none of a session, and isn't clean
+pub store_end : (g : Setting) (s : State) (rest : List CopyItem) (turn : Option ℕ) (end : End) → ((x : ℕ) → turn ≡ Some x → HasTurn g s rest x) → IsStoreEnd turn end → (end ≢ ends.Clean) × MayEndBy g s rest end
+store_end g s rest turn ends.Clean whose is = absurd is
+store_end g s rest turn (ends.Frame fault) whose is = absurd is
+store_end g s rest turn (ends.Msg fault) whose is = absurd is
+store_end g s rest turn (ends.Session fault) whose is = absurd is
+store_end g s rest turn (ends.Rel fault) whose is = absurd is
+store_end g s rest turn (ends.Unique table key) whose is = ((λ e. absurd cc), tt)
+store_end g s rest turn (ends.NullKey table) whose is = ((λ e. absurd cc), tt)
+store_end g s rest turn (ends.HeldKey xid holder) whose is = ((λ e. absurd cc), whose xid is)
+store_end g s rest turn ends.OutOfMemory whose is = ((λ e. absurd cc), tt)
+
+-- so it is where no key is held
+stop_end : (g : Setting) (s : State) (rest : List CopyItem) (end : End) → IsStopEnd end → (end ≢ ends.Clean) × MayEndBy g s rest end
+stop_end g s rest end is = store_end g s rest None end (λ x e. absurd cc) (is None)
+
+-- and where this transaction's turn it is
+turn_end : (g : Setting) (s : State) (rest : List CopyItem) (xid : ℕ) (end : End) → HasTurn g s rest xid → IsStoreEnd (Some xid) end → (end ≢ ends.Clean) × MayEndBy g s rest end
+turn_end g s rest xid end turn is = store_end g s rest (Some xid) end (λ x e. let same : xid ≡ x = cc in subst (HasTurn g s rest) same turn) is
+
+-- the session refused it
+pub refused_end : (g : Setting) (s : State) (first last : ℕ) (payload : List ℕ) (more : List CopyItem) (refused : Refused) → Refuses g s payload refused → (end_of_refusal refused ≢ ends.Clean) × MayEndBy g s (Wal first last payload ∷ more) (end_of_refusal refused)
+refused_end g s first last payload more (refusals.Msg fault) is = ((λ e. absurd cc), is)
+refused_end g s first last payload more (refusals.Session fault) is = ((λ e. absurd cc), is)
+refused_end g s first last payload more (refusals.Rel fault) is = ((λ e. absurd cc), is)
+refused_end g s first last payload more refusals.OutOfMemory is = ((λ e. absurd cc), tt)
+
+pub stops_refused : (g : Setting) (rows : Rows) (a b : Led) (p : Progress) (payload : List ℕ) (refused : Refused) (end : End) → IsLeadAt g rows a p → IsSameLed a b → b.standing ≡ a.standing → Refuses g p.state payload refused → end ≡ end_of_refusal refused
+    → Stops g b p payload end
+stops_refused g rows a b p payload refused end at same standing is e = inl (λ first last more.
+    let rest = Wal first last payload ∷ more in
+    let why = refused_end g p.state first last payload more refused is in
+    subst (HasStopped g b p.state rest) (sym e)
+    (same_commits a b p.state same at.committed, why.0, all_held g p.state rest b.standing (subst (AreAgreed p.state.transactions) (sym standing) at.agreed), why.1))
+
+-- the store refused what it asked for, and nothing is otherwise
+pub stops_before : (g : Setting) (rows : Rows) (a b : Led) (p : Progress) (payload : List ℕ) (end : End) → IsLeadAt g rows a p → IsSameLed a b → b.standing ≡ a.standing → IsStopEnd end → Stops g b p payload end
+stops_before g rows a b p payload end at same standing is = inl (λ first last more.
+    let rest = Wal first last payload ∷ more in
+    let why = stop_end g p.state rest end is in
+    (same_commits a b p.state same at.committed, why.0, all_held g p.state rest b.standing (subst (AreAgreed p.state.transactions) (sym standing) at.agreed), why.1))
+
+-- it stopped behind the message
+pub stops_behind : (g : Setting) (rows : Rows) (a b : Led) (p : Progress) (payload : List ℕ) (m : Message) (t : State) (end : End) → IsLeadAt g rows a p → Admits g p.state payload m t → KeepsOn g p.state t → IsSameLed a b → ((more : List CopyItem) → AreLeft g t more b.standing)
+    → ((more : List CopyItem) → (end ≢ ends.Clean) × MayEndBy g t more end) → Stops g b p payload end
+stops_behind g rows a b p payload m t end at admits on same held ended =
+    inr (m, t, admits, none_more p.state t on.past, λ more.
+    let why = ended more in
+    (kept_commits b p.state t on.past (same_commits a b p.state same at.committed), why.0, held more, why.1))
+
+-- ---- what a step leaves of the line
+
+pub begun_line : (old new : Standing) (xid : ℕ) → IsBegun old xid new → commits_in new.line ≡ commits_in old.line
+begun_line old new xid is = ap (λ (st : Standing). commits_in st.line) is.is ∙ unopened old.line xid
+
+pub handed_out_line : (old new : Standing) (xid : ℕ) → IsHandedOut old xid new → commits_in new.line ≡ commits_in old.line
+handed_out_line old new xid is = ap (λ (st : Standing). commits_in st.line) is.is ∙ unopened old.line xid
+
+pub taken_line : (old new : Standing) (xid : ℕ) (item : Item) → IsTaken old xid item new → (new.line ≡ old.line) × (new.tables ≡ old.tables)
+taken_line old new xid item (inl is) = (ap (λ (st : Standing). st.line) is.is, ap (λ (st : Standing). st.tables) is.is)
+taken_line old new xid item (inr (done, does)) = (ap (λ (st : Standing). st.line) does.is_own, ap (λ (st : Standing). st.tables) does.is_own)
+
+pub aborted_line : (old new : Standing) (xid : ℕ) → IsAborted old xid new → commits_in new.line ≡ commits_in old.line
+aborted_line old new xid is =
+    ap (λ (st : Standing). commits_in st.line) is.is ∙ flat_map-append past_of old.line (WasAborted xid ∷ []) ∙ append-nil (commits_in old.line)
+
+-- an item wasn't done: it wasn't given, or it is the leader's own that met another
+pub stops_item : (g : Setting) (rows : Rows) (a b : Led) (p : Progress) (payload : List ℕ) (m : Message) (t : State) (xid : ℕ) (item : Item) (end : End) → IsLeadAt g rows a p → Admits g p.state payload m t → KeepsOn g p.state t
+    → b.catalog ≡ a.catalog → b.position ≡ a.position → b.written ≡ a.written → IsHandedOn p.state t xid item → IsMet a.standing xid item b.standing end → Stops g b p payload end
+stops_item g rows a b p payload m t xid item end at admits on catalog position written handed (inl (same, stop)) =
+    stops_before g rows a b p payload end at
+    (record { catalog = catalog; tables = ap (λ (st : Standing). st.tables) same; line = ap (λ (st : Standing). commits_in st.line) same; position = position; written = written }) same stop
+stops_item g rows a b p payload m t xid item end at admits on catalog position written handed (inr (done, after, undone, does, store)) =
+    let met = met_held g p.state t a.standing b.standing xid item handed.size handed.transaction done after at.agreed handed.way handed.gives undone does in
+    stops_behind g rows a b p payload m t end at admits on
+    (record { catalog = catalog; tables = ap (λ (st : Standing). st.tables) does.is_own; line = ap (λ (st : Standing). commits_in st.line) does.is_own; position = position; written = written })
+    (λ more. met.1 more) (λ more. turn_end g t more xid end (inl met.0) store)
+
+-- a transaction that was to go to a worker: it wasn't opened, or it was and came back
+pub stops_open : (g : Setting) (rows : Rows) (a b : Led) (p : Progress) (payload : List ℕ) (m : Message) (t : State) (told : Told) (xid : ℕ) (end : End) → IsLeadAt g rows a p → Admits g p.state payload m t → KeepsOn g p.state t
+    → b.catalog ≡ a.catalog → b.position ≡ a.position → b.written ≡ a.written → Tells p.state t told → IsWithin g told → Says told (steps.Open xid) → (b.standing ≡ a.standing) ⊎ IsHandedOut a.standing xid b.standing → IsStopEnd end → Stops g b p payload end
+stops_open g rows a b p payload m t told xid end at admits on catalog position written tells within says (inl same) store =
+    stops_before g rows a b p payload end at
+    (record { catalog = catalog; tables = ap (λ (st : Standing). st.tables) same; line = ap (λ (st : Standing). commits_in st.line) same; position = position; written = written }) same store
+stops_open g rows a b p payload m t told xid end at admits on catalog position written tells within says (inr is) store =
+    stops_behind g rows a b p payload m t end at admits on
+    (record { catalog = catalog; tables = ap (λ (st : Standing). st.tables) is.is; line = handed_out_line a.standing b.standing xid is; position = position; written = written })
+    (λ more. all_held g t more b.standing (open_agreed g p.state t told xid a.standing b.standing at.agreed tells within says is)) (λ more. stop_end g t more end store)
 
 -- ---- a commit
 
 -- what the commit of a transaction makes final
 pub record IsLedCommit (g : Setting) (s t : State) (xid : ℕ) (info : CommitInfo) (handed : List Item) : Type 0 where
   pub transaction : Committed
-  pub past : t.past ≡ s.past ++ transaction ∷ []
+  pub commits : IsCommitting s t transaction
   pub xid_is : transaction.xid ≡ xid
   pub info_is : transaction.info ≡ info
-  pub later : s.position < info.end
-  pub position : t.position ≡ info.end
+  pub hands : handed ≡ items_handed_out transaction.xid transaction.way transaction.items
   pub named : AreNamed (length g.catalog) t.transactions
   pub items : All (IsOfTables (length g.catalog)) handed
 
@@ -187,17 +401,29 @@ led_commit g s t (Aborts x Direct) xid info items named tells says = absurd cc
 led_commit g s t (Aborts x Worker) xid info items named tells says = absurd cc
 led_commit g s t (Aborts x Spooled) xid info items named tells says = absurd cc
 led_commit g s t (Commits c) xid info items named tells says =
-    let ends : c.info.end ≡ info.end = ap (λ (i : CommitInfo). i.end) (sym says.1) in
     record {
       transaction = c;
-      past = tells.past;
+      commits = tells;
       xid_is = sym says.0;
       info_is = sym says.1;
-      later = subst (λ n. s.position < n) ends tells.later;
-      position = tells.position ∙ ends;
+      hands = says.2;
       named = dropped_on g s t c.xid named tells.transactions;
       items = subst (All (IsOfTables (length g.catalog))) (sym says.2) (handed_named (IsOfTables (length g.catalog)) c.xid c.way c.items (named c.xid _ tells.present));
     }
+
+-- a commit ends above those of the line
+line_ends : (line : List LineEvent) (past : List Committed) → commits_in line ≡ map done_by_commit past → last_end_of line ≡ last_end past
+line_ends line past e = ap (λ (ps : List Past). fold (λ (before end : ℕ). end) 0 (map (λ (p : Past). p.info.end) ps)) e ∙ ends_of past
+  where
+    ends_of : (past : List Committed) → fold (λ (before end : ℕ). end) 0 (map (λ (p : Past). p.info.end) (map done_by_commit past)) ≡ last_end past
+    ends_of [] = refl
+    ends_of (c ∷ []) = refl
+    ends_of (c ∷ d ∷ past) = ends_of (d ∷ past)
+
+pub rises : (g : Setting) (rows : Rows) (l : Led) (p : Progress) (t : State) (xid : ℕ) (info : CommitInfo) (handed : List Item) → IsLeadAt g rows l p → IsLedCommit g p.state t xid info handed → last_end_of l.standing.line < info.end
+rises g rows l p t xid info handed at is =
+    subst (λ n. n < info.end) (sym (line_ends l.standing.line p.state.past at.committed.done ∙ sym at.reached))
+    (subst (λ (i : CommitInfo). p.state.position < i.end) is.info_is is.commits.later)
 
 -- the progress that a commit leads to
 abbrev pub committed_to : Progress → State → Progress
@@ -206,40 +432,94 @@ committed_to p t = record { state = t; seen = p.seen; updates = p.updates ++ due
 later_max : (a b c : ℕ) → b < c → max (max a b) c ≡ max a c
 later_max a b c lt = omega arith
 
-module _ (g : Setting) (s t : State) (xid : ℕ) (info : CommitInfo) (items : List Item) (is : IsLedCommit g s t xid info items) where
-  numbers_more : map numbered t.past ≡ map numbered s.past ++ record { xid = xid; info = info } ∷ []
-  numbers_more =
-      ap (map numbered) is.past ∙ map-append numbered s.past (is.transaction ∷ [])
-      ∙ ap (λ (n : Numbered). map numbered s.past ++ n ∷ []) (ap (λ x. record { xid = x; info = is.transaction.info }) is.xid_is ∙ ap (λ i. record { xid = xid; info = i }) is.info_is)
+one_more : (s t : State) (c : Committed) → t.past ≡ s.past ++ c ∷ [] → commits_from s t ≡ true
+one_more s t c e = lt-ltb (length s.past) (length t.past) (rw e (omega (arith, length-append s.past (c ∷ []))))
 
-  ends_there : last_end t.past ≡ info.end
-  ends_there = ap last_end is.past ∙ last_end-push s.past is.transaction ∙ ap (λ (i : CommitInfo). i.end) is.info_is
+-- what is there of all, once it was committed
+commit_agreed : (s t : State) (c : Committed) (old new : Standing) (handed : List Item) → AreAgreed s.transactions old → handed ≡ items_handed_out c.xid c.way c.items → IsCommitting s t c → IsCommitted old c.xid c.info handed new → Committing s t c old new
+commit_agreed s t c old new handed agreed hands commits is = by_way c.way refl
+  where
+    by_way : (w : Way) → c.way ≡ w → Committing s t c old new
+    by_way Direct e = direct_commit s t c old new handed agreed e commits is
+    by_way Worker e = worker_commit s t c old new handed agreed e commits is
+    by_way Spooled e = spooled_commit s t c old new handed agreed e hands commits is
 
-  one_more : commits_from s t ≡ true
-  one_more = lt-ltb (length s.past) (length t.past) (rw is.past (omega (arith, length-append s.past (is.transaction ∷ []))))
+pub led_to_commit : (g : Setting) (rows : Rows) (a b : Led) (p : Progress) (payload : List ℕ) (m : Message) (t : State) (xid : ℕ) (info : CommitInfo) (handed : List Item) → IsLeadAt g rows a p → Admits g p.state payload m t → IsLedCommit g p.state t xid info handed
+    → IsCommitted a.standing xid info handed b.standing → b.catalog ≡ a.catalog → b.position ≡ info.end → b.written ≡ max a.written info.end → Represents g b.session t → HasLed g rows b p payload true
+led_to_commit g rows a b p payload m t xid info handed at admits is made catalog position written session =
+    let c = is.transaction in
+    let made_so : IsCommitted a.standing c.xid c.info handed b.standing =
+        subst (λ n. IsCommitted a.standing n c.info handed b.standing) (sym is.xid_is) (subst (λ i. IsCommitted a.standing xid i handed b.standing) (sym is.info_is) made)
+    in
+    let to = commit_agreed p.state t c a.standing b.standing handed at.agreed is.hands is.commits made_so in
+    let done : commits_in b.standing.line ≡ map done_by_commit t.past =
+        to.line ∙ ap (λ (ps : List Past). ps ++ done_by_commit c ∷ []) at.committed.done ∙ sym (ap (map done_by_commit) is.commits.past ∙ map-append done_by_commit p.state.past (c ∷ []))
+    in
+    let ends : last_end t.past ≡ info.end = ap last_end is.commits.past ∙ last_end-push p.state.past c ∙ ap (λ (i : CommitInfo). i.end) is.info_is in
+    let reaches : t.position ≡ info.end = is.commits.position ∙ ap (λ (i : CommitInfo). i.end) is.info_is in
+    record {
+      message = m;
+      progress = committed_to p t;
+      admits = admits;
+      seen = refl;
+      commits = sym (one_more p.state t c is.commits.past);
+      updates = refl;
+      at = record {
+        catalog = at.catalog ∙ sym catalog;
+        tables = to.tables ∙ at.tables;
+        session = session;
+        named = is.named;
+        agreed = to.agreed;
+        committed = record {
+          commits = ap (map numbered_past) done ∙ numbers_of t.past;
+          done = done;
+          position = position ∙ sym ends;
+        };
+        reached = reaches ∙ sym ends;
+        seen =
+            written ∙ ap (λ n. max n info.end) at.seen ∙ ap (max (max p.seen p.state.position)) (sym reaches)
+            ∙ later_max p.seen p.state.position t.position (subst (λ n. p.state.position < n) (sym is.commits.position) is.commits.later);
+      };
+    }
+  where
+    numbers_of : (past : List Committed) → map numbered_past (map done_by_commit past) ≡ map numbered past
+    numbers_of [] = refl
+    numbers_of (c ∷ past) = ap (λ (ns : List Numbered). numbered c ∷ ns) (numbers_of past)
 
-pub led_to_commit : (g : Setting) (rows : Rows) (a b : Led) (p : Progress) (payload : List ℕ) (m : Message) (t : State) (xid : ℕ) (info : CommitInfo) (items : List Item) → IsLeadAt g rows a p → Admits g p.state payload m t → IsLedCommit g p.state t xid info items
-    → IsSameLed (after_commit a xid info) b → Represents g b.session t → HasLed g rows b p payload true
-led_to_commit g rows a b p payload m t xid info items at admits is same session = record {
-  message = m;
-  progress = committed_to p t;
-  admits = admits;
-  seen = refl;
-  commits = sym (one_more g p.state t xid info items is);
-  updates = refl;
-  at = record {
-    catalog = at.catalog ∙ sym same.catalog;
-    tables = ap (λ (st : Standing). st.tables) same.standing ∙ at.tables;
-    session = session;
-    named = is.named;
-    committed = record {
-      commits = ap (λ (st : Standing). st.commits) same.standing ∙ ap (λ (ns : List Numbered). ns ++ record { xid = xid; info = info } ∷ []) at.committed.commits ∙ sym (numbers_more g p.state t xid info items is);
-      position = same.position ∙ sym (ends_there g p.state t xid info items is);
-    };
-    reached = is.position ∙ sym (ends_there g p.state t xid info items is);
-    seen = same.written ∙ ap (λ n. max n info.end) at.seen ∙ ap (max (max p.seen p.state.position)) (sym is.position) ∙ later_max p.seen p.state.position t.position (subst (λ n. p.state.position < n) (sym is.position) is.later);
-  };
+-- the next message commits the transaction
+pub commits_next : (g : Setting) (s t : State) (payload : List ℕ) (m : Message) (xid : ℕ) (info : CommitInfo) (handed : List Item) → Admits g s payload m t → IsLedCommit g s t xid info handed → IsCommitOf g s payload xid
+commits_next g s t payload m xid info handed admits is = record { message = m; state = t; admits = admits; committed = is.transaction; past = is.commits.past; xid_is = is.xid_is }
+
+-- what is left then
+record LeftAtCommit (g : Setting) (s : State) (rest : List CopyItem) (a b : Standing) : Type 0 where
+  tables : b.tables ≡ a.tables
+  line : commits_in b.line ≡ commits_in a.line
+  held : AreLeft g s rest b
+
+left_at_commit : (g : Setting) (rows : Rows) (a b : Led) (p : Progress) (rest : List CopyItem) (t : State) (xid : ℕ) (info : CommitInfo) (handed : List Item) → IsLeadAt g rows a p → (is : IsLedCommit g p.state t xid info handed)
+    → CommitsNext g p.state rest is.transaction.xid → (b.standing ≡ a.standing) ⊎ HasTried a.standing xid handed b.standing → LeftAtCommit g p.state rest a.standing b.standing
+left_at_commit g rows a b p rest t xid info handed at is next (inl same) = record {
+  tables = ap (λ (st : Standing). st.tables) same;
+  line = ap (λ (st : Standing). commits_in st.line) same;
+  held = all_held g p.state rest b.standing (subst (AreAgreed p.state.transactions) (sym same) at.agreed);
 }
+left_at_commit g rows a b p rest t xid info handed at is next (inr tried) = record {
+  tables = ap (λ (st : Standing). st.tables) tried.is;
+  line = ap (λ (st : Standing). commits_in st.line) tried.is ∙ unopened a.standing.line xid;
+  held =
+      tried_held g p.state rest a.standing b.standing is.transaction handed at.agreed is.commits.present is.hands next
+      (subst (λ n. HasTried a.standing n handed b.standing) (sym is.xid_is) tried);
+}
+
+-- the store refused a commit: nothing is otherwise, or a spooled transaction was begun of
+pub stops_at_commit : (g : Setting) (rows : Rows) (a b : Led) (p : Progress) (payload : List ℕ) (m : Message) (t : State) (xid : ℕ) (info : CommitInfo) (handed : List Item) (end : End) → IsLeadAt g rows a p → Admits g p.state payload m t
+    → IsLedCommit g p.state t xid info handed → b.catalog ≡ a.catalog → b.position ≡ a.position → b.written ≡ a.written → (b.standing ≡ a.standing) ⊎ HasTried a.standing xid handed b.standing → IsStoreEnd (Some xid) end → Stops g b p payload end
+stops_at_commit g rows a b p payload m t xid info handed end at admits is catalog position written why store = inl (λ first last more.
+    let rest = Wal first last payload ∷ more in
+    let next = commits_next g p.state t payload m xid info handed admits is in
+    let ended = turn_end g p.state rest xid end (inr next) store in
+    let left = left_at_commit g rows a b p rest t xid info handed at is (subst (IsCommitOf g p.state payload) (sym is.xid_is) next) why in
+    (same_commits a b p.state (record { catalog = catalog; tables = left.tables; line = left.line; position = position; written = written }) at.committed, ended.0, left.held, ended.1))
 
 -- ---- an item
 
@@ -250,7 +530,8 @@ seen_led g rows l p seen w at e = record {
   tables = at.tables;
   session = at.session;
   named = at.named;
-  committed = record { commits = at.committed.commits; position = at.committed.position };
+  agreed = at.agreed;
+  committed = record { commits = at.committed.commits; done = at.committed.done; position = at.committed.position };
   reached = at.reached;
   seen = e;
 }
@@ -276,14 +557,18 @@ module _ {H : Type 0} (of : H → Led) (g : Setting) (rows : Rows) where
     updates = taken.updates;
     at = taken.at;
   }
-  handled_led_wal h handled p first last payload (Err end) (commits, unclean) = inl (λ more. (commits, unclean))
+  handled_led_wal h handled p first last payload (Err end) (inl before) = inl (λ more. before first last more)
+  handled_led_wal h handled p first last payload (Err end) (inr (m, s, admits, none, behind)) =
+      let q : Progress = record { state = s; seen = max (max p.seen first) last; updates = p.updates } in
+      let handles : Handles g p (Wal first last payload) q = (m, admits, refl, sym (append-nil p.updates) ∙ ap (λ c. p.updates ++ due_updates c s (max (max p.seen first) last)) (sym none)) in
+      inr (q, handles, refl, behind)
 
   pub handled_led_keepalive : (h : H) (p : Progress) (last : ℕ) (reply : Bool) → IsLeadAt g rows (of h) (with_seen p (max p.seen last)) → HasHandled g At Ended h p (Keepalive last reply) reply
   handled_led_keepalive h p last reply at = record {
     progress = record { state = p.state; seen = max p.seen last; updates = p.updates ++ due_updates reply p.state (max p.seen last) };
     handles = (refl, refl, refl);
     updates = refl;
-    at = record { catalog = at.catalog; tables = at.tables; session = at.session; named = at.named; committed = at.committed; reached = at.reached; seen = at.seen };
+    at = record { catalog = at.catalog; tables = at.tables; session = at.session; named = at.named; agreed = at.agreed; committed = at.committed; reached = at.reached; seen = at.seen };
   }
 
   pub handled_led_done : (h : H) (p : Progress) → IsLeadAt g rows (of h) p → HasHandled g At Ended h p Done false

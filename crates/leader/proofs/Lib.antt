@@ -1,3 +1,9 @@
+mod Agreeing
+mod Giving
 mod Leading
+mod Leftover
+mod Serving
+mod Trying
+mod Turning
 mod Deciding
-pub mod Held
+mod Held

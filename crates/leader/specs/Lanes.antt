@@ -1,13 +1,143 @@
 -- What a leader keeps of a lane to a worker.
---     IsLane      what its type keeps
-use Rattle.std.specs.Prelude.{◌≡◌, [], Option, MatchOption}
+--     own_item, own_items      the items of a transaction, among what was given
+--     after_events, given_before      what was given to the transaction before the last
+--     Given, Laned      a transaction that goes by a lane; what a lane knows
+--     going, laned      that of its parts
+--     done_by      what an open transaction has done, by its ticket
+--     IsDoing      what an open transaction has done is a beginning of its work
+--     IsBack, IsLane      what its type keeps
+--     IsFree, IsHome      no transaction goes by it; none is with its worker
+--     AddsTo      one item more was given to its transaction
+--     ComesBack      its worker gave its transaction back
+--     IsTakenOut, HasAll      its ticket was taken; the transaction had done all items
+use Rattle.std.specs.Prelude.{◌≡◌, ℕ, List, [], ◌∷◌, ◌++◌, Option, Some, None, MatchOption, fold, flat_map, option_map}
 use Rattle.atomic_table.specs.Seated.{TableId}
 use Rattle.model.specs.declared.item.Item.{Item}
+use Rattle.model.specs.declared.item.Item.TheVariants.{Change, Touch, BackTo, Last}
 use Rattle.tokens.specs.Half.{Name, Half}
+use Rattle.tokens.specs.Lists.{OpenList}
 use Rattle.ring.specs.Ends.{Taking}
+use Rattle.world.specs.World.{Opened}
+use Rattle.engine.specs.declared.events.Event.{Event}
+use Rattle.engine.specs.Events.{opened_by}
+use Rattle.worker.specs.declared.post.Collected.{Collected}
+use Rattle.worker.specs.declared.post.Collected.TheVariants.{All as WasAll}
 use Rattle.worker.specs.declared.post.PostEvent.{PostEvent}
+use Rattle.worker.specs.declared.post.PostEvent.TheVariants.{Begun, Given as WasGiven}
+use Rattle.worker.specs.Post.{given_since}
 
--- Its token has this name; the worker's end, where it is here, is that of this ring, and nothing of it was acknowledged.
-pub record IsLane (its_ring : TableId) (its_name : Name) (token : Half PostEvent) (taker : Option (Taking Item)) : Type 0 where
+-- ---- what was given
+
+-- the item, if it is one of a transaction: that the commit was read is none
+abbrev pub own_item : Item → List Item
+own_item (Change sub c) = Change sub c ∷ []
+own_item (Touch sub) = Touch sub ∷ []
+own_item (BackTo sub) = BackTo sub ∷ []
+own_item Last = []
+
+-- the items of a transaction, among what was given
+abbrev pub own_items : List Item → List Item
+own_items given = flat_map own_item given
+
+-- what was given to the transaction before, and to the last one, once one more event has come
+abbrev pub after_events : List Item × List Item → PostEvent → List Item × List Item
+after_events given Begun = (given.1, [])
+after_events given (WasGiven item) = (given.0, given.1 ++ item ∷ [])
+
+-- what was given to the transaction before the last one that began
+abbrev pub given_before : List PostEvent → List Item
+given_before events = (fold after_events ([], []) events).0
+
+-- ---- a lane
+
+-- a transaction that goes by a lane, and the items that were given to it since it began
+pub record Given : Type 0 where
+  pub xid : ℕ
+  pub items : List Item
+
+-- what a lane knows
+pub record Laned : Type 0 where
+  pub number : ℕ
+  -- the transaction that goes by it
+  pub goes : Option Given
+  -- what that has done, once its worker gave it back
+  pub back : Option Opened
+
+-- The transaction that goes by a lane: a worker has it where the end of the ring isn't here, and it came back where its
+-- ticket is.
+abbrev pub going : ℕ → List PostEvent → Option (Taking Item) → Option (OpenList Event) → Option Given
+going its_xid events None ticket = Some (record { xid = its_xid; items = own_items (given_since events) })
+going its_xid events (Some taker) None = None
+going its_xid events (Some taker) (Some ticket) = Some (record { xid = its_xid; items = own_items (given_before events) })
+
+-- what an open transaction has done, by its ticket
+abbrev pub done_by : OpenList Event → Opened
+done_by ticket = opened_by ticket.list
+
+-- what a lane knows, by its parts
+abbrev pub laned : ℕ → ℕ → List PostEvent → Option (Taking Item) → Option (OpenList Event) → Laned
+laned its_number its_xid events taker ticket =
+    record { number = its_number; goes = going its_xid events taker ticket; back = option_map done_by ticket }
+
+-- ---- what is kept
+
+-- What an open transaction has done is a beginning of its work; a change that waits or clashed is the next of it.
+pub record IsDoing (done : Opened) (work : List Item) : Type 0 where
+  pub left : List Item
+  pub begins : done.items ++ left ≡ work
+  pub wants : MatchOption done.wants (Unit {0}) (λ w. (more : List Item) × (left ≡ Change w.0 w.1 ∷ more))
+
+-- It is the ticket of this transaction of the store, which does what was given to it, and has done all of it where that
+-- was said.
+pub record IsBack (tickets : Name) (its_xid : ℕ) (given : List Item) (collected : Collected) (ticket : OpenList Event) : Type 0 where
+  pub name : ticket.name ≡ tickets
+  pub number : ticket.number ≡ its_xid
+  pub doing : IsDoing (done_by ticket) given
+  pub all : collected ≡ WasAll → (done_by ticket).items ≡ given
+
+-- Its token has this name. Where the end of the ring is here it is that of this ring, nothing of it was acknowledged,
+-- and nothing was given since; a ticket is here with it alone, and is that of its transaction.
+pub record IsLane (its_ring : TableId) (its_name tickets : Name) (its_xid : ℕ) (token : Half PostEvent) (taker : Option (Taking Item)) (ticket : Option (OpenList Event)) (collected : Collected)
+    : Type 0 where
   pub name : token.name ≡ its_name
-  pub end : MatchOption taker (Unit {0}) (λ t. (t.ring ≡ its_ring) × (t.acked ≡ []))
+  pub end : MatchOption taker (ticket ≡ None) (λ t. (t.ring ≡ its_ring) × (t.acked ≡ []) × (given_since token.list ≡ []))
+  pub back : MatchOption ticket (Unit {0}) (IsBack tickets its_xid (own_items (given_before token.list)) collected)
+
+-- No transaction goes by it.
+abbrev pub IsFree : Laned → Type 0
+IsFree l = (l.goes ≡ None) × (l.back ≡ None)
+
+-- A transaction that goes by it has come back.
+abbrev pub IsHome : Laned → Type 0
+IsHome l = MatchOption l.goes (Unit {0}) (λ given. (done : Opened) × (l.back ≡ Some done))
+
+-- ---- what a call does to it
+
+-- The item was given to its transaction, which its worker has.
+pub record AddsTo (old : Laned) (item : Item) (new : Laned) : Type 0 where
+  pub given : Given
+  pub was : old.goes ≡ Some given
+  pub away : old.back ≡ None
+  pub is : new ≡ record old { goes = Some (record given { items = given.items ++ own_item item }) }
+
+-- Its worker gave its transaction back, which has done a beginning of what was given to it.
+pub record ComesBack (old new : Laned) : Type 0 where
+  pub given : Given
+  pub was : old.goes ≡ Some given
+  pub done : Opened
+  pub is : new ≡ record old { back = Some done }
+  pub doing : IsDoing done given.items
+
+-- Its transaction, which had come back, was taken out of it: this is the ticket.
+pub record IsTakenOut (tickets : Name) (old : Laned) (ticket : OpenList Event) (new : Laned) : Type 0 where
+  pub given : Given
+  pub was : old.goes ≡ Some given
+  pub back : old.back ≡ Some (done_by ticket)
+  pub name : ticket.name ≡ tickets
+  pub number : ticket.number ≡ given.xid
+  pub doing : IsDoing (done_by ticket) given.items
+  pub is : new ≡ record old { goes = None; back = None }
+
+-- It had done all that was given to it.
+abbrev pub HasAll : Laned → OpenList Event → Type 0
+HasAll l ticket = MatchOption l.goes ⊥ (λ given. (done_by ticket).items ≡ given.items)

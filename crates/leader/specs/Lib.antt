@@ -1,3 +1,4 @@
 pub mod Lanes
+pub mod Standing
 pub mod Threads
 pub mod Ending

@@ -1,36 +1,44 @@
 -- A run whose streamed transactions have workers.
 --     Numbered, numbered, numbers_in      a commit, without what it made final; those of a line
---     Standing, standing, HasNames      what a leader's open transactions show of a store; what their type keeps
 --     Led, led, after_commit      what a leader knows; that of its parts; once a transaction was committed
 --     AreNamed      items name tables of the catalog
+--     IsAgreed, AreAgreed      what is there of a transaction is what the state has; so it is of all
 --     HasCommitted, IsLeadAt, IsLeadAtSome, IsLeadAtStart      what a leader knows is what a state, or a progress, has
---     HasLed, LeadTakes      a message was taken, or ended the run
+--     HasLed      a message was taken
+--     IsLeft, AreLeft      what is there of a transaction at an end, and of all
+--     HasTurn, MayEndBy      whose turn it is; why a run may end at the next item
+--     HasStopped, Stops, LeadTakes      it stopped at a state; a message ended the run so; it was taken, or ended the run
 --     HasLedTo      it ended a run
 --     Decides      the end of a run, by what was proposed
-use Rattle.std.specs.Prelude.{◌≡◌, ◌≢◌, ℕ, Bool, max, List, [], ◌∷◌, ◌++◌, length, map, Option, Some, Result, MatchOption, MatchResult, All, ◌⊎◌}
+use Rattle.std.specs.Prelude.{◌≡◌, ◌≢◌, ℕ, Bool, true, false, max, List, [], ◌∷◌, ◌++◌, length, map, Option, Some, None, Result, MatchResult, All, ◌⊎◌}
 use Rattle.std.specs.FinMap as finite
 use Rattle.model.specs.Definition.{Definition}
 use Rattle.model.specs.Rows.{Rows}
+use Rattle.model.specs.declared.item.Item.{Item}
 use Rattle.model.specs.declared.item.CommitInfo.{CommitInfo}
-use Rattle.tokens.specs.Half.{Name, Half}
-use Rattle.tokens.specs.Lists.{OpenList}
-use Rattle.world.specs.World.{Past}
-use Rattle.engine.specs.declared.events.Event.{Event}
+use Rattle.world.specs.World.{Opened, Past}
 use Rattle.engine.specs.declared.events.LineEvent.{LineEvent}
-use Rattle.engine.specs.Events.{commits_in, last_end as last_end_of}
+use Rattle.engine.specs.Events.{commits_in, is_open_in}
 use Rattle.messages.specs.declared.message.Message.{Message}
 use Rattle.frames.specs.declared.item.CopyItem.{CopyItem}
+use Rattle.frames.specs.declared.item.CopyItem.TheVariants.{Wal}
+use Rattle.session.specs.declared.fault.Refused.TheVariants as refusals
 use Rattle.session.specs.declared.session.Session.{Session}
 use Rattle.session.specs.Answers.{IsOfTables}
 use Rattle.session.specs.Sized.{item_of}
-use Rattle.session.specs.State.{Open, OpenTransactions, Committed, State, Setting}
+use Rattle.session.specs.State.{Direct, Worker, Spooled, Open, OpenTransactions, Committed, State, Setting}
 use Rattle.session.specs.Lawful.{Admits}
 use Rattle.session.specs.Represents.{Represents}
 use Rattle.spooled.specs.declared.end.End.{End}
-use Rattle.spooled.specs.declared.end.End.TheVariants.{Clean}
-use Rattle.leader.specs.declared.lead.Stream.{Stream}
+use Rattle.spooled.specs.declared.end.End.TheVariants as ends
+use Rattle.spooled.specs.Cause.{RefusesNext}
 use Rattle.spooled.specs.Commits.{last_end}
 use Rattle.spooled.specs.Progress.{Progress, start_progress, due_updates, commits_from}
+use Rattle.course.specs.Runs.{CommitsNext}
+use Rattle.course.specs.Threads.{work_of, done_by_commit}
+use Rattle.leader.specs.declared.lead.Stream.{Stream}
+use Rattle.leader.specs.Lanes.{IsDoing}
+use Rattle.leader.specs.Standing.{Standing, items_by, own_of}
 
 -- a commit, without what it made final: the number of its transaction, and where it stands in the log
 pub record Numbered : Type 0 where
@@ -49,22 +57,6 @@ numbered_past p = record { xid = p.xid; info = p.info }
 abbrev pub numbers_in : List LineEvent → List Numbered
 numbers_in line = map numbered_past (commits_in line)
 
--- what a leader's open transactions show of their store: how many tables it has, and its commits
-pub record Standing : Type 0 where
-  pub tables : ℕ
-  pub commits : List Numbered
-
--- what they show, by the line
-abbrev pub standing : ℕ → List LineEvent → Standing
-standing count line = record { tables = count; commits = numbers_in line }
-
--- The line has this name, its last commit ends here, and the ticket of the transaction that was begun has the name of
--- the store's tickets.
-pub record HasNames (its_line its_tickets : Name) (events : Half LineEvent) (its_end : ℕ) (ticket : Option (OpenList Event)) : Type 0 where
-  pub line : events.name ≡ its_line
-  pub ended : last_end_of events.list ≡ its_end
-  pub begun : MatchOption ticket (Unit {0}) (λ t. t.name ≡ its_tickets)
-
 -- what a leader knows
 pub record Led : Type 0 where
   pub catalog : List Definition
@@ -78,23 +70,36 @@ pub record Led : Type 0 where
 abbrev pub led : Stream → Standing → Led
 led s t = record { catalog = s.catalog.now; session = s.session; standing = t; position = s.position; written = s.written }
 
--- what it knows once a transaction was committed
-abbrev pub after_commit : Led → ℕ → CommitInfo → Led
-after_commit l its_xid its_info =
-    record l {
-      standing = record l.standing { commits = l.standing.commits ++ record { xid = its_xid; info = its_info } ∷ [] };
-      position = its_info.end;
-      written = max l.written its_info.end;
-    }
+-- what it knows once its open transactions show this, and a commit was told
+abbrev pub after_commit : Led → Standing → CommitInfo → Led
+after_commit l t its_info = record l { standing = t; position = its_info.end; written = max l.written its_info.end }
 
 -- The items of all open transactions name tables among the first so many.
 abbrev pub AreNamed : ℕ → OpenTransactions → Type 0
 AreNamed count transactions =
     (xid : ℕ) (o : Open) → finite.get transactions xid ≡ Some o → All (IsOfTables count) (map item_of o.items)
 
--- Its commits are those of a state.
+-- ---- what a state has
+
+-- What is there of a transaction is what the state has of it. One with a worker goes by just one lane, with all of its
+-- items; the leader has done all items of the one that goes directly; of a spooled one nothing is there, nor of one
+-- that isn't open. Just those of which something is there are open in the store.
+abbrev pub IsAgreed : Option Open → List (List Item) → Option Opened → Bool → Type 0
+IsAgreed None [] None false = Unit {0}
+IsAgreed (Some o) (items ∷ []) None true = (o.way ≡ Worker) × (items ≡ map item_of o.items)
+IsAgreed (Some o) [] (Some done) true = (o.way ≡ Direct) × (done ≡ record { items = map item_of o.items; wants = None })
+IsAgreed (Some o) [] None false = o.way ≡ Spooled
+IsAgreed _ _ _ _ = ⊥
+
+-- So it is of all.
+abbrev pub AreAgreed : OpenTransactions → Standing → Type 0
+AreAgreed transactions t =
+    (xid : ℕ) → IsAgreed (finite.get transactions xid) (items_by xid t.lanes) (own_of xid t.begun) (is_open_in t.line xid)
+
+-- Its commits are those of a state, each of a transaction that had done all of its work and nothing else.
 pub record HasCommitted (l : Led) (s : State) : Type 0 where
-  pub commits : l.standing.commits ≡ map numbered s.past
+  pub commits : numbers_in l.standing.line ≡ map numbered s.past
+  pub done : commits_in l.standing.line ≡ map done_by_commit s.past
   pub position : l.position ≡ last_end s.past
 
 -- All that it knows is that of a progress.
@@ -103,6 +108,7 @@ pub record IsLeadAt (g : Setting) (rows : Rows) (l : Led) (p : Progress) : Type 
   pub tables : l.standing.tables ≡ length g.catalog
   pub session : Represents g l.session p.state
   pub named : AreNamed (length g.catalog) p.state.transactions
+  pub agreed : AreAgreed p.state.transactions l.standing
   pub committed : HasCommitted l p.state
   pub reached : p.state.position ≡ last_end p.state.past
   pub seen : l.written ≡ max p.seen p.state.position
@@ -125,14 +131,62 @@ pub record HasLed (g : Setting) (rows : Rows) (l : Led) (p : Progress) (payload 
   pub updates : progress.updates ≡ p.updates ++ due_updates is_commit progress.state progress.seen
   pub at : IsLeadAt g rows l progress
 
--- The message was taken, or it ended the run, which has the commits from before it then.
-abbrev pub LeadTakes : Setting → Rows → Led → Progress → List ℕ → Result Bool End → Type 0
-LeadTakes g rows l p payload result = MatchResult result (HasLed g rows l p payload) (λ end. HasCommitted l p.state × (end ≢ Clean))
+-- ---- an end
 
--- It ended a run so, other than cleanly, and its commits are those of this progress.
+-- What is there of a transaction where the run ends. One with a worker goes by just one lane, with all of its items. What
+-- the leader's own has done is a beginning of its work; a spooled one is the leader's own only once the next message
+-- commits it.
+abbrev pub IsLeft : Setting → State → List CopyItem → ℕ → Option Open → List (List Item) → Option Opened → Bool → Type 0
+IsLeft g s rest xid None [] None false = Unit {0}
+IsLeft g s rest xid (Some o) (items ∷ []) None true = (o.way ≡ Worker) × (items ≡ map item_of o.items)
+IsLeft g s rest xid (Some o) [] (Some done) true =
+    (o.way ≢ Worker) × IsDoing done (work_of xid o.way o.items) × (o.way ≡ Spooled → CommitsNext g s rest xid)
+IsLeft g s rest xid (Some o) [] None false = o.way ≡ Spooled
+IsLeft g s rest xid _ _ _ _ = ⊥
+
+-- So it is of all.
+abbrev pub AreLeft : Setting → State → List CopyItem → Standing → Type 0
+AreLeft g s rest t =
+    (xid : ℕ) → IsLeft g s rest xid (finite.get s.transactions xid) (items_by xid t.lanes) (own_of xid t.begun) (is_open_in t.line xid)
+
+-- It is the turn of this transaction: it goes directly, or the next message commits it.
+abbrev pub HasTurn : Setting → State → List CopyItem → ℕ → Type 0
+HasTurn g s rest xid =
+    ((o : Open) × (finite.get s.transactions xid ≡ Some o) × (o.way ≡ Direct)) ⊎ CommitsNext g s rest xid
+
+-- Why a run may end at the next item: the session refuses it; or it is the turn of the transaction that waits. Whether
+-- it waits, or a change clashed, is for the store to say, and memory may be refused at any time.
+abbrev pub MayEndBy : Setting → State → List CopyItem → End → Type 0
+MayEndBy g s rest ends.Clean = ⊥
+MayEndBy g s rest (ends.Frame fault) = ⊥
+MayEndBy g s rest (ends.Msg fault) = RefusesNext g s rest (refusals.Msg fault)
+MayEndBy g s rest (ends.Session fault) = RefusesNext g s rest (refusals.Session fault)
+MayEndBy g s rest (ends.Rel fault) = RefusesNext g s rest (refusals.Rel fault)
+MayEndBy g s rest (ends.Unique table key) = Unit {0}
+MayEndBy g s rest (ends.NullKey table) = Unit {0}
+MayEndBy g s rest (ends.HeldKey xid holder) = HasTurn g s rest xid
+MayEndBy g s rest ends.OutOfMemory = Unit {0}
+
+-- It stopped at this state, with these items left, and proposes this end: its commits are those of the state, and what
+-- each open transaction was given, or has done, is of its work.
+abbrev pub HasStopped : Setting → Led → State → List CopyItem → End → Type 0
+HasStopped g l s rest end = HasCommitted l s × (end ≢ ends.Clean) × AreLeft g s rest l.standing × MayEndBy g s rest end
+
+-- The message ended the run: it wasn't handled, or it was, brought no commit, and a change that it brought isn't done.
+abbrev pub Stops : Setting → Led → Progress → List ℕ → End → Type 0
+Stops g l p payload end =
+    ((first last : ℕ) (more : List CopyItem) → HasStopped g l p.state (Wal first last payload ∷ more) end)
+    ⊎ ((m : Message) × (s : State) × Admits g p.state payload m s × (commits_from p.state s ≡ false)
+    × ((more : List CopyItem) → HasStopped g l s more end))
+
+-- The message was taken, or it ended the run.
+abbrev pub LeadTakes : Setting → Rows → Led → Progress → List ℕ → Result Bool End → Type 0
+LeadTakes g rows l p payload result = MatchResult result (HasLed g rows l p payload) (Stops g l p payload)
+
+-- It ended a run so, other than cleanly, and what it has is that of this progress.
 abbrev pub HasLedTo : Setting → Rows → Led → List CopyItem → Progress → List CopyItem → End → Type 0
-HasLedTo g rows l handled p rest end = HasCommitted l p.state × (end ≢ Clean)
+HasLedTo g rows l handled p rest end = HasStopped g l p.state rest end
 
 -- The end of a run is what was proposed; a clean one may have become that of a worker's clash.
 abbrev pub Decides : End → End → Type 0
-Decides proposed end = (end ≡ proposed) ⊎ ((proposed ≡ Clean) × (end ≢ Clean))
+Decides proposed end = (end ≡ proposed) ⊎ ((proposed ≡ ends.Clean) × (end ≢ ends.Clean))

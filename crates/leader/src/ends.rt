@@ -1,32 +1,29 @@
 // The ends that a store gives a run.
-ghost use Rattle.std.specs.Prelude.{◌≡◌, ◌≢◌, None, Some, IfSome};
-ghost use Rattle.spooled.specs.Ends.{end_of_clash};
-ghost use Rattle.spooled.specs.declared.end.End.TheVariants as ends;
+ghost use Rattle.leader.specs.Standing.{IsStopEnd};
 
 use spooled::End;
 use engine::{EngineFault, Stop};
-use session::SessionFault;
 
-/// The end of a run whose store was stopped.
+/// The end of a run whose store was stopped. That nothing goes on stops a store only where the leader
+/// finds so, and it ends the run by it at once; so elsewhere it is told as memory that was refused.
 pub fn end_of_stop(stop: Stop) -> End
-    ensures { result ≢ ends.Clean }
+    ensures { IsStopEnd result }
 {
     match stop {
         Stop::Clash(_, clash) => End::from(clash),
-        Stop::Held(xid, holder) => End::HeldKey { xid, holder },
+        Stop::Held(_, _) => End::OutOfMemory,
     }
 }
 
 /// The end of a run in which a call on the store was refused, by what has stopped the store, if
-/// anything has. A session has the store's limits, so it refuses what would be too many.
+/// anything has. A session has the store's limits and refuses what would be too many, and nothing is
+/// opened twice; so what says otherwise is told as memory that was refused.
 pub fn end_of_fault(fault: EngineFault, stop: Option<Stop>) -> End
-    ensures { result ≢ ends.Clean }
+    ensures { IsStopEnd result }
 {
     match (fault, stop) {
-        (EngineFault::AlreadyOpen, _) => End::Session(SessionFault::AlreadyOpen),
-        (EngineFault::TooManyOpen, _) => End::Session(SessionFault::TooManyOpen),
         (EngineFault::Clash(clash), _) => End::from(clash),
         (EngineFault::Stopped, Some(stop)) => end_of_stop(stop),
-        (EngineFault::Stopped, None) | (EngineFault::OutOfMemory, _) => End::OutOfMemory,
+        _ => End::OutOfMemory,
     }
 }

@@ -1,6 +1,8 @@
 // A leader's side of a lane to a worker.
-ghost use Rattle.std.specs.Prelude.{◌≡◌, [], MatchOption};
-ghost use Rattle.tokens.specs.Lists.{open_list};
+ghost use Rattle.std.specs.Prelude.{◌≡◌, [], None, Some, OnOk, OnErr, MatchBool, MatchOption};
+ghost use Rattle.worker.specs.declared.post.Collected.TheVariants.{All as WasAll};
+ghost use Rattle.leader.specs.Lanes.{Given, IsFree, IsHome, AddsTo, ComesBack, IsTakenOut, HasAll};
+ghost use Rattle.leader.specs.Standing.{items_of};
 
 use engine::{StoreNames, Ticket};
 use model::{OutOfMemory, Xid};
@@ -11,7 +13,8 @@ use tokens::Token;
 use worker::{Collected, Job, Post, PostEvent, PostNames, WorkItem, lock_post};
 
 /// What a leader keeps of a lane: its token of what was given, and the worker's end of its ring while
-/// no transaction has it. A clause sees its number.
+/// no worker has it. A clause sees its number, the transaction that goes by it with the items that were
+/// given to it, and what that has done, once its worker gave it back.
 #[derive(Drop)]
 pub struct Lane<N: StoreNames, L: PostNames> {
     number: usize,
@@ -19,98 +22,154 @@ pub struct Lane<N: StoreNames, L: PostNames> {
     taker: Option<Taker<WorkItem<N>>>,
     /// The transaction that goes by it; the last one, where none does.
     xid: Xid,
+    /// Its ticket, once its worker gave it back.
+    back: Option<Ticket>,
+    /// Whether it had done all of its items then.
+    collected: Collected,
     of: PhantomData<L>,
 }
 
 impl<N: StoreNames, L: PostNames> Model for Lane<N, L> {
-    ghost use Rattle.std.specs.Prelude.{ℕ};
-    ghost use Rattle.leader.specs.Lanes.{IsLane};
+    ghost use Rattle.leader.specs.Lanes.{Laned, laned, IsLane};
 
-    ghost Value = { ℕ };
+    ghost Value = { Laned };
 
-    ghost view = { λ l. l.number };
+    ghost view = { λ l. laned l.number l.xid l.token.list l.taker l.back };
 
-    ghost invariant = { λ l. IsLane (L.ring l.number) (L.post l.number) l.token l.taker };
+    ghost invariant = { λ l. IsLane (L.ring l.number) (L.post l.number) N.tickets l.xid l.token l.taker l.back l.collected };
 }
 
 impl<N: StoreNames, L: PostNames> Lane<N, L> {
     /// A lane to which nothing was given.
     pub fn new(number: usize, token: Token<PostEvent>, taker: Taker<WorkItem<N>>) -> Lane<N, L>
         requires name { token.name ≡ L.post number }
+        requires given { token.list ≡ [] }
         requires ring { taker.ring ≡ L.ring number }
         requires acked { taker.acked ≡ [] }
-        ensures { result ≡ number }
+        ensures { result ≡ record { number = number; goes = None; back = None } }
     {
         Lane {
             number,
             token,
             taker: Some(taker),
             xid: 0,
+            back: None,
+            collected: Collected::Left,
             of: PhantomData,
         }
     }
 
+    /// Its number.
+    pub fn number(&self) -> usize
+        ensures { result ≡ self.now.number }
+    {
+        self.number
+    }
+
     /// Whether no transaction goes by it.
-    pub fn is_free(&self) -> bool {
-        self.taker.is_some()
+    pub fn is_free(&self) -> bool
+        ensures { MatchBool result (IsFree self.now) ((given : Given) × (self.now.goes ≡ Some given)) }
+    {
+        self.taker.is_some() && self.back.is_none()
+    }
+
+    /// Whether a worker has its transaction.
+    pub fn is_away(&self) -> bool
+        ensures { MatchBool result ((given : Given) × (self.now.goes ≡ Some given) × (self.now.back ≡ None)) (IsHome self.now) }
+    {
+        self.taker.is_none()
     }
 
     /// Whether this transaction goes by it.
-    pub fn has(&self, xid: Xid) -> bool {
+    pub fn has(&self, xid: Xid) -> bool
+        ensures { MatchBool result ((given : Given) × (self.now.goes ≡ Some given) × (given.xid ≡ xid)) (items_of xid self.now.goes ≡ []) }
+    {
         !self.is_free() && self.xid == xid
     }
 
-    /// A transaction that has done nothing yet is to go by it, as the job of its worker. None where
-    /// another one does.
-    pub fn open(&mut self, ticket: Ticket) -> Option<Job<N, L>>
+    /// A transaction that has done nothing yet is to go by it, as the job of its worker.
+    pub fn open(&mut self, ticket: Ticket) -> Job<N, L>
+        requires free { IsFree self.old }
         requires belongs { ticket.name ≡ N.tickets }
         requires first { ticket.list ≡ [] }
-        ensures { self.new ≡ self.old }
+        ensures { self.new ≡ record self.old { goes = Some (record { xid = ticket.number; items = [] }) } }
     {
-        let taker = self.taker.take()?;
+        let Some(taker) = self.taker.take() else {
+            unreachable!()
+        };
         self.xid = ticket.xid();
-        Some(Job::new(ticket, taker, self.number))
+        Job::new(ticket, taker, self.number)
     }
 
-    /// Gives an item of its transaction. Refused, nothing was given.
+    /// Gives an item of its transaction, which its worker must have. Refused, nothing was given.
     pub fn give<R: Wait>(
         &mut self,
         rt: &R,
         post: &Mutex<Post<N, L>>,
         item: WorkItem<N>,
     ) -> Result<(), OutOfMemory>
-        ensures { self.new ≡ self.old }
+        ensures ok { OnOk result (AddsTo self.old item self.new) }
+        ensures err { OnErr result (self.new ≡ self.old) }
     {
+        if !self.is_away() {
+            return Err(OutOfMemory);
+        }
         lock_post(rt, post, self.number).give(&mut self.token, item)
     }
 
-    /// Its worker has given the job back: whether all items are done, and the transaction's ticket.
-    /// The lane is free.
+    /// Its worker has given the job back: the transaction's ticket is here from now on. Answers whether
+    /// all items are done.
     pub fn collect<R: Wait>(
         &mut self,
         rt: &R,
         post: &Mutex<Post<N, L>>,
         job: Job<N, L>,
-    ) -> (Collected, Ticket)
-        ensures belongs { result.1.name ≡ N.tickets }
-        ensures same { self.new ≡ self.old }
+    ) -> Collected
+        ensures { ComesBack self.old self.new }
     {
-        let job = of_lane(rt, job, self.number);
+        let job = self.own_job(rt, job);
         let (ticket, taker) = job.split();
         let (collected, taker) = lock_post(rt, post, self.number).collect(&mut self.token, taker);
         self.taker = Some(taker);
-        (collected, ticket)
+        self.back = Some(ticket);
+        self.collected = collected;
+        collected
     }
-}
 
-// A job of this lane. Nothing ties a desk to a lane, so the number is compared.
-fn of_lane<N: StoreNames, L: PostNames, R: Wait>(rt: &R, job: Job<N, L>, lane: usize) -> Job<N, L>
-    ensures same { result ≡ job }
-    ensures lane { result.lane ≡ lane }
-{
-    if job.lane() == lane {
-        return job;
+    // The job, if it is that of its transaction. Nothing ties a desk to a lane, so the numbers are
+    // compared.
+    fn own_job<R: Wait>(&self, rt: &R, job: Job<N, L>) -> Job<N, L>
+        ensures same { result ≡ job }
+        ensures lane { result.lane ≡ self.now.number }
+        ensures goes { (given : Given) × (self.now.goes ≡ Some given) × (result.xid ≡ given.xid) }
+        ensures away { self.now.back ≡ None }
+    {
+        if self.is_away() && job.lane() == self.number && job.xid() == self.xid {
+            return job;
+        }
+        for _ in rt.forever() {}
+        unreachable!()
     }
-    for _ in rt.forever() {}
-    unreachable!()
+
+    /// Whether its transaction came back and had done all of its items.
+    pub fn has_all(&self) -> bool {
+        self.back.is_some() && self.collected == Collected::All
+    }
+
+    /// The ticket of its transaction, if it came back. The lane is free then.
+    pub fn take_back(&mut self) -> Option<Ticket>
+        ensures { MatchOption result ((self.old.back ≡ None) × (self.new ≡ self.old)) (λ ticket. IsTakenOut N.tickets self.old ticket self.new) }
+    {
+        self.back.take()
+    }
+
+    /// The same, if it had done all of its items.
+    pub fn take_done(&mut self) -> Option<Ticket>
+        ensures { MatchOption result (self.new ≡ self.old) (λ ticket. IsTakenOut N.tickets self.old ticket self.new × HasAll self.old ticket) }
+    {
+        if self.collected != Collected::All {
+            return None;
+        }
+        self.back.take()
+    }
 }

@@ -1,14 +1,14 @@
 // What each item of a stream does, where streamed transactions have workers.
-ghost use Rattle.std.specs.Prelude.{◌≡◌, ◌≢◌, [], max, length, All, OnOk, OnErr, IfErr};
+ghost use Rattle.std.specs.Prelude.{◌≡◌, ◌<◌, ◌⊎◌, [], None, max, length, All, OnOk, OnErr, IfErr, MatchOption, map, option_map};
+ghost use Rattle.engine.specs.Events.{last_end};
 ghost use Rattle.model.specs.Rows.{Rows};
 ghost use Rattle.session.specs.Answers.{IsOfTables};
 ghost use Rattle.session.specs.State.{Setting};
-ghost use Rattle.spooled.specs.declared.end.End.TheVariants.{Clean};
 ghost use Rattle.spooled.specs.Progress.{Progress, start_progress};
 
 use spooled::End;
 use spooled::Handler;
-use crate::transactions::Transactions;
+use crate::transactions::{Left, Transactions};
 use bytes::Bytes;
 use catalog::Catalog;
 use engine::{Line, StoreNames};
@@ -47,7 +47,9 @@ pub struct Lead<'a, N: StoreNames, L: PostNames, R: Wait, G: Gate + Drop> {
 }
 
 impl<'a, N: StoreNames, L: PostNames, R: Wait, G: Gate + Drop> Lead<'a, N, L, R, G> {
-    ghost use Rattle.leader.specs.Threads.{numbers_in, led, IsLeadAt, IsLeadAtSome, LeadTakes, Decides, after_commit};
+    ghost use Rattle.leader.specs.Lanes.{IsHome};
+    ghost use Rattle.leader.specs.Standing.{own_by, goes_by, IsCommitted, HasTried, IsStoreEnd};
+    ghost use Rattle.leader.specs.Threads.{numbers_in, led, after_commit, IsLeadAt, IsLeadAtSome, LeadTakes, Decides};
 
     /// Before the first item: no transaction is open, so many may have a worker, and the spools may keep
     /// so many bytes.
@@ -58,7 +60,10 @@ impl<'a, N: StoreNames, L: PostNames, R: Wait, G: Gate + Drop> Lead<'a, N, L, R,
         spool: u64,
         transactions: Transactions<'a, N, L, R, G>,
     ) -> Lead<'a, N, L, R, G>
-        requires { transactions ≡ record { tables = length catalog.now; commits = [] } }
+        requires tables { transactions.tables ≡ length catalog.now }
+        requires line { transactions.line ≡ [] }
+        requires lanes { All (λ goes. goes ≡ None) transactions.lanes }
+        requires begun { transactions.begun ≡ None }
         ensures { (rows : Rows) → IsLeadAt (record { workers = workers; spool = spool; catalog = catalog.now }) rows (led result.stream result.transactions) start_progress }
     {
         let stream = Stream {
@@ -77,7 +82,8 @@ impl<'a, N: StoreNames, L: PostNames, R: Wait, G: Gate + Drop> Lead<'a, N, L, R,
     /// The line of its store, and the position that the commits reach.
     pub fn into_line(self) -> (Line, Lsn)
         ensures name { result.0.name ≡ N.line }
-        ensures commits { numbers_in result.0.list ≡ self.entry.transactions.commits }
+        ensures list { result.0.list ≡ self.entry.transactions.line }
+        ensures commits { numbers_in result.0.list ≡ numbers_in self.entry.transactions.line }
         ensures position { result.1 ≡ self.entry.stream.position }
     {
         let Lead {
@@ -85,6 +91,25 @@ impl<'a, N: StoreNames, L: PostNames, R: Wait, G: Gate + Drop> Lead<'a, N, L, R,
             transactions,
         } = self;
         (transactions.into_line(), stream.position)
+    }
+
+    /// What it leaves of its open transactions, and the position that the commits reach. It tells all
+    /// workers to give up and waits until they have; that they do, they must still be working, or have
+    /// been waited for by `leave`.
+    pub fn into_left(self) -> (Left<N, L>, Lsn)
+        ensures name { result.0.line.name ≡ N.line }
+        ensures list { result.0.line.list ≡ self.entry.transactions.line }
+        ensures tickets { MatchOption result.0.begun (Unit {0}) (λ ticket. ticket.name ≡ N.tickets) }
+        ensures begun { option_map own_by result.0.begun ≡ self.entry.transactions.begun }
+        ensures lanes { map goes_by result.0.lanes.items ≡ self.entry.transactions.lanes }
+        ensures home { All IsHome result.0.lanes.items }
+        ensures position { result.1 ≡ self.entry.stream.position }
+    {
+        let Lead {
+            stream,
+            transactions,
+        } = self;
+        (transactions.into_left(), stream.position)
     }
 
     /// Ends a run: all workers have given up. Answers the end.
@@ -119,12 +144,14 @@ impl<'a, N: StoreNames, L: PostNames, R: Wait, G: Gate + Drop> Lead<'a, N, L, R,
 
     // A transaction commits, and the position with it.
     fn commit(&mut self, xid: Xid, info: CommitInfo, items: Vec<Item>) -> Result<(), End>
-        requires { All (IsOfTables self.old.transactions.tables) items.items }
-        ensures ok { OnOk result (led self.new.stream self.new.transactions ≡ after_commit (led self.old.stream self.old.transactions) xid info) }
+        requires named { All (IsOfTables self.old.transactions.tables) items.items }
+        requires rising { last_end self.old.transactions.line < info.end }
+        ensures commits { OnOk result (IsCommitted self.old.transactions xid info items.items self.new.transactions) }
+        ensures ok { OnOk result (led self.new.stream self.new.transactions ≡ after_commit (led self.old.stream self.old.transactions) self.new.transactions info) }
         ensures session { self.new.stream.session ≡ self.old.stream.session }
         ensures stream { OnErr result (self.new.stream ≡ self.old.stream) }
-        ensures same { OnErr result (self.new.transactions ≡ self.old.transactions) }
-        ensures err { IfErr result (λ end. end ≢ Clean) }
+        ensures err { OnErr result ((self.new.transactions ≡ self.old.transactions) ⊎ HasTried self.old.transactions xid items.items self.new.transactions) }
+        ensures end { IfErr result (IsStoreEnd (Some xid)) }
     {
         self.transactions.commit(xid, info, items)?;
         self.stream.position = info.end;

@@ -1,9 +1,14 @@
 // The open transactions of a run: which are with a worker, and which with the leader.
-ghost use Rattle.std.specs.Prelude.{◌≡◌, ◌≢◌, ◌++◌, ◌∷◌, [], None, Some, IfErr, IfOk, OnErr, OnOk, All, MatchOption, length};
+ghost use Rattle.std.specs.Prelude.{◌≡◌, ◌≢◌, ◌<◌, ◌++◌, ◌∷◌, [], None, Some, IfErr, IfOk, IfNone, OnErr, OnOk, ◌⊎◌, All, MatchBool, MatchOption, length, map, option_map};
 ghost use Rattle.model.specs.Named.{NamesTables};
+ghost use Rattle.model.specs.declared.item.Item.TheVariants.{Last, Change as ChangeItem, Touch as TouchItem};
+ghost use Rattle.tokens.specs.Lists.{open_list};
+ghost use Rattle.engine.specs.Events.{last_end};
+ghost use Rattle.engine.specs.declared.events.LineEvent.TheVariants.{Opened as WasOpened};
 ghost use Rattle.session.specs.Answers.{IsOfTables};
-ghost use Rattle.spooled.specs.declared.end.End.TheVariants.{Clean};
-ghost use Rattle.leader.specs.Threads.{Decides, numbers_in};
+ghost use Rattle.leader.specs.Lanes.{own_item, done_by, IsFree, IsHome};
+ghost use Rattle.leader.specs.Standing.{own_by, goes_by, items_by, with_done, with_wanted, IsUndone, Tries, IsStoreEnd, IsStopEnd, IsBegun, IsHandedOut, IsGiven, IsApplied, IsTaken, IsMet, IsCommitted, CommitsGiven, CommitsOwn, HasDoneAll, HasTried, IsAborted};
+ghost use Rattle.leader.specs.Threads.{Decides};
 
 use spooled::End;
 use crate::ends::{end_of_fault, end_of_stop};
@@ -11,8 +16,7 @@ use crate::lanes::Lane;
 use crate::shop::Shop;
 use crew::Desk;
 use engine::{Acted, Line, Stop, StoreNames, Ticket};
-use model::{Change, CommitInfo, Item, Lsn, Xid};
-use session::SessionFault;
+use model::{Change, CommitInfo, Item, Xid};
 use std::alloc::Global;
 use std::marker::Model;
 use std::sync::Wait;
@@ -22,7 +26,9 @@ use worker::{Collected, Gate, Job, PostNames, WorkItem};
 ///
 /// The items of a streamed transaction that has a lane go to its worker; those of the one between Begin
 /// and Commit, and of one that was spooled, are applied by the leader. It alone opens, commits and
-/// aborts. A clause sees how many tables the store has, and its commits.
+/// aborts. A clause sees how many tables the store has, what its line tells, which transaction goes by
+/// each lane with the items that were given to it, and what the leader's own has done. What can't be,
+/// such as an item of a transaction that isn't open, ends a run as memory that was refused.
 #[derive(Drop)]
 pub struct Transactions<'a, N: StoreNames, L: PostNames, R: Wait, G: Gate + Drop> {
     rt: &'a R,
@@ -34,26 +40,32 @@ pub struct Transactions<'a, N: StoreNames, L: PostNames, R: Wait, G: Gate + Drop
     /// Of each lane the transaction that goes by it, and how many items were given to it; zeros where
     /// none does.
     given: Vec<(Xid, u64)>,
-    /// The transaction between Begin and Commit.
+    /// The transaction between Begin and Commit, or one that was spooled while it commits.
     begun: Option<Ticket>,
-    /// Where the last commit ends; 0 before the first.
-    ended: Lsn,
 }
 
 impl<'a, N: StoreNames, L: PostNames, R: Wait, G: Gate + Drop> Model
     for Transactions<'a, N, L, R, G> {
     ghost use Rattle.std.specs.Prelude.{length};
-    ghost use Rattle.leader.specs.Threads.{Standing, standing, HasNames};
+    ghost use Rattle.leader.specs.Standing.{Standing, standing, HasNames};
 
     ghost Value = { Standing };
 
-    ghost view = { λ t. standing (length N.schema) t.line.list };
+    ghost view = { λ t. standing (length N.schema) t.line.list t.lanes.items t.begun };
 
-    ghost invariant = { λ t. HasNames N.line N.tickets t.line t.ended t.begun };
+    ghost invariant = { λ t. HasNames N.line N.tickets t.line t.begun };
 }
 
-/// The end of a run that lost a transaction of which the session knows. None does.
-const LOST: End = End::Session(SessionFault::UnknownTransaction);
+/// What a run leaves of its open transactions, once all workers have given up: the store's line, the
+/// ticket of the leader's own, the lanes with the tickets of the others, and of each lane how many items
+/// were given to its transaction.
+#[derive(Drop)]
+pub struct Left<N: StoreNames, L: PostNames> {
+    pub line: Line,
+    pub begun: Option<Ticket>,
+    pub lanes: Vec<Lane<N, L>>,
+    pub given: Vec<(Xid, u64)>,
+}
 
 impl<'a, N: StoreNames, L: PostNames, R: Wait, G: Gate + Drop> Transactions<'a, N, L, R, G> {
     /// None is open, and no lane is in use.
@@ -67,7 +79,7 @@ impl<'a, N: StoreNames, L: PostNames, R: Wait, G: Gate + Drop> Transactions<'a, 
     ) -> Transactions<'a, N, L, R, G>
         requires name { line.name ≡ N.line }
         requires none { line.list ≡ [] }
-        ensures { result ≡ record { tables = length N.schema; commits = [] } }
+        ensures { result ≡ record { tables = length N.schema; line = []; lanes = map goes_by lanes.items; begun = None } }
     {
         Transactions {
             rt,
@@ -78,17 +90,45 @@ impl<'a, N: StoreNames, L: PostNames, R: Wait, G: Gate + Drop> Transactions<'a, 
             lanes,
             given,
             begun: None,
-            ended: 0,
         }
     }
 
     /// Its line.
     pub fn into_line(self) -> Line
         ensures name { result.name ≡ N.line }
-        ensures commits { numbers_in result.list ≡ self.entry.commits }
+        ensures list { result.list ≡ self.entry.line }
     {
         let Transactions { line, .. } = self;
         line
+    }
+
+    /// What it leaves. It tells all workers to give up and waits until they have; that they do, they
+    /// must still be working, or have been waited for by `leave`.
+    pub fn into_left(self) -> Left<N, L>
+        ensures name { result.line.name ≡ N.line }
+        ensures list { result.line.list ≡ self.entry.line }
+        ensures tickets { MatchOption result.begun (Unit {0}) (λ ticket. ticket.name ≡ N.tickets) }
+        ensures begun { option_map own_by result.begun ≡ self.entry.begun }
+        ensures lanes { map goes_by result.lanes.items ≡ self.entry.lanes }
+        ensures home { All IsHome result.lanes.items }
+    {
+        let Transactions {
+            rt,
+            shop,
+            desks,
+            line,
+            mut lanes,
+            given,
+            begun,
+            ..
+        } = self;
+        bring_home(rt, shop, desks, &mut lanes);
+        Left {
+            line,
+            begun,
+            lanes,
+            given,
+        }
     }
 
     /// Ends a run: tells all workers to give up and waits until they have. Answers the end, which is
@@ -97,29 +137,10 @@ impl<'a, N: StoreNames, L: PostNames, R: Wait, G: Gate + Drop> Transactions<'a, 
         ensures decides { Decides end result }
         ensures same { self.new ≡ self.old }
     {
-        self.doom_all();
-        self.wait_all();
+        bring_home(self.rt, self.shop, self.desks, &mut self.lanes);
         match (end, self.stop()) {
             (End::Clean, Some(stop)) => end_of_stop(stop),
             _ => end,
-        }
-    }
-
-    // Tells all workers to give up.
-    fn doom_all(&self) {
-        for (index, lane) in self.lanes.iter().enumerate() {
-            if !lane.is_free() {
-                self.doom(index);
-            }
-        }
-    }
-
-    // Waits until all workers have given up.
-    fn wait_all(&self) {
-        for (index, lane) in self.lanes.iter().enumerate() {
-            if let (false, Some(desk)) = (lane.is_free(), self.desks.get(index)) {
-                let _ = desk.wait_back(self.rt);
-            }
         }
     }
 
@@ -132,67 +153,65 @@ impl<'a, N: StoreNames, L: PostNames, R: Wait, G: Gate + Drop> Transactions<'a, 
 
     /// A transaction begins, whose items the leader applies as they come.
     pub fn begin(&mut self, xid: Xid) -> Result<(), End>
-        ensures same { self.new ≡ self.old }
-        ensures err { IfErr result (λ end. end ≢ Clean) }
+        ensures ok { OnOk result (IsBegun self.old xid self.new) }
+        ensures same { OnErr result (self.new ≡ self.old) }
+        ensures err { IfErr result IsStopEnd }
     {
-        self.begun = Some(self.open(xid)?);
-        Ok(())
-    }
-
-    // A transaction opens in the store.
-    fn open(&mut self, xid: Xid) -> Result<Ticket, End>
-        ensures belongs { IfOk result (λ ticket. ticket.name ≡ N.tickets) }
-        ensures first { IfOk result (λ ticket. ticket.list ≡ []) }
-        ensures same { self.new ≡ self.old }
-        ensures err { IfErr result (λ end. end ≢ Clean) }
-    {
-        let mut store = self.shop.store.lock(self.rt);
-        match store.open(self.alloc, &mut self.line, xid) {
-            Ok(ticket) => Ok(ticket),
-            Err(fault) => Err(end_of_fault(fault, store.stop())),
+        if self.begun.is_some() {
+            return Err(End::OutOfMemory);
         }
+        let ticket = open_in(self.rt, self.alloc, self.shop, &mut self.line, xid)?;
+        self.begun = Some(ticket);
+        Ok(())
     }
 
     /// A streamed transaction opens, and goes to a worker.
     pub fn hand_out(&mut self, xid: Xid) -> Result<(), End>
-        ensures same { self.new ≡ self.old }
-        ensures err { IfErr result (λ end. end ≢ Clean) }
+        ensures ok { OnOk result (IsHandedOut self.old xid self.new) }
+        ensures err { OnErr result ((self.new ≡ self.old) ⊎ IsHandedOut self.old xid self.new) }
+        ensures end { IfErr result IsStopEnd }
     {
-        let ticket = self.open(xid)?;
         let Some(index) = self.free_lane() else {
-            return Err(LOST);
+            return Err(End::OutOfMemory);
         };
-        let Some(lane) = self.lanes.get_mut(index) else {
-            return Err(LOST);
-        };
-        let Some(job) = lane.open(ticket) else {
-            return Err(LOST);
-        };
+        self.lay_out(index, xid)?;
         self.count(index, xid, 0);
-        self.lay(index, job)
+        Ok(())
     }
 
     // A lane by which no transaction goes.
     fn free_lane(&self) -> Option<usize> {
-        for (index, lane) in self.lanes.iter().enumerate() {
+        for lane in self.lanes.iter() {
             if lane.is_free() {
-                return Some(index);
+                return Some(lane.number());
             }
         }
         None
     }
 
-    // Lays a job on its lane's desk.
-    fn lay(&self, index: usize, job: Job<N, L>) -> Result<(), End>
-        ensures { IfErr result (λ end. end ≢ Clean) }
+    // A transaction opens and goes by this lane, if that is free: its job is laid on the desk. A desk that
+    // has one already hands it back.
+    fn lay_out(&mut self, index: usize, xid: Xid) -> Result<(), End>
+        ensures ok { OnOk result (IsHandedOut self.old xid self.new) }
+        ensures err { OnErr result ((self.new ≡ self.old) ⊎ IsHandedOut self.old xid self.new) }
+        ensures end { IfErr result IsStopEnd }
     {
-        let Some(desk) = self.desks.get(index) else {
-            return Err(LOST);
+        let (Some(desk), Some(seat)) = (self.desks.get(index), self.shop.seats.get(index)) else {
+            return Err(End::OutOfMemory);
         };
-        match desk.give(self.rt, job) {
-            Ok(()) => Ok(()),
-            Err(_) => Err(LOST),
+        let Some(lane) = self.lanes.get_mut(index) else {
+            return Err(End::OutOfMemory);
+        };
+        if !lane.is_free() {
+            return Err(End::OutOfMemory);
         }
+        let ticket = open_in(self.rt, self.alloc, self.shop, &mut self.line, xid)?;
+        let job = lane.open(ticket);
+        if let Err(job) = desk.give(self.rt, job) {
+            lane.collect(self.rt, &seat.post, job);
+            return Err(End::OutOfMemory);
+        }
+        Ok(())
     }
 
     // Notes how many items were given to the transaction of a lane.
@@ -206,88 +225,118 @@ impl<'a, N: StoreNames, L: PostNames, R: Wait, G: Gate + Drop> Transactions<'a, 
 
     // ---- items
 
-    /// An item of an open transaction: to its worker, if it has one, or applied.
+    /// An item of an open transaction: to its worker, if it has one, or applied. It can't be that the
+    /// commit was read.
     pub fn take(&mut self, xid: Xid, item: Item) -> Result<(), End>
         requires { IsOfTables self.old.tables item }
-        ensures same { self.new ≡ self.old }
-        ensures err { IfErr result (λ end. end ≢ Clean) }
+        ensures ok { OnOk result (IsTaken self.old xid item self.new) }
+        ensures err { IfErr result (IsMet self.old xid item self.new) }
     {
-        if let Some(index) = self.lane_of(xid) {
-            return self.give(index, item);
+        if is_last(&item) {
+            return Err(End::OutOfMemory);
         }
-        let Some(mut ticket) = self.begun.take() else {
-            return Err(LOST);
-        };
-        self.apply(&mut ticket, &item)?;
-        self.begun = Some(ticket);
-        Ok(())
+        match self.lane_of(xid) {
+            Some(index) => self.give(index, xid, item),
+            None => self.apply(xid, &item),
+        }
     }
 
     // The lane by which a transaction goes.
-    fn lane_of(&self, xid: Xid) -> Option<usize> {
-        for (index, lane) in self.lanes.iter().enumerate() {
+    fn lane_of(&self, xid: Xid) -> Option<usize>
+        ensures { IfNone result (items_by xid self.now.lanes ≡ []) }
+    {
+        for lane in self.lanes.iter() {
             if lane.has(xid) {
-                return Some(index);
+                return Some(lane.number());
             }
         }
         None
     }
 
     // Gives an item to the worker of a lane, and counts it.
-    fn give(&mut self, index: usize, item: Item) -> Result<(), End>
-        requires { IsOfTables self.old.tables item }
-        ensures same { self.new ≡ self.old }
-        ensures err { IfErr result (λ end. end ≢ Clean) }
+    fn give(&mut self, index: usize, xid: Xid, item: Item) -> Result<(), End>
+        requires named { IsOfTables self.old.tables item }
+        requires own { item ≢ Last }
+        ensures ok { OnOk result (IsGiven self.old xid (item ∷ []) self.new) }
+        ensures same { OnErr result (self.new ≡ self.old) }
+        ensures err { IfErr result IsStopEnd }
     {
-        self.post(index, item)?;
+        self.post(index, xid, item)?;
         if let Some(given) = self.given.get_mut(index) {
             given.1 = given.1.saturating_add(1);
         }
         Ok(())
     }
 
-    // Gives an item to the worker of a lane.
-    fn post(&mut self, index: usize, item: Item) -> Result<(), End>
+    // Gives an item to the worker of a lane by which this transaction goes, or tells it that the commit
+    // was read.
+    fn post(&mut self, index: usize, xid: Xid, item: Item) -> Result<(), End>
         requires { IsOfTables self.old.tables item }
-        ensures same { self.new ≡ self.old }
-        ensures err { IfErr result (λ end. end ≢ Clean) }
+        ensures ok { OnOk result (IsGiven self.old xid (own_item item) self.new) }
+        ensures same { OnErr result (self.new ≡ self.old) }
+        ensures err { IfErr result IsStopEnd }
     {
-        let Some(lane) = self.lanes.get_mut(index) else {
-            return Err(LOST);
-        };
         let Some(seat) = self.shop.seats.get(index) else {
-            return Err(LOST);
+            return Err(End::OutOfMemory);
         };
+        let Some(lane) = self.lanes.get_mut(index) else {
+            return Err(End::OutOfMemory);
+        };
+        if !lane.has(xid) {
+            return Err(End::OutOfMemory);
+        }
         lane.give(self.rt, &seat.post, WorkItem::new(item))?;
         Ok(())
     }
 
-    // Applies an item.
-    fn apply(&mut self, ticket: &mut Ticket, item: &Item) -> Result<(), End>
+    // Applies an item of the leader's own transaction.
+    fn apply(&mut self, xid: Xid, item: &Item) -> Result<(), End>
+        requires { IsOfTables self.old.tables item.now }
+        ensures ok { OnOk result (IsApplied self.old xid item.now self.new) }
+        ensures err { IfErr result (IsMet self.old xid item.now self.new) }
+    {
+        let Some(mut own) = self.begun.take() else {
+            return Err(End::OutOfMemory);
+        };
+        let done = if own.xid() == xid {
+            self.do_item(&mut own, item)
+        } else {
+            Err(End::OutOfMemory)
+        };
+        self.begun = Some(own);
+        done
+    }
+
+    // Does an item.
+    fn do_item(&self, ticket: &mut Ticket, item: &Item) -> Result<(), End>
         requires belongs { ticket.old.name ≡ N.tickets }
-        requires named { IsOfTables self.old.tables item.now }
-        ensures belongs { ticket.new.name ≡ ticket.old.name }
-        ensures same { self.new ≡ self.old }
-        ensures err { IfErr result (λ end. end ≢ Clean) }
+        requires named { IsOfTables self.now.tables item.now }
+        ensures name { ticket.new.name ≡ ticket.old.name }
+        ensures number { ticket.new.number ≡ ticket.old.number }
+        ensures ok { OnOk result (done_by ticket.new ≡ with_done (done_by ticket.old) item.now) }
+        ensures err { OnErr result (IsUndone (done_by ticket.old) item.now (done_by ticket.new)) }
+        ensures end { IfErr result (IsStoreEnd (Some ticket.old.number)) }
     {
         match item {
-            Item::Change { sub, change } => self.apply_change(ticket, *sub, change),
+            Item::Change { sub, change } => self.do_change(ticket, *sub, change),
             Item::Touch(sub) => self.touch(ticket, *sub),
             Item::BackTo(sub) => {
                 self.shop.store.lock(self.rt).back_to(ticket, *sub);
                 Ok(())
             }
-            Item::Last => Ok(()),
+            Item::Last => Err(End::OutOfMemory),
         }
     }
 
-    // Applies a change, once nobody else holds a cell of it.
-    fn apply_change(&mut self, ticket: &mut Ticket, sub: Xid, change: &Change) -> Result<(), End>
+    // Does a change, once nobody else holds a cell of it.
+    fn do_change(&self, ticket: &mut Ticket, sub: Xid, change: &Change) -> Result<(), End>
         requires belongs { ticket.old.name ≡ N.tickets }
-        requires named { NamesTables self.old.tables change.now }
-        ensures belongs { ticket.new.name ≡ ticket.old.name }
-        ensures same { self.new ≡ self.old }
-        ensures err { IfErr result (λ end. end ≢ Clean) }
+        requires named { NamesTables self.now.tables change.now }
+        ensures name { ticket.new.name ≡ ticket.old.name }
+        ensures number { ticket.new.number ≡ ticket.old.number }
+        ensures ok { OnOk result (done_by ticket.new ≡ with_done (done_by ticket.old) (ChangeItem sub change.now)) }
+        ensures err { OnErr result (IsUndone (done_by ticket.old) (ChangeItem sub change.now) (done_by ticket.new)) }
+        ensures end { IfErr result (IsStoreEnd (Some ticket.old.number)) }
     {
         for _ in self.rt.forever() {
             let rung = self.shop.bell.rung(self.rt);
@@ -301,12 +350,13 @@ impl<'a, N: StoreNames, L: PostNames, R: Wait, G: Gate + Drop> Transactions<'a, 
 
     // Tries a change. Where another transaction holds a cell of it, it is not done; that ends the run
     // if nothing more can come.
-    fn try_change(&mut self, ticket: &mut Ticket, sub: Xid, change: &Change) -> Result<bool, End>
+    fn try_change(&self, ticket: &mut Ticket, sub: Xid, change: &Change) -> Result<bool, End>
         requires belongs { ticket.old.name ≡ N.tickets }
-        requires named { NamesTables self.old.tables change.now }
-        ensures belongs { ticket.new.name ≡ ticket.old.name }
-        ensures same { self.new ≡ self.old }
-        ensures err { IfErr result (λ end. end ≢ Clean) }
+        requires named { NamesTables self.now.tables change.now }
+        ensures name { ticket.new.name ≡ ticket.old.name }
+        ensures number { ticket.new.number ≡ ticket.old.number }
+        ensures tries { Tries result sub change.now (done_by ticket.old) (done_by ticket.new) }
+        ensures end { IfErr result (IsStoreEnd (Some ticket.old.number)) }
     {
         let mut store = self.shop.store.lock(self.rt);
         match store.act(self.alloc, ticket, sub, change) {
@@ -322,12 +372,14 @@ impl<'a, N: StoreNames, L: PostNames, R: Wait, G: Gate + Drop> Transactions<'a, 
         }
     }
 
-    // Applies an item that names a subtransaction.
-    fn touch(&mut self, ticket: &mut Ticket, sub: Xid) -> Result<(), End>
+    // Does an item that names a subtransaction.
+    fn touch(&self, ticket: &mut Ticket, sub: Xid) -> Result<(), End>
         requires { ticket.old.name ≡ N.tickets }
-        ensures belongs { ticket.new.name ≡ ticket.old.name }
-        ensures same { self.new ≡ self.old }
-        ensures err { IfErr result (λ end. end ≢ Clean) }
+        ensures name { ticket.new.name ≡ ticket.old.name }
+        ensures number { ticket.new.number ≡ ticket.old.number }
+        ensures ok { OnOk result (done_by ticket.new ≡ with_done (done_by ticket.old) (TouchItem sub)) }
+        ensures err { OnErr result (done_by ticket.new ≡ done_by ticket.old) }
+        ensures end { IfErr result IsStopEnd }
     {
         let mut store = self.shop.store.lock(self.rt);
         match store.touch(ticket, sub) {
@@ -339,59 +391,67 @@ impl<'a, N: StoreNames, L: PostNames, R: Wait, G: Gate + Drop> Transactions<'a, 
     // ---- commits and aborts
 
     /// Commits a transaction, once all of its items are done: those given to its worker, those applied so
-    /// far, or, where it was spooled, these.
+    /// far, or, where it was spooled, these. Where the run ends it stays, and has done a beginning of them.
     pub fn commit(&mut self, xid: Xid, info: CommitInfo, items: Vec<Item>) -> Result<(), End>
-        requires { All (IsOfTables self.old.tables) items.items }
-        ensures ok { OnOk result (self.new ≡ record self.old { commits = self.old.commits ++ record { xid = xid; info = info } ∷ [] }) }
-        ensures same { OnErr result (self.new ≡ self.old) }
-        ensures err { IfErr result (λ end. end ≢ Clean) }
+        requires named { All (IsOfTables self.old.tables) items.items }
+        requires rising { last_end self.old.line < info.end }
+        ensures ok { OnOk result (IsCommitted self.old xid info items.items self.new) }
+        ensures err { OnErr result ((self.new ≡ self.old) ⊎ HasTried self.old xid items.items self.new) }
+        ensures end { IfErr result (IsStoreEnd (Some xid)) }
     {
-        let ticket = match self.lane_of(xid) {
-            Some(index) => self.finish(index, xid)?,
-            None => match self.begun.take() {
-                Some(ticket) => ticket,
-                None => self.unspool(xid, items)?,
-            },
-        };
-        self.settle(ticket, xid, info)
+        if let Some(index) = self.lane_of(xid) {
+            self.finish(index, xid)?;
+            return self.settle(index, xid, info);
+        }
+        if !self.is_own(xid) {
+            self.unspool(xid, items)?;
+        }
+        self.settle_own(xid, info)
+    }
+
+    // Whether this is the leader's own transaction.
+    fn is_own(&self, xid: Xid) -> bool {
+        match &self.begun {
+            Some(ticket) => ticket.xid() == xid,
+            None => false,
+        }
     }
 
     // Opens a transaction that was spooled and applies its items.
-    fn unspool(&mut self, xid: Xid, items: Vec<Item>) -> Result<Ticket, End>
-        requires { All (IsOfTables self.old.tables) items.items }
-        ensures belongs { IfOk result (λ ticket. ticket.name ≡ N.tickets) }
-        ensures same { self.new ≡ self.old }
-        ensures err { IfErr result (λ end. end ≢ Clean) }
+    fn unspool(&mut self, xid: Xid, items: Vec<Item>) -> Result<(), End>
+        requires named { All (IsOfTables self.old.tables) items.items }
+        requires nowhere { items_by xid self.old.lanes ≡ [] }
+        ensures ok { OnOk result (HasDoneAll self.old xid items.items self.new) }
+        ensures err { OnErr result ((self.new ≡ self.old) ⊎ HasTried self.old xid items.items self.new) }
+        ensures end { IfErr result (IsStoreEnd (Some xid)) }
     {
-        let mut ticket = self.open(xid)?;
+        self.begin(xid)?;
         for item in items {
-            self.apply(&mut ticket, &item)?;
+            self.apply(xid, &item)?;
         }
-        Ok(ticket)
+        Ok(())
     }
 
     // Tells the worker of a lane that the commit was read, and waits until all items are done.
-    fn finish(&mut self, index: usize, xid: Xid) -> Result<Ticket, End>
-        ensures belongs { IfOk result (λ ticket. ticket.name ≡ N.tickets) }
+    fn finish(&mut self, index: usize, xid: Xid) -> Result<(), End>
         ensures same { self.new ≡ self.old }
-        ensures err { IfErr result (λ end. end ≢ Clean) }
+        ensures err { IfErr result (IsStoreEnd (Some xid)) }
     {
-        self.post(index, Item::Last)?;
+        self.post(index, xid, Item::Last)?;
         match self.wait_done(index, xid)? {
-            (Collected::All, ticket) => Ok(ticket),
-            (Collected::Left, _) => match self.stop() {
+            Collected::All => Ok(()),
+            Collected::Left => match self.stop() {
                 Some(stop) => Err(end_of_stop(stop)),
                 None => Err(End::OutOfMemory),
             },
         }
     }
 
-    // The ticket of a transaction once its worker is done with it, and whether it did all items. The run
-    // ends if the store is stopped meanwhile, or nothing more can come.
-    fn wait_done(&mut self, index: usize, xid: Xid) -> Result<(Collected, Ticket), End>
-        ensures belongs { IfOk result (λ done. done.1.name ≡ N.tickets) }
+    // Whether a lane's transaction did all items, once its worker is done with it. The run ends if the
+    // store is stopped meanwhile, or nothing more can come.
+    fn wait_done(&mut self, index: usize, xid: Xid) -> Result<Collected, End>
         ensures same { self.new ≡ self.old }
-        ensures err { IfErr result (λ end. end ≢ Clean) }
+        ensures err { IfErr result (IsStoreEnd (Some xid)) }
     {
         for _ in self.rt.forever() {
             let rung = self.shop.bell.rung(self.rt);
@@ -405,9 +465,8 @@ impl<'a, N: StoreNames, L: PostNames, R: Wait, G: Gate + Drop> Transactions<'a, 
     }
 
     // Whether the run ends while this transaction is waited for.
-    fn look(&mut self, xid: Xid) -> Result<(), End>
-        ensures same { self.new ≡ self.old }
-        ensures err { IfErr result (λ end. end ≢ Clean) }
+    fn look(&self, xid: Xid) -> Result<(), End>
+        ensures { IfErr result (IsStoreEnd (Some xid)) }
     {
         let mut store = self.shop.store.lock(self.rt);
         if let Some(stop) = store.stop() {
@@ -419,82 +478,200 @@ impl<'a, N: StoreNames, L: PostNames, R: Wait, G: Gate + Drop> Transactions<'a, 
         }
     }
 
-    // A lane's transaction, if its worker has given it back: whether all items were done, and the ticket.
-    // The lane is free then.
-    fn try_collect(&mut self, index: usize) -> Option<(Collected, Ticket)>
-        ensures belongs { MatchOption result (Unit {0}) (λ done. done.1.name ≡ N.tickets) }
-        ensures same { self.new ≡ self.old }
+    // Takes a lane's transaction back, if its worker has given it up: whether all items were done.
+    fn try_collect(&mut self, index: usize) -> Option<Collected>
+        ensures { self.new ≡ self.old }
     {
         let (desk, seat) = (self.desks.get(index)?, self.shop.seats.get(index)?);
+        let lane = self.lanes.get_mut(index)?;
         let job = desk.try_back(self.rt)?;
-        let collected = self.lanes.get_mut(index)?.collect(self.rt, &seat.post, job);
-        self.count(index, 0, 0);
-        Some(collected)
+        Some(lane.collect(self.rt, &seat.post, job))
     }
 
-    // Commits a transaction of which all items are done, unless the store was stopped.
-    fn settle(&mut self, ticket: Ticket, xid: Xid, info: CommitInfo) -> Result<(), End>
-        requires { ticket.name ≡ N.tickets }
-        ensures ok { OnOk result (self.new ≡ record self.old { commits = self.old.commits ++ record { xid = xid; info = info } ∷ [] }) }
+    // Commits the transaction of a lane, if it came back with all items done, unless the store was
+    // stopped.
+    fn settle(&mut self, index: usize, xid: Xid, info: CommitInfo) -> Result<(), End>
+        requires { last_end self.old.line < info.end }
+        ensures ok { OnOk result (CommitsGiven self.old xid info self.new) }
         ensures same { OnErr result (self.new ≡ self.old) }
-        ensures err { IfErr result (λ end. end ≢ Clean) }
+        ensures err { IfErr result IsStopEnd }
     {
-        if ticket.xid() != xid {
-            return Err(LOST);
-        }
-        // The session has refused a commit that doesn't end above the last.
-        if info.end <= self.ended {
-            return Err(End::Session(SessionFault::OldCommit));
+        let Some(lane) = self.lanes.get_mut(index) else {
+            return Err(End::OutOfMemory);
+        };
+        if !lane.has(xid) {
+            return Err(End::OutOfMemory);
         }
         let mut store = self.shop.store.lock(self.rt);
         if let Some(stop) = store.stop() {
             return Err(end_of_stop(stop));
         }
+        let Some(ticket) = lane.take_done() else {
+            return Err(End::OutOfMemory);
+        };
         store.commit(&mut self.line, ticket, info);
-        self.ended = info.end;
+        self.shop.changed.notify_all();
+        self.count(index, 0, 0);
+        Ok(())
+    }
+
+    // Commits the leader's own transaction, unless the store was stopped.
+    fn settle_own(&mut self, xid: Xid, info: CommitInfo) -> Result<(), End>
+        requires { last_end self.old.line < info.end }
+        ensures ok { OnOk result (CommitsOwn self.old xid info self.new) }
+        ensures same { OnErr result (self.new ≡ self.old) }
+        ensures err { IfErr result IsStopEnd }
+    {
+        let Some(ticket) = self.begun.take() else {
+            return Err(End::OutOfMemory);
+        };
+        if ticket.xid() != xid {
+            self.begun = Some(ticket);
+            return Err(End::OutOfMemory);
+        }
+        let mut store = self.shop.store.lock(self.rt);
+        if let Some(stop) = store.stop() {
+            self.begun = Some(ticket);
+            return Err(end_of_stop(stop));
+        }
+        store.commit(&mut self.line, ticket, info);
         self.shop.changed.notify_all();
         Ok(())
     }
 
     /// Drops a transaction that has a worker, unless the store was stopped.
     pub fn abort(&mut self, xid: Xid) -> Result<(), End>
-        ensures same { self.new ≡ self.old }
-        ensures err { IfErr result (λ end. end ≢ Clean) }
+        ensures ok { OnOk result (IsAborted self.old xid self.new) }
+        ensures same { OnErr result (self.new ≡ self.old) }
+        ensures err { IfErr result IsStopEnd }
     {
         let Some(index) = self.lane_of(xid) else {
-            return Err(LOST);
+            return Err(End::OutOfMemory);
         };
-        self.doom(index);
-        let Some((_, ticket)) = self.wait_collect(index) else {
-            return Err(LOST);
+        self.fetch(index);
+        self.drop_back(index, xid)
+    }
+
+    // Tells the worker of a lane to give up, and takes its transaction back.
+    fn fetch(&mut self, index: usize)
+        ensures { self.new ≡ self.old }
+    {
+        let Some(lane) = self.lanes.get_mut(index) else {
+            return;
         };
+        tell_to_give_up(self.rt, self.shop, lane.number());
+        bring_back(self.rt, self.shop, self.desks, lane);
+    }
+
+    // Drops the transaction of a lane, which came back, unless the store was stopped.
+    fn drop_back(&mut self, index: usize, xid: Xid) -> Result<(), End>
+        ensures ok { OnOk result (IsAborted self.old xid self.new) }
+        ensures same { OnErr result (self.new ≡ self.old) }
+        ensures err { IfErr result IsStopEnd }
+    {
+        let Some(lane) = self.lanes.get_mut(index) else {
+            return Err(End::OutOfMemory);
+        };
+        if !lane.has(xid) {
+            return Err(End::OutOfMemory);
+        }
         let mut store = self.shop.store.lock(self.rt);
         if let Some(stop) = store.stop() {
             return Err(end_of_stop(stop));
         }
+        let Some(ticket) = lane.take_back() else {
+            return Err(End::OutOfMemory);
+        };
         store.abort(&mut self.line, ticket);
         self.shop.changed.notify_all();
+        self.count(index, 0, 0);
         Ok(())
     }
+}
 
-    // Tells the worker of a lane to give up, and wakes it if it waits for a cell.
-    fn doom(&self, index: usize) {
-        if let Some(seat) = self.shop.seats.get(index) {
-            seat.post.lock(self.rt).doom();
+// A transaction opens in the store.
+fn open_in<N: StoreNames, L: PostNames, R: Wait, G: Gate + Drop>(
+    rt: &R,
+    alloc: Global,
+    shop: &Shop<N, L, G>,
+    line: &mut Line,
+    xid: Xid,
+) -> Result<Ticket, End>
+    requires { line.old.name ≡ N.line }
+    ensures name { line.new.name ≡ line.old.name }
+    ensures ok { OnOk result (line.new.list ≡ line.old.list ++ WasOpened xid ∷ []) }
+    ensures ticket { IfOk result (λ ticket. ticket ≡ open_list N.tickets xid []) }
+    ensures same { OnErr result (line.new.list ≡ line.old.list) }
+    ensures err { IfErr result IsStopEnd }
+{
+    let mut store = shop.store.lock(rt);
+    match store.open(alloc, line, xid) {
+        Ok(ticket) => Ok(ticket),
+        Err(fault) => Err(end_of_fault(fault, store.stop())),
+    }
+}
+
+// Tells the worker of a lane to give up, and wakes it if it waits for a cell.
+fn tell_to_give_up<N: StoreNames, L: PostNames, R: Wait, G: Gate + Drop>(
+    rt: &R,
+    shop: &Shop<N, L, G>,
+    lane: usize,
+) {
+    if let Some(seat) = shop.seats.get(lane) {
+        seat.post.lock(rt).doom();
+    }
+    let _store = shop.store.lock(rt);
+    shop.changed.notify_all();
+}
+
+// Tells all workers to give up, and takes their transactions back.
+fn bring_home<N: StoreNames, L: PostNames, R: Wait, G: Gate + Drop>(
+    rt: &R,
+    shop: &Shop<N, L, G>,
+    desks: &[Desk<Job<N, L>>],
+    lanes: &mut Vec<Lane<N, L>>,
+)
+    ensures same { map goes_by lanes.new.items ≡ map goes_by lanes.old.items }
+    ensures home { All IsHome lanes.new.items }
+{
+    for lane in lanes.iter() {
+        if lane.is_away() {
+            tell_to_give_up(rt, shop, lane.number());
         }
-        let _store = self.shop.store.lock(self.rt);
-        self.shop.changed.notify_all();
     }
+    for lane in lanes.iter_mut() {
+        bring_back(rt, shop, desks, lane);
+    }
+}
 
-    // `try_collect` once the worker has given the transaction back.
-    fn wait_collect(&mut self, index: usize) -> Option<(Collected, Ticket)>
-        ensures belongs { MatchOption result (Unit {0}) (λ done. done.1.name ≡ N.tickets) }
-        ensures same { self.new ≡ self.old }
-    {
-        let (desk, seat) = (self.desks.get(index)?, self.shop.seats.get(index)?);
-        let job = desk.wait_back(self.rt)?;
-        let collected = self.lanes.get_mut(index)?.collect(self.rt, &seat.post, job);
-        self.count(index, 0, 0);
-        Some(collected)
+// Takes the transaction of a lane back, once its worker has given it up. A worker that was told to does,
+// so a lane without a job is none.
+fn bring_back<N: StoreNames, L: PostNames, R: Wait, G: Gate + Drop>(
+    rt: &R,
+    shop: &Shop<N, L, G>,
+    desks: &[Desk<Job<N, L>>],
+    lane: &mut Lane<N, L>,
+)
+    ensures same { lane.new.goes ≡ lane.old.goes }
+    ensures home { IsHome lane.new }
+{
+    if !lane.is_away() {
+        return;
     }
+    let number = lane.number();
+    if let (Some(desk), Some(seat)) = (desks.get(number), shop.seats.get(number)) {
+        if let Some(job) = desk.wait_back(rt) {
+            lane.collect(rt, &seat.post, job);
+            return;
+        }
+    }
+    for _ in rt.forever() {}
+    unreachable!()
+}
+
+// Whether this says that the transaction's commit was read.
+fn is_last(item: &Item) -> bool
+    ensures { MatchBool result (item.now ≡ Last) (item.now ≢ Last) }
+{
+    matches!(item, Item::Last)
 }

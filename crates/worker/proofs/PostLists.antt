@@ -1,6 +1,8 @@
 -- What isn't done of the items that were given.
-use Rattle.std.proofs.Common.{◌≡◌, ◌↔◌, List, ◌++◌, ap, sym, ◌∙◌}
+use Rattle.std.proofs.Common.{◌≡◌, ◌↔◌, List, [], ◌∷◌, ◌++◌, Option, Some, None, ap, sym, ◌∙◌}
+use Rattle.std.specs.Prelude.{MatchOption}
 use Rattle.std.proofs.lemmas.List.{append_assoc, append_cancel_left}
+use Rattle.tokens.specs.Half.{Begins}
 
 module _ {X : Type 0} where
   -- all of them are those acknowledged, those left and those late
@@ -15,3 +17,14 @@ module _ {X : Type 0} where
   just_these given sent acked left late rest whole parts =
       let all = all_given given sent acked left late whole parts in
       ((λ is. all ∙ ap (λ r. acked ++ r) is), (λ is. append_cancel_left acked (left ++ late) rest (sym all ∙ is)))
+
+  -- the one that is taken comes first of those that aren't acknowledged
+  pub next_given : (given sent acked left late : List X) (taken : Option X) → given ≡ sent ++ late → sent ≡ acked ++ left
+      → MatchOption taken (Unit {0}) (λ x. (others : List X) × (left ≡ x ∷ others))
+      → MatchOption taken (Unit {0}) (λ x. Begins (acked ++ x ∷ []) given)
+  next_given given sent acked left late None whole parts next = tt
+  next_given given sent acked left late (Some x) whole parts next = (
+    next.0 ++ late,
+    all_given given sent acked left late whole parts ∙ ap (λ l. acked ++ (l ++ late)) next.1
+        ∙ sym (append_assoc acked (x ∷ []) (next.0 ++ late)),
+  )

@@ -8,7 +8,7 @@
 --     IsEndedBy      why a worker came back
 --     Wanted, Comes      the events of a transaction once an item was tried
 --     ComesTo      what the transaction has done once it was tried until it was done or refused
-use Rattle.std.specs.Prelude.{◌≡◌, ◌≢◌, ℕ, true, List, [], ◌∷◌, ◌++◌, Option, Some, None, IsSome, MatchOption, Result, Ok, Err}
+use Rattle.std.specs.Prelude.{◌≡◌, ◌≢◌, ℕ, true, List, [], ◌∷◌, ◌++◌, Option, Some, None, IsSome, All, MatchOption, Result, Ok, Err}
 use Rattle.atomic_table.specs.Seated.{TableId}
 use Rattle.model.specs.declared.change.Change as change_type
 use Rattle.model.specs.declared.item.Item.{Item}
@@ -54,11 +54,12 @@ wanted_in j = (opened_by j.events).wants
 abbrev pub IsTaken : Option (ℕ × change_type.Change) → Option Item → Type 0
 IsTaken wants taken = MatchOption wants (Unit {0}) (λ w. taken ≡ Some (Change w.0 w.1))
 
--- Its end is that of this ring; what its transaction has done are the items acknowledged, and a change of it that waits
--- or clashed is the first item after them.
+-- Its end is that of this ring; what its transaction has done are the items acknowledged, of which none says that the
+-- commit was read, and a change of it that waits or clashed is the first item after them.
 pub record IsInStep (its_ring : TableId) (j : Working) : Type 0 where
   pub ring : j.taker.ring ≡ its_ring
   pub done : done_in j ≡ j.taker.acked
+  pub own : All (λ item. item ≢ Last) (done_in j)
   pub next : IsTaken (wanted_in j) j.taker.taken
 
 -- It has the same transaction and the same lane, and all that was done before.

@@ -3,7 +3,8 @@
 --     refused_goes_on      a job once its item was refused
 --     done_goes_on, done_in_step, done_item      once it was done and acknowledged
 use Rattle.std.proofs.Common.{◌≡◌, ◌≢◌, ℕ, List, [], ◌∷◌, ◌++◌, Option, Some, None, refl, sym, ap, subst, ◌∙◌, append-nil}
-use Rattle.std.specs.Prelude.{MatchOption, Ok, Err}
+use Rattle.std.specs.Prelude.{All, MatchOption, Ok, Err}
+use Rattle.std.proofs.lemmas.List.Elements.{All-append, All-cons, All-nil}
 use Rattle.atomic_table.specs.Seated.{TableId}
 use Rattle.model.specs.declared.item.Item.{Item}
 use Rattle.model.specs.declared.item.Item.TheVariants.{Last}
@@ -73,11 +74,20 @@ module _ (its_lane : ℕ) (first now : OpenList Event) (before after : Taking It
       doomed = λ was. acknowledged.doomed ∙ waited.doomed was;
     }
 
-    pub done_in_step : (its_ring : TableId) → IsInStep its_ring (working its_lane first before) → IsInStep its_ring (working its_lane now last)
-    done_in_step its_ring step = record {
+    same_item : (item : Item) → before.taken ≡ Some item → parts.0 ≡ item
+    same_item item is = let e : Some parts.0 ≡ Some item = sym (was_taken before.taken after.taken parts.0 waited.stays (item, is) parts.1) ∙ is in cc
+
+    pub done_in_step : (its_ring : TableId) → IsInStep its_ring (working its_lane first before)
+        → (item : Item) × (before.taken ≡ Some item) × (item ≢ Last) → IsInStep its_ring (working its_lane now last)
+    done_in_step its_ring step has = record {
       ring = acknowledged.ring ∙ waited.ring ∙ step.ring;
       done =
           parts.2 ∙ ap (λ (items : List Item). items ++ parts.0 ∷ []) (step.done ∙ sym waited.acked) ∙ sym parts.3;
+      own =
+          let P : Item → Type 0 = λ i. i ≢ Last in
+          subst (All P) (sym parts.2)
+          (All-append P (opened_by first.list).items (parts.0 ∷ []) step.own
+          (All-cons P parts.0 [] (λ is. has.2 (sym (same_item has.0 has.1) ∙ is)) (All-nil P)));
       next = subst (λ w. IsTaken w last.taken) (sym comes.0) tt;
     }
 

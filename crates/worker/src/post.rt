@@ -7,7 +7,7 @@
 //
 // Both are under a lock, of which only its type is known. What the leader knows over its releases is
 // what it lists with a token: each item given, and each transaction that began.
-ghost use Rattle.std.specs.Prelude.{◌≡◌, ◌<◌, ◌↔◌, ◌⊎◌, ◌++◌, ◌∷◌, [], ◌+◌, false, true, length, OnOk, OnErr, IfNone, IsTrue};
+ghost use Rattle.std.specs.Prelude.{◌≡◌, ◌<◌, ◌↔◌, ◌⊎◌, ◌++◌, ◌∷◌, [], ◌+◌, false, true, length, OnOk, OnErr, IfNone, IsTrue, MatchOption};
 ghost use Rattle.std.specs.VecDeque.{deque_len, deque_capacity};
 ghost use Rattle.std.specs.Sync.Mutex.{mutex_guard_value};
 ghost use Rattle.model.specs.declared.item.Item.TheVariants.{Last};
@@ -197,6 +197,7 @@ impl<N: StoreNames, L: PostNames> Post<N, L> {
         requires ring { taker.ring ≡ L.ring self.old.lane }
         ensures met { token.old.list ≡ self.old.events }
         ensures acked { Begins taker.acked (given_since token.old.list) }
+        ensures next { MatchOption taker.taken (Unit {0}) (λ item. Begins (taker.acked ++ item ∷ []) (given_since token.old.list)) }
         ensures all { (result.0 ≡ WasAll) ↔ (given_since token.old.list ≡ taker.acked ++ Last ∷ []) }
         ensures begun { token.new ≡ record token.old { list = token.old.list ++ Begun ∷ [] } }
         ensures post { self.new.events ≡ token.new.list }

@@ -1,15 +1,12 @@
-use Rattle.std.proofs.Common.{◌≡◌, ap, sym, ◌∙◌}
-use Rattle.tokens.specs.Half.{Half}
+use Rattle.std.proofs.Common.{rules, length, ◌<◌, arith, ap}
 use Rattle.engine.specs.declared.events.LineEvent.{LineEvent}
-use Rattle.engine.specs.Events.{opened_by, last_end}
-use Rattle.engine.specs.EventLaws.{last_more}
+use Rattle.leader.proofs.Turning.{committed_by}
 use Rattle.leader.proofs.transactions.Transactions.settle.Goals as goal
 
-pub invariant_of-self : goal.invariant_of-self
-invariant_of-self g c =
-    let name = λ (h : Half LineEvent). h.name in
-    record {
-      line = ap name c.commit.ensures.line_told ∙ c.commit.ensures.same.line ∙ sym (ap name c.commit.ensures.met) ∙ c.self.invariant.line;
-      ended = ap last_end c.commit.ensures.appended ∙ last_more c.self.inside.line.list c.args.ticket.number (opened_by c.args.ticket.list).items c.args.info;
-      begun = c.self.invariant.begun;
-    }
+pub returns-clause-ok : goal.returns-clause-ok
+returns-clause-ok g c =
+    let t = c.self.inside in
+    let lane = c.in-Some.lane.now in
+    let within : c.args.index < length t.lanes.items = omega (arith, t.lanes.ok.0, c.in-Some.ensures.variant.0 (search rules)) in
+    committed_by _ t.line.list t.lanes.items c.args.index t.begun c.args.self.now c.self.view_is lane c.take_done.new.self within c.in-Some.ensures.value
+    c.count.new.self c.commit.new.line.list g.N.StoreNames.tickets c.in-Some-take_done.ticket c.args.xid c.args.info c.count.ensures c.commit.ensures.appended c.if-not-has.ensures c.in-Some-take_done.ensures

@@ -16,7 +16,8 @@ invariant_of-self-2 g c =
     let t = c.try_until_done in (
       search rules,
       done_in_step c.self.inside.lane c.self.inside.ticket t.new.ticket c.self.inside.taker t.new.taker t.ensures.taker t.ensures.number t.ensures.events
-          c.ack.new.self c.in_ok-try_until_done.ensures.comes c.ack.ensures (g.L.LaneNames.ring c.self.inside.lane) c.self.invariant.1,
+          c.ack.new.self c.in_ok-try_until_done.ensures.comes c.ack.ensures (g.L.LaneNames.ring c.self.inside.lane) c.self.invariant.1
+          (c.requires.0, ap (λ (w : Working). w.taker.taken) c.self.view_is ∙ c.requires.1, c.requires.2),
     )
 
 pub returns-clause-goes_on : goal.returns-clause-goes_on
