@@ -1,1 +1,3 @@
 mod Leading
+mod Leaving
+mod Making

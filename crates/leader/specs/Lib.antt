@@ -1,2 +1,4 @@
 pub mod Lanes
 pub mod Threads
+pub mod Parts
+pub mod WithWorkers

@@ -1,10 +1,10 @@
 mod Working
-mod States
+pub mod States
 mod Begun
-mod Taking
+pub mod Taking
 mod Ending
-mod Handling
-mod Running
+pub mod Handling
+pub mod Running
 mod Reading
 mod Leaving
 mod ReportLoops
