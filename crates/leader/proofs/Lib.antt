@@ -7,3 +7,5 @@ mod Trying
 mod Turning
 mod Deciding
 mod Held
+mod Leaving
+mod Making

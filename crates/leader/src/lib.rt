@@ -24,20 +24,30 @@
 //   shop           what leader and workers share
 //   ends           the ends that a store gives
 //   ending         the end of a run, decided once all workers have given up
+//   parts          what lanes are made of, before and after they have names
+//   chief          a leader beside its workers, as a value
+//   threads        the run
 //
-// It stands on `spooled` for the loop over a stream and the ends of a run, `session` for what messages ask
-// for, `engine`'s store, and `worker`, `crew` and `ring`. No run goes by it yet. All that a caller of a run
-// needs stands here, as in `spooled`.
+// It stands on `spooled` for the loop over a stream and the ends of a run, `course` for what a run with
+// workers is, `session` for what messages ask for, `engine`'s store, and `worker`, `crew` and `ring`. All
+// that a caller of a run needs stands here, as in `spooled`.
+mod chief;
 mod ending;
 mod ends;
 mod lanes;
 mod lead;
+mod parts;
 mod shop;
+#[cfg(test)]
+mod tests;
+mod threads;
 mod transactions;
 
 pub use spooled::{
-    ByteStr, Catalog, CatalogFault, Change, Changes, ChangesIter, Clock, Config, Devices, End, Entry, Failed,
-    FrameFault, Key, KeyValues, Lsn, MsgFault, OutOfMemory, Outcome, ReadSource, RelFault, Row, RowView,
-    SessionFault, Sink, Source, TableDef, TableId, Tables, Value, ValueRef, Walk, WriteSink, Xid, report,
-    run_over, run_spooled,
+    ByteStr, Catalog, CatalogFault, Change, Changes, ChangesIter, Clock, Config, Devices, End,
+    Entry, Failed, FrameFault, Key, KeyValues, Lsn, MsgFault, OutOfMemory, Outcome, ReadSource,
+    RelFault, Row, RowView, SessionFault, Sink, Source, TableDef, TableId, Tables, Value, ValueRef,
+    Walk, WriteSink, Xid, report, run_over, run_spooled,
 };
+pub use threads::{run, run_with_workers};
+pub use worker::{Gate, Point};

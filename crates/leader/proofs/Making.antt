@@ -1,0 +1,32 @@
+-- What is known of the parts of lanes that are taken off one by one, the last first.
+--     front_fresh, front_value      those that are left are fresh, and have the values that they had
+--     longer      they stand where they stood
+--     more_fresh      one more was made
+use Rattle.std.proofs.Common.{◌≡◌, ℕ, ◌+◌, ◌<◌, List, [], ◌∷◌, ◌++◌, length, get_or, refl, sym, ap, subst, ◌∙◌, arith, length-append}
+use Rattle.std.specs.Prelude.{All, map}
+use Rattle.std.proofs.lemmas.List.{map-append, length-map, get_or_append_left}
+use Rattle.std.proofs.lemmas.List.Elements.{All-append, All-cons, All-nil}
+use Rattle.leader.specs.Parts.{Parted, IsFresh}
+
+-- those that are left are fresh
+pub front_fresh : (whole front rest : List Parted) → whole ≡ front ++ rest → All IsFresh whole → All IsFresh front
+front_fresh whole front rest e fresh = λ k d lt.
+    let long : length whole ≡ length front + length rest = ap length e ∙ length-append front rest in
+    let same : get_or whole k d ≡ get_or front k d = ap (λ (w : List Parted). get_or w k d) e ∙ get_or_append_left front rest d k lt in
+    subst IsFresh same (fresh k d (omega arith))
+
+-- and have the values that they had
+pub front_value : {Y : Type 0} (f : Parted → Y) (whole front rest : List Parted) (d : Y) (i : ℕ) → whole ≡ front ++ rest → i < length front → get_or (map f front) i d ≡ get_or (map f whole) i d
+front_value f whole front rest d i e lt =
+    let long = length-map front f in
+    let within : i < length (map f front) = omega arith in
+    sym (ap (λ (w : List Parted). get_or (map f w) i d) e ∙ ap (λ w. get_or w i d) (map-append f front rest) ∙ get_or_append_left (map f front) (map f rest) d i within)
+
+-- one more was made
+pub more_fresh : (made more : List Parted) (p : Parted) → more ≡ made ++ p ∷ [] → All IsFresh made → IsFresh p → All IsFresh more
+more_fresh made more p e fresh is = subst (All IsFresh) (sym e) (All-append IsFresh made (p ∷ []) fresh (All-cons IsFresh p [] is (All-nil IsFresh)))
+
+-- those that are left stand where they stood
+pub longer : (whole front rest : List Parted) (i : ℕ) → whole ≡ front ++ rest → i < length front → i < length whole
+longer whole front rest i e lt =
+    let long : length whole ≡ length front + length rest = ap length e ∙ length-append front rest in omega arith

@@ -1,0 +1,33 @@
+-- What the lanes of a run are made of.
+--     Parted      both ends of a ring, and both halves of the list of what is given to it
+--     ring_of, post_of      which ring and which list they are
+--     IsFresh      nothing was given yet
+use Rattle.std.specs.Prelude.{◌≡◌, []}
+use Rattle.atomic_table.specs.Seated.{TableId}
+use Rattle.model.specs.declared.item.Item.{Item}
+use Rattle.tokens.specs.Half.{Name, Half}
+use Rattle.ring.specs.Ends.{Sending, Taking}
+use Rattle.worker.specs.declared.post.PostEvent.{PostEvent}
+
+-- both ends of a lane's ring, and both halves of the list of what is given to it
+pub record Parted : Type 0 where
+  pub sending : Sending Item
+  pub taking : Taking Item
+  pub kept : Half PostEvent
+  pub token : Half PostEvent
+
+-- which ring it is
+abbrev pub ring_of : Parted → TableId
+ring_of p = p.sending.ring
+
+-- which list it is
+abbrev pub post_of : Parted → Name
+post_of p = p.kept.name
+
+-- The ends are those of one ring, and the halves of one list; nothing was given yet.
+pub record IsFresh (p : Parted) : Type 0 where
+  pub ring : p.taking.ring ≡ p.sending.ring
+  pub sent : p.sending.sent ≡ []
+  pub acked : p.taking.acked ≡ []
+  pub given : p.kept.list ≡ []
+  pub name : p.token.name ≡ p.kept.name

@@ -1,0 +1,55 @@
+// A leader beside its workers, as a value.
+//
+// `crew` takes a leader as a closure. What a run's leader needs has more than one type parameter, and a
+// closure that holds references to it gets no proof yet; so the closure holds a value of a type
+// parameter, which leads.
+ghost use Rattle.std.specs.Prelude.{◌≡◌, IfNone, IfSome, length};
+
+use crew::{Desk, Work, with_workers};
+use std::sync::Wait;
+use std::thread::Threads;
+
+/// Leads while workers work, and hands back what it was lent.
+pub trait Leading<J, W> {
+    ghost use Rattle.std.specs.Prelude.{ℕ};
+
+    type Left;
+
+    /// It can lead so many workers.
+    ghost can_lead: { Self → ℕ → Type 0 };
+
+    /// It has led so many, and leaves this.
+    ghost lead_gives: { Self → ℕ → Self.Left → Type 0 };
+
+    /// Leads. It is told how many desks have a worker.
+    fn lead<R: Wait>(self, rt: &R, desks: &[Desk<J>], shop: &W, serving: usize) -> Self::Left
+        requires { can_lead self (length desks.now) }
+        ensures { lead_gives self (length desks.now) result };
+}
+
+/// Starts a worker for each desk and lets the leader lead, as `with_workers` has it.
+pub fn beside<J, R, W, T, X>(rt: &R, desks: &[Desk<J>], shop: &W, leader: T) -> X
+where
+    J: Drop + Send,
+    R: Threads + Wait + Sync,
+    W: Work<J> + Sync,
+    T: Leading<J, W, Left = X> + Drop,
+    requires { T.can_lead leader (length desks.now) }
+    ensures { T.lead_gives leader (length desks.now) result }
+{
+    let mut leader = Some(leader);
+    with_workers(
+        rt,
+        desks,
+        shop,
+        &mut |serving: usize| -> X
+            requires { IfNone leader ⊥ × IfSome leader (λ l. T.can_lead l (length desks.now)) }
+            ensures { IfSome leader.entry (λ l. T.lead_gives l (length desks.entry.now) result) }
+        {
+            let Some(leader) = leader.take() else {
+                unreachable!()
+            };
+            leader.lead(rt, desks, shop, serving)
+        },
+    )
+}

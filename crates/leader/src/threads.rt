@@ -1,0 +1,428 @@
+// A run whose streamed transactions have workers.
+ghost use Rattle.std.specs.Prelude.{◌≡◌, ◌<◌, ℕ, All, [], length, map, min, slice_index_or};
+ghost use Rattle.model.specs.Rows.{Rows, keys_of};
+ghost use Rattle.world.specs.World.{starting};
+ghost use Rattle.session.specs.State.{Setting};
+ghost use Rattle.spooled.specs.Progress.{start_progress};
+ghost use Rattle.spooled.specs.Devices.{DeviceState, device_state, health};
+ghost use Rattle.spooled.specs.Run.{IsRun, spooling};
+ghost use Rattle.spooled.specs.declared.end.End.TheVariants.{OutOfMemory as NoMemory};
+ghost use Rattle.leader.specs.Parts.{IsFresh, ring_of, post_of};
+ghost use Rattle.tokens.specs.Half.{no_name};
+ghost use Rattle.leader.specs.Threads.{numbers_in, led, IsLeadAt, IsLeadAtStart};
+ghost use Rattle.leader.specs.WithWorkers.{setting, LeadEnds, Leaves, IsRunByWorkers, RunsBy, IsShutSo};
+
+use crate::chief::{Leading, beside};
+use crate::lanes::Lane;
+use crate::lead::Lead;
+use crate::parts::{Parts, Places, make_parts};
+use crate::shop::Shop;
+use crate::transactions::Transactions;
+use catalog::Catalog;
+use crew::{Bell, Desk, make_desks};
+use engine::{Line, SharedStore, Store, StoreNames};
+use frames::{Lsn, Sink, Source};
+use model::Xid;
+use spooled::{Clock, Config, Devices, End, Outcome, Tables, read_all, run_over};
+use std::alloc::Global;
+use std::marker::Brand;
+use std::sync::{Condvar, Mutex, Wait};
+use std::thread::Threads;
+use worker::{Gate, Job, PostNames};
+
+/// Reads the stream to its end and applies its transactions, streamed ones by workers as their items
+/// come: as many at once as `config` has workers, and gates there are. A streamed transaction more is
+/// applied at its commit. Commits keep the stream's order. Open work is undone before the answer.
+///
+/// The start tables must be those of the catalog. It is `run_with_workers` with devices of its own: what
+/// it sends is said there.
+pub fn run<R, S, W, C, G>(
+    rt: &R,
+    alloc: Global,
+    reader: S,
+    writer: W,
+    catalog: &Catalog,
+    start: Tables,
+    config: &Config,
+    gates: Vec<G>,
+    clock: C,
+) -> Outcome
+where
+    R: Threads + Wait + Sync,
+    S: Source + Drop,
+    W: Sink + Drop,
+    C: Clock + Drop,
+    G: Gate + Drop + Send,
+    requires { start.schema ≡ map keys_of catalog.now }
+    ensures { (after : DeviceState) × RunsBy (min config.now.workers (length gates.items)) catalog.now config.now start.rows
+        (device_state (S.remaining reader) (W.contents writer) (C.told clock) (S.reads_left reader)
+        (health (S.failures reader) (S.failed_last reader)) (health (W.failures writer) (W.failed_last writer)))
+        after result }
+{
+    let mut devices = Devices::new(reader, writer, clock);
+    run_with_workers(rt, alloc, &mut devices, catalog, start, config, gates)
+}
+
+/// `run` over devices that are looked at afterwards: what was read and sent.
+pub fn run_with_workers<R, S, W, C, G>(
+    rt: &R,
+    alloc: Global,
+    devices: &mut Devices<S, W, C>,
+    catalog: &Catalog,
+    start: Tables,
+    config: &Config,
+    mut gates: Vec<G>,
+) -> Outcome
+where
+    R: Threads + Wait + Sync,
+    S: Source,
+    W: Sink,
+    C: Clock,
+    G: Gate + Drop + Send,
+    requires { start.schema ≡ map keys_of catalog.now }
+    ensures { RunsBy (min config.now.workers (length gates.items)) catalog.now config.now start.rows devices.old devices.new result }
+{
+    gates.truncate(config.workers);
+    if gates.is_empty() {
+        return run_over(alloc, devices, catalog, start, config);
+    }
+    match Store::new(alloc, start) {
+        Ok((store, line)) => run_store::<Brand, R, S, W, C, G>(
+            rt, alloc, devices, catalog, store, line, config, gates,
+        ),
+        Err(start) => unread(alloc, start),
+    }
+}
+
+// What is left where memory was refused before a byte was read.
+fn unread(alloc: Global, start: Tables) -> Outcome
+    ensures shut { IsShutSo start.schema start.rows [] result }
+    ensures position { result.position ≡ 0 }
+    ensures end { result.end ≡ NoMemory }
+{
+    Outcome {
+        tables: start,
+        journal: Vec::new(alloc),
+        position: 0,
+        end: End::OutOfMemory,
+    }
+}
+
+// A run on a store that has names.
+fn run_store<N, R, S, W, C, G>(
+    rt: &R,
+    alloc: Global,
+    devices: &mut Devices<S, W, C>,
+    catalog: &Catalog,
+    store: Store,
+    line: Line,
+    config: &Config,
+    gates: Vec<G>,
+) -> Outcome
+where
+    N: StoreNames + Send + Sync,
+    R: Threads + Wait + Sync,
+    S: Source,
+    W: Sink,
+    C: Clock,
+    G: Gate + Drop + Send,
+    requires tickets { store.tickets ≡ N.tickets }
+    requires line { store.line.name ≡ N.line }
+    requires schema { store.schema ≡ N.schema }
+    requires starts { store.world ≡ starting N.start }
+    requires name { line.name ≡ N.line }
+    requires none { line.list ≡ [] }
+    requires keys { N.schema ≡ map keys_of catalog.now }
+    ensures { IsRunByWorkers (setting (length gates.items) config.now.spool catalog.now) N.start devices.old devices.new result }
+{
+    let store = SharedStore::<N>::new(store);
+    match make_parts(alloc, gates.len(), config.ring) {
+        Ok(parts) => run_lanes::<N, Brand, R, S, W, C, G>(
+            rt,
+            alloc,
+            devices,
+            catalog,
+            store,
+            line,
+            config.spool,
+            parts,
+            gates,
+        ),
+        Err(_) => shut(store, line, 0, End::OutOfMemory),
+    }
+}
+
+// A run by lanes that have names.
+fn run_lanes<N, L, R, S, W, C, G>(
+    rt: &R,
+    alloc: Global,
+    devices: &mut Devices<S, W, C>,
+    catalog: &Catalog,
+    store: SharedStore<N>,
+    line: Line,
+    spool: u64,
+    parts: Vec<Parts<N>>,
+    gates: Vec<G>,
+) -> Outcome
+where
+    N: StoreNames + Send + Sync,
+    L: PostNames + Send + Sync,
+    R: Threads + Wait + Sync,
+    S: Source,
+    W: Sink,
+    C: Clock,
+    G: Gate + Drop + Send,
+    requires name { line.name ≡ N.line }
+    requires none { line.list ≡ [] }
+    requires keys { N.schema ≡ map keys_of catalog.now }
+    requires fresh { All IsFresh parts.items }
+    requires rings { (i : ℕ) → i < length parts.items → slice_index_or (map ring_of parts.items) i no_name ≡ L.ring i }
+    requires posts { (i : ℕ) → i < length parts.items → slice_index_or (map post_of parts.items) i no_name ≡ L.post i }
+    ensures { IsRunByWorkers (setting (length gates.items) spool catalog.now) N.start devices.old devices.new result }
+{
+    let desks = make_desks::<Job<N, L>>(alloc, gates.len());
+    let places = Places::<N, L, G>::new(alloc, parts, gates);
+    match (desks, places) {
+        (Ok(desks), Ok(places)) => run_places(
+            rt, alloc, devices, catalog, store, line, spool, desks, places,
+        ),
+        _ => shut(store, line, 0, End::OutOfMemory),
+    }
+}
+
+// A run for which all memory was taken, by a worker for each desk.
+fn run_places<N, L, R, S, W, C, G>(
+    rt: &R,
+    alloc: Global,
+    devices: &mut Devices<S, W, C>,
+    catalog: &Catalog,
+    store: SharedStore<N>,
+    line: Line,
+    spool: u64,
+    desks: Vec<Desk<Job<N, L>>>,
+    places: Places<N, L, G>,
+) -> Outcome
+where
+    N: StoreNames + Send + Sync,
+    L: PostNames + Send + Sync,
+    R: Threads + Wait + Sync,
+    S: Source,
+    W: Sink,
+    C: Clock,
+    G: Gate + Drop + Send,
+    requires name { line.name ≡ N.line }
+    requires none { line.list ≡ [] }
+    requires keys { N.schema ≡ map keys_of catalog.now }
+    ensures { IsRunByWorkers (setting (length desks.items) spool catalog.now) N.start devices.old devices.new result }
+{
+    let Places {
+        seats,
+        lanes,
+        given,
+    } = places;
+    let shop = Shop {
+        alloc,
+        store: Mutex::new(store),
+        changed: Condvar::new(),
+        seats,
+        bell: Bell::new(),
+    };
+    let opening = Opening { line, lanes, given };
+    let (ending, line, position) = lead_beside(
+        rt, alloc, devices, catalog, spool, &desks, &shop, opening,
+    );
+    let Shop { store, .. } = shop;
+    shut(store.into_inner(), line, position, ending.decided)
+}
+
+// Leads a run while its workers work. Answers its end, the line, and the position that the commits reach.
+fn lead_beside<N, L, R, S, W, C, G>(
+    rt: &R,
+    alloc: Global,
+    devices: &mut Devices<S, W, C>,
+    catalog: &Catalog,
+    spool: u64,
+    desks: &[Desk<Job<N, L>>],
+    shop: &Shop<N, L, G>,
+    opening: Opening<N, L>,
+) -> (Ending, Line, Lsn)
+where
+    N: StoreNames + Send + Sync,
+    L: PostNames + Send + Sync,
+    R: Threads + Wait + Sync,
+    S: Source,
+    W: Sink,
+    C: Clock,
+    G: Gate + Drop + Send,
+    requires name { opening.line.name ≡ N.line }
+    requires none { opening.line.list ≡ [] }
+    requires keys { N.schema ≡ map keys_of catalog.now }
+    ensures name { result.1.name ≡ N.line }
+    ensures ends { Leaves (setting (length desks.now) spool catalog.now) N.start devices.old devices.new result.1.list result.2 result.0 }
+{
+    let leader = Leader {
+        alloc,
+        devices,
+        catalog,
+        spool,
+        opening,
+    };
+    let (devices, ending, line, position) = beside(rt, desks, shop, leader);
+    take_again(devices);
+    (ending, line, position)
+}
+
+// The devices are their caller's again, as they were left.
+fn take_again<D>(devices: &mut D)
+    ensures { devices.new ≡ devices.old }
+{}
+
+// What a leader of a run leads with.
+#[derive(Drop)]
+struct Leader<'a, N: StoreNames, L: PostNames, S: Source, W: Sink, C: Clock> {
+    alloc: Global,
+    devices: &'a mut Devices<S, W, C>,
+    catalog: &'a Catalog,
+    spool: u64,
+    opening: Opening<N, L>,
+}
+
+// The line of a new store, and lanes to which nothing was given.
+#[derive(Drop)]
+struct Opening<N: StoreNames, L: PostNames> {
+    line: Line,
+    lanes: Vec<Lane<N, L>>,
+    given: Vec<(Xid, u64)>,
+}
+
+impl<'a, N, L, S, W, C, G> Leading<Job<N, L>, Shop<N, L, G>> for Leader<'a, N, L, S, W, C>
+where
+    N: StoreNames,
+    L: PostNames,
+    S: Source,
+    W: Sink,
+    C: Clock,
+    G: Gate + Drop,
+{
+    ghost use Rattle.std.specs.Prelude.{◌≡◌, [], map};
+    ghost use Rattle.model.specs.Rows.{keys_of};
+    ghost use Rattle.leader.specs.WithWorkers.{setting, Leaves};
+
+    type Left = (&'a mut Devices<S, W, C>, Ending, Line, Lsn);
+
+    ghost can_lead = { λ l n. (l.opening.line.name ≡ N.line) × (l.opening.line.list ≡ []) × (N.schema ≡ map keys_of l.catalog.now) };
+
+    ghost lead_gives = { λ l n left. (left.0.ghost_name ≡ l.devices.ghost_name) × (left.2.name ≡ N.line)
+        × Leaves (setting n l.spool l.catalog.now) N.start l.devices.now left.0.now left.2.list left.3 left.1 };
+
+    fn lead<R: Wait>(
+        self,
+        rt: &R,
+        desks: &[Desk<Job<N, L>>],
+        shop: &Shop<N, L, G>,
+        serving: usize,
+    ) -> (&'a mut Devices<S, W, C>, Ending, Line, Lsn) {
+        let Leader {
+            alloc,
+            devices,
+            catalog,
+            spool,
+            opening,
+        } = self;
+        let (ending, line, position) = lead_all(
+            rt, alloc, devices, catalog, spool, desks, shop, opening, serving,
+        );
+        (devices, ending, line, position)
+    }
+}
+
+/// How a run ended: what the leader proposed, and what was decided once all workers had given up.
+#[derive(Clone, Copy)]
+pub struct Ending {
+    pub proposed: End,
+    pub decided: End,
+}
+
+// Reads the stream to its end, if all workers could be started, and leaves.
+fn lead_all<'a, N, L, R, S, W, C, G>(
+    rt: &'a R,
+    alloc: Global,
+    devices: &mut Devices<S, W, C>,
+    catalog: &'a Catalog,
+    spool: u64,
+    desks: &'a [Desk<Job<N, L>>],
+    shop: &'a Shop<N, L, G>,
+    opening: Opening<N, L>,
+    serving: usize,
+) -> (Ending, Line, Lsn)
+where
+    N: StoreNames,
+    L: PostNames,
+    R: Wait,
+    S: Source,
+    W: Sink,
+    C: Clock,
+    G: Gate + Drop,
+    requires name { opening.line.name ≡ N.line }
+    requires none { opening.line.list ≡ [] }
+    requires keys { N.schema ≡ map keys_of catalog.now }
+    ensures name { result.1.name ≡ N.line }
+    ensures ends { Leaves (setting (length desks.now) spool catalog.now) N.start devices.old devices.new result.1.list result.2 result.0 }
+{
+    let Opening { line, lanes, given } = opening;
+    let transactions = Transactions::new(rt, shop, desks, line, lanes, given);
+    let mut lead = Lead::new(alloc, catalog, desks.len(), spool, transactions);
+    let ending = lead_stream(alloc, devices, &mut lead, serving == desks.len());
+    let (line, position) = lead.into_line();
+    (ending, line, position)
+}
+
+// How a leader ends a run. It reads nothing where a worker could not be started.
+fn lead_stream<N, L, R, S, W, C, G>(
+    alloc: Global,
+    devices: &mut Devices<S, W, C>,
+    lead: &mut Lead<'_, N, L, R, G>,
+    are_serving: bool,
+) -> Ending
+where
+    N: StoreNames,
+    L: PostNames,
+    R: Wait,
+    S: Source,
+    W: Sink,
+    C: Clock,
+    G: Gate + Drop,
+    requires { IsLeadAtStart (led lead.old.stream lead.old.transactions) }
+    ensures { (g : Setting) (rows : Rows) → IsLeadAt g rows (led lead.old.stream lead.old.transactions) start_progress → LeadEnds g rows devices.old devices.new (led lead.new.stream lead.new.transactions) result }
+{
+    if !are_serving {
+        return Ending {
+            proposed: End::OutOfMemory,
+            decided: End::OutOfMemory,
+        };
+    }
+    let proposed = match read_all(alloc, devices, lead) {
+        Ok(()) => End::Clean,
+        Err(end) => end,
+    };
+    let decided = lead.leave(proposed);
+    Ending { proposed, decided }
+}
+
+// What a run leaves: all that is still open is undone.
+fn shut<N: StoreNames>(store: SharedStore<N>, line: Line, position: Lsn, end: End) -> Outcome
+    requires { line.name ≡ N.line }
+    ensures shut { IsShutSo N.schema N.start line.list result }
+    ensures position { result.position ≡ position }
+    ensures end { result.end ≡ end }
+{
+    // Whoever counts the tables learns that the commits are those of the line.
+    let _count = store.table_count();
+    let (tables, journal) = store.shut(line);
+    Outcome {
+        tables,
+        journal,
+        position,
+        end,
+    }
+}
