@@ -4,7 +4,7 @@ mod Reaching
 mod Running
 mod Ways
 mod Clear
-mod Threading
+pub mod Threading
 mod Unthreaded
 mod Closing
 mod Noted

@@ -63,7 +63,7 @@ ends_done [] = refl
 ends_done (c ∷ []) = refl
 ends_done (c ∷ d ∷ past) = ends_done (d ∷ past)
 
-changes_told : (line : List Past) → changes_in line ≡ told_changes (map told_of (map entry_of line))
+pub changes_told : (line : List Past) → changes_in line ≡ told_changes (map told_of (map entry_of line))
 changes_told [] = refl
 changes_told (p ∷ line) =
     flat_map-append (λ (q : Past). changes_of (survivors q.xid q.items)) (p ∷ []) line

@@ -8,12 +8,12 @@ use Rattle.std.specs.Prelude.{ℤ, map, ◌⊎◌}
 use Rattle.std.specs.FinMap as finite
 use Rattle.std.proofs.KnownBytes.{Appends-nil, Consumes-nil}
 use Rattle.model.specs.Rows.{Rows, Schema}
+use Rattle.model.specs.Effect.{serial}
 use Rattle.model.specs.Definition.{Definition}
 use Rattle.frames.specs.declared.fault.FrameFault.TheVariants as frames
 use Rattle.frames.specs.declared.item.CopyItem.{CopyItem}
 use Rattle.frames.specs.Stream.{copy_items}
 use Rattle.frames.proofs.Handed.{Reads-nothing}
-use Rattle.world.specs.World as worlds
 use Rattle.world.specs.World.{World, Past, entry_of, starting}
 use Rattle.world.specs.Steps.{Reaches, at_start, Closes}
 use Rattle.engine.specs.declared.entry.Entry.{Entry}
@@ -21,19 +21,26 @@ use Rattle.engine.specs.declared.events.LineEvent.{LineEvent}
 use Rattle.engine.specs.Engine.{entry_in}
 use Rattle.engine.specs.Events.{commits_in}
 use Rattle.engine.specs.Journal.{rows_after}
-use Rattle.session.specs.State.{Setting}
+use Rattle.engine.specs.JournalLaws.{entries_are_serial}
+use Rattle.session.specs.State.{State, Setting, start}
 use Rattle.spooled.specs.declared.end.End.{End}
 use Rattle.spooled.specs.declared.end.End.TheVariants as ends
 use Rattle.spooled.specs.declared.outcome.Config.{Config}
 use Rattle.spooled.specs.declared.outcome.Outcome.{Outcome}
 use Rattle.spooled.specs.Cause.{schema_of, IsSendCause, IsInputCause}
+use Rattle.spooled.specs.Commits.{transaction_of, commits, changes_in, committed_changes}
 use Rattle.spooled.specs.Devices.{DeviceState}
 use Rattle.spooled.specs.Handler.{IsEnded, IsRunOver}
 use Rattle.spooled.specs.Progress.{Progress, start_progress}
 use Rattle.spooled.proofs.Running.{Ticks-nil}
 use Rattle.leader.specs.declared.threads.Ending.{Ending}
-use Rattle.leader.specs.Threads.{Numbered, numbered, numbered_past, numbers_in, Led, HasCommitted, IsLeadAt, HasLedTo, Decides}
-use Rattle.leader.specs.WithWorkers.{setting, numbered_entry, WasSent, LeadEnds, Leaves, IsShutSo, IsRunByWorkers, RunsBy}
+use Rattle.course.specs.Runs.{told_of}
+use Rattle.course.specs.Threads.{done_by_commit}
+use Rattle.course.proofs.Threading.{entries_done, changes_told}
+use Rattle.leader.specs.Threads.{Led, HasCommitted, IsLeadAt, HasLedTo, Decides}
+use Rattle.leader.specs.WithWorkers.{setting, WasSent, LeadEnds, Leaves, IsShutSo, IsRunByWorkers, RunsBy}
+use Rattle.leader.proofs.Held.{told_alike}
+use Rattle.leader.proofs.Serving.{all_held}
 
 -- ---- the leader
 
@@ -57,8 +64,9 @@ module _ {H : Type 0} (of : H → Led) (g : Setting) (rows : Rows) where
   }
 
 -- it is over before a byte is read
-pub nothing_read : (g : Setting) (rows : Rows) (devices : DeviceState) (l : Led) (end : End) → IsLeadAt g rows l start_progress → end ≢ ends.Clean → IsRunOver g (IsLeadAt g rows) (HasLedTo g rows) devices devices l end
-nothing_read g rows devices l end at unclean = record {
+pub nothing_read : (g : Setting) (rows : Rows) (devices : DeviceState) (l : Led) → IsLeadAt g rows l start_progress
+    → IsRunOver g (IsLeadAt g rows) (HasLedTo g rows) devices devices l ends.OutOfMemory
+nothing_read g rows devices l at = record {
   bytes = [];
   read = Consumes-nil devices.unread;
   handled = [];
@@ -69,7 +77,11 @@ nothing_read g rows devices l end at unclean = record {
   times = [];
   told = Ticks-nil devices.times;
   counted = refl;
-  why = inl (record { ended = (at.committed, unclean); read = refl; sent = (refl, Appends-nil devices.sent) });
+  why = inl (record {
+    ended = (at.committed, (λ e. cc), all_held g start [] l.standing at.agreed, tt);
+    read = refl;
+    sent = (refl, Appends-nil devices.sent);
+  });
 }
 
 -- what follows from why a run is over: its commits, what was sent, and that a clean end leaves no item
@@ -131,21 +143,20 @@ was_clean proposed decided (inr (was, unclean)) clean = was
 
 -- ---- the store
 
--- a commit as a world tells it, without its changes
-abbrev numbered_told : worlds.Entry → Numbered
-numbered_told e = record { xid = e.xid; info = record { commit = e.commit; end = e.end } }
+module _ (keys : Schema) (rows : Rows) (line : List LineEvent) (s : State) (done : commits_in line ≡ map done_by_commit s.past) where
+  told_past : map told_of (map entry_of (commits_in line)) ≡ commits s
+  told_past = ap (λ (ps : List Past). map told_of (map entry_of ps)) done ∙ entries_done s.past
 
-numbered_entries : (entries : List Entry) → map numbered_entry entries ≡ map numbered_told (map entry_in entries)
-numbered_entries [] = refl
-numbered_entries (e ∷ entries) = ap (λ (others : List Numbered). numbered_entry e ∷ others) (numbered_entries entries)
+  -- the journal has the commits of the line, with the changes that survived
+  journal_told : (entries : List Entry) → map entry_in entries ≡ map entry_of (commits_in line) → map transaction_of entries ≡ commits s
+  journal_told entries same = told_alike entries ∙ ap (map told_of) same ∙ told_past
 
-numbered_commits : (past : List Past) → map numbered_told (map entry_of past) ≡ map numbered_past past
-numbered_commits [] = refl
-numbered_commits (p ∷ past) = ap (λ (others : List Numbered). numbered_past p ∷ others) (numbered_commits past)
-
--- the journal has the commits of the line
-journal_numbers : (entries : List Entry) (line : List LineEvent) → map entry_in entries ≡ map entry_of (commits_in line) → map numbered_entry entries ≡ numbers_in line
-journal_numbers entries line same = numbered_entries entries ∙ ap (map numbered_told) same ∙ numbered_commits (commits_in line)
+  -- the rows after the journal are those of these changes
+  rows_told : (entries : List Entry) → map entry_in entries ≡ map entry_of (commits_in line)
+      → rows_after keys rows (map entry_in entries) ≡ serial keys rows (committed_changes s)
+  rows_told entries same =
+      ap (rows_after keys rows) same ∙ entries_are_serial keys rows (commits_in line)
+      ∙ ap (serial keys rows) (changes_told (commits_in line) ∙ ap changes_in told_past)
 
 -- the start tables and no entry are what is left of a store before its first call
 pub shut_at_start : (keys : Schema) (rows : Rows) (o : Outcome) → o.journal.items ≡ [] → o.tables.rows ≡ rows → o.tables.schema ≡ keys → IsShutSo keys rows [] o
@@ -163,9 +174,10 @@ shut_at_start keys rows o none tables schema =
 module _ (g : Setting) (rows : Rows) where
   -- what is left where the leader has ended a run is a run's
   pub run_by_workers : (old new : DeviceState) (l : Led) (ending : Ending) (line : List LineEvent) (o : Outcome) → LeadEnds g rows old new l ending → IsShutSo (schema_of g) rows line o
-      → numbers_in line ≡ l.standing.commits → o.position ≡ l.position → o.end ≡ ending.decided → IsRunByWorkers g rows old new o
+      → line ≡ l.standing.line → o.position ≡ l.position → o.end ≡ ending.decided → IsRunByWorkers g rows old new o
   run_by_workers old new l ending line o (over, decides) shut told position end =
       let so = leaves g rows old new l over.handled over.progress over.times over.bytes over.rest ending.proposed over.why in
+      let done : commits_in line ≡ map done_by_commit over.progress.state.past = ap commits_in told ∙ so.0.done in
       record {
         bytes = over.bytes;
         read = over.read;
@@ -181,9 +193,9 @@ module _ (g : Setting) (rows : Rows) where
         clean = λ clean.
             let none = so.2 (was_clean ending.proposed ending.decided decides (sym end ∙ clean)) in
             sym (append-nil over.handled) ∙ ap (λ (others : List CopyItem). over.handled ++ others) (sym none) ∙ over.items;
-        journal = journal_numbers o.journal.items line shut.journal ∙ told ∙ so.0.commits;
+        journal = journal_told (schema_of g) rows line over.progress.state done o.journal.items shut.journal;
         position = position ∙ so.0.position;
-        tables = shut.tables;
+        tables = shut.tables ∙ rows_told (schema_of g) rows line over.progress.state done o.journal.items shut.journal;
         schema = shut.schema;
         world = shut.world;
       }
@@ -203,9 +215,9 @@ module _ (g : Setting) (rows : Rows) where
     counted = refl;
     sent = inl (refl, Appends-nil devices.sent);
     clean = λ clean. absurd (unclean clean);
-    journal = journal_numbers o.journal.items [] shut.journal;
+    journal = journal_told (schema_of g) rows [] start refl o.journal.items shut.journal;
     position = position;
-    tables = shut.tables;
+    tables = shut.tables ∙ rows_told (schema_of g) rows [] start refl o.journal.items shut.journal;
     schema = shut.schema;
     world = shut.world;
   }

@@ -30,4 +30,5 @@ pub record IsFresh (p : Parted) : Type 0 where
   pub sent : p.sending.sent ≡ []
   pub acked : p.taking.acked ≡ []
   pub given : p.kept.list ≡ []
+  pub told : p.token.list ≡ []
   pub name : p.token.name ≡ p.kept.name

@@ -1,6 +1,5 @@
 -- What a run with workers leaves, as a function of the bytes that it read.
 --     setting      its setting
---     numbered_entry      an entry of the journal, without its changes
 --     WasSent      the status updates that went out
 --     LeadEnds, Leaves      a leader has ended a run; and what it left
 --     IsShutSo      what is left of a store
@@ -9,12 +8,12 @@
 use Rattle.std.specs.Prelude.{◌≡◌, ℕ, zero, suc, List, ◌++◌, length, map, ℤ, ◌⊎◌}
 use Rattle.std.specs.Io.KnownBytes.{Consumes}
 use Rattle.model.specs.Rows.{Rows, Schema}
+use Rattle.model.specs.Effect.{serial}
 use Rattle.model.specs.Definition.{Definition}
 use Rattle.frames.specs.declared.item.CopyItem.{CopyItem}
 use Rattle.frames.specs.Stream.{copy_items}
 use Rattle.world.specs.World.{World, entry_of, starting}
 use Rattle.world.specs.Steps.{Reaches, Closes}
-use Rattle.engine.specs.declared.entry.Entry.{Entry}
 use Rattle.engine.specs.declared.events.LineEvent.{LineEvent}
 use Rattle.engine.specs.Engine.{entry_in}
 use Rattle.engine.specs.Events.{commits_in}
@@ -24,22 +23,18 @@ use Rattle.spooled.specs.declared.end.End.TheVariants.{Clean}
 use Rattle.spooled.specs.declared.outcome.Config.{Config}
 use Rattle.spooled.specs.declared.outcome.Outcome.{Outcome}
 use Rattle.leader.specs.declared.threads.Ending.{Ending}
-use Rattle.spooled.specs.Commits.{last_end}
+use Rattle.spooled.specs.Commits.{transaction_of, commits, committed_changes, last_end}
 use Rattle.spooled.specs.Cause.{schema_of, AreAllSent, LastIsCut}
 use Rattle.spooled.specs.Clock.{Ticks}
 use Rattle.spooled.specs.Devices.{DeviceState}
 use Rattle.spooled.specs.Handler.{IsRunOver}
 use Rattle.spooled.specs.Progress.{Progress, start_progress, Leads}
 use Rattle.spooled.specs.Run.{IsRun, spooling}
-use Rattle.leader.specs.Threads.{Numbered, numbered, numbers_in, Led, IsLeadAt, HasLedTo, Decides}
+use Rattle.leader.specs.Threads.{Led, IsLeadAt, HasLedTo, Decides}
 
 -- the setting of a run with so many workers
 abbrev pub setting : ℕ → ℕ → List Definition → Setting
 setting count bytes tables = record { workers = count; spool = bytes; catalog = tables }
-
--- an entry of the journal, without its changes
-abbrev pub numbered_entry : Entry → Numbered
-numbered_entry e = record { xid = e.xid; info = record { commit = e.commit; end = e.end } }
 
 -- The status updates went out: all of them, or all but a part of the last.
 abbrev pub WasSent : Setting → DeviceState → DeviceState → List CopyItem → Progress → List ℤ → Type 0
@@ -54,7 +49,7 @@ LeadEnds g rows old new l ending =
 pub record Leaves (g : Setting) (rows : Rows) (old new : DeviceState) (line : List LineEvent) (position : ℕ) (ending : Ending) : Type 0 where
   pub led : Led
   pub ends : LeadEnds g rows old new led ending
-  pub told : numbers_in line ≡ led.standing.commits
+  pub told : line ≡ led.standing.line
   pub reached : position ≡ led.position
 
 -- What is left of a store: the commits that its line told, the start rows with the changes of its journal, and a world
@@ -66,10 +61,9 @@ pub record IsShutSo (keys : Schema) (rows : Rows) (line : List LineEvent) (o : O
   pub world : ∥ ((w : World) × Reaches keys (starting rows) w × Closes w o.tables.rows (map entry_in o.journal.items)) ∥₁
 
 -- A run from these rows, over the bytes that the reader gave: `handled` are the items of the bytes up to its end, each
--- lawful after those before it, all of them if it ended cleanly. What is left are commits, just those among the items, in
--- their order and with their places in the log; the tables are the start rows with the changes of the journal. A world
--- that calls on a store reach from the start rows closes with them. Not said is which changes an entry has, nor why the
--- run ended where it isn't clean.
+-- lawful after those before it, all of them if it ended cleanly. What is left are the commits among them, each with the
+-- changes of its transaction that survived its rollbacks, applied one after another in their order. A world that calls on
+-- a store reach from the start rows closes with them. Not said is why the run ended where it isn't clean.
 pub record IsRunByWorkers (g : Setting) (rows : Rows) (old new : DeviceState) (o : Outcome) : Type 0 where
   pub bytes : List ℕ
   pub read : Consumes old.unread new.unread bytes
@@ -83,9 +77,9 @@ pub record IsRunByWorkers (g : Setting) (rows : Rows) (old new : DeviceState) (o
   pub counted : length times ≡ length progress.updates
   pub sent : WasSent g old new handled progress times
   pub clean : o.end ≡ Clean → handled ≡ copy_items bytes
-  pub journal : map numbered_entry o.journal.items ≡ map numbered progress.state.past
+  pub journal : map transaction_of o.journal.items ≡ commits progress.state
   pub position : o.position ≡ last_end progress.state.past
-  pub tables : o.tables.rows ≡ rows_after (schema_of g) rows (map entry_in o.journal.items)
+  pub tables : o.tables.rows ≡ serial (schema_of g) rows (committed_changes progress.state)
   pub schema : o.tables.schema ≡ schema_of g
   pub world : ∥ ((w : World) × Reaches (schema_of g) (starting rows) w × Closes w o.tables.rows (map entry_in o.journal.items)) ∥₁
 

@@ -1,5 +1,6 @@
 // What the lanes of a run are made of.
-ghost use Rattle.std.specs.Prelude.{◌≡◌, ◌<◌, ◌≤◌, ℕ, All, IfOk, length, slice_index_or, map};
+ghost use Rattle.std.specs.Prelude.{◌≡◌, ◌<◌, ◌≤◌, ℕ, All, IfOk, OnOk, length, slice_index_or, map};
+ghost use Rattle.leader.specs.Lanes.{IsFree};
 ghost use Rattle.leader.specs.Parts.{IsFresh, ring_of, post_of};
 ghost use Rattle.tokens.specs.Half.{no_name};
 
@@ -79,6 +80,7 @@ impl<N: StoreNames, L: PostNames, G: Gate + Drop> Places<N, L, G> {
         requires fresh { All IsFresh parts.items }
         requires rings { (i : ℕ) → i < length parts.items → slice_index_or (map ring_of parts.items) i no_name ≡ L.ring i }
         requires posts { (i : ℕ) → i < length parts.items → slice_index_or (map post_of parts.items) i no_name ≡ L.post i }
+        ensures { IfOk result (λ places. All IsFree places.lanes.items) }
     {
         let mut places = Places {
             seats: Vec::new(alloc),
@@ -104,6 +106,7 @@ impl<N: StoreNames, L: PostNames, G: Gate + Drop> Places<N, L, G> {
         requires fresh { IsFresh parts }
         requires ring { parts.sending.ring ≡ L.ring number }
         requires post { parts.kept.name ≡ L.post number }
+        ensures { OnOk result (All IsFree self.old.lanes.items → All IsFree self.new.lanes.items) }
     {
         let Parts {
             sender,

@@ -7,6 +7,7 @@ ghost use Rattle.spooled.specs.Progress.{start_progress};
 ghost use Rattle.spooled.specs.Devices.{DeviceState, device_state, health};
 ghost use Rattle.spooled.specs.Run.{IsRun, spooling};
 ghost use Rattle.spooled.specs.declared.end.End.TheVariants.{OutOfMemory as NoMemory};
+ghost use Rattle.leader.specs.Lanes.{IsFree};
 ghost use Rattle.leader.specs.Parts.{IsFresh, ring_of, post_of};
 ghost use Rattle.tokens.specs.Half.{no_name};
 ghost use Rattle.leader.specs.Threads.{numbers_in, led, IsLeadAt, IsLeadAtStart};
@@ -212,6 +213,7 @@ where
     G: Gate + Drop + Send,
     requires name { line.name ≡ N.line }
     requires none { line.list ≡ [] }
+    requires free { All IsFree places.lanes.items }
     requires keys { N.schema ≡ map keys_of catalog.now }
     ensures { IsRunByWorkers (setting (length desks.items) spool catalog.now) N.start devices.old devices.new result }
 {
@@ -256,6 +258,7 @@ where
     G: Gate + Drop + Send,
     requires name { opening.line.name ≡ N.line }
     requires none { opening.line.list ≡ [] }
+    requires free { All IsFree opening.lanes.items }
     requires keys { N.schema ≡ map keys_of catalog.now }
     ensures name { result.1.name ≡ N.line }
     ensures ends { Leaves (setting (length desks.now) spool catalog.now) N.start devices.old devices.new result.1.list result.2 result.0 }
@@ -304,13 +307,15 @@ where
     C: Clock,
     G: Gate + Drop,
 {
-    ghost use Rattle.std.specs.Prelude.{◌≡◌, [], map};
+    ghost use Rattle.std.specs.Prelude.{◌≡◌, [], All, map};
     ghost use Rattle.model.specs.Rows.{keys_of};
+    ghost use Rattle.leader.specs.Lanes.{IsFree};
     ghost use Rattle.leader.specs.WithWorkers.{setting, Leaves};
 
     type Left = (&'a mut Devices<S, W, C>, Ending, Line, Lsn);
 
-    ghost can_lead = { λ l n. (l.opening.line.name ≡ N.line) × (l.opening.line.list ≡ []) × (N.schema ≡ map keys_of l.catalog.now) };
+    ghost can_lead = { λ l n. (l.opening.line.name ≡ N.line) × (l.opening.line.list ≡ []) × All IsFree l.opening.lanes.items
+        × (N.schema ≡ map keys_of l.catalog.now) };
 
     ghost lead_gives = { λ l n left. (left.0.ghost_name ≡ l.devices.ghost_name) × (left.2.name ≡ N.line)
         × Leaves (setting n l.spool l.catalog.now) N.start l.devices.now left.0.now left.2.list left.3 left.1 };
@@ -365,6 +370,7 @@ where
     G: Gate + Drop,
     requires name { opening.line.name ≡ N.line }
     requires none { opening.line.list ≡ [] }
+    requires free { All IsFree opening.lanes.items }
     requires keys { N.schema ≡ map keys_of catalog.now }
     ensures name { result.1.name ≡ N.line }
     ensures ends { Leaves (setting (length desks.now) spool catalog.now) N.start devices.old devices.new result.1.list result.2 result.0 }

@@ -11,7 +11,7 @@ use Rattle.leader.proofs.threads.lead_stream.Goals.{in-Ok, in-Err}
 
 pub returns-then-not-are_serving : goal.returns-then-not-are_serving
 returns-then-not-are_serving g c = λ s rows at.
-    (nothing_read s rows c.args.devices.now (led c.args.lead.now.stream c.args.lead.now.transactions) OutOfMemory at (λ e. cc), inl refl)
+    (nothing_read s rows c.args.devices.now (led c.args.lead.now.stream c.args.lead.now.transactions) at, inl refl)
 
 pub read_all-requires : goal.read_all-requires
 read_all-requires g c = (c.requires.0, c.requires.1, [], start_progress, refl, c.requires.2)
