@@ -1,25 +1,22 @@
 -- What is there of each transaction, where one of them goes a step.
-use Rattle.std.proofs.Common.{◌≡◌, ◌≢◌, ℕ, ◌+◌, Bool, true, false, List, [], ◌∷◌, ◌++◌, length, Option, Some, None, refl, sym, ap, subst, ◌∙◌, append-nil, arith, cond, inl, inr, length-append}
-use Rattle.std.specs.Prelude.{map, flat_map, All, ◌⊎◌}
-use Rattle.std.specs.Ordering.{nat_cmp, eq_by_cmp}
+use Rattle.std.proofs.Common.{◌≡◌, ℕ, ◌+◌, Bool, true, false, List, [], ◌∷◌, ◌++◌, length, Option, Some, None, refl, sym, ap, subst, ◌∙◌, append-nil, arith, cond, inl, inr, length-append}
+use Rattle.std.specs.Prelude.{map, All}
+use Rattle.std.specs.Ordering.{nat_cmp}
 use Rattle.std.specs.FinMap as finite
 use Rattle.std.proofs.lemmas.Bool.{cases_eq}
 use Rattle.std.proofs.lemmas.Bool.Decides.{nat_tests}
 use Rattle.std.proofs.lemmas.Grind.{flat_map-append, fold-append}
-use Rattle.std.proofs.lemmas.List.{map-append}
 use Rattle.std.proofs.lemmas.List.Elements.{All-head, All-tail}
 use Rattle.model.specs.declared.item.Item.{Item}
 use Rattle.model.specs.declared.item.CommitInfo.{CommitInfo}
-use Rattle.world.specs.World.{Opened, Past}
+use Rattle.world.specs.World.{Opened}
 use Rattle.engine.specs.declared.events.LineEvent.{LineEvent}
 use Rattle.engine.specs.declared.events.LineEvent.TheVariants.{Opened as WasOpened, Committed as WasCommitted, Aborted as WasAborted}
-use Rattle.engine.specs.Events.{is_same, open_after, is_open_in, past_of, commits_in}
-use Rattle.session.specs.Sized.{SizedItems, item_of}
-use Rattle.session.specs.State.{Way, Direct, Worker, Spooled, Open, OpenTransactions}
-use Rattle.session.specs.Table.{new_open}
-use Rattle.spooled.proofs.States.{get-inserted, get-other, get-left, get-gone}
+use Rattle.engine.specs.Events.{is_same, open_after, is_open_in}
+use Rattle.session.specs.Sized.{item_of}
+use Rattle.session.specs.State.{Direct, Worker, Spooled, Open, OpenTransactions}
 use Rattle.leader.specs.Lanes.{Given}
-use Rattle.leader.specs.Standing.{Own, nothing, Standing, items_of, items_by, own_of, Turns, IsBegun, IsHandedOut, with_done, Does}
+use Rattle.leader.specs.Standing.{Standing, items_of, items_by, own_of, Turns}
 use Rattle.leader.specs.Threads.{IsAgreed, AreAgreed}
 
 -- ---- numbers
@@ -61,7 +58,7 @@ empty_by_length (x ∷ xs) e = absurd (omega (arith, e))
 alone : {X : Type 0} (front mid back : List X) → front ++ (mid ++ back) ≡ mid → (front ≡ []) × (back ≡ [])
 alone front mid back e =
     let counts : length front + (length mid + length back) ≡ length mid =
-        ap (λ n. length front + n) (sym (length-append mid back)) ∙ sym (length-append front (mid ++ back)) ∙ ap length e
+    ap (λ n. length front + n) (sym (length-append mid back)) ∙ sym (length-append front (mid ++ back)) ∙ ap length e
     in
     (empty_by_length front (omega (arith, counts)), empty_by_length back (omega (arith, counts)))
 
@@ -89,7 +86,7 @@ one_of : {X : Type 0} (front back : List X) (x y : X) → front ++ ((x ∷ []) +
 one_of [] back x y e = cc
 one_of (f ∷ front) back x y e =
     let counts : length front + (1 + length back) ≡ 0 =
-        ap (λ n. length front + n) (sym (length-append (x ∷ []) back)) ∙ sym (length-append front ((x ∷ []) ++ back)) ∙ omega (arith, ap length e)
+    ap (λ n. length front + n) (sym (length-append (x ∷ []) back)) ∙ sym (length-append front ((x ∷ []) ++ back)) ∙ omega (arith, ap length e)
     in
     absurd (omega (arith, counts))
 
@@ -105,7 +102,7 @@ not_nowhere xid old new had is t e =
     let p = parted xid old new (Some (record { xid = xid; items = had })) is t in
     let none : p.front ++ ((had ∷ []) ++ p.back) ≡ [] = ap (λ (m : List (List Item)). p.front ++ (m ++ p.back)) (sym (items_here xid had)) ∙ sym p.old_is ∙ e in
     let counts : length p.front + (1 + length p.back) ≡ 0 =
-        ap (λ n. length p.front + n) (sym (length-append (had ∷ []) p.back)) ∙ sym (length-append p.front ((had ∷ []) ++ p.back)) ∙ ap length none
+    ap (λ n. length p.front + n) (sym (length-append (had ∷ []) p.back)) ∙ sym (length-append p.front ((had ∷ []) ++ p.back)) ∙ ap length none
     in
     omega (arith, counts)
 
@@ -222,9 +219,9 @@ agreed_but xid s t old new agreed here elsewhere q =
     elim (cases_eq xid q) [
       | inl e ↦ subst (λ x. IsAgreed (finite.get t x) (items_by x new.lanes) (own_of x new.begun) (is_open_in new.line x)) e here
       | inr ne ↦
-        let same = elsewhere q ne in
-        carried (finite.get s q) (finite.get t q) (items_by q old.lanes) (items_by q new.lanes) (own_of q old.begun) (own_of q new.begun) (is_open_in old.line q) (is_open_in new.line q)
-        (sym same.0) (sym same.1) (sym same.2) (sym same.3) (agreed q)
+          let same = elsewhere q ne in
+          carried (finite.get s q) (finite.get t q) (items_by q old.lanes) (items_by q new.lanes) (own_of q old.begun) (own_of q new.begun) (is_open_in old.line q) (is_open_in new.line q)
+          (sym same.0) (sym same.1) (sym same.2) (sym same.3) (agreed q)
     ]
 
 -- only what the state has of one changed, and nothing is there of it

@@ -1,6 +1,6 @@
 -- What a lane shows, by its parts.
 use Rattle.std.proofs.Common.{◌≡◌, ◌≢◌, ℕ, Bool, true, false, List, [], ◌∷◌, ◌++◌, Option, Some, None, refl, sym, ap, subst, ◌∙◌, append-nil, arith, cond, nat_eq, inl, inr}
-use Rattle.std.specs.Prelude.{MatchBool, MatchOption, All, fold, flat_map, option_map, is_some, not, Result, Ok, Err, OnOk, OnErr, ◌⊎◌}
+use Rattle.std.specs.Prelude.{MatchBool, MatchOption, All, fold, option_map, is_some, not, Result, Ok, Err, OnOk, OnErr}
 use Rattle.atomic_table.specs.Seated.{TableId}
 use Rattle.std.proofs.lemmas.Bool.{cases_eq, false≢true}
 use Rattle.std.proofs.lemmas.Bool.Decides.{nat_tests}
@@ -24,7 +24,7 @@ use Rattle.worker.specs.declared.post.Collected.{Collected}
 use Rattle.worker.specs.declared.post.Collected.TheVariants.{All as WasAll}
 use Rattle.leader.specs.Lanes.{own_item, own_items, after_events, given_before, Given, Laned, going, laned, done_by, IsDoing, IsBack, IsLane, IsFree, IsHome, AddsTo, ComesBack, IsTakenOut}
 use Rattle.leader.specs.Standing.{items_of}
-use Rattle.leader.proofs.Agreeing.{same_self, same_apart}
+use Rattle.leader.proofs.Agreeing.{same_apart}
 
 -- ---- which transaction
 
@@ -38,12 +38,12 @@ pub has_it : (x q : ℕ) (goes : Option Given) (given : Given) → goes ≡ Some
 has_it x q goes given is number =
     elim (cases_eq x q) [
       | inl e ↦
-        let yes : nat_eq x q ≡ true = grind (arith, nat_tests) in
-        subst (λ b. MatchBool b ((g : Given) × (goes ≡ Some g) × (g.xid ≡ q)) (items_of q goes ≡ [])) (sym yes) (given, is, number ∙ e)
+          let yes : nat_eq x q ≡ true = grind (arith, nat_tests) in
+          subst (λ b. MatchBool b ((g : Given) × (goes ≡ Some g) × (g.xid ≡ q)) (items_of q goes ≡ [])) (sym yes) (given, is, number ∙ e)
       | inr ne ↦
-        let differ : nat_eq x q ≡ false = grind (arith, nat_tests) in
-        subst (λ b. MatchBool b ((g : Given) × (goes ≡ Some g) × (g.xid ≡ q)) (items_of q goes ≡ [])) (sym differ)
-        (ap (items_of q) is ∙ ap (λ b. cond b (given.items ∷ []) []) (same_apart given.xid q (λ e. ne (sym number ∙ e))))
+          let differ : nat_eq x q ≡ false = grind (arith, nat_tests) in
+          subst (λ b. MatchBool b ((g : Given) × (goes ≡ Some g) × (g.xid ≡ q)) (items_of q goes ≡ [])) (sym differ)
+          (ap (items_of q) is ∙ ap (λ b. cond b (given.items ∷ []) []) (same_apart given.xid q (λ e. ne (sym number ∙ e))))
     ]
 
 -- ---- what was given
@@ -92,10 +92,13 @@ did_beginning done acked given taken same own next begins following = by_wants d
   where
     split : (front left : List Item) → given ≡ front ++ left → own_items given ≡ own_items front ++ own_items left
     split front left e = ap own_items e ∙ own-append front left
+
     mine : own_items acked ≡ done.items
     mine = ap own_items (sym same) ∙ own_all done.items own
+
     Wants : List Item → Option (ℕ × change_type.Change) → Type 0
     Wants left wants = MatchOption wants (Unit {0}) (λ w. (more : List Item) × (left ≡ Change w.0 w.1 ∷ more))
+
     by_wants : (wants : Option (ℕ × change_type.Change)) → done.wants ≡ wants → IsDoing done (own_items given)
     by_wants None e = record {
       left = own_items begins.0;
@@ -188,6 +191,7 @@ module _ (n xid : ℕ) (events : List PostEvent) (taker : Option (Taking Item)) 
     where
       its : IsBack tickets xid (own_items (given_before token.list)) collected k
       its = subst (λ b. MatchOption b (Unit {0}) (IsBack tickets xid (own_items (given_before token.list)) collected)) (sym e) is.back
+
       by_taker : (a : Option (Taking Item)) → taker ≡ a → MatchOption a (ticket ≡ None) (λ t. (t.ring ≡ its_ring) × (t.acked ≡ []) × (given_since token.list ≡ []))
           → IsTakenOut tickets now k (laned n xid events taker after)
       by_taker None ea end = let none_here : Some k ≡ None = e ∙ end in absurd cc
@@ -209,7 +213,7 @@ module _ (n xid : ℕ) (events : List PostEvent) (taker : Option (Taking Item)) 
       let ea = no_taker given gone none in
       let mine : going xid events taker ticket ≡ Some (record { xid = xid; items = own_items (given_since events) }) = ap (λ x. going xid events x ticket) ea in
       let after : going xid (events ++ WasGiven item ∷ []) taker ticket ≡ Some (record { xid = xid; items = own_items (given_since events) ++ own_item item }) =
-          ap (λ x. going xid (events ++ WasGiven item ∷ []) x ticket) ea ∙ ap (λ (i : List Item). Some (record { xid = xid; items = i })) (ap own_items (since_given events item) ∙ own_more (given_since events) item)
+      ap (λ x. going xid (events ++ WasGiven item ∷ []) x ticket) ea ∙ ap (λ (i : List Item). Some (record { xid = xid; items = i })) (ap own_items (since_given events item) ∙ own_more (given_since events) item)
       in
       record {
         given = record { xid = xid; items = own_items (given_since events) };

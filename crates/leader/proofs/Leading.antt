@@ -22,7 +22,6 @@ use Rattle.world.specs.World.{Past}
 use Rattle.engine.specs.declared.events.LineEvent.{LineEvent}
 use Rattle.engine.specs.declared.events.LineEvent.TheVariants.{Aborted as WasAborted}
 use Rattle.engine.specs.Events.{past_of, commits_in, last_end as last_end_of}
-use Rattle.session.specs.declared.session.Session as session_type
 use Rattle.session.specs.declared.fault.Refused.{Refused}
 use Rattle.session.specs.declared.fault.Refused.TheVariants as refusals
 use Rattle.session.specs.declared.step.Step.{Step}
@@ -39,7 +38,7 @@ use Rattle.spooled.specs.declared.end.End.TheVariants as ends
 use Rattle.spooled.specs.Commits.{last_end}
 use Rattle.spooled.specs.Ends.{end_of_refusal}
 use Rattle.spooled.specs.Handler.{HandlesItem, HasHandled}
-use Rattle.spooled.specs.Progress.{Progress, Handles, start_progress, commits_from, due_updates}
+use Rattle.spooled.specs.Progress.{Progress, Handles, commits_from, due_updates}
 use Rattle.spooled.proofs.Handling.{with_seen}
 use Rattle.spooled.proofs.States.{get-inserted, get-other, get-left, get-gone, last_end-push}
 use Rattle.spooled.proofs.Taking.{handed_named}
@@ -47,7 +46,7 @@ use Rattle.course.specs.Runs.{IsCommitOf, CommitsNext}
 use Rattle.course.specs.Threads.{done_by_commit}
 use Rattle.leader.specs.declared.lead.Stream.{Stream}
 use Rattle.leader.specs.Standing.{Standing, IsStoreEnd, IsStopEnd, IsBegun, IsHandedOut, IsTaken, IsMet, IsCommitted, HasTried, IsAborted}
-use Rattle.leader.specs.Threads.{Numbered, numbered, numbered_past, Led, led, after_commit, AreNamed, AreAgreed, HasCommitted, IsLeadAt, HasLed, HasLedTo, LeadTakes, AreLeft, HasTurn, MayEndBy, HasStopped, Stops}
+use Rattle.leader.specs.Threads.{Numbered, numbered, numbered_past, Led, led, AreNamed, AreAgreed, HasCommitted, IsLeadAt, HasLed, HasLedTo, LeadTakes, AreLeft, HasTurn, MayEndBy, HasStopped, Stops}
 use Rattle.leader.proofs.Serving.{Committing, begun_agreed, handed_out_agreed, spooled_agreed, given_agreed, applied_agreed, kept_agreed, aborted_agreed, dropped_agreed, worker_commit, direct_commit, spooled_commit, unopened, all_held, met_held, tried_held}
 
 -- ---- names
@@ -333,9 +332,15 @@ stops_before g rows a b p payload end at same standing is = inl (λ first last m
 pub stops_behind : (g : Setting) (rows : Rows) (a b : Led) (p : Progress) (payload : List ℕ) (m : Message) (t : State) (end : End) → IsLeadAt g rows a p → Admits g p.state payload m t → KeepsOn g p.state t → IsSameLed a b → ((more : List CopyItem) → AreLeft g t more b.standing)
     → ((more : List CopyItem) → (end ≢ ends.Clean) × MayEndBy g t more end) → Stops g b p payload end
 stops_behind g rows a b p payload m t end at admits on same held ended =
-    inr (m, t, admits, none_more p.state t on.past, λ more.
-    let why = ended more in
-    (kept_commits b p.state t on.past (same_commits a b p.state same at.committed), why.0, held more, why.1))
+    inr (
+      m,
+      t,
+      admits,
+      none_more p.state t on.past,
+      λ more.
+          let why = ended more in
+          (kept_commits b p.state t on.past (same_commits a b p.state same at.committed), why.0, held more, why.1),
+    )
 
 -- ---- what a step leaves of the line
 
@@ -449,11 +454,11 @@ pub led_to_commit : (g : Setting) (rows : Rows) (a b : Led) (p : Progress) (payl
 led_to_commit g rows a b p payload m t xid info handed at admits is made catalog position written session =
     let c = is.transaction in
     let made_so : IsCommitted a.standing c.xid c.info handed b.standing =
-        subst (λ n. IsCommitted a.standing n c.info handed b.standing) (sym is.xid_is) (subst (λ i. IsCommitted a.standing xid i handed b.standing) (sym is.info_is) made)
+    subst (λ n. IsCommitted a.standing n c.info handed b.standing) (sym is.xid_is) (subst (λ i. IsCommitted a.standing xid i handed b.standing) (sym is.info_is) made)
     in
     let to = commit_agreed p.state t c a.standing b.standing handed at.agreed is.hands is.commits made_so in
     let done : commits_in b.standing.line ≡ map done_by_commit t.past =
-        to.line ∙ ap (λ (ps : List Past). ps ++ done_by_commit c ∷ []) at.committed.done ∙ sym (ap (map done_by_commit) is.commits.past ∙ map-append done_by_commit p.state.past (c ∷ []))
+    to.line ∙ ap (λ (ps : List Past). ps ++ done_by_commit c ∷ []) at.committed.done ∙ sym (ap (map done_by_commit) is.commits.past ∙ map-append done_by_commit p.state.past (c ∷ []))
     in
     let ends : last_end t.past ≡ info.end = ap last_end is.commits.past ∙ last_end-push p.state.past c ∙ ap (λ (i : CommitInfo). i.end) is.info_is in
     let reaches : t.position ≡ info.end = is.commits.position ∙ ap (λ (i : CommitInfo). i.end) is.info_is in

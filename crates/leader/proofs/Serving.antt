@@ -1,31 +1,30 @@
 -- What is there of all transactions, once one of them went a step.
 use Rattle.std.proofs.Common.{◌≡◌, ◌≢◌, ℕ, Bool, true, false, List, [], ◌∷◌, ◌++◌, Option, Some, None, refl, sym, ap, subst, ◌∙◌, append-nil, inl, inr}
-use Rattle.std.specs.Prelude.{map, MatchOption, ◌⊎◌}
+use Rattle.std.specs.Prelude.{map, MatchOption}
 use Rattle.std.specs.FinMap as finite
 use Rattle.std.proofs.lemmas.Bool.{cases_eq}
 use Rattle.std.proofs.lemmas.Grind.{flat_map-append}
 use Rattle.std.proofs.lemmas.List.{map-append}
-use Rattle.model.specs.declared.change.Change as change_type
 use Rattle.model.specs.declared.item.Item.{Item}
 use Rattle.model.specs.declared.item.Item.TheVariants.{Change}
 use Rattle.model.specs.declared.item.CommitInfo.{CommitInfo}
-use Rattle.model.specs.Survivors.{survivors}
 use Rattle.frames.specs.declared.item.CopyItem.{CopyItem}
 use Rattle.world.specs.World.{Opened, Past}
 use Rattle.engine.specs.declared.events.LineEvent.{LineEvent}
-use Rattle.engine.specs.declared.events.LineEvent.TheVariants.{Opened as WasOpened, Committed as WasCommitted, Aborted as WasAborted}
+use Rattle.engine.specs.declared.events.LineEvent.TheVariants.{Opened as WasOpened, Committed as WasCommitted}
 use Rattle.engine.specs.Events.{is_open_in, commits_in, past_of}
-use Rattle.session.specs.Sized.{SizedItems, item_of}
-use Rattle.session.specs.State.{Way, Direct, Worker, Spooled, Open, OpenTransactions, Committed, State, Setting}
+use Rattle.session.specs.Sized.{item_of}
+use Rattle.session.specs.State.{Way, Direct, Worker, Spooled, Open, Committed, State, Setting}
 use Rattle.session.specs.Table.{new_open}
 use Rattle.session.specs.Told.{IsOpening, IsGiving, IsCommitting, IsAborting, items_handed_out}
 use Rattle.spooled.proofs.States.{get-inserted, get-other, get-left, get-gone, map-sized_survivors}
 use Rattle.course.specs.Runs.{CommitsNext}
 use Rattle.course.specs.Threads.{work_of, done_by_commit}
 use Rattle.leader.specs.Lanes.{Given, IsDoing}
-use Rattle.leader.specs.Standing.{Own, nothing, Standing, items_of, items_by, own_of, Turns, with_done, with_wanted, IsUndone, Does, IsBegun, IsHandedOut, IsGiven, IsApplied, IsTaken, IsCommitted, HasTried, IsAborted}
+use Rattle.leader.specs.Standing.{Own, nothing, Standing, items_by, own_of, with_done, IsUndone, Does, IsBegun, IsHandedOut, IsTaken, IsCommitted, HasTried, IsAborted}
 use Rattle.leader.specs.Threads.{IsAgreed, AreAgreed, IsLeft, AreLeft}
 use Rattle.leader.proofs.Agreeing.{same_turned, all_turned, items_here, items_elsewhere, own_here, own_elsewhere, had_is, not_nowhere, opened_here, opened_elsewhere, committed_here, committed_elsewhere, aborted_here, aborted_elsewhere, carried, none_there, by_lane, by_leader, by_none, nothing_there, agreed_but, agreed_beside}
+use Rattle.leader.proofs.Trying.{undone_doing}
 
 abbrev line_of : Standing → List LineEvent
 line_of t = t.line
@@ -333,8 +332,10 @@ held_there g s rest xid (Some o) [] (Some d) true h =
   where
     not_worker : (w : Way) → w ≡ Direct → w ≡ Worker → ⊥
     not_worker w e f = let x : Direct ≡ Worker = sym e ∙ f in absurd cc
+
     not_spooled : (w : Way) → w ≡ Direct → w ≡ Spooled → ⊥
     not_spooled w e f = let x : Direct ≡ Spooled = sym e ∙ f in absurd cc
+
     doing_all : (d : Opened) (xid : ℕ) (o : Open) → o.way ≡ Direct → d ≡ record { items = map item_of o.items; wants = None } → IsDoing d (work_of xid o.way o.items)
     doing_all d xid o way e = record {
       left = [];
@@ -362,31 +363,18 @@ held_but : (g : Setting) (xid : ℕ) (s t : State) (rest : List CopyItem) (old n
 held_but g xid s t rest old new agreed o i m b e1 e2 e3 e4 here elsewhere q =
     elim (cases_eq xid q) [
       | inl e ↦
-        subst (λ x. IsLeft g t rest x (finite.get t.transactions x) (items_by x new.lanes) (own_of x new.begun) (is_open_in new.line x)) e
-        (carry_held (Some o) (finite.get t.transactions xid) i (items_by xid new.lanes) m (own_of xid new.begun) b (is_open_in new.line xid) (sym e1) (sym e2) (sym e3) (sym e4) here)
+          subst (λ x. IsLeft g t rest x (finite.get t.transactions x) (items_by x new.lanes) (own_of x new.begun) (is_open_in new.line x)) e
+          (carry_held (Some o) (finite.get t.transactions xid) i (items_by xid new.lanes) m (own_of xid new.begun) b (is_open_in new.line xid) (sym e1) (sym e2) (sym e3) (sym e4) here)
       | inr ne ↦
-        let same = elsewhere q ne in
-        held_there g t rest q (finite.get t.transactions q) (items_by q new.lanes) (own_of q new.begun) (is_open_in new.line q)
-        (carried (finite.get s.transactions q) (finite.get t.transactions q) (items_by q old.lanes) (items_by q new.lanes) (own_of q old.begun) (own_of q new.begun) (is_open_in old.line q) (is_open_in new.line q)
-        (sym same.0) (sym same.1) (sym same.2) (sym same.3) (agreed q))
+          let same = elsewhere q ne in
+          held_there g t rest q (finite.get t.transactions q) (items_by q new.lanes) (own_of q new.begun) (is_open_in new.line q)
+          (carried (finite.get s.transactions q) (finite.get t.transactions q) (items_by q old.lanes) (items_by q new.lanes) (own_of q old.begun) (own_of q new.begun) (is_open_in old.line q) (is_open_in new.line q)
+          (sym same.0) (sym same.1) (sym same.2) (sym same.3) (agreed q))
     ]
   where
     carry_held : (a b : Option Open) (i j : List (List Item)) (m n : Option Opened) (x y : Bool) → a ≡ b → i ≡ j → m ≡ n → x ≡ y → IsLeft g t rest xid a i m x → IsLeft g t rest xid b j n y
     carry_held a b i j m n x y e1 e2 e3 e4 h =
         subst (λ z. IsLeft g t rest xid b j n z) e4 (subst (λ z. IsLeft g t rest xid b j z x) e3 (subst (λ z. IsLeft g t rest xid b z m x) e2 (subst (λ z. IsLeft g t rest xid z i m x) e1 h)))
-
--- an item of the leader's own that isn't done is the next of its work
-undone_doing : (done after : Opened) (item : Item) (all : List Item) → done ≡ record { items = all; wants = None } → IsUndone done item after → IsDoing after (all ++ item ∷ [])
-undone_doing done after item all e (inl same) = record {
-  left = item ∷ [];
-  begins = ap (λ (d : Opened). d.items ++ item ∷ []) (same ∙ e);
-  wants = subst (λ w. MatchOption w (Unit {0}) (λ w. (more : List Item) × (item ∷ [] ≡ Change w.0 w.1 ∷ more))) (sym (ap (λ (d : Opened). d.wants) (same ∙ e))) tt;
-}
-undone_doing done after item all e (inr (sub, c, item_is, same)) = record {
-  left = item ∷ [];
-  begins = ap (λ (d : Opened). d.items ++ item ∷ []) (same ∙ ap (λ (d : Opened). with_wanted d sub c) e);
-  wants = subst (λ w. MatchOption w (Unit {0}) (λ w. (more : List Item) × (item ∷ [] ≡ Change w.0 w.1 ∷ more))) (sym (ap (λ (d : Opened). d.wants) same)) ([], ap (λ (i : Item). i ∷ []) item_is);
-}
 
 -- an item of the leader's own wasn't done
 pub met_held : (g : Setting) (s t : State) (old new : Standing) (xid : ℕ) (item : Item) (size : ℕ) (o : Open) (done after : Opened) → AreAgreed s.transactions old → (o.way ≢ Spooled) → IsGiving s t xid item size o
@@ -396,6 +384,7 @@ met_held g s t old new xid item size o done after agreed way gives undone does =
   where
     here : There old xid (Some o)
     here = subst (There old xid) gives.present (agreed xid)
+
     direct : o.way ≡ Direct → (rest : List CopyItem) → AreLeft g t rest new
     direct is rest =
         let e = does.is_own in
@@ -406,20 +395,23 @@ met_held g s t old new xid item size o done after agreed way gives undone does =
         (ap (λ m. finite.get m xid) gives.transactions ∙ get-inserted s.transactions xid next)
         (ap (items_by xid) (ap lanes_of e) ∙ was.0)
         (ap (own_of xid) (ap begun_of e) ∙ own_here xid after)
-        (ap (λ l. is_open_in l xid) (ap line_of e) ∙ was.2)
-        ((λ worker. let x : Direct ≡ Worker = sym is ∙ worker in absurd cc),
-        subst (IsDoing after) (sym (items_more o item size) ∙ ap (λ (w : Way). work_of xid w next.items) (sym is)) (undone_doing done after item (map item_of o.items) had undone),
-        λ spooled. absurd (way spooled))
+        (ap (λ l. is_open_in l xid) (ap line_of e) ∙ was.2) (
+          (λ worker. let x : Direct ≡ Worker = sym is ∙ worker in absurd cc),
+          subst (IsDoing after) (sym (items_more o item size) ∙ ap (λ (w : Way). work_of xid w next.items) (sym is)) (undone_doing (map item_of o.items) [] item done after had undone),
+          λ spooled. absurd (way spooled),
+        )
         (λ q ne. (
           ap (λ m. finite.get m q) gives.transactions ∙ get-other s.transactions xid next q ne,
           ap (items_by q) (ap lanes_of e),
           ap (own_of q) (ap begun_of e) ∙ own_elsewhere xid q after ne ∙ sym (ap (own_of q) does.was_own ∙ own_elsewhere xid q done ne),
           ap (λ l. is_open_in l q) (ap line_of e),
         ))
+
     worker : o.way ≡ Worker → ((p : Open) × (finite.get t.transactions xid ≡ Some p) × (p.way ≡ Direct)) × ((rest : List CopyItem) → AreLeft g t rest new)
     worker is =
         let was = by_lane o (items_by xid old.lanes) (own_of xid old.begun) (is_open_in old.line xid) is here in
         let e : Some done ≡ None = own_is xid old.begun done None does.was_own was.1 in absurd cc
+
     by_way : (w : Way) → o.way ≡ w → ((p : Open) × (finite.get t.transactions xid ≡ Some p) × (p.way ≡ Direct)) × ((rest : List CopyItem) → AreLeft g t rest new)
     by_way Direct is = ((with_item o item size, ap (λ m. finite.get m xid) gives.transactions ∙ get-inserted s.transactions xid (with_item o item size), is), direct is)
     by_way Worker is = worker is
@@ -436,10 +428,11 @@ tried_held g s rest old new c handed agreed present hands next tried =
     present
     (ap (items_by c.xid) (ap lanes_of e) ∙ tried.nowhere)
     (ap (own_of c.xid) (ap begun_of e) ∙ own_here c.xid tried.done)
-    (ap (λ l. is_open_in l c.xid) (ap line_of e) ∙ opened_here old.line c.xid)
-    ((λ worker. let x : Spooled ≡ Worker = sym was.0 ∙ worker in absurd cc),
-    subst (IsDoing tried.done) (hands ∙ ap (λ (w : Way). items_handed_out c.xid w c.items) was.0 ∙ map-sized_survivors c.xid c.items ∙ ap (λ (w : Way). work_of c.xid w c.items) (sym was.0)) tried.doing,
-    λ spooled. next)
+    (ap (λ l. is_open_in l c.xid) (ap line_of e) ∙ opened_here old.line c.xid) (
+      (λ worker. let x : Spooled ≡ Worker = sym was.0 ∙ worker in absurd cc),
+      subst (IsDoing tried.done) (hands ∙ ap (λ (w : Way). items_handed_out c.xid w c.items) was.0 ∙ map-sized_survivors c.xid c.items ∙ ap (λ (w : Way). work_of c.xid w c.items) (sym was.0)) tried.doing,
+      λ spooled. next,
+    )
     (λ q ne. (
       refl,
       ap (items_by q) (ap lanes_of e),

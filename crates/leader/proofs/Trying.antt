@@ -1,6 +1,6 @@
 -- What a spooled transaction has done, where one of its items wasn't.
 use Rattle.std.proofs.Common.{◌≡◌, ℕ, List, [], ◌∷◌, ◌++◌, Option, Some, None, refl, sym, ap, subst, ◌∙◌, inl, inr}
-use Rattle.std.specs.Prelude.{MatchOption, Result, Ok, Err, OnErr, IfErr, ◌⊎◌}
+use Rattle.std.specs.Prelude.{MatchOption, Result, Ok, Err, OnErr, IfErr}
 use Rattle.std.specs.Result.{IsErrAnd}
 use Rattle.std.specs.Iterator.{Yields}
 use Rattle.std.specs.Vec.Iter.{into_iter_items, into_iter_steps}
@@ -8,10 +8,9 @@ use Rattle.std.specs.declared.vec.IntoIter.{IntoIter}
 use Rattle.model.specs.declared.item.Item.{Item}
 use Rattle.model.specs.declared.item.Item.TheVariants.{Change}
 use Rattle.world.specs.World.{Opened}
-use Rattle.engine.specs.declared.events.LineEvent.TheVariants.{Opened as WasOpened}
 use Rattle.spooled.specs.declared.end.End.{End}
 use Rattle.leader.specs.Lanes.{IsDoing}
-use Rattle.leader.specs.Standing.{Own, Standing, with_wanted, IsUndone, IsStoreEnd, Does, IsMet, HasDoneAll, HasTried}
+use Rattle.leader.specs.Standing.{Own, Standing, with_wanted, IsUndone, IsStoreEnd, IsMet, HasDoneAll, HasTried}
 
 -- what the iterator of a vector has given is a front of its items
 pub taken_front : {X A : Type 0} (s : IntoIter X A) (xs : List X) (t : IntoIter X A) → Yields into_iter_steps s xs t → into_iter_items s ≡ xs ++ into_iter_items t
@@ -32,14 +31,14 @@ pub met_end : (old new : Standing) (xid : ℕ) (item : Item) (end : End) → IsM
 met_end old new xid item end (inl (same, stop)) = stop (Some xid)
 met_end old new xid item end (inr (done, after, undo, does, store)) = store
 
--- what it has done is the front of its items, and the next of them is noted, or isn't
-undone : (front rest : List Item) (item : Item) (d after : Opened) → d ≡ record { items = front; wants = None } → IsUndone d item after → IsDoing after (front ++ item ∷ rest)
-undone front rest item d after e (inl same) = record {
+-- what a transaction has done that did the front of its work, where the next item is noted, or isn't
+pub undone_doing : (front rest : List Item) (item : Item) (d after : Opened) → d ≡ record { items = front; wants = None } → IsUndone d item after → IsDoing after (front ++ item ∷ rest)
+undone_doing front rest item d after e (inl same) = record {
   left = item ∷ rest;
   begins = ap (λ (o : Opened). o.items ++ item ∷ rest) (same ∙ e);
   wants = subst (λ w. MatchOption w (Unit {0}) (λ w. (more : List Item) × (item ∷ rest ≡ Change w.0 w.1 ∷ more))) (sym (ap (λ (o : Opened). o.wants) (same ∙ e))) tt;
 }
-undone front rest item d after e (inr (sub, c, is, same)) = record {
+undone_doing front rest item d after e (inr (sub, c, is, same)) = record {
   left = item ∷ rest;
   begins = ap (λ (o : Opened). o.items ++ item ∷ rest) (same ∙ ap (λ (o : Opened). with_wanted o sub c) e);
   wants = subst (λ w. MatchOption w (Unit {0}) (λ w. (more : List Item) × (item ∷ rest ≡ Change w.0 w.1 ∷ more))) (sym (ap (λ (o : Opened). o.wants) same)) (rest, ap (λ (i : Item). i ∷ rest) is);
@@ -57,7 +56,7 @@ tried_more old mid new xid front rest item done end (inl (same, stop)) = record 
   none = done.none;
   nowhere = done.nowhere;
   done = record { items = front; wants = None };
-  doing = undone front rest item (record { items = front; wants = None }) (record { items = front; wants = None }) refl (inl refl);
+  doing = undone_doing front rest item (record { items = front; wants = None }) (record { items = front; wants = None }) refl (inl refl);
   is = same ∙ done.is;
 }
 tried_more old mid new xid front rest item done end (inr (d, after, undo, does, store)) =
@@ -66,6 +65,6 @@ tried_more old mid new xid front rest item done end (inr (d, after, undo, does, 
       none = done.none;
       nowhere = done.nowhere;
       done = after;
-      doing = undone front rest item d after e undo;
+      doing = undone_doing front rest item d after e undo;
       is = does.is_own ∙ ap (λ (st : Standing). record st { begun = Some (record { xid = xid; done = after }) }) done.is;
     }

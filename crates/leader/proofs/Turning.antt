@@ -12,7 +12,7 @@ use Rattle.engine.specs.declared.events.Event.{Event}
 use Rattle.engine.specs.declared.events.LineEvent.{LineEvent}
 use Rattle.engine.specs.declared.events.LineEvent.TheVariants.{Opened as WasOpened, Committed as WasCommitted, Aborted as WasAborted}
 use Rattle.leader.specs.Lanes.{Given, Laned, own_item, done_by, IsFree, IsHome, AddsTo, IsTakenOut, HasAll}
-use Rattle.leader.specs.Standing.{Own, Standing, own_by, goes_by, standing, Turns, IsHandedOut, IsGiven, CommitsGiven, IsAborted}
+use Rattle.leader.specs.Standing.{Standing, own_by, goes_by, standing, Turns, IsHandedOut, IsGiven, CommitsGiven, IsAborted}
 
 -- ---- one of a list
 

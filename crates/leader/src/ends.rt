@@ -1,8 +1,8 @@
 // The ends that a store gives a run.
 ghost use Rattle.leader.specs.Standing.{IsStopEnd};
 
-use spooled::End;
 use engine::{EngineFault, Stop};
+use spooled::End;
 
 /// The end of a run whose store was stopped. That nothing goes on stops a store only where the leader
 /// finds so, and it ends the run by it at once; so elsewhere it is told as memory that was refused.

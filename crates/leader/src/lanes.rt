@@ -151,11 +151,6 @@ impl<N: StoreNames, L: PostNames> Lane<N, L> {
         unreachable!()
     }
 
-    /// Whether its transaction came back and had done all of its items.
-    pub fn has_all(&self) -> bool {
-        self.back.is_some() && self.collected == Collected::All
-    }
-
     /// The ticket of its transaction, if it came back. The lane is free then.
     pub fn take_back(&mut self) -> Option<Ticket>
         ensures { MatchOption result ((self.old.back ≡ None) × (self.new ≡ self.old)) (λ ticket. IsTakenOut N.tickets self.old ticket self.new) }

@@ -6,8 +6,6 @@ ghost use Rattle.session.specs.Answers.{IsOfTables};
 ghost use Rattle.session.specs.State.{Setting};
 ghost use Rattle.spooled.specs.Progress.{Progress, start_progress};
 
-use spooled::End;
-use spooled::Handler;
 use crate::transactions::{Left, Transactions};
 use bytes::Bytes;
 use catalog::Catalog;
@@ -15,6 +13,7 @@ use engine::{Line, StoreNames};
 use frames::{CopyItem, Lsn};
 use model::{CommitInfo, Item, Xid};
 use session::{Session, Step};
+use spooled::{End, Handler};
 use std::alloc::Global;
 use std::sync::Wait;
 use worker::{Gate, PostNames};

@@ -10,13 +10,13 @@ ghost use Rattle.leader.specs.Lanes.{own_item, done_by, IsFree, IsHome};
 ghost use Rattle.leader.specs.Standing.{own_by, goes_by, items_by, with_done, with_wanted, IsUndone, Tries, IsStoreEnd, IsStopEnd, IsBegun, IsHandedOut, IsGiven, IsApplied, IsTaken, IsMet, IsCommitted, CommitsGiven, CommitsOwn, HasDoneAll, HasTried, IsAborted};
 ghost use Rattle.leader.specs.Threads.{Decides};
 
-use spooled::End;
 use crate::ends::{end_of_fault, end_of_stop};
 use crate::lanes::Lane;
 use crate::shop::Shop;
 use crew::Desk;
 use engine::{Acted, Line, Stop, StoreNames, Ticket};
 use model::{Change, CommitInfo, Item, Xid};
+use spooled::End;
 use std::alloc::Global;
 use std::marker::Model;
 use std::sync::Wait;

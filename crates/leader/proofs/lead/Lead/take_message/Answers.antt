@@ -1,7 +1,6 @@
-use Rattle.std.proofs.Common.{◌≡◌, refl, sym, ap, subst, ◌∙◌}
+use Rattle.std.proofs.Common.{refl, sym, ap, subst}
 use Rattle.std.specs.Prelude.{All}
 use Rattle.engine.specs.Events.{commits_in}
-use Rattle.session.specs.declared.step.Step.TheVariants as steps
 use Rattle.session.specs.Answers.{IsOfTables, Says}
 use Rattle.session.specs.Represents.{Represents}
 use Rattle.spooled.specs.Ends.{end_of_refusal}

@@ -1,4 +1,4 @@
-use Rattle.std.proofs.Common.{refl, sym, ap, subst, ◌∙◌, false}
+use Rattle.std.proofs.Common.{sym, ap, subst, ◌∙◌, false}
 use Rattle.std.specs.Prelude.{max}
 use Rattle.spooled.specs.Handler.{HandlesItem, HasHandled}
 use Rattle.leader.specs.declared.lead.Lead.{Lead}

@@ -1,5 +1,4 @@
-use Rattle.std.proofs.Common.{rules, length, ◌<◌, arith, ap}
-use Rattle.engine.specs.declared.events.LineEvent.{LineEvent}
+use Rattle.std.proofs.Common.{rules, length, ◌<◌, arith}
 use Rattle.leader.proofs.Turning.{aborted_by}
 use Rattle.leader.proofs.transactions.Transactions.drop_back.Goals as goal
 

@@ -8,9 +8,9 @@ pub returns-in_err-apply-clause-err : goal.returns-in_err-apply-clause-err
 returns-in_err-apply-clause-err g c =
     let rest = into_iter_items c.next.new.self in
     let split : c.args.items.items ≡ c.loop-item.yielded ++ c.in-Some.item ∷ rest =
-        sym c.into_iter-item-iterator.ensures.into_iter_gives.0
-        ∙ taken_front c.into_iter-item-iterator.result c.loop-item.yielded c.loop-item.item-iterator c.loop-item.yielded_by
-        ∙ ap (λ xs. c.loop-item.yielded ++ xs) c.in-Some.ensures.steps.0
+    sym c.into_iter-item-iterator.ensures.into_iter_gives.0
+    ∙ taken_front c.into_iter-item-iterator.result c.loop-item.yielded c.loop-item.item-iterator c.loop-item.yielded_by
+    ∙ ap (λ xs. c.loop-item.yielded ++ xs) c.in-Some.ensures.steps.0
     in
     on_err c.from_residual-in_err-apply.result (inr
     (subst (λ items. HasTried c.args.self.now c.args.xid items c.apply.new.self) (sym split)

@@ -1,4 +1,3 @@
-use Rattle.std.proofs.Common.{◌≡◌}
 use Rattle.leader.specs.Standing.{HasDoneAll}
 use Rattle.leader.proofs.transactions.Transactions.unspool.Given as goal
 
