@@ -3,7 +3,7 @@
 // While workers run nothing is known of what lies under the store's lock, and what was answered there
 // says nothing any more once they have come back. At the end one hand has all of it, with the ticket of
 // each transaction that is still open. So here the end is decided.
-ghost use Rattle.std.specs.Prelude.{◌≡◌, ◌∷◌, [], IfSome, option_map, map};
+ghost use Rattle.std.specs.Prelude.{◌≡◌, ◌∷◌, [], All, IfSome, option_map, map};
 ghost use Rattle.world.specs.World.{World};
 ghost use Rattle.engine.specs.Answers.{TellsWhatStopped};
 ghost use Rattle.engine.specs.Engine.{entry_in};
@@ -23,10 +23,14 @@ pub trait Slot<N: StoreNames> {
     /// The transaction whose ticket lies there.
     ghost holds: { Self → Option Holding };
 
+    /// What its type keeps of that transaction.
+    ghost keeps: { Self → Type 0 };
+
     /// The ticket, if one lies there.
     fn into_ticket(self) -> Option<Ticket>
         ensures belongs { IfSome result (λ t. t.name ≡ N.tickets) }
-        ensures holds { holds self ≡ option_map holding result };
+        ensures holds { holds self ≡ option_map holding result }
+        ensures keeps { keeps self };
 }
 
 /// Ends a run for which this end was proposed: the tables and the journal without what was open, and
@@ -36,6 +40,8 @@ pub trait Slot<N: StoreNames> {
 /// Where the input was over, or a change clashed, it is the end of the clash that stopped the store, if
 /// one did and its transaction still wants it. A transaction that waited is asked for again, since
 /// workers still ran when it was found. Where either isn't so any more, memory was refused.
+///
+/// Of each lane it tells what its type keeps.
 pub fn finish<N: StoreNames, S: Slot<N> + Drop>(
     mut store: SharedStore<N>,
     line: Line,
@@ -48,6 +54,7 @@ pub fn finish<N: StoreNames, S: Slot<N> + Drop>(
     requires own { IfSome own (λ t. t.name ≡ N.tickets) }
     ensures finished { HasFinished N.schema N.start line.list (option_map holding own ∷ map S.holds lanes.items) given.now proposed result.2 result.0.rows (map entry_in result.1.items) }
     ensures schema { result.0.schema ≡ N.schema }
+    ensures keeps { All S.keeps lanes.items }
 {
     let noted = noted_clash(&mut store, own, lanes);
     let end = decide(&mut store, &line, given, proposed, noted);
@@ -66,6 +73,7 @@ fn noted_clash<N: StoreNames, S: Slot<N> + Drop>(
     requires own { IfSome own (λ t. t.name ≡ N.tickets) }
     ensures stood { AreStood store.old.world (option_map holding own ∷ map S.holds lanes.items) }
     ensures noted { TellsNoted store.old.world (option_map holding own ∷ map S.holds lanes.items) result }
+    ensures keeps { All S.keeps lanes.items }
     ensures same { store.new ≡ store.old }
 {
     let stop = store.stop();

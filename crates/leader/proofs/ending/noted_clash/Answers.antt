@@ -1,6 +1,7 @@
 use Rattle.std.proofs.Common.{◌≡◌, Option, None, Some, [], ◌∷◌, ◌++◌, sym, ap, subst, ◌∙◌}
 use Rattle.std.specs.Prelude.{map, option_map}
 use Rattle.std.proofs.lemmas.List.{map-append}
+use Rattle.std.proofs.lemmas.List.Elements.{All-push}
 use Rattle.change.specs.declared.outcome.Clash.{Clash}
 use Rattle.engine.specs.Engine.{Engine}
 use Rattle.leader.specs.Ending.{Holding, Hand, holding, AreStood, TellsNoted}
@@ -23,6 +24,7 @@ loop-slot-preserved-in-Some-clash_of g c =
       stood =
           subst (AreStood w) (sym more)
           (stood_more w (own ∷ slots) slot came.stood (subst (λ (e : Engine). AreStood e.world (slot ∷ [])) came.same c.clash_of.ensures.stood));
+      keeps = All-push g.S.Slot.keeps c.loop-slot.yielded c.in-Some.slot came.keeps c.into_ticket.ensures.keeps;
       noted =
           subst (λ (hand : Hand). TellsNoted w hand (Some c.in-Some-clash_of.clash)) (sym more)
           (tells_now w (own ∷ slots) slot c.in-Some-clash_of.clash
@@ -45,6 +47,7 @@ loop-slot-preserved g c =
       stood =
           subst (AreStood w) (sym more)
           (stood_more w (own ∷ slots) slot came.stood (subst (λ (e : Engine). AreStood e.world (slot ∷ [])) came.same c.clash_of.ensures.stood));
+      keeps = All-push g.S.Slot.keeps c.loop-slot.yielded c.in-Some.slot came.keeps c.into_ticket.ensures.keeps;
       noted =
           subst (λ (hand : Hand). TellsNoted w hand c.loop-slot.noted) (sym more)
           (tells_still w (own ∷ slots) slot c.loop-slot.noted came.noted
