@@ -239,7 +239,7 @@ ends_at [] = refl
 ends_at (p ∷ []) = refl
 ends_at (p ∷ q ∷ line) = ends_at (q ∷ line)
 
-told_alike : (entries : List entry_type.Entry) → map transaction_of entries ≡ map told_of (map entry_in entries)
+pub told_alike : (entries : List entry_type.Entry) → map transaction_of entries ≡ map told_of (map entry_in entries)
 told_alike [] = refl
 told_alike (e ∷ entries) = ap (λ ts. transaction_of e ∷ ts) (told_alike entries)
 

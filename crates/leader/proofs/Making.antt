@@ -1,7 +1,7 @@
 -- What is known of the parts of lanes that are taken off one by one, the last first.
 --     front_fresh, front_value      those that are left are fresh, and have the values that they had
 --     longer      they stand where they stood
---     more_fresh      one more was made
+--     one_more      it is so of one more
 use Rattle.std.proofs.Common.{◌≡◌, ℕ, ◌+◌, ◌<◌, List, [], ◌∷◌, ◌++◌, length, get_or, refl, sym, ap, subst, ◌∙◌, arith, length-append}
 use Rattle.std.specs.Prelude.{All, map}
 use Rattle.std.proofs.lemmas.List.{map-append, length-map, get_or_append_left}
@@ -22,9 +22,9 @@ front_value f whole front rest d i e lt =
     let within : i < length (map f front) = omega arith in
     sym (ap (λ (w : List Parted). get_or (map f w) i d) e ∙ ap (λ w. get_or w i d) (map-append f front rest) ∙ get_or_append_left (map f front) (map f rest) d i within)
 
--- one more was made
-pub more_fresh : (made more : List Parted) (p : Parted) → more ≡ made ++ p ∷ [] → All IsFresh made → IsFresh p → All IsFresh more
-more_fresh made more p e fresh is = subst (All IsFresh) (sym e) (All-append IsFresh made (p ∷ []) fresh (All-cons IsFresh p [] is (All-nil IsFresh)))
+-- it is so of one more
+pub one_more : {X : Type 0} (P : X → Type 0) (made more : List X) (x : X) → more ≡ made ++ x ∷ [] → All P made → P x → All P more
+one_more P made more x e so is = subst (All P) (sym e) (All-append P made (x ∷ []) so (All-cons P x [] is (All-nil P)))
 
 -- those that are left stand where they stood
 pub longer : (whole front rest : List Parted) (i : ℕ) → whole ≡ front ++ rest → i < length front → i < length whole

@@ -1,6 +1,8 @@
 use Rattle.std.proofs.Common.{◌≡◌, ◌<◌, ◌∙◌, length, ap, length-append, ◌+◌, arith}
 use Rattle.std.specs.Prelude.{option_to_list}
+use Rattle.std.proofs.lemmas.List.Sorted.{All-permutation}
 use Rattle.tokens.specs.Half.{no_name}
+use Rattle.leader.specs.Lanes.{IsFree}
 use Rattle.leader.specs.Parts.{ring_of, post_of}
 use Rattle.leader.proofs.Making.{front_fresh, front_value, longer}
 use Rattle.leader.proofs.parts.Places.new.Goals as goal
@@ -13,6 +15,10 @@ loop-part-preserved g c =
     let e = c.pop.ensures.items in
     record {
       fresh = front_fresh whole front rest e c.loop-part.invariant.fresh;
+      free = c.in_ok-add.ensures c.loop-part.invariant.free;
       rings = λ i lt. front_value ring_of whole front rest no_name i e lt ∙ c.loop-part.invariant.rings i (longer whole front rest i e lt);
       posts = λ i lt. front_value post_of whole front rest no_name i e lt ∙ c.loop-part.invariant.posts i (longer whole front rest i e lt);
     }
+
+pub returns : goal.returns
+returns g c = All-permutation IsFree c.loop-part.places.lanes.items c.reverse-2.new.self.items c.reverse-2.ensures.permutation c.loop-part.invariant.free

@@ -1,13 +1,15 @@
 use Rattle.std.proofs.Common.{◌≡◌, ℕ, ◌<◌, length}
 use Rattle.std.specs.Prelude.{All, map, slice_index_or}
 use Rattle.tokens.specs.Half.{no_name}
+use Rattle.leader.specs.Lanes.{IsFree}
 use Rattle.leader.specs.Parts.{IsFresh, ring_of, post_of}
 use Rattle.leader.proofs.parts.Places.new.Given as goal
 
--- those that are left are fresh, and each has its ring and its list
+-- those that are left are fresh, and each has its ring and its list; the lanes so far are free
 abbrev pub invariant-loop-part : goal.invariant-loop-part
 invariant-loop-part g l = record {
   fresh : All IsFresh l.parts.items;
+  free : All IsFree l.places.lanes.items;
   rings : (i : ℕ) → i < length l.parts.items → slice_index_or (map ring_of l.parts.items) i no_name ≡ g.L.LaneNames.ring i;
   posts : (i : ℕ) → i < length l.parts.items → slice_index_or (map post_of l.parts.items) i no_name ≡ g.L.PostNames.post i;
 }
