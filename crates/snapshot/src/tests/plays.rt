@@ -5,8 +5,8 @@ ghost use Rattle.origin.specs.Commits.{commits_of};
 
 use super::scene::{Parts, Scene, TABLE, key, put, remove, written};
 use crate::{ReadFault, Reader};
-use engine::{SharedStore, StoreNames};
-use model::{Change, Lsn, TableId, Xid};
+use engine::{EngineFault, SharedStore, StoreNames};
+use model::{Change, Key, Lsn, TableId, Xid};
 use origin::{Origin, Position, Publisher};
 use std::alloc::Global;
 use std::marker::Brand;
@@ -66,15 +66,15 @@ fn reads_between<N: StoreNames, R: Abort + Wait>(
     reader: &mut Reader<'_, N>,
 ) -> Result<(), Fail> {
     let mut first = scene.open(rt, alloc, 1)?;
-    scene.act(rt, alloc, &mut first, &put(alloc, 1, 10)?);
-    scene.act(rt, alloc, &mut first, &put(alloc, 2, 20)?);
+    scene.act(rt, alloc, &mut first, &put(alloc, 1, 10)?)?;
+    scene.act(rt, alloc, &mut first, &put(alloc, 2, 20)?)?;
     assert_eq!(rt; rows_of(rt, alloc, reader)?.as_str(), "");
     scene.commit(rt, first, 16);
     assert_eq!(rt; rows_of(rt, alloc, reader)?.as_str(), "1|10 2|20");
     let mut one = scene.open(rt, alloc, 700)?;
     let mut other = scene.open(rt, alloc, 900)?;
-    scene.act(rt, alloc, &mut one, &put(alloc, 3, 30)?);
-    scene.act(rt, alloc, &mut other, &remove(alloc, 1)?);
+    scene.act(rt, alloc, &mut one, &put(alloc, 3, 30)?)?;
+    scene.act(rt, alloc, &mut other, &remove(alloc, 1)?)?;
     assert_eq!(rt; row_of(rt, alloc, reader, 3)?.as_str(), "");
     assert_eq!(rt; row_of(rt, alloc, reader, 1)?.as_str(), "1|10");
     assert_eq!(rt; rows_of(rt, alloc, reader)?.as_str(), "1|10 2|20");
@@ -100,7 +100,7 @@ fn commit_one<N: StoreNames, R: Abort + Wait>(
     requires { NamesTables 1 change.now }
 {
     let mut ticket = scene.open(rt, alloc, xid)?;
-    scene.act(rt, alloc, &mut ticket, change);
+    scene.act(rt, alloc, &mut ticket, change)?;
     scene.commit(rt, ticket, end);
     Ok(())
 }
@@ -113,7 +113,7 @@ fn reads_positions<N: StoreNames, R: Abort + Wait>(
     reader: &mut Reader<'_, N>,
 ) -> Result<(), Fail> {
     let mut open = scene.open(rt, alloc, 900)?;
-    scene.act(rt, alloc, &mut open, &put(alloc, 9, 90)?);
+    scene.act(rt, alloc, &mut open, &put(alloc, 9, 90)?)?;
     commit_one(rt, alloc, scene, 701, &put(alloc, 2, 20)?, 16)?;
     commit_one(rt, alloc, scene, 702, &put(alloc, 1, 10)?, 40)?;
     commit_one(rt, alloc, scene, 703, &remove(alloc, 2)?, 64)?;
@@ -150,21 +150,35 @@ fn reads_unknown<N: StoreNames, R: Abort + Wait>(
     Ok(())
 }
 
-// The row of a commit, where an allocation may be refused: then it is read again.
+// Commits a row, or gives up for memory.
+fn commit_a_row<N: StoreNames, R: Abort + Wait>(
+    rt: &R,
+    alloc: Global,
+    scene: &mut Scene<'_, N>,
+) -> Result<Key, EngineFault> {
+    let mut ticket = scene.open(rt, alloc, 1)?;
+    scene.act(rt, alloc, &mut ticket, &put(alloc, 1, 10)?)?;
+    scene.commit(rt, ticket, 16);
+    Ok(key(alloc, 1)?)
+}
+
+// The rows of a commit, where one allocation may be refused: then they are read again. `get` takes no
+// memory. Where it was refused before, there is nothing to read.
 fn reads_refused<N: StoreNames, R: Abort + Wait>(
     rt: &R,
     alloc: Global,
     scene: &mut Scene<'_, N>,
     reader: &mut Reader<'_, N>,
 ) -> Result<(), Fail> {
-    let mut ticket = scene.open(rt, alloc, 1)?;
-    scene.act(rt, alloc, &mut ticket, &put(alloc, 1, 10)?);
-    scene.commit(rt, ticket, 16);
-    let key = key(alloc, 1)?;
-    if let Err(fault) = reader.get(rt, TABLE, &key) {
-        assert_eq!(rt; fault, ReadFault::OutOfMemory);
-        assert_eq!(rt; row_of(rt, alloc, reader, 1)?.as_str(), "1|10");
-    }
+    let Ok(key) = commit_a_row(rt, alloc, scene) else {
+        return Ok(());
+    };
+    let refused = Some(ReadFault::OutOfMemory);
+    let first = reader.rows(rt, alloc, TABLE).err();
+    assert!(rt; first.is_none() || first == refused);
+    assert!(rt; matches!(reader.get(rt, TABLE, &key), Ok(Some(_))));
+    let second = reader.rows(rt, alloc, TABLE).err();
+    assert!(rt; second.is_none() || (second == refused && first.is_none()));
     Ok(())
 }
 
@@ -256,8 +270,10 @@ fn a_reader_loads_what_was_published(rt: HostRuntime) -> Result<(), Fail> {
 }
 
 #[test]
-fn a_get_where_memory_is_refused_goes_on(rt: HostRuntime) -> Result<(), Fail> {
+fn a_reader_goes_on_where_memory_was_refused(rt: HostRuntime) -> Result<(), Fail> {
     let alloc = rt.alloc();
-    let parts = Parts::new(&rt, alloc)?;
+    let Ok(parts) = Parts::new(&rt, alloc) else {
+        return Ok(());
+    };
     play::<Brand, HostRuntime>(&rt, alloc, parts, Scenario::Refused)
 }

@@ -130,21 +130,25 @@ impl<'a, N: StoreNames> Scene<'a, N> {
         Ok(ticket)
     }
 
-    /// Does a change.
+    /// Does a change. Only memory can refuse it.
     pub(super) fn act(
         &self,
         rt: &(impl Abort + Wait),
         alloc: Global,
         ticket: &mut Ticket,
         change: &Change,
-    )
+    ) -> Result<(), OutOfMemory>
         requires belongs { ticket.old.name ≡ N.tickets }
         requires names { NamesTables 1 change.now }
         ensures { ticket.new.name ≡ ticket.old.name }
     {
         let xid = ticket.xid();
         let acted = self.store.lock(rt).act(alloc, ticket, xid, change);
+        if acted == Err(EngineFault::OutOfMemory) {
+            return Err(OutOfMemory);
+        }
         assert_eq!(rt; acted, Ok(Acted::Done));
+        Ok(())
     }
 
     /// A commit that ends here.

@@ -108,7 +108,7 @@ fn commit_all<N: StoreNames, R: Abort + Wait>(
         let Ok(change) = put(alloc, commits as i64 + 1, 0) else {
             panic!(rt; "no memory for a change")
         };
-        scene.act(rt, alloc, &mut ticket, &change);
+        assert!(rt; scene.act(rt, alloc, &mut ticket, &change).is_ok());
         scene.commit(rt, ticket, (commits + 1) * 16);
         origin.publish(rt, &mut publisher, position(commits + 1));
         thread::yield_now();

@@ -1,4 +1,4 @@
-use Rattle.snapshot.proofs.tests.plays.a_get_where_memory_is_refused_goes_on.Given as goal
+use Rattle.snapshot.proofs.tests.plays.a_reader_goes_on_where_memory_was_refused.Given as goal
 
 abbrev pub ghosts-play : goal.ghosts-play
 ghosts-play g a = record {
