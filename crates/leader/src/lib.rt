@@ -38,8 +38,6 @@ mod lanes;
 mod lead;
 mod parts;
 mod shop;
-#[cfg(test)]
-mod tests;
 mod threads;
 mod transactions;
 
