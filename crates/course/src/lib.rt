@@ -29,6 +29,6 @@
 //   specs/Turns         each thing that a leader or a worker does
 //   specs/Laws          the laws as statements, which `laws` promises
 //
-// It has no code but the laws, and stands on `session` for the table, on `leader` for items and
+// It has no code but the laws, and stands on `session` for the table, on `spooled` for items and
 // what they lead to, and on `world` for calls.
 pub mod laws;
