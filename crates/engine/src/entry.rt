@@ -9,7 +9,7 @@ use std::marker::Model;
 
 /// The changes of a committed transaction that survived its rollbacks, in order, skipped ones too.
 /// They lie in the transaction's own list of items: nothing is copied at a commit.
-#[derive(Drop)]
+#[derive(Debug, Drop)]
 pub struct Changes {
     items: Vec<Item>,
 }
@@ -120,7 +120,7 @@ fn first_change(items: &[Item]) -> Option<(&Change, &[Item])>
 }
 
 /// A committed transaction.
-#[derive(Drop)]
+#[derive(Debug, Drop)]
 pub struct Entry {
     pub xid: Xid,
     /// Its changes that survived its rollbacks, in order, skipped ones too.

@@ -287,6 +287,17 @@ impl<N: StoreNames> SharedStore<N> {
         self.store.stop_held(line, waiter, sent)
     }
 
+    /// Learns that its line tells all that happened to its transactions, and that calls lead to its world.
+    pub fn meet(&mut self, line: &mut Line)
+        requires { line.old.name ≡ N.line }
+        ensures met { line.old ≡ self.old.line }
+        ensures reached { ∥ Reaches N.schema (starting N.start) self.old.world ∥₁ }
+        ensures same { self.new ≡ self.old }
+        ensures line { line.new ≡ line.old }
+    {
+        self.store.meet(line);
+    }
+
     /// Sees the journal as it is now.
     pub fn watch(&mut self) -> Seen
         ensures same { self.new ≡ self.old }

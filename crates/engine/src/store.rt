@@ -324,6 +324,17 @@ impl Store {
         self.live.stop_held(waiter, sent)
     }
 
+    /// Learns that its line tells all that happened to its transactions. Nothing changes, and it takes no
+    /// memory.
+    pub fn meet(&mut self, line: &mut Line)
+        requires { line.old.name ≡ self.old.line.name }
+        ensures met { line.old ≡ self.old.line }
+        ensures same { self.new ≡ self.old }
+        ensures line { line.new ≡ line.old }
+    {
+        meet(&mut self.line, &mut line.token);
+    }
+
     /// Sees the journal as it is now. It takes no memory.
     pub fn watch(&mut self) -> Seen
         ensures same { self.new ≡ self.old }

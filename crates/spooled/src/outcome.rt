@@ -19,7 +19,7 @@ pub struct Config {
 }
 
 /// What a run leaves.
-#[derive(Drop)]
+#[derive(Debug, Drop)]
 pub struct Outcome {
     pub tables: Tables,
     /// The commits, in order.

@@ -106,6 +106,31 @@ fn two_wait_for_each_other(rt: HostRuntime) -> Result<(), Fail> {
     scene.ends_with(&rt, alloc, r"1|a|n 2|b|n 4|\N|n", 1)
 }
 
+// A ticket tells that its transaction waits with a change, until that is rolled back, and that one clashed.
+#[test]
+fn a_ticket_tells_what_its_transaction_wants(rt: HostRuntime) -> Result<(), Fail> {
+    let alloc = rt.alloc();
+    let mut scene = Scene::worked(&rt, alloc, &[700, 900])?;
+    let third = put("3", "c", "n");
+    let clash = Clash::Unique { table: 0, key: 0 };
+    assert_eq!(rt; scene.act(&rt, alloc, 700, 700, &third), Ok(Acted::Done));
+    assert!(rt; !scene.wants(&rt, 700));
+    assert_eq!(rt;
+        scene.act(&rt, alloc, 900, 900, &third),
+        Ok(Acted::Held(700))
+    );
+    assert!(rt; scene.wants(&rt, 900));
+    scene.back_to(&rt, 900, 900);
+    assert!(rt; !scene.wants(&rt, 900));
+    let answer = scene.act(&rt, alloc, 900, 900, &put("1", "z", "n"));
+    assert_eq!(rt; answer, Err(EngineFault::Clash(clash)));
+    assert!(rt; scene.wants(&rt, 900));
+    assert!(rt; !scene.wants(&rt, 700));
+    scene.abort(&rt, 700);
+    scene.abort(&rt, 900);
+    scene.ends_with(&rt, alloc, "1|a|n 2|b|n", 0)
+}
+
 // While a truncate is open nobody inserts into its table, and its abort brings the rows back.
 #[test]
 fn a_table_that_was_emptied_is_held_whole(rt: HostRuntime) -> Result<(), Fail> {
