@@ -1,30 +1,31 @@
 -- Which clash is noted, slot by slot, and the end that it decides.
-use Rattle.std.proofs.Common.{◌≡◌, ℕ, List, [], ◌∷◌, ◌++◌, Option, Some, None, refl, sym, ap, subst, ◌∙◌, inl, inr}
-use Rattle.std.specs.Prelude.{map, IsSome, IfSome, is_some}
-use Rattle.std.specs.FinMap.{get}
-use Rattle.std.proofs.lemmas.List.Elements.{All-append, Contains-append_left, Contains-append_right, Contains-append_cases, Contains-push}
-use Rattle.model.specs.Rows.{Rows, Schema}
+use Rattle.std.proofs.Common.{◌≡◌, ℕ, List, [], ◌∷◌, ◌++◌, Option, Some, None, refl, sym, ap, subst, ◌∙◌, append-nil, inl, inr}
+use Rattle.std.specs.Prelude.{IsSome, IfSome, is_some, slice_index_or}
+use Rattle.std.specs.Cmp.{nat_cmp_total}
+use Rattle.std.specs.FinMap.{get, remove, get-remove}
+use Rattle.std.proofs.lemmas.Bool.{cases_eq}
+use Rattle.std.proofs.lemmas.Grind.{flat_map-append}
+use Rattle.std.proofs.lemmas.List.Elements.{All-append, All-cons, All-nil, Contains-append_left, Contains-append_right, Contains-append_cases, Contains-push}
+use Rattle.model.specs.Rows.{Schema}
+use Rattle.model.specs.Effect.{ClashCause}
 use Rattle.change.specs.declared.outcome.Clash.{Clash}
-use Rattle.tokens.specs.Half.{Name, Half}
-use Rattle.world.specs.World.{OpenOnes, ByClash, Entry, World, starting, entry_of}
-use Rattle.world.specs.Steps.{StopsHeld, IsStuck, Reaches, Closes}
+use Rattle.world.specs.World.{Opened, OpenOnes, ByClash, World}
+use Rattle.world.specs.Steps.{Aborts, StopsHeld, IsStuck}
 use Rattle.engine.specs.declared.answers.Stop.{Stop}
 use Rattle.engine.specs.declared.answers.Stop.TheVariants as stops
-use Rattle.engine.specs.Answers.{TellsWhatStopped}
 use Rattle.engine.specs.declared.events.LineEvent.{LineEvent}
-use Rattle.engine.specs.Engine.{Engine}
-use Rattle.engine.specs.Events.{commits_in, is_open_in}
-use Rattle.engine.specs.Shared.{IsShared}
-use Rattle.engine.specs.Shut.{IsShut}
-use Rattle.spooled.specs.declared.end.End.{End}
-use Rattle.spooled.specs.declared.end.End.TheVariants as ends
-use Rattle.leader.specs.Ending.{Holding, Hand, EachHeld, AreStood, TellsNoted, EndsAsHeld, IsDecided, IsOtherwiseStopped, HasFinished}
+use Rattle.engine.specs.declared.events.LineEvent.TheVariants.{Aborted as WasAborted}
+use Rattle.engine.specs.Answers.{TellsWhatStopped}
+use Rattle.engine.specs.Events.{past_of, commits_in}
+use Rattle.leader.specs.Standing.{Own}
+use Rattle.leader.specs.Ending.{Hand, AreStood, AreGone, IsNoted, TellsNoted, TellsHolder, IsLessOpen}
+use Rattle.leader.proofs.Agreeing.{same_self, same_apart}
 
 -- ---- one slot
 
 module _ (w : World) where
   -- the clash is that of a ticket's transaction, which wants a change still
-  pub clashed_there : (h : Holding) (xid : ℕ) (clash : Clash) → TellsWhatStopped (Some (stops.Clash xid clash)) w.stopped → h.xid ≡ xid
+  pub clashed_there : (h : Own) (xid : ℕ) (clash : Clash) → TellsWhatStopped (Some (stops.Clash xid clash)) w.stopped → h.xid ≡ xid
       → IsSome h.done.wants → TellsNoted w (Some h ∷ []) (Some clash)
   clashed_there h xid clash (c, cause, is, stopped) number wants =
       (cause, is, (h, c, Contains-push [] (Some h), stopped ∙ ap (λ n. Some (ByClash n c cause)) (sym number), wants))
@@ -32,7 +33,7 @@ module _ (w : World) where
   -- ---- the slots so far
 
   -- with one slot more, which tells nothing
-  pub tells_still : (hand : Hand) (slot : Option Holding) (noted : Option Clash) → TellsNoted w hand noted → TellsNoted w (slot ∷ []) None
+  pub tells_still : (hand : Hand) (slot : Option Own) (noted : Option Clash) → TellsNoted w hand noted → TellsNoted w (slot ∷ []) None
       → TellsNoted w (hand ++ slot ∷ []) noted
   tells_still hand slot (Some clash) (cause, is, (h, c, among, stopped, wants)) none =
       (cause, is, (h, c, Contains-append_left hand (slot ∷ []) (Some h) among, stopped, wants))
@@ -43,13 +44,19 @@ module _ (w : World) where
       ]
 
   -- with one that tells the clash
-  pub tells_now : (hand : Hand) (slot : Option Holding) (clash : Clash) → TellsNoted w (slot ∷ []) (Some clash)
+  pub tells_now : (hand : Hand) (slot : Option Own) (clash : Clash) → TellsNoted w (slot ∷ []) (Some clash)
       → TellsNoted w (hand ++ slot ∷ []) (Some clash)
   tells_now hand slot clash (cause, is, (h, c, here, stopped, wants)) =
       (cause, is, (h, c, Contains-append_right hand (slot ∷ []) (Some h) here, stopped, wants))
 
-  pub stood_more : (hand : Hand) (slot : Option Holding) → AreStood w hand → AreStood w (slot ∷ []) → AreStood w (hand ++ slot ∷ [])
-  stood_more hand slot = All-append (λ o. IfSome o (λ (h : Holding). get w.opened h.xid ≡ Some h.done)) hand (slot ∷ [])
+  pub stood_one : (h : Own) → get w.opened h.xid ≡ Some h.done → AreStood w (Some h ∷ [])
+  stood_one h is = All-cons (λ o. IfSome o (λ (k : Own). get w.opened k.xid ≡ Some k.done)) (Some h) [] is (All-nil (λ o. IfSome o (λ (k : Own). get w.opened k.xid ≡ Some k.done)))
+
+  pub gone_one : (h : Own) → get w.opened h.xid ≡ None → AreGone w (Some h ∷ [])
+  gone_one h is = All-cons (λ o. IfSome o (λ (k : Own). get w.opened k.xid ≡ None)) (Some h) [] is (All-nil (λ o. IfSome o (λ (k : Own). get w.opened k.xid ≡ None)))
+
+  pub stood_more : (hand : Hand) (slot : Option Own) → AreStood w hand → AreStood w (slot ∷ []) → AreStood w (hand ++ slot ∷ [])
+  stood_more hand slot = All-append (λ o. IfSome o (λ (h : Own). get w.opened h.xid ≡ Some h.done)) hand (slot ∷ [])
 
 -- ---- the end
 
@@ -58,35 +65,81 @@ pub is_stopped : (w : World) (stop : Stop) → TellsWhatStopped (Some stop) w.st
 is_stopped w (stops.Clash xid clash) (c, cause, is, stopped) = ap is_some stopped
 is_stopped w (stops.Held waiter holder) stopped = ap is_some stopped
 
--- a holder was answered, which stopped the world
-pub ends_held : (schema : Schema) (w new : World) (given : List (ℕ × ℕ)) (xid holder : ℕ) → StopsHeld schema w given xid (Some holder) new
-    → EndsAsHeld schema new given xid (ends.HeldKey xid holder)
-ends_held schema w new given xid holder (stuck, is) = inl (holder, subst (λ (v : World). IsStuck schema v given xid holder) (sym is) stuck, refl)
+-- whom the transaction waits for, by the answer of the call that stops the world
+pub tells_holder : (schema : Schema) (w new : World) (given : List (ℕ × ℕ)) (xid : ℕ) (answer : Option ℕ)
+    → StopsHeld schema w given xid answer new → TellsHolder schema new given xid answer
+tells_holder schema w new given xid (Some holder) (stuck, is) =
+    subst (λ (v : World). IsStuck schema v given xid holder) (sym is) stuck
+tells_holder schema w new given xid None (not, is) =
+    λ holder stuck. not holder (subst (λ (v : World). IsStuck schema v given xid holder) is stuck)
 
--- none was
-pub ends_unheld : (schema : Schema) (w new : World) (given : List (ℕ × ℕ)) (xid : ℕ) → StopsHeld schema w given xid None new
-    → EndsAsHeld schema new given xid ends.OutOfMemory
-ends_unheld schema w new given xid (not, is) = inr ((λ holder stuck. not holder (subst (λ (v : World). IsStuck schema v given xid holder) is stuck)), refl)
+-- ---- what is less open
 
--- ---- the run
+open_left : (m : OpenOnes) (xid x : ℕ) → (xid ≡ x → ⊥) → get (remove m xid) x ≡ get m x
+open_left m xid x ne = get-remove nat_cmp_total m xid x ∙ rw (same_apart xid x ne)
 
--- The store is the one that the end was decided by, its line was met, and it was shut.
-pub finishes : (schema : Schema) (start : Rows) (its_tickets its_line : Name) (old : World) (now left : Engine) (line : Half LineEvent) (hand : Hand)
-    (given : List (ℕ × ℕ)) (proposed end : End) (rows : Rows) (entries : List Entry) → left ≡ now → IsShared its_tickets its_line schema start left
-    → AreStood old hand → IsOtherwiseStopped old now.world → now.world.line ≡ commits_in now.line.list
-    → ((xid : ℕ) → is_open_in now.line.list xid ≡ is_some (get now.world.opened xid)) → line ≡ left.line
-    → ((w : World) × IsShut left.schema left.world w × Closes w rows entries) → IsDecided schema now.world hand given proposed end
-    → HasFinished schema start line.list hand given proposed end rows entries
-finishes schema start its_tickets its_line old now left line hand given proposed end rows entries same shared stood stopped commits opened met (w, shut, closes) decided = record {
-  world = now.world;
-  reached = subst (λ (e : Engine). ∥ Reaches schema (starting start) e.world ∥₁) same shared.reached;
-  commits = commits ∙ ap (λ (l : Half LineEvent). commits_in l.list) (sym line_is);
-  opened = λ xid. ap (λ (l : Half LineEvent). is_open_in l.list xid) line_is ∙ opened xid;
-  stood = subst (λ (m : OpenOnes). EachHeld (λ h. get m h.xid ≡ Some h.done) hand) (sym (ap (λ (v : World). v.opened) stopped)) stood;
-  decided = decided;
-  rows_are = closes.1 ∙ shut.aborted.committed ∙ ap (λ (e : Engine). e.world.committed) same;
-  entries_are = closes.2 ∙ ap (map entry_of) (shut.aborted.line ∙ ap (λ (e : Engine). e.world.line) same);
+pub open_gone : (m : OpenOnes) (xid : ℕ) → get (remove m xid) xid ≡ None
+open_gone m xid = get-remove nat_cmp_total m xid xid ∙ rw (same_self xid)
+
+module _ (old new : World) (less : IsLessOpen old new) where
+  pub stood_before : (hand : Hand) → AreStood new hand → AreStood old hand
+  stood_before hand stood =
+      λ k d short. earlier (slice_index_or hand k d) (stood k d short)
+    where
+      earlier : (slot : Option Own) → IfSome slot (λ (h : Own). get new.opened h.xid ≡ Some h.done) → IfSome slot (λ (h : Own). get old.opened h.xid ≡ Some h.done)
+      earlier None is = tt
+      earlier (Some h) is = less.opened h.xid h.done is
+
+  noted_before : (hand : Hand) (cause : ClashCause) → IsNoted new hand cause → IsNoted old hand cause
+  noted_before hand cause (h, c, among, stopped, wants) = (h, c, among, sym less.stopped ∙ stopped, wants)
+
+  noted_behind : (hand : Hand) (cause : ClashCause) → IsNoted old hand cause → IsNoted new hand cause
+  noted_behind hand cause (h, c, among, stopped, wants) = (h, c, among, less.stopped ∙ stopped, wants)
+
+  pub tells_before : (hand : Hand) (noted : Option Clash) → TellsNoted new hand noted → TellsNoted old hand noted
+  tells_before hand (Some clash) (cause, is, there) = (cause, is, noted_before hand cause there)
+  tells_before hand None not = λ cause there. not cause (noted_behind hand cause there)
+
+  pub gone_still : (hand : Hand) → AreGone old hand → AreGone new hand
+  gone_still hand gone =
+      λ k d short. still (slice_index_or hand k d) (gone k d short)
+    where
+      none : (xid : ℕ) → get old.opened xid ≡ None → (there : Option Opened) → get new.opened xid ≡ there → get new.opened xid ≡ None
+      none xid was None is = is
+      none xid was (Some done) is = let some : None ≡ Some done = sym was ∙ less.opened xid done is in absurd cc
+
+      still : (slot : Option Own) → IfSome slot (λ (h : Own). get old.opened h.xid ≡ None) → IfSome slot (λ (h : Own). get new.opened h.xid ≡ None)
+      still None is = tt
+      still (Some h) is = none h.xid is (get new.opened h.xid) refl
+
+-- none of more slots is open
+pub gone_more : (w : World) (hand : Hand) (slot : Option Own) → AreGone w hand → AreGone w (slot ∷ []) → AreGone w (hand ++ slot ∷ [])
+gone_more w hand slot = All-append (λ o. IfSome o (λ (h : Own). get w.opened h.xid ≡ None)) hand (slot ∷ [])
+
+pub less_itself : (w : World) → IsLessOpen w w
+less_itself w = record { opened = λ xid done at. at; stopped = refl }
+
+pub less_again : (v w new : World) → IsLessOpen v w → IsLessOpen w new → IsLessOpen v new
+less_again v w new first second = record {
+  opened = λ xid done at. first.opened xid done (second.opened xid done at);
+  stopped = second.stopped ∙ first.stopped;
+}
+
+-- one that was aborted is open no more
+pub less_aborted : (w new : World) (xid : ℕ) → Aborts w xid new → IsLessOpen w new
+less_aborted w new xid is = record {
+  opened = λ other done at. was other done (sym (ap (λ (v : World). get v.opened other) is) ∙ at);
+  stopped = ap (λ (v : World). v.stopped) is;
 }
   where
-    line_is : line ≡ now.line
-    line_is = met ∙ ap (λ (e : Engine). e.line) same
+    was : (other : ℕ) (done : Opened) → get (remove w.opened xid) other ≡ Some done → get w.opened other ≡ Some done
+    was other done at =
+        elim (cases_eq xid other) [
+          | inl same ↦
+              let none : None ≡ Some done = sym (open_gone w.opened xid) ∙ ap (get (remove w.opened xid)) same ∙ at in absurd cc
+          | inr apart ↦ sym (open_left w.opened xid other apart) ∙ at
+        ]
+
+-- the line tells of no commit more
+pub aborted_line : (line : List LineEvent) (xid : ℕ) → commits_in (line ++ WasAborted xid ∷ []) ≡ commits_in line
+aborted_line line xid = flat_map-append past_of line (WasAborted xid ∷ []) ∙ append-nil (commits_in line)

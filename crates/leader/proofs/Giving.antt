@@ -1,6 +1,6 @@
 -- What a lane shows, by its parts.
-use Rattle.std.proofs.Common.{◌≡◌, ◌≢◌, ℕ, Bool, true, false, List, [], ◌∷◌, ◌++◌, Option, Some, None, refl, sym, ap, subst, ◌∙◌, append-nil, arith, cond, nat_eq, inl, inr}
-use Rattle.std.specs.Prelude.{MatchBool, MatchOption, All, fold, option_map, is_some, not, Result, Ok, Err, OnOk, OnErr}
+use Rattle.std.proofs.Common.{◌≡◌, ◌≢◌, ℕ, Bool, true, false, List, [], ◌∷◌, ◌++◌, Option, Some, None, refl, sym, ap, subst, ◌∙◌, append-nil, arith, cond, nat_eq, inl, inr, ◌+◌, ◌-◌, ◌^◌, length, length-append}
+use Rattle.std.specs.Prelude.{MatchBool, MatchOption, All, fold, option_map, is_some, IfSome, not, min, Result, Ok, Err, OnOk, OnErr}
 use Rattle.atomic_table.specs.Seated.{TableId}
 use Rattle.std.proofs.lemmas.Bool.{cases_eq, false≢true}
 use Rattle.std.proofs.lemmas.Bool.Decides.{nat_tests}
@@ -22,8 +22,9 @@ use Rattle.worker.specs.Post.{given_after, given_since}
 use Rattle.worker.specs.Working.{Working, IsTaken, IsInStep}
 use Rattle.worker.specs.declared.post.Collected.{Collected}
 use Rattle.worker.specs.declared.post.Collected.TheVariants.{All as WasAll}
-use Rattle.leader.specs.Lanes.{own_item, own_items, after_events, given_before, Given, Laned, going, laned, done_by, IsDoing, IsBack, IsLane, IsFree, IsHome, AddsTo, ComesBack, IsTakenOut}
-use Rattle.leader.specs.Standing.{items_of}
+use Rattle.leader.specs.Lanes.{own_item, own_items, after_events, given_before, Given, Laned, going, laned, done_by, IsDoing, IsBack, IsLane, IsFree, IsHome, IsCounted, AddsTo, ComesBack, IsTakenOut}
+use Rattle.leader.specs.Standing.{own_by, items_of}
+use Rattle.leader.specs.Ending.{in_lane, holds_in, KeepsGiven}
 use Rattle.leader.proofs.Agreeing.{same_apart}
 
 -- ---- which transaction
@@ -181,6 +182,26 @@ module _ (n xid : ℕ) (events : List PostEvent) (taker : Option (Taking Item)) 
       by_parts (Some t) (Some k) ea eb =
           let e : Some (done_by k) ≡ None = sym (ap (option_map done_by) eb) ∙ back ∙ none in absurd cc
 
+  -- a transaction goes by it to which nothing was given yet
+  pub opened : (its_ring : TableId) (its_name tickets : Name) (token : Half PostEvent) (collected : Collected) (new_xid : ℕ) (taken : Taking Item) (after : Option (Taking Item)) → token.list ≡ events
+      → taker ≡ Some taken → after ≡ None → now.back ≡ None → IsLane its_ring its_name tickets xid token taker ticket collected
+      → IsLane its_ring its_name tickets new_xid token after ticket collected × IsCounted (going new_xid events after ticket) (new_xid, 0)
+  opened its_ring its_name tickets token collected new_xid taken after list here gone none is =
+      let eb = no_ticket ticket back in
+      let since : given_since token.list ≡ [] = (subst (λ a. MatchOption a (ticket ≡ None) (λ t. (t.ring ≡ its_ring) × (t.acked ≡ []) × (given_since token.list ≡ []))) here is.end).2 in
+      subst (λ a. IsLane its_ring its_name tickets new_xid token a ticket collected × IsCounted (going new_xid events a ticket) (new_xid, 0)) (sym gone) (
+        record {
+          name = is.name;
+          end = eb;
+          back = subst (λ b. MatchOption b (Unit {0}) (IsBack tickets new_xid (own_items (given_before token.list)) collected)) (sym eb) tt;
+        },
+        λ short. (record { xid = new_xid; items = own_items (given_since events) }, refl, refl, sym (ap (λ given. length (own_items given)) (ap given_since (sym list) ∙ since))),
+      )
+    where
+      no_ticket : (b : Option (OpenList Event)) → option_map done_by b ≡ now.back → b ≡ None
+      no_ticket None e = refl
+      no_ticket (Some k) e = let some : Some (done_by k) ≡ None = e ∙ none in absurd cc
+
   -- its ticket is taken out of it
   pub taken_out : (its_ring : TableId) (its_name tickets : Name) (token : Half PostEvent) (collected : Collected) → token.list ≡ events → IsLane its_ring its_name tickets xid token taker ticket collected
       → (result after : Option (OpenList Event)) → result ≡ ticket → after ≡ None
@@ -206,6 +227,36 @@ module _ (n xid : ℕ) (events : List PostEvent) (taker : Option (Taking Item)) 
             ap (laned n xid events taker) none ∙ ap (λ x. laned n xid events x None) ea
             ∙ ap (λ m. record { number = m; goes = None; back = None }) (ap (λ (l : Laned). l.number) view);
       }
+
+  -- the transaction that it holds is that of its ticket, and has done a beginning of what was given to it
+  pub held_in : (its_ring : TableId) (its_name tickets : Name) (token : Half PostEvent) (collected : Collected) → token.list ≡ events → IsLane its_ring its_name tickets xid token taker ticket collected
+      → (holds_in now ≡ option_map own_by ticket) × KeepsGiven now × IfSome ticket (λ (t : OpenList Event). t.name ≡ tickets)
+  held_in its_ring its_name tickets token collected list lane = by_parts taker ticket refl refl lane.end lane.back
+    where
+      Keeps : Option Given → Option Opened → Type 0
+      Keeps its_goes its_back = MatchOption its_goes (Unit {0}) (λ given. MatchOption its_back (Unit {0}) (λ done. IsDoing done given.items))
+
+      goes_is : (a : Option (Taking Item)) (b : Option (OpenList Event)) → taker ≡ a → ticket ≡ b → going xid events a b ≡ now.goes
+      goes_is a b ea eb = ap (λ x. going xid events x b) (sym ea) ∙ ap (going xid events taker) (sym eb) ∙ goes
+
+      back_is : (b : Option (OpenList Event)) → ticket ≡ b → option_map done_by b ≡ now.back
+      back_is b eb = ap (option_map done_by) (sym eb) ∙ back
+
+      both : (a : Option (Taking Item)) (b : Option (OpenList Event)) → taker ≡ a → ticket ≡ b → in_lane (going xid events a b) (option_map done_by b) ≡ option_map own_by b → Keeps (going xid events a b) (option_map done_by b)
+          → IfSome b (λ (t : OpenList Event). t.name ≡ tickets) → (holds_in now ≡ option_map own_by ticket) × KeepsGiven now × IfSome ticket (λ (t : OpenList Event). t.name ≡ tickets)
+      both a b ea eb holds keeps name = (
+        ap (λ g. in_lane g now.back) (sym (goes_is a b ea eb)) ∙ ap (in_lane (going xid events a b)) (sym (back_is b eb)) ∙ holds ∙ ap (option_map own_by) (sym eb),
+        subst (λ g. Keeps g now.back) (goes_is a b ea eb) (subst (Keeps (going xid events a b)) (back_is b eb) keeps),
+        subst (λ x. IfSome x (λ (t : OpenList Event). t.name ≡ tickets)) (sym eb) name,
+      )
+
+      by_parts : (a : Option (Taking Item)) (b : Option (OpenList Event)) → taker ≡ a → ticket ≡ b → MatchOption a (ticket ≡ None) (λ t. (t.ring ≡ its_ring) × (t.acked ≡ []) × (given_since token.list ≡ []))
+          → MatchOption b (Unit {0}) (IsBack tickets xid (own_items (given_before token.list)) collected) → (holds_in now ≡ option_map own_by ticket) × KeepsGiven now × IfSome ticket (λ (t : OpenList Event). t.name ≡ tickets)
+      by_parts None None ea eb end its = both None None ea eb refl tt tt
+      by_parts None (Some k) ea eb end its = let none : Some k ≡ None = sym eb ∙ end in absurd cc
+      by_parts (Some t) None ea eb end its = both (Some t) None ea eb refl tt tt
+      by_parts (Some t) (Some k) ea eb end its =
+          both (Some t) (Some k) ea eb (ap (λ n. Some (record { xid = n; done = done_by k })) (sym its.number)) (subst (λ l. IsDoing (done_by k) (own_items (given_before l))) list its.doing) its.name
 
   -- an item was given to its transaction
   pub added : (item : Item) (given : Given) → now.goes ≡ Some given → now.back ≡ None → AddsTo now item (laned n xid (events ++ WasGiven item ∷ []) taker ticket)
@@ -257,6 +308,47 @@ module _ (n xid : ℕ) (events : List PostEvent) (taker : Option (Taking Item)) 
         };
         doing = doing;
       }
+
+  -- and the same goes by it
+  pub goes_still : (taker_now : Taking Item) (k : OpenList Event) (after : List PostEvent) (given : Given) → now.goes ≡ Some given → now.back ≡ None → after ≡ events ++ Begun ∷ []
+      → going xid events taker ticket ≡ going xid after (Some taker_now) (Some k)
+  goes_still taker_now k after given gone none begun =
+      ap (λ x. going xid events x ticket) (no_taker given gone none)
+      ∙ ap (λ (g : List Item). Some (record { xid = xid; items = own_items g })) (sym (before_begun events) ∙ ap given_before (sym begun))
+
+  -- what it counts is so once an item was given
+  pub counted_more : (item : Item) (count : ℕ) (given : Given) → now.goes ≡ Some given → now.back ≡ None → item ≢ Last → IsCounted (going xid events taker ticket) (xid, count)
+      → IsCounted (going xid (events ++ WasGiven item ∷ []) taker ticket) (xid, min (count + 1) (2 ^ 64 - 1))
+  counted_more item count given gone none own counted short =
+      let ea = no_taker given gone none in
+      let had = counted (omega (arith, short)) in
+      let same : record { xid = xid; items = own_items (given_since events) } ≡ had.0 = same_given (ap (λ x. going xid events x ticket) (sym ea) ∙ had.1) in
+      let items : own_items (given_since (events ++ WasGiven item ∷ [])) ≡ own_items (given_since events) ++ item ∷ [] =
+      ap own_items (since_given events item) ∙ own_more (given_since events) item ∙ ap (λ is. own_items (given_since events) ++ is) (own_itself item own) in
+      let more : length (own_items (given_since events) ++ item ∷ []) ≡ length (own_items (given_since events)) + 1 = length-append (own_items (given_since events)) (item ∷ []) in
+      let before : count ≡ length (own_items (given_since events)) = had.3 ∙ ap (λ (g : Given). length g.items) (sym same) in (
+        record { xid = xid; items = own_items (given_since (events ++ WasGiven item ∷ [])) },
+        ap (λ x. going xid (events ++ WasGiven item ∷ []) x ticket) ea,
+        refl,
+        omega (arith, short, before, more) ∙ ap length (sym items),
+      )
+    where
+      same_given : {a b : Given} → Some a ≡ Some b → a ≡ b
+      same_given is = cc
+
+  -- nothing more is counted where the commit was read
+  pub counted_last : (count : ℕ) (given : Given) → now.goes ≡ Some given → now.back ≡ None → IsCounted (going xid events taker ticket) (xid, count)
+      → IsCounted (going xid (events ++ WasGiven Last ∷ []) taker ticket) (xid, count)
+  counted_last count given gone none counted =
+      let ea = no_taker given gone none in
+      subst (λ (goes : Option Given). IsCounted goes (xid, count))
+      (ap (λ x. going xid events x ticket) ea ∙ ap (λ (is : List Item). Some (record { xid = xid; items = is }))
+      (sym (append-nil (own_items (given_since events))) ∙ sym (own_more (given_since events) Last) ∙ ap own_items (sym (since_given events Last)))
+      ∙ ap (λ x. going xid (events ++ WasGiven Last ∷ []) x ticket) (sym ea)) counted
+
+-- where the last number stands nothing is counted
+pub uncounted : (goes : Option Given) (xid : ℕ) → IsCounted goes (xid, 2 ^ 64 - 1)
+uncounted goes xid = λ short. absurd (omega (arith, short))
 
 -- a token keeps its name, whether an item was given or not
 pub same_name : {E : Type 0} (r : Result (Unit {0}) E) (item : Item) (token after : Half PostEvent) → OnOk r (after ≡ record token { list = token.list ++ WasGiven item ∷ [] }) → OnErr r (after ≡ token) → after.name ≡ token.name

@@ -1,18 +1,17 @@
 -- From what a leader has of its transactions as a run ends, and the world at which it ended, to why the run with workers
 -- ended.
 use Rattle.std.proofs.Common.{◌≡◌, ◌≢◌, ℕ, true, false, List, [], ◌∷◌, ◌++◌, length, Option, Some, None, refl, sym, ap, subst, ◌∙◌, append-nil, inl, inr}
-use Rattle.std.specs.Prelude.{ℤ, map, fold, IsSome, IfSome, Contains, is_some}
+use Rattle.std.specs.Prelude.{ℤ, IsSome, IfSome, Contains, is_some, MatchOption}
 use Rattle.std.specs.FinMap.{get}
 use Rattle.std.proofs.lemmas.List.Elements.{All-contains}
 use Rattle.model.specs.declared.change.Change as change_type
+use Rattle.model.specs.declared.item.Item.{Item}
+use Rattle.model.specs.declared.item.Item.TheVariants.{Change}
 use Rattle.model.specs.Rows.{Rows, IsValid}
 use Rattle.model.specs.Effect.{ClashCause, NullKey, Unique}
-use Rattle.world.specs.World.{Opened, Past, Entry, World}
+use Rattle.world.specs.World.{Opened, World}
 use Rattle.world.specs.Steps.{IsStuck}
 use Rattle.engine.specs.declared.events.LineEvent.{LineEvent}
-use Rattle.engine.specs.declared.entry.Entry as entry_type
-use Rattle.engine.specs.Engine.{entry_in}
-use Rattle.engine.specs.Events.{commits_in, last_end}
 use Rattle.frames.specs.declared.fault.FrameFault.{FrameFault}
 use Rattle.frames.specs.declared.fault.FrameFault.TheVariants as frames
 use Rattle.frames.specs.declared.item.CopyItem.{CopyItem}
@@ -20,17 +19,16 @@ use Rattle.session.specs.State.{Way, Direct, Worker, Spooled, Open, State, Setti
 use Rattle.spooled.specs.declared.end.End.{End}
 use Rattle.spooled.specs.declared.end.End.TheVariants as ends
 use Rattle.spooled.specs.Cause.{schema_of, HasGoneWell, IsOver, IsSendCause, IsInputCause}
-use Rattle.spooled.specs.Commits.{transaction_of}
 use Rattle.spooled.specs.Devices.{DeviceState}
 use Rattle.spooled.specs.Handler.{IsRunOver}
-use Rattle.spooled.specs.declared.outcome.Outcome.{Outcome}
 use Rattle.spooled.specs.Progress.{Progress}
 use Rattle.course.specs.Leading.{Lane, InStep, IsAgreed, AreInStep, AreCounts}
-use Rattle.course.specs.Runs.{told_of, end_of}
 use Rattle.course.specs.Threads.{work_of, IsWorldOf}
-use Rattle.course.specs.ThreadedRun.{HasConflict, IsStuckBy, Clear, HasWorkedOn, IsThreadedCause, IsThreadedRun}
+use Rattle.course.specs.ThreadedRun.{HasConflict, IsStuckBy, Clear, HasWorkedOn, IsThreadedCause}
 use Rattle.course.proofs.Books.{is_world, noted_conflict, stuck_by}
-use Rattle.leader.specs.Ending.{Holding, Hand, IsNoted, end_for, EndsAsNoted, IsDecided, HasFinished, KeepsToWork, AreInHand, AreGiven, Proposes}
+use Rattle.leader.specs.Standing.{Own}
+use Rattle.leader.specs.Threads.{KeepsToWork, HasTurn, MayEndBy}
+use Rattle.leader.specs.Ending.{Hand, IsNoted, end_for, EndsAsNoted, IsDecided, HasFinished, AreInHand, AreGiven}
 
 -- ---- lanes that the world and the state show
 
@@ -67,14 +65,25 @@ is_spooled Direct not = absurd (not (λ e. cc))
 is_spooled Worker not = absurd (not (λ e. cc))
 is_spooled Spooled not = refl
 
+-- the change that is wanted, if one is, is the next
+wanted_next : (wants : Option (ℕ × change_type.Change)) (left : List Item)
+    → MatchOption wants (Unit {0}) (λ w. (more : List Item) × (left ≡ Change w.0 w.1 ∷ more))
+    → (sub : ℕ) (c : change_type.Change) → wants ≡ Some (sub, c) → (more : List Item) × (left ≡ Change sub c ∷ more)
+wanted_next None left is sub c e = absurd (none_is (sub, c) e)
+wanted_next (Some p) left is sub c e =
+    subst (λ (w : ℕ × change_type.Change). (more : List Item) × (left ≡ Change w.0 w.1 ∷ more)) (same p (sub, c) e) is
+  where
+    same : (a b : ℕ × change_type.Change) → Some a ≡ Some b → a ≡ b
+    same a b is = cc
+
 module _ (g : Setting) (s : State) (rest : List CopyItem) (xid : ℕ) where
   in_step : (o : Open) (done : Opened) → KeepsToWork g s rest xid o done → InStep g s rest xid o (whole_lane xid o) done
-  in_step o done held = record {
+  in_step o done (doing, next) = record {
     all_work = append-nil (work_of xid o.way o.items);
-    left = held.left;
-    begins = held.begins;
-    wants = held.wants;
-    next = held.next;
+    left = doing.left;
+    begins = doing.begins;
+    wants = wanted_next done.wants doing.left doing.wants;
+    next = next;
   }
 
   agrees : (o : Option Open) (d : Option Opened) → ((done : Opened) → d ≡ Some done → (p : Open) × (o ≡ Some p) × KeepsToWork g s rest xid p done)
@@ -93,15 +102,15 @@ module _ (g : Setting) (s : State) (rest : List CopyItem) (xid : ℕ) where
 -- ---- the world at which a run ended
 
 module _ (g : Setting) (rows : Rows) (s : State) (rest : List CopyItem) (line : List LineEvent) (hand : Hand) (given : List (ℕ × ℕ)) (proposed end : End)
-    (left_rows : Rows) (entries : List Entry) (f : HasFinished (schema_of g) rows line hand given proposed end left_rows entries) (are : AreInHand g s rest line hand) where
+    (f : HasFinished (schema_of g) rows line hand given proposed end) (are : AreInHand g s rest line hand) where
   -- a transaction in hand is open in the world
-  stands : (h : Holding) → Contains hand (Some h) → get f.world.opened h.xid ≡ Some h.done
-  stands h among = All-contains (λ slot. IfSome slot (λ (k : Holding). get f.world.opened k.xid ≡ Some k.done)) hand (Some h) f.stood among
+  stands : (h : Own) → Contains hand (Some h) → get f.world.opened h.xid ≡ Some h.done
+  stands h among = All-contains (λ slot. IfSome slot (λ (k : Own). get f.world.opened k.xid ≡ Some k.done)) hand (Some h) f.stood among
 
   -- and open in the state
-  keeps_to : (h : Holding) → Contains hand (Some h) → (o : Open) × (get s.transactions h.xid ≡ Some o) × KeepsToWork g s rest h.xid o h.done
+  keeps_to : (h : Own) → Contains hand (Some h) → (o : Open) × (get s.transactions h.xid ≡ Some o) × KeepsToWork g s rest h.xid o h.done
   keeps_to h among =
-      All-contains (λ slot. IfSome slot (λ (k : Holding). (o : Open) × (get s.transactions k.xid ≡ Some o) × KeepsToWork g s rest k.xid o k.done)) hand (Some h) are.held among
+      All-contains (λ slot. IfSome slot (λ (k : Own). (o : Open) × (get s.transactions k.xid ≡ Some o) × KeepsToWork g s rest k.xid o k.done)) hand (Some h) are.held among
 
   held_there : (xid : ℕ) (done : Opened) → get f.world.opened xid ≡ Some done → (o : Open) × (get s.transactions xid ≡ Some o) × KeepsToWork g s rest xid o done
   held_there xid done at =
@@ -142,15 +151,15 @@ module _ (g : Setting) (rows : Rows) (s : State) (rest : List CopyItem) (line : 
       let want = wanted h.done.wants wants in
       noted_conflict g rows s rest (lanes_at s f.world) f.world are_in_step valid h.xid c cause stopped h.done (stands h among) want.0 want.1 want.2
 
-  stuck : (xid holder : ℕ) → Proposes g s rest given (ends.HeldKey xid holder) → (other : ℕ) → IsStuck (schema_of g) f.world given xid other
+  stuck : AreGiven s given → (xid : ℕ) → HasTurn g s rest xid → (other : ℕ) → IsStuck (schema_of g) f.world given xid other
       → IsStuckBy g s rest f.world xid other
-  stuck xid holder (counts, turn) other is =
+  stuck counts xid turn other is =
       stuck_by g rows s rest (lanes_at s f.world) f.world are_in_step given xid other (are_counts counts) turn is
 
 -- with the devices, at the progress that the items handled led to
-module _ (g : Setting) (rows : Rows) (rest : List CopyItem) (line : List LineEvent) (hand : Hand) (given : List (ℕ × ℕ)) (proposed end : End) (left_rows : Rows)
-    (entries : List Entry) (old new : DeviceState) (handled : List CopyItem) (p : Progress) (times : List ℤ) (bytes : List ℕ) (valid : IsValid (schema_of g) rows)
-    (f : HasFinished (schema_of g) rows line hand given proposed end left_rows entries) where
+module _ (g : Setting) (rows : Rows) (rest : List CopyItem) (line : List LineEvent) (hand : Hand) (given : List (ℕ × ℕ)) (proposed end : End)
+    (old new : DeviceState) (handled : List CopyItem) (p : Progress) (times : List ℤ) (bytes : List ℕ) (valid : IsValid (schema_of g) rows)
+    (f : HasFinished (schema_of g) rows line hand given proposed end) where
   abbrev Cause : End → Type 0
   Cause = IsThreadedCause g old new handled p times bytes rest f.world
 
@@ -164,23 +173,23 @@ module _ (g : Setting) (rows : Rows) (rest : List CopyItem) (line : List LineEve
   by_noted : AreInHand g p.state rest line hand → Worked → (e : End) → EndsAsNoted f.world hand e → Cause e
   by_noted are well e (inl (cause, noted, is)) =
       subst Cause (sym is)
-      (of_cause well cause (conflicts g rows p.state rest line hand given proposed end left_rows entries f are valid cause noted))
+      (of_cause well cause (conflicts g rows p.state rest line hand given proposed end f are valid cause noted))
   by_noted are well e (inr (none, is)) = subst Cause (sym is) (inl well)
 
   -- an item ended it
-  by_item : AreInHand g p.state rest line hand → Worked → (first e : End) → Proposes g p.state rest given first
+  by_item : AreInHand g p.state rest line hand → AreGiven p.state given → Worked → (first e : End) → MayEndBy g p.state rest first
       → IsDecided (schema_of g) f.world hand given first e → Cause e
-  by_item are well ends.Clean e why decided = absurd why
-  by_item are well (ends.Frame fault) e why decided = absurd why
-  by_item are well (ends.Msg fault) e why decided = subst Cause (sym decided) (well, why)
-  by_item are well (ends.Session fault) e why decided = subst Cause (sym decided) (well, why)
-  by_item are well (ends.Rel fault) e why decided = subst Cause (sym decided) (well, why)
-  by_item are well (ends.Unique table key) e why decided = by_noted are well e decided
-  by_item are well (ends.NullKey table) e why decided = by_noted are well e decided
-  by_item are well (ends.HeldKey xid holder) e why (inl (other, is, so)) =
-      subst Cause (sym so) (well, stuck g rows p.state rest line hand given proposed end left_rows entries f are xid holder why other is)
-  by_item are well (ends.HeldKey xid holder) e why (inr (none, so)) = subst Cause (sym so) (inl well)
-  by_item are well ends.OutOfMemory e why decided = subst Cause (sym decided) (inl well)
+  by_item are counts well ends.Clean e why decided = absurd why
+  by_item are counts well (ends.Frame fault) e why decided = absurd why
+  by_item are counts well (ends.Msg fault) e why decided = subst Cause (sym decided) (well, why)
+  by_item are counts well (ends.Session fault) e why decided = subst Cause (sym decided) (well, why)
+  by_item are counts well (ends.Rel fault) e why decided = subst Cause (sym decided) (well, why)
+  by_item are counts well (ends.Unique table key) e why decided = by_noted are well e decided
+  by_item are counts well (ends.NullKey table) e why decided = by_noted are well e decided
+  by_item are counts well (ends.HeldKey xid holder) e why (inl (other, is, so)) =
+      subst Cause (sym so) (well, stuck g rows p.state rest line hand given proposed end f are counts xid why other is)
+  by_item are counts well (ends.HeldKey xid holder) e why (inr (none, so)) = subst Cause (sym so) (inl well)
+  by_item are counts well ends.OutOfMemory e why decided = subst Cause (sym decided) (inl well)
 
   -- where the devices worked, whatever else is clear
   goes_well : {X : Type 0} → HasGoneWell g X old new handled p times → Worked
@@ -234,31 +243,20 @@ module _ (g : Setting) (rows : Rows) (rest : List CopyItem) (line : List LineEve
 
 -- ---- the run
 
-pub ends_at : (line : List Past) → end_of line ≡ fold (λ (before end : ℕ). end) 0 (map (λ (p : Past). p.info.end) line)
-ends_at [] = refl
-ends_at (p ∷ []) = refl
-ends_at (p ∷ q ∷ line) = ends_at (q ∷ line)
-
-pub told_alike : (entries : List entry_type.Entry) → map transaction_of entries ≡ map told_of (map entry_in entries)
-told_alike [] = refl
-told_alike (e ∷ entries) = ap (λ ts. transaction_of e ∷ ts) (told_alike entries)
-
--- Where the handler stands as the loop ends, or says that it ended the run, its transactions are held. Then what it
--- leaves is a run with workers.
+-- Where the handler stands as the loop ends, or says that it ended the run, its transactions are in hand. Then the world
+-- at which the end was decided is one of its items, with a cause of the end.
 module _ {H : Type 0} (g : Setting) (rows : Rows) (At : H → Progress → Type 0) (Ended : H → List CopyItem → Progress → List CopyItem → End → Type 0)
-    (old new : DeviceState) (h : H) (proposed : End) (over : IsRunOver g At Ended old new h proposed) (valid : IsValid (schema_of g) rows)
-    (line : List LineEvent) (hand : Hand) (given : List (ℕ × ℕ)) (o : Outcome)
-    (f : HasFinished (schema_of g) rows line hand given proposed o.end o.tables.rows (map entry_in o.journal.items))
-    (schema : o.tables.schema ≡ schema_of g) (position : o.position ≡ last_end line)
+    (old new : DeviceState) (h : H) (proposed end : End) (over : IsRunOver g At Ended old new h proposed) (valid : IsValid (schema_of g) rows)
+    (line : List LineEvent) (hand : Hand) (given : List (ℕ × ℕ)) (f : HasFinished (schema_of g) rows line hand given proposed end)
     (at_held : (p : Progress) (rest : List CopyItem) → At h p → AreInHand g p.state rest line hand)
     (ended_held : (handled : List CopyItem) (p : Progress) (rest : List CopyItem) → Ended h handled p rest proposed
-    → AreInHand g p.state rest line hand × Proposes g p.state rest given proposed) where
+    → AreInHand g p.state rest line hand × AreGiven p.state given × MayEndBy g p.state rest proposed) where
   abbrev Why : Type 0
   Why = AreInHand g over.progress.state over.rest line hand
-      × IsThreadedCause g old new over.handled over.progress over.times over.bytes over.rest f.world o.end
+      × IsThreadedCause g old new over.handled over.progress over.times over.bytes over.rest f.world end
 
   by_at : At h over.progress
-      → (AreInHand g over.progress.state over.rest line hand → IsThreadedCause g old new over.handled over.progress over.times over.bytes over.rest f.world o.end) → Why
+      → (AreInHand g over.progress.state over.rest line hand → IsThreadedCause g old new over.handled over.progress over.times over.bytes over.rest f.world end) → Why
   by_at at why = let are = at_held over.progress over.rest at in (are, why are)
 
   held_in_send : (e : End) → IsSendCause g (At h over.progress) old new over.handled over.progress over.times e → At h over.progress
@@ -302,41 +300,26 @@ module _ {H : Type 0} (g : Setting) (rows : Rows) (At : H → Progress → Type 
     | inl item ↦
         let is = ended_held over.handled over.progress over.rest item.ended in (
           is.0,
-          by_item g rows over.rest line hand given proposed o.end o.tables.rows (map entry_in o.journal.items) old new over.handled over.progress over.times over.bytes valid f is.0
-              (record { clear = tt; read = item.read; sent = item.sent }) proposed o.end is.1 f.decided,
+          by_item g rows over.rest line hand given proposed end old new over.handled over.progress over.times over.bytes valid f is.0 is.1
+              (record { clear = tt; read = item.read; sent = item.sent }) proposed end is.2 f.decided,
         )
     | inr later ↦
         elim later [
           | inl send ↦
               by_at (held_in_send proposed send) (λ are.
-              by_send g rows over.rest line hand given proposed o.end o.tables.rows (map entry_in o.journal.items) old new over.handled over.progress over.times over.bytes valid f
-              (At h over.progress) proposed o.end send f.decided)
+              by_send g rows over.rest line hand given proposed end old new over.handled over.progress over.times over.bytes valid f
+              (At h over.progress) proposed end send f.decided)
           | inr input ↦
               by_at (held_in_input proposed input) (λ are.
-              by_input g rows over.rest line hand given proposed o.end o.tables.rows (map entry_in o.journal.items) old new over.handled over.progress over.times over.bytes valid f
-              (At h over.progress) are proposed o.end input f.decided)
+              by_input g rows over.rest line hand given proposed end old new over.handled over.progress over.times over.bytes valid f
+              (At h over.progress) are proposed end input f.decided)
         ]
   ]
 
-  pub is_threaded_run : IsThreadedRun g rows old new o
-  is_threaded_run = record {
-    bytes = over.bytes;
-    read = over.read;
-    handled = over.handled;
-    rest = over.rest;
-    items = over.items;
-    progress = over.progress;
-    lawful = over.lawful;
-    times = over.times;
-    told = over.told;
-    counted = over.counted;
-    world = f.world;
-    is_world = ends_in_world g rows over.progress.state over.rest line hand given proposed o.end o.tables.rows (map entry_in o.journal.items) f by_why.0;
-    cause = by_why.1;
-    left = record {
-      entries = told_alike o.journal.items ∙ ap (map told_of) f.entries_are;
-      position = position ∙ sym (ap end_of f.commits ∙ ends_at (commits_in line));
-      tables = f.rows_are;
-    };
-    schema = schema;
-  }
+  -- the world is one of the items that were handled
+  pub is_world_of : IsWorldOf g rows over.progress.state over.rest f.world
+  is_world_of = ends_in_world g rows over.progress.state over.rest line hand given proposed end f by_why.0
+
+  -- and has a cause of the end
+  pub is_cause : IsThreadedCause g old new over.handled over.progress over.times over.bytes over.rest f.world end
+  is_cause = by_why.1

@@ -27,7 +27,7 @@ use Rattle.session.specs.declared.fault.Refused.TheVariants as refusals
 use Rattle.session.specs.declared.step.Step.{Step}
 use Rattle.session.specs.declared.step.Step.TheVariants as steps
 use Rattle.session.specs.Sized.{item_of}
-use Rattle.session.specs.State.{Way, Direct, Worker, Spooled, Open, OpenTransactions, Committed, State, Setting}
+use Rattle.session.specs.State.{Way, Direct, Worker, Spooled, Open, OpenTransactions, Committed, State, Setting, GoesAlone}
 use Rattle.session.specs.Lawful.{Admits, Refuses}
 use Rattle.session.specs.Table.{new_open}
 use Rattle.session.specs.Told.{Told, Nothing, Opens, Gives, Commits, Aborts, Tells, IsGiving, IsCommitting, items_handed_out}
@@ -360,15 +360,15 @@ aborted_line old new xid is =
 
 -- an item wasn't done: it wasn't given, or it is the leader's own that met another
 pub stops_item : (g : Setting) (rows : Rows) (a b : Led) (p : Progress) (payload : List ℕ) (m : Message) (t : State) (xid : ℕ) (item : Item) (end : End) → IsLeadAt g rows a p → Admits g p.state payload m t → KeepsOn g p.state t
-    → b.catalog ≡ a.catalog → b.position ≡ a.position → b.written ≡ a.written → IsHandedOn p.state t xid item → IsMet a.standing xid item b.standing end → Stops g b p payload end
-stops_item g rows a b p payload m t xid item end at admits on catalog position written handed (inl (same, stop)) =
+    → GoesAlone t.phase t.transactions → b.catalog ≡ a.catalog → b.position ≡ a.position → b.written ≡ a.written → IsHandedOn p.state t xid item → IsMet a.standing xid item b.standing end → Stops g b p payload end
+stops_item g rows a b p payload m t xid item end at admits on alone catalog position written handed (inl (same, stop)) =
     stops_before g rows a b p payload end at
     (record { catalog = catalog; tables = ap (λ (st : Standing). st.tables) same; line = ap (λ (st : Standing). commits_in st.line) same; position = position; written = written }) same stop
-stops_item g rows a b p payload m t xid item end at admits on catalog position written handed (inr (done, after, undone, does, store)) =
+stops_item g rows a b p payload m t xid item end at admits on alone catalog position written handed (inr (done, after, undone, does, store)) =
     let met = met_held g p.state t a.standing b.standing xid item handed.size handed.transaction done after at.agreed handed.way handed.gives undone does in
     stops_behind g rows a b p payload m t end at admits on
     (record { catalog = catalog; tables = ap (λ (st : Standing). st.tables) does.is_own; line = ap (λ (st : Standing). commits_in st.line) does.is_own; position = position; written = written })
-    (λ more. met.1 more) (λ more. turn_end g t more xid end (inl met.0) store)
+    (λ more. met.1 more) (λ more. turn_end g t more xid end (inl (alone xid met.0.0 met.0.1 met.0.2)) store)
 
 -- a transaction that was to go to a worker: it wasn't opened, or it was and came back
 pub stops_open : (g : Setting) (rows : Rows) (a b : Led) (p : Progress) (payload : List ℕ) (m : Message) (t : State) (told : Told) (xid : ℕ) (end : End) → IsLeadAt g rows a p → Admits g p.state payload m t → KeepsOn g p.state t

@@ -1,22 +1,25 @@
 -- What a run with workers leaves, by what ended it.
 --     over_led, nothing_read      a run is over, by what its leader knows; before a byte is read
+--     has_left      its leader has ended it
 --     shut_at_start      what is left of a store before its first call
---     run_by_workers, nothing_done, left_run, none_run      what is left is a run's
---     runs_by      a run by so many workers
-use Rattle.std.proofs.Common.{◌≡◌, ◌≢◌, ℕ, zero, suc, ◌<◌, List, [], ◌∷◌, ◌++◌, refl, sym, ap, subst, ◌∙◌, append-nil, arith, inl, inr}
-use Rattle.std.specs.Prelude.{ℤ, map, ◌⊎◌}
+--     left_run, none_run      what is left is a run's
+--     runs_by      a run by so many workers, beside so many watchers
+use Rattle.std.proofs.Common.{◌≡◌, ℕ, zero, suc, ◌+◌, ◌<◌, List, [], ◌∷◌, ◌++◌, Option, Some, None, refl, sym, ap, subst, ◌∙◌, append-nil, arith, inl, inr}
+use Rattle.std.specs.Prelude.{ℤ, map, option_map, All, ◌⊎◌}
+use Rattle.std.specs.Ordering.{nat_cmp}
 use Rattle.std.specs.FinMap as finite
 use Rattle.std.proofs.KnownBytes.{Appends-nil, Consumes-nil}
-use Rattle.model.specs.Rows.{Rows, Schema}
+use Rattle.model.specs.Rows.{Rows, Schema, IsValid}
 use Rattle.model.specs.Effect.{serial}
 use Rattle.model.specs.Definition.{Definition}
 use Rattle.frames.specs.declared.fault.FrameFault.TheVariants as frames
 use Rattle.frames.specs.declared.item.CopyItem.{CopyItem}
-use Rattle.frames.specs.Stream.{copy_items}
 use Rattle.frames.proofs.Handed.{Reads-nothing}
-use Rattle.world.specs.World.{World, Past, entry_of, starting}
-use Rattle.world.specs.Steps.{Reaches, at_start, Closes}
+use Rattle.tokens.specs.Lists.{OpenList}
+use Rattle.world.specs.World.{World, Past, entry_of, starting, changes_in as changes_of}
+use Rattle.world.specs.Steps.{at_start}
 use Rattle.engine.specs.declared.entry.Entry.{Entry}
+use Rattle.engine.specs.declared.events.Event.{Event}
 use Rattle.engine.specs.declared.events.LineEvent.{LineEvent}
 use Rattle.engine.specs.Engine.{entry_in}
 use Rattle.engine.specs.Events.{commits_in}
@@ -28,18 +31,22 @@ use Rattle.spooled.specs.declared.end.End.TheVariants as ends
 use Rattle.spooled.specs.declared.outcome.Config.{Config}
 use Rattle.spooled.specs.declared.outcome.Outcome.{Outcome}
 use Rattle.spooled.specs.Cause.{schema_of, IsSendCause, IsInputCause}
-use Rattle.spooled.specs.Commits.{transaction_of, commits, changes_in, committed_changes}
+use Rattle.spooled.specs.Commits.{transaction_of, commits, changes_in, committed_changes, last_end}
 use Rattle.spooled.specs.Devices.{DeviceState}
 use Rattle.spooled.specs.Handler.{IsEnded, IsRunOver}
 use Rattle.spooled.specs.Progress.{Progress, start_progress}
 use Rattle.spooled.proofs.Running.{Ticks-nil}
-use Rattle.leader.specs.declared.threads.Ending.{Ending}
-use Rattle.course.specs.Runs.{told_of}
+use Rattle.course.specs.Runs.{told_of, end_of}
 use Rattle.course.specs.Threads.{done_by_commit}
-use Rattle.course.proofs.Threading.{entries_done, changes_told}
-use Rattle.leader.specs.Threads.{Led, HasCommitted, IsLeadAt, HasLedTo, Decides}
-use Rattle.leader.specs.WithWorkers.{setting, WasSent, LeadEnds, Leaves, IsShutSo, IsRunByWorkers, RunsBy}
-use Rattle.leader.proofs.Held.{told_alike}
+use Rattle.course.specs.ThreadedRun.{IsThreadedCause}
+use Rattle.course.proofs.Threading.{entries_done, ends_done, changes_told}
+use Rattle.leader.specs.Lanes.{Laned, IsHome, AreCounted}
+use Rattle.leader.specs.Standing.{own_by, goes_by}
+use Rattle.leader.specs.Threads.{Led, HasCommitted, IsLeadAt, AreLeft, MayEndBy, HasLedTo}
+use Rattle.leader.specs.Ending.{holds_in, KeepsGiven, HasFinished, AreInHand, AreGiven}
+use Rattle.leader.specs.WithWorkers.{setting, WasSent, Leaves, IsShutSo, IsRunByWorkers, RunsBy}
+use Rattle.leader.proofs.Held.{is_world_of, is_cause}
+use Rattle.leader.proofs.InHand.{in_hand, are_given}
 use Rattle.leader.proofs.Serving.{all_held}
 
 -- ---- the leader
@@ -136,12 +143,40 @@ module _ (g : Setting) (rows : Rows) (old new : DeviceState) (l : Led) (handled 
   leaves bytes rest end (inr (inl why)) = by_send rest end why
   leaves bytes rest end (inr (inr why)) = by_input bytes rest end why
 
--- a clean end was proposed as one
-was_clean : (proposed decided : End) → Decides proposed decided → decided ≡ ends.Clean → proposed ≡ ends.Clean
-was_clean proposed decided (inl same) clean = sym same ∙ clean
-was_clean proposed decided (inr (was, unclean)) clean = was
+-- Its open transactions were in hand, and the end was decided: the leader has ended it.
+module _ (g : Setting) (rows : Rows) (old new : DeviceState) (l : Led) (proposed end : End) (over : IsRunOver g (IsLeadAt g rows) (HasLedTo g rows) old new l proposed)
+    (valid : IsValid (schema_of g) rows) (begun : Option (OpenList Event)) (lanes : List Laned) (given : List (ℕ × ℕ))
+    (begun_is : option_map own_by begun ≡ l.standing.begun) (lanes_are : map goes_by lanes ≡ l.standing.lanes) (home : All IsHome lanes) (keeps : All KeepsGiven lanes)
+    (counted : AreCounted l.standing.lanes given)
+    (f : HasFinished (schema_of g) rows l.standing.line (option_map own_by begun ∷ map holds_in lanes) given proposed end) where
+  in_hand_at : (s : State) (rest : List CopyItem) → AreLeft g s rest l.standing → HasCommitted l s → AreInHand g s rest l.standing.line (option_map own_by begun ∷ map holds_in lanes)
+  in_hand_at s rest left committed = in_hand g s rest l.standing begun lanes left committed.done begun_is lanes_are home keeps
+
+  at_held : (p : Progress) (rest : List CopyItem) → IsLeadAt g rows l p → AreInHand g p.state rest l.standing.line (option_map own_by begun ∷ map holds_in lanes)
+  at_held p rest at = in_hand_at p.state rest (all_held g p.state rest l.standing at.agreed) at.committed
+
+  ended_held : (handled : List CopyItem) (p : Progress) (rest : List CopyItem) → HasLedTo g rows l handled p rest proposed
+      → AreInHand g p.state rest l.standing.line (option_map own_by begun ∷ map holds_in lanes) × AreGiven p.state given × MayEndBy g p.state rest proposed
+  ended_held handled p rest (committed, unclean, left, why) = (in_hand_at p.state rest left committed, are_given g p.state rest l.standing left given counted, why)
+
+  pub has_left : (line : List LineEvent) (position : ℕ) → commits_in line ≡ commits_in l.standing.line → position ≡ l.position → Leaves g rows old new line position end
+  has_left line position told reached = record {
+    led = l;
+    proposed = proposed;
+    over = over;
+    world = f.world;
+    is_world = is_world_of g rows (IsLeadAt g rows) (HasLedTo g rows) old new l proposed end over valid l.standing.line (option_map own_by begun ∷ map holds_in lanes) given f at_held ended_held;
+    cause = is_cause g rows (IsLeadAt g rows) (HasLedTo g rows) old new l proposed end over valid l.standing.line (option_map own_by begun ∷ map holds_in lanes) given f at_held ended_held;
+    committed = f.committed;
+    told = told ∙ sym f.commits;
+    reached = reached;
+  }
 
 -- ---- the store
+
+told_alike : (entries : List Entry) → map transaction_of entries ≡ map told_of (map entry_in entries)
+told_alike [] = refl
+told_alike (e ∷ entries) = ap (λ ts. transaction_of e ∷ ts) (told_alike entries)
 
 module _ (keys : Schema) (rows : Rows) (line : List LineEvent) (s : State) (done : commits_in line ≡ map done_by_commit s.past) where
   told_past : map told_of (map entry_of (commits_in line)) ≡ commits s
@@ -171,70 +206,100 @@ shut_at_start keys rows o none tables schema =
 
 -- ---- the run
 
+-- at a clean end no item is left
+none_left : (g : Setting) (old new : DeviceState) (handled : List CopyItem) (p : Progress) (times : List ℤ) (bytes : List ℕ) (rest : List CopyItem) (w : World) (end : End)
+    → IsThreadedCause g old new handled p times bytes rest w end → end ≡ ends.Clean → rest ≡ []
+none_left g old new handled p times bytes rest w end cause clean =
+    (subst (IsThreadedCause g old new handled p times bytes rest w) clean cause).0.all_handled
+
 module _ (g : Setting) (rows : Rows) where
   -- what is left where the leader has ended a run is a run's
-  pub run_by_workers : (old new : DeviceState) (l : Led) (ending : Ending) (line : List LineEvent) (o : Outcome) → LeadEnds g rows old new l ending → IsShutSo (schema_of g) rows line o
-      → line ≡ l.standing.line → o.position ≡ l.position → o.end ≡ ending.decided → IsRunByWorkers g rows old new o
-  run_by_workers old new l ending line o (over, decides) shut told position end =
-      let so = leaves g rows old new l over.handled over.progress over.times over.bytes over.rest ending.proposed over.why in
-      let done : commits_in line ≡ map done_by_commit over.progress.state.past = ap commits_in told ∙ so.0.done in
+  pub left_run : (keys : Schema) (old new : DeviceState) (line : List LineEvent) (position : ℕ) (end : End) (o : Outcome) → Leaves g rows old new line position end → IsShutSo keys rows line o → keys ≡ schema_of g
+      → o.position ≡ position → o.end ≡ end → IsRunByWorkers g rows old new o
+  left_run keys old new line position end o left shut_by same reached ended =
+      let over = left.over in
+      let shut : IsShutSo (schema_of g) rows line o = subst (λ (k : Schema). IsShutSo k rows line o) same shut_by in
+      let so = leaves g rows old new left.led over.handled over.progress over.times over.bytes over.rest left.proposed over.why in
+      let done : commits_in line ≡ map done_by_commit over.progress.state.past = left.told ∙ left.is_world.line in
+      let at : o.position ≡ last_end over.progress.state.past = reached ∙ left.reached ∙ so.0.position in
+      let serial_rows : o.tables.rows ≡ serial (schema_of g) rows (changes_of (commits_in line)) =
+      shut.tables ∙ ap (rows_after (schema_of g) rows) shut.journal ∙ entries_are_serial (schema_of g) rows (commits_in line) in
       record {
-        bytes = over.bytes;
-        read = over.read;
-        handled = over.handled;
-        rest = over.rest;
-        items = over.items;
-        progress = over.progress;
-        lawful = over.lawful;
-        times = over.times;
-        told = over.told;
-        counted = over.counted;
+        run = record {
+          bytes = over.bytes;
+          read = over.read;
+          handled = over.handled;
+          rest = over.rest;
+          items = over.items;
+          progress = over.progress;
+          lawful = over.lawful;
+          times = over.times;
+          told = over.told;
+          counted = over.counted;
+          world = left.world;
+          is_world = left.is_world;
+          cause = subst (IsThreadedCause g old new over.handled over.progress over.times over.bytes over.rest left.world) (sym ended) left.cause;
+          left = record {
+            entries = told_alike o.journal.items ∙ ap (map told_of) (shut.journal ∙ ap (map entry_of) left.told);
+            position = at ∙ sym (ap end_of left.is_world.line ∙ ends_done over.progress.state.past);
+            tables = serial_rows ∙ ap (λ (ps : List Past). serial (schema_of g) rows (changes_of ps)) left.told ∙ sym left.committed;
+          };
+          schema = shut.schema;
+        };
         sent = so.1;
         clean = λ clean.
-            let none = so.2 (was_clean ending.proposed ending.decided decides (sym end ∙ clean)) in
+            let none = none_left g old new over.handled over.progress over.times over.bytes over.rest left.world end left.cause (sym ended ∙ clean) in
             sym (append-nil over.handled) ∙ ap (λ (others : List CopyItem). over.handled ++ others) (sym none) ∙ over.items;
         journal = journal_told (schema_of g) rows line over.progress.state done o.journal.items shut.journal;
-        position = position ∙ so.0.position;
+        position = at;
         tables = shut.tables ∙ rows_told (schema_of g) rows line over.progress.state done o.journal.items shut.journal;
-        schema = shut.schema;
         world = shut.world;
       }
 
   -- what is left where a run has ended before a byte was read is a run's
-  pub nothing_done : (devices : DeviceState) (o : Outcome) → IsShutSo (schema_of g) rows [] o → o.position ≡ 0 → o.end ≢ ends.Clean → IsRunByWorkers g rows devices devices o
-  nothing_done devices o shut position unclean = record {
-    bytes = [];
-    read = Consumes-nil devices.unread;
-    handled = [];
-    rest = [];
-    items = Reads-nothing.0;
-    progress = start_progress;
-    lawful = refl;
-    times = [];
-    told = Ticks-nil devices.times;
-    counted = refl;
+  nothing_done : (devices : DeviceState) (o : Outcome) → IsShutSo (schema_of g) rows [] o → o.position ≡ 0 → o.end ≡ ends.OutOfMemory → IsRunByWorkers g rows devices devices o
+  nothing_done devices o shut position end = record {
+    run = record {
+      bytes = [];
+      read = Consumes-nil devices.unread;
+      handled = [];
+      rest = [];
+      items = Reads-nothing.0;
+      progress = start_progress;
+      lawful = refl;
+      times = [];
+      told = Ticks-nil devices.times;
+      counted = refl;
+      world = starting rows;
+      is_world = record {
+        reached = ∣ at_start ∣₁;
+        line = refl;
+        opened = λ xid done at. let none : None ≡ Some done = sym (finite.get-empty nat_cmp xid) ∙ at in absurd cc;
+      };
+      cause = subst (IsThreadedCause g devices devices [] start_progress [] [] [] (starting rows)) (sym end) (inl (record { clear = tt; read = refl; sent = (refl, Appends-nil devices.sent) }));
+      left = record {
+        entries = told_alike o.journal.items ∙ ap (map told_of) shut.journal;
+        position = position;
+        tables = shut.tables ∙ ap (rows_after (schema_of g) rows) shut.journal;
+      };
+      schema = shut.schema;
+    };
     sent = inl (refl, Appends-nil devices.sent);
-    clean = λ clean. absurd (unclean clean);
+    clean = λ clean. let refused : ends.OutOfMemory ≡ ends.Clean = sym end ∙ clean in cc;
     journal = journal_told (schema_of g) rows [] start refl o.journal.items shut.journal;
     position = position;
     tables = shut.tables ∙ rows_told (schema_of g) rows [] start refl o.journal.items shut.journal;
-    schema = shut.schema;
     world = shut.world;
   }
-
-  -- the same, by what the leader and the store left
-  pub left_run : (keys : Schema) (old new : DeviceState) (line : List LineEvent) (position : ℕ) (ending : Ending) (o : Outcome) → Leaves g rows old new line position ending → IsShutSo keys rows line o → keys ≡ schema_of g
-      → o.position ≡ position → o.end ≡ ending.decided → IsRunByWorkers g rows old new o
-  left_run keys old new line position ending o left shut same reached end =
-      run_by_workers old new left.led ending line o left.ends (subst (λ (k : Schema). IsShutSo k rows line o) same shut) left.told (reached ∙ left.reached) end
 
   -- memory was refused before a byte was read
   pub none_run : (keys : Schema) (devices : DeviceState) (line : List LineEvent) (o : Outcome) → IsShutSo keys rows line o → keys ≡ schema_of g → line ≡ [] → o.position ≡ 0 → o.end ≡ ends.OutOfMemory → IsRunByWorkers g rows devices devices o
   none_run keys devices line o shut same none position end =
-      nothing_done devices o (subst (λ (k : Schema). IsShutSo k rows [] o) same (subst (λ (l : List LineEvent). IsShutSo keys rows l o) none shut)) position
-      (λ clean. let refused : ends.OutOfMemory ≡ ends.Clean = sym end ∙ clean in cc)
+      nothing_done devices o (subst (λ (k : Schema). IsShutSo k rows [] o) same (subst (λ (l : List LineEvent). IsShutSo keys rows l o) none shut)) position end
 
--- a run by some workers
-pub runs_by : (n : ℕ) (catalog : List Definition) (config : Config) (rows : Rows) (old new : DeviceState) (o : Outcome) → 0 < n → IsRunByWorkers (setting n config.spool catalog) rows old new o → RunsBy n catalog config rows old new o
-runs_by zero catalog config rows old new o some run = absurd (omega arith)
-runs_by (suc n) catalog config rows old new o some run = run
+-- a run by some workers, or beside some watchers
+pub runs_by : (n v : ℕ) (catalog : List Definition) (config : Config) (rows : Rows) (old new : DeviceState) (o : Outcome) → 0 < n + v
+    → IsRunByWorkers (setting n config.spool catalog) rows old new o → RunsBy n v catalog config rows old new o
+runs_by zero zero catalog config rows old new o some run = absurd (omega (arith, some))
+runs_by zero (suc v) catalog config rows old new o some run = run
+runs_by (suc n) v catalog config rows old new o some run = run

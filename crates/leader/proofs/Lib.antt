@@ -1,11 +1,11 @@
 mod Agreeing
 mod Giving
 mod Leading
-mod Leftover
 mod Serving
 mod Trying
 mod Turning
 mod Deciding
 mod Held
+mod InHand
 mod Leaving
 mod Making

@@ -7,10 +7,11 @@
 --     IsDoing      what an open transaction has done is a beginning of its work
 --     IsBack, IsLane      what its type keeps
 --     IsFree, IsHome      no transaction goes by it; none is with its worker
+--     IsCounted, AreCounted      how many items were given to a transaction; counts of those that go by lanes
 --     AddsTo      one item more was given to its transaction
 --     ComesBack      its worker gave its transaction back
 --     IsTakenOut, HasAll      its ticket was taken; the transaction had done all items
-use Rattle.std.specs.Prelude.{◌≡◌, ℕ, List, [], ◌∷◌, ◌++◌, Option, Some, None, MatchOption, fold, flat_map, option_map}
+use Rattle.std.specs.Prelude.{◌≡◌, ℕ, ◌-◌, ◌^◌, ◌<◌, List, [], ◌∷◌, ◌++◌, length, All, Contains, Option, Some, None, MatchOption, fold, flat_map, option_map}
 use Rattle.atomic_table.specs.Seated.{TableId}
 use Rattle.model.specs.declared.item.Item.{Item}
 use Rattle.model.specs.declared.item.Item.TheVariants.{Change, Touch, BackTo, Last}
@@ -110,6 +111,16 @@ IsFree l = (l.goes ≡ None) × (l.back ≡ None)
 -- A transaction that goes by it has come back.
 abbrev pub IsHome : Laned → Type 0
 IsHome l = MatchOption l.goes (Unit {0}) (λ given. (done : Opened) × (l.back ≡ Some done))
+
+-- The number, if it is a count, is of all items that were given to this transaction, which goes by the lane. The last
+-- number of a u64 is no count.
+abbrev pub IsCounted : Option Given → ℕ × ℕ → Type 0
+IsCounted goes named =
+    named.1 < 2 ^ 64 - 1 → (given : Given) × (goes ≡ Some given) × (given.xid ≡ named.0) × (named.1 ≡ length given.items)
+
+-- Each of them is so of a transaction that goes by one of the lanes.
+abbrev pub AreCounted : List (Option Given) → List (ℕ × ℕ) → Type 0
+AreCounted lanes named = All (λ one. (goes : Option Given) × Contains lanes goes × IsCounted goes one) named
 
 -- ---- what a call does to it
 

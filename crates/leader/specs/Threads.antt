@@ -5,11 +5,11 @@
 --     IsAgreed, AreAgreed      what is there of a transaction is what the state has; so it is of all
 --     HasCommitted, IsLeadAt, IsLeadAtSome, IsLeadAtStart      what a leader knows is what a state, or a progress, has
 --     HasLed      a message was taken
+--     KeepsToWork      what an open transaction has done is a beginning of its work
 --     IsLeft, AreLeft      what is there of a transaction at an end, and of all
 --     HasTurn, MayEndBy      whose turn it is; why a run may end at the next item
 --     HasStopped, Stops, LeadTakes      it stopped at a state; a message ended the run so; it was taken, or ended the run
 --     HasLedTo      it ended a run
---     Decides      the end of a run, by what was proposed
 use Rattle.std.specs.Prelude.{◌≡◌, ◌≢◌, ℕ, Bool, true, false, max, List, [], ◌∷◌, ◌++◌, length, map, Option, Some, None, Result, MatchResult, All, ◌⊎◌}
 use Rattle.std.specs.FinMap as finite
 use Rattle.model.specs.Definition.{Definition}
@@ -26,7 +26,7 @@ use Rattle.session.specs.declared.fault.Refused.TheVariants as refusals
 use Rattle.session.specs.declared.session.Session.{Session}
 use Rattle.session.specs.Answers.{IsOfTables}
 use Rattle.session.specs.Sized.{item_of}
-use Rattle.session.specs.State.{Direct, Worker, Spooled, Open, OpenTransactions, Committed, State, Setting}
+use Rattle.session.specs.State.{Direct, Worker, Spooled, Open, OpenTransactions, Committed, State, Setting, begun_at}
 use Rattle.session.specs.Lawful.{Admits}
 use Rattle.session.specs.Represents.{Represents}
 use Rattle.spooled.specs.declared.end.End.{End}
@@ -133,6 +133,12 @@ pub record HasLed (g : Setting) (rows : Rows) (l : Led) (p : Progress) (payload 
 
 -- ---- an end
 
+-- What an open transaction has done is a beginning of its work; a spooled one begins only once the next message commits
+-- it.
+abbrev pub KeepsToWork : Setting → State → List CopyItem → ℕ → Open → Opened → Type 0
+KeepsToWork g s rest xid o done =
+    IsDoing done (work_of xid o.way o.items) × (o.way ≡ Spooled → CommitsNext g s rest xid)
+
 -- What is there of a transaction where the run ends. One with a worker goes by just one lane, with all of its items. What
 -- the leader's own has done is a beginning of its work; a spooled one is the leader's own only once the next message
 -- commits it.
@@ -149,10 +155,9 @@ abbrev pub AreLeft : Setting → State → List CopyItem → Standing → Type 0
 AreLeft g s rest t =
     (xid : ℕ) → IsLeft g s rest xid (finite.get s.transactions xid) (items_by xid t.lanes) (own_of xid t.begun) (is_open_in t.line xid)
 
--- It is the turn of this transaction: it goes directly, or the next message commits it.
+-- It is the turn of this transaction: it was begun, or the next message commits it.
 abbrev pub HasTurn : Setting → State → List CopyItem → ℕ → Type 0
-HasTurn g s rest xid =
-    ((o : Open) × (finite.get s.transactions xid ≡ Some o) × (o.way ≡ Direct)) ⊎ CommitsNext g s rest xid
+HasTurn g s rest xid = (begun_at s.phase ≡ Some xid) ⊎ CommitsNext g s rest xid
 
 -- Why a run may end at the next item: the session refuses it; or it is the turn of the transaction that waits. Whether
 -- it waits, or a change clashed, is for the store to say, and memory may be refused at any time.
@@ -186,7 +191,3 @@ LeadTakes g rows l p payload result = MatchResult result (HasLed g rows l p payl
 -- It ended a run so, other than cleanly, and what it has is that of this progress.
 abbrev pub HasLedTo : Setting → Rows → Led → List CopyItem → Progress → List CopyItem → End → Type 0
 HasLedTo g rows l handled p rest end = HasStopped g l p.state rest end
-
--- The end of a run is what was proposed; a clean one may have become that of a worker's clash.
-abbrev pub Decides : End → End → Type 0
-Decides proposed end = (end ≡ proposed) ⊎ ((proposed ≡ ends.Clean) × (end ≢ ends.Clean))

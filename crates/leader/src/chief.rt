@@ -1,12 +1,15 @@
-// A leader beside its workers, as a value.
+// A leader beside its workers and those who watch it, as a value.
 //
 // `crew` takes a leader as a closure. What a run's leader needs has more than one type parameter, and a
 // closure that holds references to it gets no proof yet; so the closure holds a value of a type
 // parameter, which leads.
 ghost use Rattle.std.specs.Prelude.{◌≡◌, IfNone, IfSome, length};
 
+use crate::watching::{Turn, Watching, give_turns};
 use crew::{Desk, Work, with_workers};
+use model::OutOfMemory;
 use std::sync::Wait;
+use std::thread;
 use std::thread::Threads;
 
 /// Leads while workers work, and hands back what it was lent.
@@ -21,14 +24,65 @@ pub trait Leading<J, W> {
     /// It has led so many, and leaves this.
     ghost lead_gives: { Self → ℕ → Self.Left → Type 0 };
 
-    /// Leads. It is told how many desks have a worker.
-    fn lead<R: Wait>(self, rt: &R, desks: &[Desk<J>], shop: &W, serving: usize) -> Self::Left
+    /// Leads. It is told whether each desk has a worker, and each watcher a thread.
+    fn lead<R: Wait>(self, rt: &R, desks: &[Desk<J>], shop: &W, has_all: bool) -> Self::Left
         requires { can_lead self (length desks.now) }
         ensures { lead_gives self (length desks.now) result };
 }
 
-/// Starts a worker for each desk and lets the leader lead, as `with_workers` has it.
-pub fn beside<J, R, W, T, X>(rt: &R, desks: &[Desk<J>], shop: &W, leader: T) -> X
+/// Starts a thread for each watcher and a worker for each desk, and lets the leader lead, which tells
+/// the watchers the end. It returns when each of them has had its last turn. Without the memory for the
+/// watchers none is started.
+pub fn beside<J, R, W, V, T, X>(
+    rt: &R,
+    desks: &[Desk<J>],
+    shop: &W,
+    watching: &Watching,
+    watchers: Result<Vec<V>, OutOfMemory>,
+    leader: T,
+) -> X
+where
+    J: Drop + Send,
+    R: Threads + Wait + Sync,
+    W: Work<J> + Sync,
+    V: Turn + Drop + Send,
+    T: Leading<J, W, Left = X> + Drop,
+    requires { T.can_lead leader (length desks.now) }
+    ensures { T.lead_gives leader (length desks.now) result }
+{
+    let Ok(watchers) = watchers else {
+        return beside_workers(rt, desks, shop, leader, false);
+    };
+    thread::scope(
+        thread::scope_env(),
+        rt,
+        move |scope| -> X
+            requires { T.can_lead leader (length desks.now) }
+            ensures { T.lead_gives leader (length desks.entry.now) result }
+        {
+            let mut are_watching = true;
+            for watcher in watchers {
+                if scope
+                    .spawn(move || give_turns(rt, watching, watcher))
+                    .is_err()
+                {
+                    are_watching = false;
+                    break;
+                }
+            }
+            beside_workers(rt, desks, shop, leader, are_watching)
+        },
+    )
+}
+
+// Starts a worker for each desk and lets the leader lead, as `with_workers` has it.
+fn beside_workers<J, R, W, T, X>(
+    rt: &R,
+    desks: &[Desk<J>],
+    shop: &W,
+    leader: T,
+    are_watching: bool,
+) -> X
 where
     J: Drop + Send,
     R: Threads + Wait + Sync,
@@ -49,7 +103,8 @@ where
             let Some(leader) = leader.take() else {
                 unreachable!()
             };
-            leader.lead(rt, desks, shop, serving)
+            let has_all = are_watching && serving == desks.len();
+            leader.lead(rt, desks, shop, has_all)
         },
     )
 }

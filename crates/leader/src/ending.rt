@@ -1,27 +1,29 @@
 // How a run ends, once all workers have given their jobs back.
 //
 // While workers run nothing is known of what lies under the store's lock, and what was answered there
-// says nothing any more once they have come back. At the end one hand has all of it, with the ticket of
-// each transaction that is still open. So here the end is decided.
-ghost use Rattle.std.specs.Prelude.{◌≡◌, ◌∷◌, [], All, IfSome, option_map, map};
+// says nothing any more once they have come back. At the end one hand has the lock, with the ticket of
+// each transaction that is still open. So here the end is decided, and all that is open is undone, before
+// anybody else gets the lock.
+ghost use Rattle.std.specs.Prelude.{◌≡◌, ◌∷◌, ℕ, List, [], All, Some, IfSome, option_map, map};
+ghost use Rattle.model.specs.Rows.{Schema};
 ghost use Rattle.world.specs.World.{World};
 ghost use Rattle.engine.specs.Answers.{TellsWhatStopped};
-ghost use Rattle.engine.specs.Engine.{entry_in};
-ghost use Rattle.leader.specs.Ending.{Hand, holding, AreStood, TellsNoted, EndsAsNoted, IsDecided, IsOtherwiseStopped, HasFinished};
+ghost use Rattle.engine.specs.Events.{commits_in};
+ghost use Rattle.leader.specs.Standing.{own_by};
+ghost use Rattle.leader.specs.Ending.{Hand, AreStood, AreGone, TellsNoted, TellsHeld, EndsAsNoted, IsDecided, IsLessOpen, HasFinished};
 
 use change::Clash;
-use engine::{Entry, Line, SharedStore, Stop, StoreNames, Ticket};
-use indexes::Tables;
+use engine::{Line, SharedStore, Stop, StoreNames, Ticket};
 use model::Xid;
 use spooled::End;
 
 /// Where the ticket of an open transaction may lie as a run ends.
 pub trait Slot<N: StoreNames> {
     ghost use Rattle.std.specs.Prelude.{◌≡◌, Option, IfSome, option_map};
-    ghost use Rattle.leader.specs.Ending.{Holding, holding};
+    ghost use Rattle.leader.specs.Standing.{Own, own_by};
 
     /// The transaction whose ticket lies there.
-    ghost holds: { Self → Option Holding };
+    ghost holds: { Self → Option Own };
 
     /// What its type keeps of that transaction.
     ghost keeps: { Self → Type 0 };
@@ -29,13 +31,13 @@ pub trait Slot<N: StoreNames> {
     /// The ticket, if one lies there.
     fn into_ticket(self) -> Option<Ticket>
         ensures belongs { IfSome result (λ t. t.name ≡ N.tickets) }
-        ensures holds { holds self ≡ option_map holding result }
+        ensures holds { holds self ≡ option_map own_by result }
         ensures keeps { keeps self };
 }
 
-/// Ends a run for which this end was proposed: the tables and the journal without what was open, and
-/// the end. In hand are the ticket of the transaction that the leader applied itself, if there is one,
-/// and those of the lanes. `given` is how many items were given to the transactions of the lanes.
+/// Ends a run for which this end was proposed: what is open is undone. Answers the end. In hand are the
+/// ticket of the transaction that the leader applied itself, if there is one, and those of the lanes.
+/// `given` is how many items were given to the transactions of the lanes.
 ///
 /// Where the input was over, or a change clashed, it is the end of the clash that stopped the store, if
 /// one did and its transaction still wants it. A transaction that waited is asked for again, since
@@ -43,43 +45,67 @@ pub trait Slot<N: StoreNames> {
 ///
 /// Of each lane it tells what its type keeps.
 pub fn finish<N: StoreNames, S: Slot<N> + Drop>(
-    mut store: SharedStore<N>,
-    line: Line,
+    store: &mut SharedStore<N>,
+    line: &mut Line,
     own: Option<Ticket>,
     lanes: Vec<S>,
     given: &[(Xid, u64)],
     proposed: End,
-) -> (Tables, Vec<Entry>, End)
-    requires line { line.name ≡ N.line }
+) -> End
+    requires line { line.old.name ≡ N.line }
     requires own { IfSome own (λ t. t.name ≡ N.tickets) }
-    ensures finished { HasFinished N.schema N.start line.list (option_map holding own ∷ map S.holds lanes.items) given.now proposed result.2 result.0.rows (map entry_in result.1.items) }
-    ensures schema { result.0.schema ≡ N.schema }
+    ensures finished { HasFinished N.schema N.start line.old.list (option_map own_by own ∷ map S.holds lanes.items) given.now proposed result }
+    ensures gone { AreGone store.new.world (option_map own_by own ∷ map S.holds lanes.items) }
+    ensures name { line.new.name ≡ N.line }
+    ensures commits { commits_in line.new.list ≡ commits_in line.old.list }
     ensures keeps { All S.keeps lanes.items }
 {
-    let noted = noted_clash(&mut store, own, lanes);
-    let end = decide(&mut store, &line, given, proposed, noted);
+    let holder = find_holder(store, line, given, proposed);
+    store.meet(line);
     let _ = store.table_count();
-    let (tables, journal) = store.into_store().shut(line);
-    (tables, journal, end)
+    let stop = store.stop();
+    let noted = undo_all(store, line, own, lanes, stop);
+    decide(proposed, stop, holder, noted)
 }
 
-// Learns of each ticket what its transaction has done. Answers the clash that stopped the store, if one
-// did, and a ticket tells that its transaction still wants a change.
-fn noted_clash<N: StoreNames, S: Slot<N> + Drop>(
+// Whom the transaction waits for that the end names, if it names one: it is asked for again.
+fn find_holder<N: StoreNames>(
     store: &mut SharedStore<N>,
+    line: &Line,
+    given: &[(Xid, u64)],
+    proposed: End,
+) -> Option<Xid>
+    requires { line.now.name ≡ N.line }
+    ensures { TellsHeld N.schema store.new.world given.now proposed result }
+{
+    match proposed {
+        End::HeldKey { xid, .. } => store.stop_held(line, xid, given).ok(),
+        _ => None,
+    }
+}
+
+// Learns of each ticket what its transaction has done, and undoes that. Answers the clash that stopped
+// the store, if one did, and a ticket tells that its transaction still wants a change.
+fn undo_all<N: StoreNames, S: Slot<N> + Drop>(
+    store: &mut SharedStore<N>,
+    line: &mut Line,
     own: Option<Ticket>,
     lanes: Vec<S>,
+    stop: Option<Stop>,
 ) -> Option<Clash>
+    requires line { line.old.name ≡ N.line }
     requires own { IfSome own (λ t. t.name ≡ N.tickets) }
-    ensures stood { AreStood store.old.world (option_map holding own ∷ map S.holds lanes.items) }
-    ensures noted { TellsNoted store.old.world (option_map holding own ∷ map S.holds lanes.items) result }
+    requires stop { TellsWhatStopped stop store.old.world.stopped }
+    ensures stood { AreStood store.old.world (option_map own_by own ∷ map S.holds lanes.items) }
+    ensures noted { TellsNoted store.old.world (option_map own_by own ∷ map S.holds lanes.items) result }
+    ensures gone { AreGone store.new.world (option_map own_by own ∷ map S.holds lanes.items) }
+    ensures name { line.new.name ≡ N.line }
+    ensures commits { commits_in line.new.list ≡ commits_in line.old.list }
     ensures keeps { All S.keeps lanes.items }
-    ensures same { store.new ≡ store.old }
 {
-    let stop = store.stop();
-    let mut noted = clash_of(store, own, stop);
+    let mut noted = undo(store, line, own, stop);
     for slot in lanes {
-        if let Some(clash) = clash_of(store, slot.into_ticket(), stop) {
+        if let Some(clash) = undo(store, line, slot.into_ticket(), stop) {
             noted = Some(clash);
         }
     }
@@ -87,19 +113,41 @@ fn noted_clash<N: StoreNames, S: Slot<N> + Drop>(
 }
 
 // The same of one slot, where this stopped the store.
-fn clash_of<N: StoreNames>(
+fn undo<N: StoreNames>(
     store: &mut SharedStore<N>,
+    line: &mut Line,
     slot: Option<Ticket>,
     stop: Option<Stop>,
 ) -> Option<Clash>
+    requires line { line.old.name ≡ N.line }
     requires belongs { IfSome slot (λ t. t.name ≡ N.tickets) }
     requires stop { TellsWhatStopped stop store.old.world.stopped }
-    ensures stood { AreStood store.old.world (option_map holding slot ∷ []) }
-    ensures noted { TellsNoted store.old.world (option_map holding slot ∷ []) result }
-    ensures same { store.new ≡ store.old }
+    ensures stood { AreStood store.old.world (option_map own_by slot ∷ []) }
+    ensures noted { TellsNoted store.old.world (option_map own_by slot ∷ []) result }
+    ensures gone { AreGone store.new.world (option_map own_by slot ∷ []) }
+    ensures world { IsLessOpen store.old.world store.new.world }
+    ensures name { line.new.name ≡ N.line }
+    ensures commits { commits_in line.new.list ≡ commits_in line.old.list }
 {
     let mut ticket = slot?;
-    let wants = store.wants(&mut ticket);
+    let clash = clash_of(store, &mut ticket, stop);
+    store.abort(line, ticket);
+    clash
+}
+
+// The clash that stopped the store, if this is the ticket of its transaction, which still wants a change.
+fn clash_of<N: StoreNames>(
+    store: &mut SharedStore<N>,
+    ticket: &mut Ticket,
+    stop: Option<Stop>,
+) -> Option<Clash>
+    requires belongs { ticket.old.name ≡ N.tickets }
+    requires stop { TellsWhatStopped stop store.old.world.stopped }
+    ensures noted { TellsNoted store.old.world (Some (own_by ticket.old) ∷ []) result }
+    ensures ticket { ticket.new ≡ ticket.old }
+    ensures same { store.new ≡ store.old }
+{
+    let wants = store.wants(ticket);
     let stop = stop?;
     let Stop::Clash(xid, clash) = stop else {
         return None;
@@ -110,29 +158,21 @@ fn clash_of<N: StoreNames>(
     None
 }
 
-// The end by the one that was proposed, and by the clash that is noted.
-fn decide<N: StoreNames>(
-    store: &mut SharedStore<N>,
-    line: &Line,
-    given: &[(Xid, u64)],
-    proposed: End,
-    noted: Option<Clash>,
-) -> End
-    requires { line.now.name ≡ N.line }
-    ensures decided { (hand : Hand) → TellsNoted store.old.world hand noted
-        → IsDecided N.schema store.new.world hand given.now proposed result }
-    ensures world { IsOtherwiseStopped store.old.world store.new.world }
-    ensures line { store.new.line ≡ store.old.line }
+// The end by the one that was proposed: by what stopped the store, whom a transaction waits for, and the
+// clash that is noted.
+fn decide(proposed: End, stop: Option<Stop>, holder: Option<Xid>, noted: Option<Clash>) -> End
+    ensures { (schema : Schema) (w : World) (hand : Hand) (given : List (ℕ × ℕ)) → TellsWhatStopped stop w.stopped → TellsHeld schema w given proposed holder
+        → TellsNoted w hand noted → IsDecided schema w hand given proposed result }
 {
     match proposed {
-        End::Clean => match store.stop() {
+        End::Clean => match stop {
             None => End::Clean,
             Some(_) => end_of_noted(noted),
         },
         End::Unique { .. } | End::NullKey { .. } => end_of_noted(noted),
-        End::HeldKey { xid, .. } => match store.stop_held(line, xid, given) {
-            Ok(holder) => End::HeldKey { xid, holder },
-            Err(_) => End::OutOfMemory,
+        End::HeldKey { xid, .. } => match holder {
+            Some(holder) => End::HeldKey { xid, holder },
+            None => End::OutOfMemory,
         },
         other => other,
     }

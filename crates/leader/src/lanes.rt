@@ -1,11 +1,13 @@
 // A leader's side of a lane to a worker.
-ghost use Rattle.std.specs.Prelude.{◌≡◌, [], None, Some, OnOk, OnErr, MatchBool, MatchOption};
+ghost use Rattle.std.specs.Prelude.{◌≡◌, ◌≢◌, [], None, Some, OnOk, OnErr, MatchBool, MatchOption};
+ghost use Rattle.model.specs.declared.item.Item.TheVariants.{Last};
 ghost use Rattle.worker.specs.declared.post.Collected.TheVariants.{All as WasAll};
-ghost use Rattle.leader.specs.Lanes.{Given, IsFree, IsHome, AddsTo, ComesBack, IsTakenOut, HasAll};
+ghost use Rattle.leader.specs.Lanes.{Given, IsFree, IsHome, IsCounted, AddsTo, ComesBack, IsTakenOut, HasAll};
 ghost use Rattle.leader.specs.Standing.{items_of};
 
+use crate::ending::Slot;
 use engine::{StoreNames, Ticket};
-use model::{OutOfMemory, Xid};
+use model::{Item, OutOfMemory, Xid};
 use ring::Taker;
 use std::marker::{Model, PhantomData};
 use std::sync::{Mutex, Wait};
@@ -26,17 +28,21 @@ pub struct Lane<N: StoreNames, L: PostNames> {
     back: Option<Ticket>,
     /// Whether it had done all of its items then.
     collected: Collected,
+    /// How many items were given to it. The last number is no count: where none goes by the lane, or
+    /// there were too many.
+    count: u64,
     of: PhantomData<L>,
 }
 
 impl<N: StoreNames, L: PostNames> Model for Lane<N, L> {
-    ghost use Rattle.leader.specs.Lanes.{Laned, laned, IsLane};
+    ghost use Rattle.leader.specs.Lanes.{Laned, laned, going, IsLane, IsCounted};
 
     ghost Value = { Laned };
 
     ghost view = { λ l. laned l.number l.xid l.token.list l.taker l.back };
 
-    ghost invariant = { λ l. IsLane (L.ring l.number) (L.post l.number) N.tickets l.xid l.token l.taker l.back l.collected };
+    ghost invariant = { λ l. IsLane (L.ring l.number) (L.post l.number) N.tickets l.xid l.token l.taker l.back l.collected
+        × IsCounted (going l.xid l.token.list l.taker l.back) (l.xid, l.count) };
 }
 
 impl<N: StoreNames, L: PostNames> Lane<N, L> {
@@ -55,6 +61,7 @@ impl<N: StoreNames, L: PostNames> Lane<N, L> {
             xid: 0,
             back: None,
             collected: Collected::Left,
+            count: u64::MAX,
             of: PhantomData,
         }
     }
@@ -87,6 +94,14 @@ impl<N: StoreNames, L: PostNames> Lane<N, L> {
         !self.is_free() && self.xid == xid
     }
 
+    /// The transaction that goes by it, and how many items were given to it. The last number is no
+    /// count: none goes by it, or there were too many.
+    pub fn given(&self) -> (Xid, u64)
+        ensures { IsCounted self.now.goes result }
+    {
+        (self.xid, self.count)
+    }
+
     /// A transaction that has done nothing yet is to go by it, as the job of its worker.
     pub fn open(&mut self, ticket: Ticket) -> Job<N, L>
         requires free { IsFree self.old }
@@ -98,6 +113,7 @@ impl<N: StoreNames, L: PostNames> Lane<N, L> {
             unreachable!()
         };
         self.xid = ticket.xid();
+        self.count = 0;
         Job::new(ticket, taker, self.number)
     }
 
@@ -114,7 +130,12 @@ impl<N: StoreNames, L: PostNames> Lane<N, L> {
         if !self.is_away() {
             return Err(OutOfMemory);
         }
-        lock_post(rt, post, self.number).give(&mut self.token, item)
+        let is_own = !is_last(item.item());
+        lock_post(rt, post, self.number).give(&mut self.token, item)?;
+        if is_own {
+            self.count = self.count.saturating_add(1);
+        }
+        Ok(())
     }
 
     /// Its worker has given the job back: the transaction's ticket is here from now on. Answers whether
@@ -155,6 +176,7 @@ impl<N: StoreNames, L: PostNames> Lane<N, L> {
     pub fn take_back(&mut self) -> Option<Ticket>
         ensures { MatchOption result ((self.old.back ≡ None) × (self.new ≡ self.old)) (λ ticket. IsTakenOut N.tickets self.old ticket self.new) }
     {
+        self.count = u64::MAX;
         self.back.take()
     }
 
@@ -165,6 +187,27 @@ impl<N: StoreNames, L: PostNames> Lane<N, L> {
         if self.collected != Collected::All {
             return None;
         }
+        self.count = u64::MAX;
         self.back.take()
     }
+}
+
+impl<N: StoreNames, L: PostNames> Slot<N> for Lane<N, L> {
+    ghost use Rattle.leader.specs.Ending.{holds_in, KeepsGiven};
+
+    ghost holds = { holds_in };
+
+    ghost keeps = { KeepsGiven };
+
+    fn into_ticket(self) -> Option<Ticket> {
+        let Lane { back, .. } = self;
+        back
+    }
+}
+
+/// Whether this says that the transaction's commit was read.
+pub fn is_last(item: &Item) -> bool
+    ensures { MatchBool result (item.now ≡ Last) (item.now ≢ Last) }
+{
+    matches!(item, Item::Last)
 }

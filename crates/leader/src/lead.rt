@@ -9,7 +9,7 @@ ghost use Rattle.spooled.specs.Progress.{Progress, start_progress};
 use crate::transactions::{Left, Transactions};
 use bytes::Bytes;
 use catalog::Catalog;
-use engine::{Line, StoreNames};
+use engine::StoreNames;
 use frames::{CopyItem, Lsn};
 use model::{CommitInfo, Item, Xid};
 use session::{Session, Step};
@@ -46,9 +46,9 @@ pub struct Lead<'a, N: StoreNames, L: PostNames, R: Wait, G: Gate + Drop> {
 }
 
 impl<'a, N: StoreNames, L: PostNames, R: Wait, G: Gate + Drop> Lead<'a, N, L, R, G> {
-    ghost use Rattle.leader.specs.Lanes.{IsHome};
+    ghost use Rattle.leader.specs.Lanes.{IsHome, AreCounted};
     ghost use Rattle.leader.specs.Standing.{own_by, goes_by, IsCommitted, HasTried, IsStoreEnd};
-    ghost use Rattle.leader.specs.Threads.{numbers_in, led, after_commit, IsLeadAt, IsLeadAtSome, LeadTakes, Decides};
+    ghost use Rattle.leader.specs.Threads.{led, after_commit, IsLeadAt, IsLeadAtSome, LeadTakes};
 
     /// Before the first item: no transaction is open, so many may have a worker, and the spools may keep
     /// so many bytes.
@@ -78,23 +78,8 @@ impl<'a, N: StoreNames, L: PostNames, R: Wait, G: Gate + Drop> Lead<'a, N, L, R,
         }
     }
 
-    /// The line of its store, and the position that the commits reach.
-    pub fn into_line(self) -> (Line, Lsn)
-        ensures name { result.0.name ≡ N.line }
-        ensures list { result.0.list ≡ self.entry.transactions.line }
-        ensures commits { numbers_in result.0.list ≡ numbers_in self.entry.transactions.line }
-        ensures position { result.1 ≡ self.entry.stream.position }
-    {
-        let Lead {
-            stream,
-            transactions,
-        } = self;
-        (transactions.into_line(), stream.position)
-    }
-
     /// What it leaves of its open transactions, and the position that the commits reach. It tells all
-    /// workers to give up and waits until they have; that they do, they must still be working, or have
-    /// been waited for by `leave`.
+    /// workers to give up and waits until they have; that they do, they must still be working.
     pub fn into_left(self) -> (Left<N, L>, Lsn)
         ensures name { result.0.line.name ≡ N.line }
         ensures list { result.0.line.list ≡ self.entry.transactions.line }
@@ -102,6 +87,7 @@ impl<'a, N: StoreNames, L: PostNames, R: Wait, G: Gate + Drop> Lead<'a, N, L, R,
         ensures begun { option_map own_by result.0.begun ≡ self.entry.transactions.begun }
         ensures lanes { map goes_by result.0.lanes.items ≡ self.entry.transactions.lanes }
         ensures home { All IsHome result.0.lanes.items }
+        ensures given { AreCounted self.entry.transactions.lanes result.0.given.items }
         ensures position { result.1 ≡ self.entry.stream.position }
     {
         let Lead {
@@ -109,15 +95,6 @@ impl<'a, N: StoreNames, L: PostNames, R: Wait, G: Gate + Drop> Lead<'a, N, L, R,
             transactions,
         } = self;
         (transactions.into_left(), stream.position)
-    }
-
-    /// Ends a run: all workers have given up. Answers the end.
-    pub fn leave(&mut self, end: End) -> End
-        ensures decides { Decides end result }
-        ensures stream { self.new.stream ≡ self.old.stream }
-        ensures same { self.new.transactions ≡ self.old.transactions }
-    {
-        self.transactions.leave(end)
     }
 
     // Takes the next message. It answers whether a transaction committed.

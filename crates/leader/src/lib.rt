@@ -14,33 +14,46 @@
 //   a worker, at its ring                 its next item               whoever sends: the leader, or itself behind an item
 //   a worker, at a cell                   whoever holds it            a commit, an abort, a stop or a doom, each notified
 //                                                                     under the store's lock
+//   a watcher that wants no turn          the end of the run          the leader, once it has left
 //
 // Before the leader waits it notes how often the bell was rung, and looks at all that may have moved. It
-// looks too whether the store was stopped and whether nothing more can come: either ends the run.
+// looks too whether the store was stopped, whether nothing more can come, and whether memory was refused
+// to a worker, whose transaction keeps what it holds: each ends the run.
+//
+// Those who watch a run read what is committed, each in a thread of its own, and the position that the
+// leader publishes behind each commit. Nobody waits for them but the end of their threads.
 //
 //   lead           what each item of the stream does, with the session
 //   transactions   which are open and where, with the store
 //   lanes          the leader's side of a worker
 //   shop           what leader and workers share
 //   ends           the ends that a store gives
-//   ending         the end of a run, decided once all workers have given up
+//   ending         the end of a run, decided, and what is open undone, once all workers have given up
 //   parts          what lanes are made of, before and after they have names
-//   chief          a leader beside its workers, as a value
+//   positions      the position that is published behind each commit
+//   watching       those who watch a run
+//   chief          a leader beside its workers and those who watch it, as a value
 //   threads        the run
 //
 // It stands on `spooled` for the loop over a stream and the ends of a run, `course` for what a run with
-// workers is, `session` for what messages ask for, `engine`'s store, and `worker`, `crew` and `ring`. All
-// that a caller of a run needs stands here, as in `spooled`.
+// workers is, `session` for what messages ask for, `engine`'s store, `worker`, `crew` and `ring`, and
+// `snapshot` and `origin` for those who watch. All that a caller of a run needs stands here, as in
+// `spooled`.
 mod chief;
 mod ending;
 mod ends;
 mod lanes;
 mod lead;
 mod parts;
+mod positions;
 mod shop;
 mod threads;
 mod transactions;
+mod watching;
 
+pub use engine::StoreNames;
+pub use origin::Position;
+pub use snapshot::{ReadFault, Reader, Watch};
 pub use spooled::{
     ByteStr, Catalog, CatalogFault, Change, Changes, ChangesIter, Clock, Config, Devices, End,
     Entry, Failed, FrameFault, Key, KeyValues, Lsn, MsgFault, OutOfMemory, Outcome, ReadSource,
@@ -48,4 +61,5 @@ pub use spooled::{
     Walk, WriteSink, Xid, report, run_over, run_spooled,
 };
 pub use threads::{run, run_with_workers};
+pub use watching::NoWatch;
 pub use worker::{Gate, Point};

@@ -120,7 +120,7 @@ impl<N: StoreNames, L: PostNames, G: Gate + Drop> Places<N, L, G> {
             gate: Mutex::new(gate),
         })?;
         self.lanes.push(Lane::new(number, token, taker))?;
-        self.given.push((0, 0))?;
+        self.given.push((0, u64::MAX))?;
         Ok(())
     }
 }

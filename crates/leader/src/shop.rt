@@ -5,8 +5,9 @@ use crew::{Bell, Work};
 use engine::{SharedStore, StoreNames};
 use model::Xid;
 use std::alloc::Global;
+use std::sync::atomic::{AtomicBool, Ordering};
 use std::sync::{Condvar, Mutex, Wait};
-use worker::{Gate, Job, Point, Post, PostNames, work_on};
+use worker::{Ended, Gate, Job, Point, Post, PostNames, work_on};
 
 /// What a leader and its workers share: the store, and a seat for each lane.
 #[derive(Drop)]
@@ -19,6 +20,16 @@ pub struct Shop<N: StoreNames, L: PostNames, G: Drop> {
     pub seats: Vec<Seat<N, L, G>>,
     /// Wakes the leader, where it waits for anything that moves.
     pub bell: Bell,
+    /// Whether memory was refused to a worker. What its transaction holds is then held for good, so
+    /// whoever waits for it waits for ever.
+    pub refused: AtomicBool,
+}
+
+impl<N: StoreNames, L: PostNames, G: Drop> Shop<N, L, G> {
+    /// Whether memory was refused to a worker.
+    pub fn was_refused(&self) -> bool {
+        self.refused.load(Ordering::SeqCst)
+    }
 }
 
 /// Where the worker of a lane gets its items, and whom it tells how far it came.
@@ -68,7 +79,7 @@ impl<N: StoreNames, L: PostNames, G: Gate + Drop> Work<Job<N, L>> for Shop<N, L,
             bell: &self.bell,
             gate: &mut *gate,
         };
-        let _ = work_on(
+        let ended = work_on(
             rt,
             self.alloc,
             &self.store,
@@ -76,6 +87,9 @@ impl<N: StoreNames, L: PostNames, G: Gate + Drop> Work<Job<N, L>> for Shop<N, L,
             job,
             &mut ringing,
         );
+        if ended == Ended::OutOfMemory {
+            self.refused.store(true, Ordering::SeqCst);
+        }
     }
 
     fn came_back<R: Wait>(&self, rt: &R) {

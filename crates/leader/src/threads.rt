@@ -1,32 +1,38 @@
 // A run whose streamed transactions have workers.
 ghost use Rattle.std.specs.Prelude.{◌≡◌, ◌<◌, ℕ, All, [], length, map, min, slice_index_or};
-ghost use Rattle.model.specs.Rows.{Rows, keys_of};
+ghost use Rattle.model.specs.Rows.{Rows, keys_of, IsValid};
 ghost use Rattle.world.specs.World.{starting};
 ghost use Rattle.session.specs.State.{Setting};
 ghost use Rattle.spooled.specs.Progress.{start_progress};
 ghost use Rattle.spooled.specs.Devices.{DeviceState, device_state, health};
+ghost use Rattle.spooled.specs.Handler.{IsRunOver};
 ghost use Rattle.spooled.specs.Run.{IsRun, spooling};
 ghost use Rattle.spooled.specs.declared.end.End.TheVariants.{OutOfMemory as NoMemory};
 ghost use Rattle.leader.specs.Lanes.{IsFree};
 ghost use Rattle.leader.specs.Parts.{IsFresh, ring_of, post_of};
 ghost use Rattle.tokens.specs.Half.{no_name};
-ghost use Rattle.leader.specs.Threads.{numbers_in, led, IsLeadAt, IsLeadAtStart};
-ghost use Rattle.leader.specs.WithWorkers.{setting, LeadEnds, Leaves, IsRunByWorkers, RunsBy, IsShutSo};
+ghost use Rattle.leader.specs.Threads.{led, IsLeadAt, IsLeadAtStart, HasLedTo};
+ghost use Rattle.leader.specs.WithWorkers.{setting, Leaves, IsRunByWorkers, RunsBy, IsShutSo};
 
 use crate::chief::{Leading, beside};
+use crate::ending::finish;
 use crate::lanes::Lane;
 use crate::lead::Lead;
 use crate::parts::{Parts, Places, make_parts};
+use crate::positions::Positions;
 use crate::shop::Shop;
-use crate::transactions::Transactions;
+use crate::transactions::{Left, Transactions};
+use crate::watching::{Audience, Watcher, Watching, make_watchers};
 use catalog::Catalog;
 use crew::{Bell, Desk, make_desks};
 use engine::{Line, SharedStore, Store, StoreNames};
 use frames::{Lsn, Sink, Source};
-use model::Xid;
+use model::{OutOfMemory, Xid};
+use snapshot::Watch;
 use spooled::{Clock, Config, Devices, End, Outcome, Tables, read_all, run_over};
 use std::alloc::Global;
 use std::marker::Brand;
+use std::sync::atomic::AtomicBool;
 use std::sync::{Condvar, Mutex, Wait};
 use std::thread::Threads;
 use worker::{Gate, Job, PostNames};
@@ -35,9 +41,11 @@ use worker::{Gate, Job, PostNames};
 /// come: as many at once as `config` has workers, and gates there are. A streamed transaction more is
 /// applied at its commit. Commits keep the stream's order. Open work is undone before the answer.
 ///
+/// Each watcher has turns meanwhile, in a thread of its own, and one more behind the end.
+///
 /// The start tables must be those of the catalog. It is `run_with_workers` with devices of its own: what
 /// it sends is said there.
-pub fn run<R, S, W, C, G>(
+pub fn run<R, S, W, C, G, V>(
     rt: &R,
     alloc: Global,
     reader: S,
@@ -46,6 +54,7 @@ pub fn run<R, S, W, C, G>(
     start: Tables,
     config: &Config,
     gates: Vec<G>,
+    watchers: Vec<V>,
     clock: C,
 ) -> Outcome
 where
@@ -54,18 +63,28 @@ where
     W: Sink + Drop,
     C: Clock + Drop,
     G: Gate + Drop + Send,
+    V: Watch + Drop + Send,
     requires { start.schema ≡ map keys_of catalog.now }
-    ensures { (after : DeviceState) × RunsBy (min config.now.workers (length gates.items)) catalog.now config.now start.rows
+    ensures { (after : DeviceState) × RunsBy (min config.now.workers (length gates.items)) (length watchers.items) catalog.now config.now start.rows
         (device_state (S.remaining reader) (W.contents writer) (C.told clock) (S.reads_left reader)
         (health (S.failures reader) (S.failed_last reader)) (health (W.failures writer) (W.failed_last writer)))
         after result }
 {
     let mut devices = Devices::new(reader, writer, clock);
-    run_with_workers(rt, alloc, &mut devices, catalog, start, config, gates)
+    run_with_workers(
+        rt,
+        alloc,
+        &mut devices,
+        catalog,
+        start,
+        config,
+        gates,
+        watchers,
+    )
 }
 
 /// `run` over devices that are looked at afterwards: what was read and sent.
-pub fn run_with_workers<R, S, W, C, G>(
+pub fn run_with_workers<R, S, W, C, G, V>(
     rt: &R,
     alloc: Global,
     devices: &mut Devices<S, W, C>,
@@ -73,6 +92,7 @@ pub fn run_with_workers<R, S, W, C, G>(
     start: Tables,
     config: &Config,
     mut gates: Vec<G>,
+    watchers: Vec<V>,
 ) -> Outcome
 where
     R: Threads + Wait + Sync,
@@ -80,16 +100,19 @@ where
     W: Sink,
     C: Clock,
     G: Gate + Drop + Send,
+    V: Watch + Drop + Send,
     requires { start.schema ≡ map keys_of catalog.now }
-    ensures { RunsBy (min config.now.workers (length gates.items)) catalog.now config.now start.rows devices.old devices.new result }
+    ensures { RunsBy (min config.now.workers (length gates.items)) (length watchers.items) catalog.now config.now start.rows devices.old devices.new result }
 {
     gates.truncate(config.workers);
-    if gates.is_empty() {
+    if gates.is_empty() && watchers.is_empty() {
         return run_over(alloc, devices, catalog, start, config);
     }
+    // Whoever counts the tables learns that their rows are valid.
+    let _ = start.len();
     match Store::new(alloc, start) {
-        Ok((store, line)) => run_store::<Brand, R, S, W, C, G>(
-            rt, alloc, devices, catalog, store, line, config, gates,
+        Ok((store, line)) => run_store::<Brand, R, S, W, C, G, V>(
+            rt, alloc, devices, catalog, store, line, config, gates, watchers,
         ),
         Err(start) => unread(alloc, start),
     }
@@ -110,7 +133,7 @@ fn unread(alloc: Global, start: Tables) -> Outcome
 }
 
 // A run on a store that has names.
-fn run_store<N, R, S, W, C, G>(
+fn run_store<N, R, S, W, C, G, V>(
     rt: &R,
     alloc: Global,
     devices: &mut Devices<S, W, C>,
@@ -119,6 +142,7 @@ fn run_store<N, R, S, W, C, G>(
     line: Line,
     config: &Config,
     gates: Vec<G>,
+    watchers: Vec<V>,
 ) -> Outcome
 where
     N: StoreNames + Send + Sync,
@@ -127,10 +151,12 @@ where
     W: Sink,
     C: Clock,
     G: Gate + Drop + Send,
+    V: Watch + Drop + Send,
     requires tickets { store.tickets ≡ N.tickets }
     requires line { store.line.name ≡ N.line }
     requires schema { store.schema ≡ N.schema }
     requires starts { store.world ≡ starting N.start }
+    requires valid { IsValid N.schema N.start }
     requires name { line.name ≡ N.line }
     requires none { line.list ≡ [] }
     requires keys { N.schema ≡ map keys_of catalog.now }
@@ -138,7 +164,7 @@ where
 {
     let store = SharedStore::<N>::new(store);
     match make_parts(alloc, gates.len(), config.ring) {
-        Ok(parts) => run_lanes::<N, Brand, R, S, W, C, G>(
+        Ok(parts) => run_lanes::<N, Brand, R, S, W, C, G, V>(
             rt,
             alloc,
             devices,
@@ -148,13 +174,14 @@ where
             config.spool,
             parts,
             gates,
+            watchers,
         ),
         Err(_) => shut(store, line, 0, End::OutOfMemory),
     }
 }
 
 // A run by lanes that have names.
-fn run_lanes<N, L, R, S, W, C, G>(
+fn run_lanes<N, L, R, S, W, C, G, V>(
     rt: &R,
     alloc: Global,
     devices: &mut Devices<S, W, C>,
@@ -164,6 +191,7 @@ fn run_lanes<N, L, R, S, W, C, G>(
     spool: u64,
     parts: Vec<Parts<N>>,
     gates: Vec<G>,
+    watchers: Vec<V>,
 ) -> Outcome
 where
     N: StoreNames + Send + Sync,
@@ -173,9 +201,11 @@ where
     W: Sink,
     C: Clock,
     G: Gate + Drop + Send,
+    V: Watch + Drop + Send,
     requires name { line.name ≡ N.line }
     requires none { line.list ≡ [] }
     requires keys { N.schema ≡ map keys_of catalog.now }
+    requires valid { IsValid N.schema N.start }
     requires fresh { All IsFresh parts.items }
     requires rings { (i : ℕ) → i < length parts.items → slice_index_or (map ring_of parts.items) i no_name ≡ L.ring i }
     requires posts { (i : ℕ) → i < length parts.items → slice_index_or (map post_of parts.items) i no_name ≡ L.post i }
@@ -183,16 +213,17 @@ where
 {
     let desks = make_desks::<Job<N, L>>(alloc, gates.len());
     let places = Places::<N, L, G>::new(alloc, parts, gates);
-    match (desks, places) {
-        (Ok(desks), Ok(places)) => run_places(
-            rt, alloc, devices, catalog, store, line, spool, desks, places,
+    let audience = Audience::new(alloc, watchers);
+    match (desks, places, audience) {
+        (Ok(desks), Ok(places), Ok(audience)) => run_places(
+            rt, alloc, devices, catalog, store, line, spool, desks, places, audience,
         ),
         _ => shut(store, line, 0, End::OutOfMemory),
     }
 }
 
 // A run for which all memory was taken, by a worker for each desk.
-fn run_places<N, L, R, S, W, C, G>(
+fn run_places<N, L, R, S, W, C, G, V>(
     rt: &R,
     alloc: Global,
     devices: &mut Devices<S, W, C>,
@@ -202,6 +233,7 @@ fn run_places<N, L, R, S, W, C, G>(
     spool: u64,
     desks: Vec<Desk<Job<N, L>>>,
     places: Places<N, L, G>,
+    audience: Audience<V>,
 ) -> Outcome
 where
     N: StoreNames + Send + Sync,
@@ -211,10 +243,12 @@ where
     W: Sink,
     C: Clock,
     G: Gate + Drop + Send,
+    V: Watch + Drop + Send,
     requires name { line.name ≡ N.line }
     requires none { line.list ≡ [] }
     requires free { All IsFree places.lanes.items }
     requires keys { N.schema ≡ map keys_of catalog.now }
+    requires valid { IsValid N.schema N.start }
     ensures { IsRunByWorkers (setting (length desks.items) spool catalog.now) N.start devices.old devices.new result }
 {
     let Places {
@@ -228,17 +262,34 @@ where
         changed: Condvar::new(),
         seats,
         bell: Bell::new(),
+        refused: AtomicBool::new(false),
     };
-    let opening = Opening { line, lanes, given };
-    let (ending, line, position) = lead_beside(
-        rt, alloc, devices, catalog, spool, &desks, &shop, opening,
+    let Audience {
+        watches,
+        origin,
+        publisher,
+        loader,
+        ..
+    } = audience;
+    let watching = Watching::new(origin);
+    let opening = Opening {
+        line,
+        lanes,
+        given,
+        positions: Positions::new(&watching.origin, publisher),
+        watching: &watching,
+    };
+    let watchers = make_watchers(rt, alloc, &shop.store, &watching.origin, loader, watches);
+    let (end, line, position) = lead_beside(
+        rt, alloc, devices, catalog, spool, &desks, &shop, opening, watchers,
     );
     let Shop { store, .. } = shop;
-    shut(store.into_inner(), line, position, ending.decided)
+    shut(store.into_inner(), line, position, end)
 }
 
-// Leads a run while its workers work. Answers its end, the line, and the position that the commits reach.
-fn lead_beside<N, L, R, S, W, C, G>(
+// Leads a run while its workers work and others watch. Answers its end, the line, and the position that
+// the commits reach.
+fn lead_beside<N, L, R, S, W, C, G, V>(
     rt: &R,
     alloc: Global,
     devices: &mut Devices<S, W, C>,
@@ -246,8 +297,9 @@ fn lead_beside<N, L, R, S, W, C, G>(
     spool: u64,
     desks: &[Desk<Job<N, L>>],
     shop: &Shop<N, L, G>,
-    opening: Opening<N, L>,
-) -> (Ending, Line, Lsn)
+    opening: Opening<'_, N, L>,
+    watchers: Result<Vec<Watcher<'_, N, V>>, OutOfMemory>,
+) -> (End, Line, Lsn)
 where
     N: StoreNames + Send + Sync,
     L: PostNames + Send + Sync,
@@ -256,13 +308,17 @@ where
     W: Sink,
     C: Clock,
     G: Gate + Drop + Send,
+    V: Watch + Drop + Send,
     requires name { opening.line.name ≡ N.line }
     requires none { opening.line.list ≡ [] }
+    requires unpublished { opening.positions ≡ [] }
     requires free { All IsFree opening.lanes.items }
     requires keys { N.schema ≡ map keys_of catalog.now }
+    requires valid { IsValid N.schema N.start }
     ensures name { result.1.name ≡ N.line }
     ensures ends { Leaves (setting (length desks.now) spool catalog.now) N.start devices.old devices.new result.1.list result.2 result.0 }
 {
+    let watching = opening.watching;
     let leader = Leader {
         alloc,
         devices,
@@ -270,9 +326,9 @@ where
         spool,
         opening,
     };
-    let (devices, ending, line, position) = beside(rt, desks, shop, leader);
+    let (devices, end, line, position) = beside(rt, desks, shop, watching, watchers, leader);
     take_again(devices);
-    (ending, line, position)
+    (end, line, position)
 }
 
 // The devices are their caller's again, as they were left.
@@ -287,15 +343,17 @@ struct Leader<'a, N: StoreNames, L: PostNames, S: Source, W: Sink, C: Clock> {
     devices: &'a mut Devices<S, W, C>,
     catalog: &'a Catalog,
     spool: u64,
-    opening: Opening<N, L>,
+    opening: Opening<'a, N, L>,
 }
 
-// The line of a new store, and lanes to which nothing was given.
+// The line of a new store, lanes to which nothing was given, and what is told to those who watch.
 #[derive(Drop)]
-struct Opening<N: StoreNames, L: PostNames> {
+struct Opening<'a, N: StoreNames, L: PostNames> {
     line: Line,
     lanes: Vec<Lane<N, L>>,
     given: Vec<(Xid, u64)>,
+    positions: Positions<'a>,
+    watching: &'a Watching,
 }
 
 impl<'a, N, L, S, W, C, G> Leading<Job<N, L>, Shop<N, L, G>> for Leader<'a, N, L, S, W, C>
@@ -308,14 +366,14 @@ where
     G: Gate + Drop,
 {
     ghost use Rattle.std.specs.Prelude.{◌≡◌, [], All, map};
-    ghost use Rattle.model.specs.Rows.{keys_of};
+    ghost use Rattle.model.specs.Rows.{keys_of, IsValid};
     ghost use Rattle.leader.specs.Lanes.{IsFree};
     ghost use Rattle.leader.specs.WithWorkers.{setting, Leaves};
 
-    type Left = (&'a mut Devices<S, W, C>, Ending, Line, Lsn);
+    type Left = (&'a mut Devices<S, W, C>, End, Line, Lsn);
 
-    ghost can_lead = { λ l n. (l.opening.line.name ≡ N.line) × (l.opening.line.list ≡ []) × All IsFree l.opening.lanes.items
-        × (N.schema ≡ map keys_of l.catalog.now) };
+    ghost can_lead = { λ l n. (l.opening.line.name ≡ N.line) × (l.opening.line.list ≡ []) × (l.opening.positions ≡ [])
+        × All IsFree l.opening.lanes.items × (N.schema ≡ map keys_of l.catalog.now) × IsValid N.schema N.start };
 
     ghost lead_gives = { λ l n left. (left.0.ghost_name ≡ l.devices.ghost_name) × (left.2.name ≡ N.line)
         × Leaves (setting n l.spool l.catalog.now) N.start l.devices.now left.0.now left.2.list left.3 left.1 };
@@ -325,8 +383,8 @@ where
         rt: &R,
         desks: &[Desk<Job<N, L>>],
         shop: &Shop<N, L, G>,
-        serving: usize,
-    ) -> (&'a mut Devices<S, W, C>, Ending, Line, Lsn) {
+        has_all: bool,
+    ) -> (&'a mut Devices<S, W, C>, End, Line, Lsn) {
         let Leader {
             alloc,
             devices,
@@ -334,21 +392,16 @@ where
             spool,
             opening,
         } = self;
-        let (ending, line, position) = lead_all(
-            rt, alloc, devices, catalog, spool, desks, shop, opening, serving,
+        let (end, line, position) = lead_all(
+            rt, alloc, devices, catalog, spool, desks, shop, opening, has_all,
         );
-        (devices, ending, line, position)
+        (devices, end, line, position)
     }
 }
 
-/// How a run ended: what the leader proposed, and what was decided once all workers had given up.
-#[derive(Clone, Copy)]
-pub struct Ending {
-    pub proposed: End,
-    pub decided: End,
-}
-
-// Reads the stream to its end, if all workers could be started, and leaves.
+// Reads the stream to its end, if all threads could be started. Once the workers have given up, decides
+// how the run ends and undoes what is open, before anybody else gets the store; then tells the end to
+// those who watch.
 fn lead_all<'a, N, L, R, S, W, C, G>(
     rt: &'a R,
     alloc: Global,
@@ -357,9 +410,9 @@ fn lead_all<'a, N, L, R, S, W, C, G>(
     spool: u64,
     desks: &'a [Desk<Job<N, L>>],
     shop: &'a Shop<N, L, G>,
-    opening: Opening<N, L>,
-    serving: usize,
-) -> (Ending, Line, Lsn)
+    opening: Opening<'a, N, L>,
+    has_all: bool,
+) -> (End, Line, Lsn)
 where
     N: StoreNames,
     L: PostNames,
@@ -370,26 +423,44 @@ where
     G: Gate + Drop,
     requires name { opening.line.name ≡ N.line }
     requires none { opening.line.list ≡ [] }
+    requires unpublished { opening.positions ≡ [] }
     requires free { All IsFree opening.lanes.items }
     requires keys { N.schema ≡ map keys_of catalog.now }
+    requires valid { IsValid N.schema N.start }
     ensures name { result.1.name ≡ N.line }
     ensures ends { Leaves (setting (length desks.now) spool catalog.now) N.start devices.old devices.new result.1.list result.2 result.0 }
 {
-    let Opening { line, lanes, given } = opening;
-    let transactions = Transactions::new(rt, shop, desks, line, lanes, given);
+    let Opening {
+        line,
+        lanes,
+        given,
+        positions,
+        watching,
+    } = opening;
+    let transactions = Transactions::new(rt, shop, desks, line, lanes, given, positions);
     let mut lead = Lead::new(alloc, catalog, desks.len(), spool, transactions);
-    let ending = lead_stream(alloc, devices, &mut lead, serving == desks.len());
-    let (line, position) = lead.into_line();
-    (ending, line, position)
+    let proposed = lead_stream(alloc, devices, &mut lead, has_all);
+    let (left, position) = lead.into_left();
+    let Left {
+        mut line,
+        begun,
+        lanes,
+        given,
+    } = left;
+    let mut store = shop.store.lock(rt);
+    let end = finish(&mut *store, &mut line, begun, lanes, &given, proposed);
+    drop(store);
+    watching.tell_end(rt);
+    (end, line, position)
 }
 
-// How a leader ends a run. It reads nothing where a worker could not be started.
+// The end that the stream proposes. Nothing is read where a thread could not be started.
 fn lead_stream<N, L, R, S, W, C, G>(
     alloc: Global,
     devices: &mut Devices<S, W, C>,
     lead: &mut Lead<'_, N, L, R, G>,
-    are_serving: bool,
-) -> Ending
+    has_all: bool,
+) -> End
 where
     N: StoreNames,
     L: PostNames,
@@ -399,20 +470,16 @@ where
     C: Clock,
     G: Gate + Drop,
     requires { IsLeadAtStart (led lead.old.stream lead.old.transactions) }
-    ensures { (g : Setting) (rows : Rows) → IsLeadAt g rows (led lead.old.stream lead.old.transactions) start_progress → LeadEnds g rows devices.old devices.new (led lead.new.stream lead.new.transactions) result }
+    ensures { (g : Setting) (rows : Rows) → IsLeadAt g rows (led lead.old.stream lead.old.transactions) start_progress
+        → IsRunOver g (IsLeadAt g rows) (HasLedTo g rows) devices.old devices.new (led lead.new.stream lead.new.transactions) result }
 {
-    if !are_serving {
-        return Ending {
-            proposed: End::OutOfMemory,
-            decided: End::OutOfMemory,
-        };
+    if !has_all {
+        return End::OutOfMemory;
     }
-    let proposed = match read_all(alloc, devices, lead) {
+    match read_all(alloc, devices, lead) {
         Ok(()) => End::Clean,
         Err(end) => end,
-    };
-    let decided = lead.leave(proposed);
-    Ending { proposed, decided }
+    }
 }
 
 // What a run leaves: all that is still open is undone.

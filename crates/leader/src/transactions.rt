@@ -3,23 +3,23 @@ ghost use Rattle.std.specs.Prelude.{◌≡◌, ◌≢◌, ◌<◌, ◌++◌, ◌
 ghost use Rattle.model.specs.Named.{NamesTables};
 ghost use Rattle.model.specs.declared.item.Item.TheVariants.{Last, Change as ChangeItem, Touch as TouchItem};
 ghost use Rattle.tokens.specs.Lists.{open_list};
-ghost use Rattle.engine.specs.Events.{last_end};
-ghost use Rattle.engine.specs.declared.events.LineEvent.TheVariants.{Opened as WasOpened};
+ghost use Rattle.engine.specs.Events.{ends_in, last_end};
+ghost use Rattle.engine.specs.declared.events.LineEvent.TheVariants.{Opened as WasOpened, Committed as WasCommitted};
 ghost use Rattle.session.specs.Answers.{IsOfTables};
-ghost use Rattle.leader.specs.Lanes.{own_item, done_by, IsFree, IsHome};
+ghost use Rattle.leader.specs.Lanes.{own_item, done_by, IsFree, IsHome, AreCounted};
 ghost use Rattle.leader.specs.Standing.{own_by, goes_by, items_by, with_done, with_wanted, IsUndone, Tries, IsStoreEnd, IsStopEnd, IsBegun, IsHandedOut, IsGiven, IsApplied, IsTaken, IsMet, IsCommitted, CommitsGiven, CommitsOwn, HasDoneAll, HasTried, IsAborted};
-ghost use Rattle.leader.specs.Threads.{Decides};
 
 use crate::ends::{end_of_fault, end_of_stop};
-use crate::lanes::Lane;
+use crate::lanes::{Lane, is_last};
+use crate::positions::Positions;
 use crate::shop::Shop;
 use crew::Desk;
-use engine::{Acted, Line, Stop, StoreNames, Ticket};
+use engine::{Acted, Line, SharedStore, Stop, StoreNames, Ticket};
 use model::{Change, CommitInfo, Item, Xid};
 use spooled::End;
 use std::alloc::Global;
 use std::marker::Model;
-use std::sync::Wait;
+use std::sync::{MutexGuard, Wait};
 use worker::{Collected, Gate, Job, PostNames, WorkItem};
 
 /// The open transactions of a run, and the line of its store.
@@ -29,6 +29,8 @@ use worker::{Collected, Gate, Job, PostNames, WorkItem};
 /// aborts. A clause sees how many tables the store has, what its line tells, which transaction goes by
 /// each lane with the items that were given to it, and what the leader's own has done. What can't be,
 /// such as an item of a transaction that isn't open, ends a run as memory that was refused.
+///
+/// The position behind each commit is published, once that stands and the store's lock was let go.
 #[derive(Drop)]
 pub struct Transactions<'a, N: StoreNames, L: PostNames, R: Wait, G: Gate + Drop> {
     rt: &'a R,
@@ -37,23 +39,25 @@ pub struct Transactions<'a, N: StoreNames, L: PostNames, R: Wait, G: Gate + Drop
     desks: &'a [Desk<Job<N, L>>],
     line: Line,
     lanes: Vec<Lane<N, L>>,
-    /// Of each lane the transaction that goes by it, and how many items were given to it; zeros where
-    /// none does.
+    /// Of each lane how many items were given to its transaction, as the lane tells it.
     given: Vec<(Xid, u64)>,
     /// The transaction between Begin and Commit, or one that was spooled while it commits.
     begun: Option<Ticket>,
+    /// Tells those who watch how far the line has come.
+    positions: Positions<'a>,
 }
 
 impl<'a, N: StoreNames, L: PostNames, R: Wait, G: Gate + Drop> Model
     for Transactions<'a, N, L, R, G> {
-    ghost use Rattle.std.specs.Prelude.{length};
+    ghost use Rattle.std.specs.Prelude.{◌≡◌, length};
+    ghost use Rattle.engine.specs.Events.{ends_in};
     ghost use Rattle.leader.specs.Standing.{Standing, standing, HasNames};
 
     ghost Value = { Standing };
 
     ghost view = { λ t. standing (length N.schema) t.line.list t.lanes.items t.begun };
 
-    ghost invariant = { λ t. HasNames N.line N.tickets t.line t.begun };
+    ghost invariant = { λ t. HasNames N.line N.tickets t.line t.begun × (t.positions ≡ ends_in t.line.list) };
 }
 
 /// What a run leaves of its open transactions, once all workers have given up: the store's line, the
@@ -76,9 +80,11 @@ impl<'a, N: StoreNames, L: PostNames, R: Wait, G: Gate + Drop> Transactions<'a, 
         line: Line,
         lanes: Vec<Lane<N, L>>,
         given: Vec<(Xid, u64)>,
+        positions: Positions<'a>,
     ) -> Transactions<'a, N, L, R, G>
         requires name { line.name ≡ N.line }
         requires none { line.list ≡ [] }
+        requires unpublished { positions ≡ [] }
         ensures { result ≡ record { tables = length N.schema; line = []; lanes = map goes_by lanes.items; begun = None } }
     {
         Transactions {
@@ -90,20 +96,12 @@ impl<'a, N: StoreNames, L: PostNames, R: Wait, G: Gate + Drop> Transactions<'a, 
             lanes,
             given,
             begun: None,
+            positions,
         }
     }
 
-    /// Its line.
-    pub fn into_line(self) -> Line
-        ensures name { result.name ≡ N.line }
-        ensures list { result.list ≡ self.entry.line }
-    {
-        let Transactions { line, .. } = self;
-        line
-    }
-
     /// What it leaves. It tells all workers to give up and waits until they have; that they do, they
-    /// must still be working, or have been waited for by `leave`.
+    /// must still be working.
     pub fn into_left(self) -> Left<N, L>
         ensures name { result.line.name ≡ N.line }
         ensures list { result.line.list ≡ self.entry.line }
@@ -111,6 +109,7 @@ impl<'a, N: StoreNames, L: PostNames, R: Wait, G: Gate + Drop> Transactions<'a, 
         ensures begun { option_map own_by result.begun ≡ self.entry.begun }
         ensures lanes { map goes_by result.lanes.items ≡ self.entry.lanes }
         ensures home { All IsHome result.lanes.items }
+        ensures given { AreCounted self.entry.lanes result.given.items }
     {
         let Transactions {
             rt,
@@ -118,29 +117,17 @@ impl<'a, N: StoreNames, L: PostNames, R: Wait, G: Gate + Drop> Transactions<'a, 
             desks,
             line,
             mut lanes,
-            given,
+            mut given,
             begun,
             ..
         } = self;
         bring_home(rt, shop, desks, &mut lanes);
+        tell_given(&lanes, &mut given);
         Left {
             line,
             begun,
             lanes,
             given,
-        }
-    }
-
-    /// Ends a run: tells all workers to give up and waits until they have. Answers the end, which is
-    /// a clash's where the input was over, and a worker's change had clashed.
-    pub fn leave(&mut self, end: End) -> End
-        ensures decides { Decides end result }
-        ensures same { self.new ≡ self.old }
-    {
-        bring_home(self.rt, self.shop, self.desks, &mut self.lanes);
-        match (end, self.stop()) {
-            (End::Clean, Some(stop)) => end_of_stop(stop),
-            _ => end,
         }
     }
 
@@ -175,7 +162,7 @@ impl<'a, N: StoreNames, L: PostNames, R: Wait, G: Gate + Drop> Transactions<'a, 
             return Err(End::OutOfMemory);
         };
         self.lay_out(index, xid)?;
-        self.count(index, xid, 0);
+        self.note(index);
         Ok(())
     }
 
@@ -215,11 +202,15 @@ impl<'a, N: StoreNames, L: PostNames, R: Wait, G: Gate + Drop> Transactions<'a, 
     }
 
     // Notes how many items were given to the transaction of a lane.
-    fn count(&mut self, index: usize, xid: Xid, items: u64)
+    fn note(&mut self, index: usize)
         ensures { self.new ≡ self.old }
     {
+        let Some(lane) = self.lanes.get(index) else {
+            return;
+        };
+        let told = lane.given();
         if let Some(given) = self.given.get_mut(index) {
-            *given = (xid, items);
+            *given = told;
         }
     }
 
@@ -262,9 +253,7 @@ impl<'a, N: StoreNames, L: PostNames, R: Wait, G: Gate + Drop> Transactions<'a, 
         ensures err { IfErr result IsStopEnd }
     {
         self.post(index, xid, item)?;
-        if let Some(given) = self.given.get_mut(index) {
-            given.1 = given.1.saturating_add(1);
-        }
+        self.note(index);
         Ok(())
     }
 
@@ -342,6 +331,9 @@ impl<'a, N: StoreNames, L: PostNames, R: Wait, G: Gate + Drop> Transactions<'a, 
             let rung = self.shop.bell.rung(self.rt);
             if self.try_change(ticket, sub, change)? {
                 return Ok(());
+            }
+            if self.shop.was_refused() {
+                return Err(End::OutOfMemory);
             }
             self.shop.bell.wait_past(self.rt, rung);
         }
@@ -474,6 +466,7 @@ impl<'a, N: StoreNames, L: PostNames, R: Wait, G: Gate + Drop> Transactions<'a, 
         }
         match store.stop_held(&self.line, xid, self.given.as_slice()) {
             Ok(holder) => Err(End::HeldKey { xid, holder }),
+            Err(_) if self.shop.was_refused() => Err(End::OutOfMemory),
             Err(_) => Ok(()),
         }
     }
@@ -502,16 +495,23 @@ impl<'a, N: StoreNames, L: PostNames, R: Wait, G: Gate + Drop> Transactions<'a, 
         if !lane.has(xid) {
             return Err(End::OutOfMemory);
         }
-        let mut store = self.shop.store.lock(self.rt);
+        let store = self.shop.store.lock(self.rt);
         if let Some(stop) = store.stop() {
             return Err(end_of_stop(stop));
         }
         let Some(ticket) = lane.take_done() else {
             return Err(End::OutOfMemory);
         };
-        store.commit(&mut self.line, ticket, info);
-        self.shop.changed.notify_all();
-        self.count(index, 0, 0);
+        commit_in(
+            self.rt,
+            store,
+            self.shop,
+            &mut self.line,
+            &mut self.positions,
+            ticket,
+            info,
+        );
+        self.note(index);
         Ok(())
     }
 
@@ -529,13 +529,20 @@ impl<'a, N: StoreNames, L: PostNames, R: Wait, G: Gate + Drop> Transactions<'a, 
             self.begun = Some(ticket);
             return Err(End::OutOfMemory);
         }
-        let mut store = self.shop.store.lock(self.rt);
+        let store = self.shop.store.lock(self.rt);
         if let Some(stop) = store.stop() {
             self.begun = Some(ticket);
             return Err(end_of_stop(stop));
         }
-        store.commit(&mut self.line, ticket, info);
-        self.shop.changed.notify_all();
+        commit_in(
+            self.rt,
+            store,
+            self.shop,
+            &mut self.line,
+            &mut self.positions,
+            ticket,
+            info,
+        );
         Ok(())
     }
 
@@ -584,7 +591,7 @@ impl<'a, N: StoreNames, L: PostNames, R: Wait, G: Gate + Drop> Transactions<'a, 
         };
         store.abort(&mut self.line, ticket);
         self.shop.changed.notify_all();
-        self.count(index, 0, 0);
+        self.note(index);
         Ok(())
     }
 }
@@ -599,6 +606,7 @@ fn open_in<N: StoreNames, L: PostNames, R: Wait, G: Gate + Drop>(
 ) -> Result<Ticket, End>
     requires { line.old.name ≡ N.line }
     ensures name { line.new.name ≡ line.old.name }
+    ensures ends { ends_in line.new.list ≡ ends_in line.old.list }
     ensures ok { OnOk result (line.new.list ≡ line.old.list ++ WasOpened xid ∷ []) }
     ensures ticket { IfOk result (λ ticket. ticket ≡ open_list N.tickets xid []) }
     ensures same { OnErr result (line.new.list ≡ line.old.list) }
@@ -609,6 +617,40 @@ fn open_in<N: StoreNames, L: PostNames, R: Wait, G: Gate + Drop>(
         Ok(ticket) => Ok(ticket),
         Err(fault) => Err(end_of_fault(fault, store.stop())),
     }
+}
+
+// Commits a transaction. It publishes the position behind it, once the lock was let go.
+fn commit_in<N: StoreNames, L: PostNames, R: Wait, G: Gate + Drop>(
+    rt: &R,
+    mut store: MutexGuard<'_, SharedStore<N>>,
+    shop: &Shop<N, L, G>,
+    line: &mut Line,
+    positions: &mut Positions<'_>,
+    ticket: Ticket,
+    info: CommitInfo,
+)
+    requires name { line.old.name ≡ N.line }
+    requires ticket { ticket.name ≡ N.tickets }
+    requires rising { last_end line.old.list < info.end }
+    requires published { positions.old ≡ ends_in line.old.list }
+    ensures name { line.new.name ≡ line.old.name }
+    ensures appended { line.new.list ≡ line.old.list ++ WasCommitted ticket.number (done_by ticket).items info ∷ [] }
+    ensures published { positions.new ≡ ends_in line.new.list }
+{
+    store.commit(line, ticket, info);
+    shop.changed.notify_all();
+    let commits = count_commits(&*store);
+    drop(store);
+    positions.publish(rt, line, commits, info.end);
+}
+
+// How many transactions were committed.
+fn count_commits<N: StoreNames>(store: &SharedStore<N>) -> u64
+    ensures { result ≡ length (ends_in store.now.line.list) }
+{
+    // Whoever counts the tables learns that the commits are those of the line.
+    let _count = store.table_count();
+    store.journal().len() as u64
 }
 
 // Tells the worker of a lane to give up, and wakes it if it waits for a cell.
@@ -669,9 +711,13 @@ fn bring_back<N: StoreNames, L: PostNames, R: Wait, G: Gate + Drop>(
     unreachable!()
 }
 
-// Whether this says that the transaction's commit was read.
-fn is_last(item: &Item) -> bool
-    ensures { MatchBool result (item.now ≡ Last) (item.now ≢ Last) }
+// Tells of each lane how many items were given to its transaction. The list has room for all lanes, so it
+// takes no memory.
+fn tell_given<N: StoreNames, L: PostNames>(lanes: &[Lane<N, L>], given: &mut Vec<(Xid, u64)>)
+    ensures { AreCounted (map goes_by lanes.now) given.new.items }
 {
-    matches!(item, Item::Last)
+    given.clear();
+    for lane in lanes {
+        let _ = given.push(lane.given());
+    }
 }

@@ -1,10 +1,9 @@
-use Rattle.std.proofs.Common.{◌≡◌, Option, Some, [], ◌∷◌, sym, ap, subst, ◌∙◌}
-use Rattle.std.specs.Prelude.{option_map}
+use Rattle.std.proofs.Common.{◌≡◌, Option, Some, sym, ap, subst, ◌∙◌}
 use Rattle.tokens.specs.Lists.{OpenList}
 use Rattle.engine.specs.declared.events.Event.{Event}
 use Rattle.engine.specs.declared.answers.Stop.{Stop}
 use Rattle.engine.specs.Answers.{TellsWhatStopped}
-use Rattle.leader.specs.Ending.{holding, TellsNoted}
+use Rattle.leader.specs.Standing.{own_by}
 use Rattle.leader.proofs.Deciding.{clashed_there}
 use Rattle.leader.proofs.ending.clash_of.Goals as goal
 
@@ -12,11 +11,8 @@ use Rattle.leader.proofs.ending.clash_of.Goals as goal
 pub returns-then-xid-clause-noted : goal.returns-then-xid-clause-noted
 returns-then-xid-clause-noted g c =
     let w = c.args.store.now.world in
-    let ticket = c.in_ok-ticket.ticket in
-    let xid = c.in-Clash.xid in
-    let clash = c.in-Clash.clash in
-    let number : ticket.number ≡ xid = ap (λ (t : OpenList Event). t.number) (sym c.wants-wants.ensures.ticket) ∙ sym c.xid.ensures ∙ c.if-xid.true in
-    subst (λ (slot : Option (OpenList Event)). TellsNoted w (option_map holding slot ∷ []) (Some clash)) (sym c.in_ok-ticket.was)
-    (clashed_there w (holding ticket) xid clash
+    let ticket = c.args.ticket.now in
+    let number : ticket.number ≡ c.in-Clash.xid = ap (λ (t : OpenList Event). t.number) (sym c.wants-wants.ensures.ticket) ∙ sym c.xid.ensures ∙ c.if-xid.true in
+    clashed_there w (own_by ticket) c.in-Clash.xid c.in-Clash.clash
     (subst (λ (stop : Option Stop). TellsWhatStopped stop w.stopped) (c.in_ok-stop.was ∙ ap (λ (stop : Stop). Some stop) c.in-Clash.is) c.requires.stop)
-    number (sym c.wants-wants.ensures.wants ∙ c.if-wants.true))
+    number (sym c.wants-wants.ensures.wants ∙ c.if-wants.true)

@@ -1,9 +1,15 @@
-use Rattle.std.proofs.Common.{◌≡◌, None, length, sym, ap, subst}
-use Rattle.std.specs.Prelude.{All}
+use Rattle.std.proofs.Common.{◌≡◌, ◌∷◌, None, length, sym, ap, subst, ◌∙◌}
+use Rattle.std.specs.Prelude.{List, All, map, option_map}
 use Rattle.std.proofs.lemmas.List.Elements.{All-map}
-use Rattle.leader.specs.Standing.{Standing, goes_by}
+use Rattle.model.specs.Rows.{Schema, IsValid}
+use Rattle.engine.specs.declared.events.LineEvent.{LineEvent}
+use Rattle.engine.specs.Events.{commits_in}
+use Rattle.leader.specs.Lanes.{AreCounted}
+use Rattle.leader.specs.Standing.{Standing, own_by, goes_by}
 use Rattle.leader.specs.Threads.{led}
+use Rattle.leader.specs.Ending.{holds_in, HasFinished}
 use Rattle.leader.specs.WithWorkers.{setting}
+use Rattle.leader.proofs.Leaving.{has_left}
 use Rattle.leader.proofs.threads.lead_all.Goals as goal
 
 pub new-lead-requires-clause-lanes : goal.new-lead-requires-clause-lanes
@@ -11,13 +17,22 @@ new-lead-requires-clause-lanes g c =
     subst (All (λ goes. goes ≡ None)) (sym (ap (λ (t : Standing). t.lanes) c.new-transactions.ensures))
     (All-map (λ goes. goes ≡ None) goes_by c.args.opening.lanes.items (λ k d lt. (c.requires.free k d lt).0))
 
-pub lead_stream-ending-requires : goal.lead_stream-ending-requires
-lead_stream-ending-requires g c = (setting (length c.args.desks.now) c.args.spool c.args.catalog.now, g.N.StoreNames.start, c.new-lead.ensures g.N.StoreNames.start)
+pub lead_stream-proposed-requires : goal.lead_stream-proposed-requires
+lead_stream-proposed-requires g c = (setting (length c.args.desks.now) c.args.spool c.args.catalog.now, g.N.StoreNames.start, c.new-lead.ensures g.N.StoreNames.start)
 
 pub returns-clause-ends : goal.returns-clause-ends
-returns-clause-ends g c = record {
-  led = led c.lead_stream-ending.new.lead.stream c.lead_stream-ending.new.lead.transactions;
-  ends = c.lead_stream-ending.ensures (setting (length c.args.desks.now) c.args.spool c.args.catalog.now) g.N.StoreNames.start (c.new-lead.ensures g.N.StoreNames.start);
-  told = c.into_line-line.ensures.list;
-  reached = c.into_line-line.ensures.position;
-}
+returns-clause-ends g c =
+    let s = setting (length c.args.desks.now) c.args.spool c.args.catalog.now in
+    let start = g.N.StoreNames.start in
+    let read = c.lead_stream-proposed in
+    let l = led read.new.lead.stream read.new.lead.transactions in
+    let left = c.into_left-left.result.0 in
+    let left_so = c.into_left-left.ensures in
+    let end = c.finish-end in
+    has_left s start c.args.devices.now read.new.devices l read.result end.result (read.ensures s start (c.new-lead.ensures start))
+    (subst (λ (keys : Schema). IsValid keys start) c.requires.keys c.requires.valid) left.begun left.lanes.items c.deref.result.now
+    left_so.begun left_so.lanes left_so.home end.ensures.keeps (subst (AreCounted read.new.lead.transactions.lanes) (sym c.deref.ensures.value) left_so.given)
+    (subst (λ (keys : Schema). HasFinished keys start read.new.lead.transactions.line (option_map own_by left.begun ∷ map holds_in left.lanes.items) c.deref.result.now read.result end.result) c.requires.keys
+    (subst (λ (events : List LineEvent). HasFinished g.N.StoreNames.schema start events (option_map own_by left.begun ∷ map holds_in left.lanes.items) c.deref.result.now read.result end.result) left_so.list
+    end.ensures.finished))
+    end.new.line.list c.into_left-left.result.1 (end.ensures.commits ∙ ap commits_in left_so.list) left_so.position

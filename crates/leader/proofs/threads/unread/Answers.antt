@@ -1,6 +1,4 @@
-use Rattle.std.proofs.Common.{refl, ap}
-use Rattle.std.specs.Prelude.{map}
-use Rattle.engine.specs.Engine.{entry_in}
+use Rattle.std.proofs.Common.{refl}
 use Rattle.leader.proofs.Leaving.{shut_at_start}
 use Rattle.leader.proofs.threads.unread.Goals as goal
 

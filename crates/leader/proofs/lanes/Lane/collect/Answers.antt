@@ -1,9 +1,9 @@
-use Rattle.std.proofs.Common.{◌≡◌, Some, sym, ap, subst, ◌∙◌}
+use Rattle.std.proofs.Common.{◌≡◌, Option, Some, sym, ap, subst, ◌∙◌}
 use Rattle.tokens.specs.Half.{Half}
 use Rattle.worker.specs.declared.post.PostEvent.{PostEvent}
 use Rattle.worker.specs.Working.{IsInStep}
-use Rattle.leader.specs.Lanes.{Laned, laned, ComesBack}
-use Rattle.leader.proofs.Giving.{going_xid, came_back, job_doing, home_lane}
+use Rattle.leader.specs.Lanes.{Given, Laned, laned, IsCounted, ComesBack}
+use Rattle.leader.proofs.Giving.{going_xid, came_back, goes_still, job_doing, home_lane}
 use Rattle.leader.proofs.lanes.Lane.collect.Goals as goal
 
 pub invariant_of-self : goal.invariant_of-self
@@ -12,12 +12,16 @@ invariant_of-self g c =
     let job = c.own_job-job.result in
     let met = c.collect-collected in
     let number : job.lane ≡ l.number = c.own_job-job.ensures.lane ∙ sym (ap (λ (s : Laned). s.number) c.self.view_is) in
-    let given = c.own_job-job.ensures.goes in
-    home_lane (g.L.LaneNames.ring l.number) g.N.StoreNames.tickets l.token c.split-ticket.result.1 job c.split-ticket.result.0 c.split-ticket.ensures.ticket c.split-ticket.ensures.taker
-    (subst (λ n. IsInStep (g.L.LaneNames.ring n) job) number c.split-ticket.ensures.step)
-    (g.L.PostNames.post l.number) l.xid met.new.token met.result.1 met.result.0 c.self.invariant.name met.ensures.begun
-    (given.2 ∙ going_xid l.xid l.token.list l.taker l.back given.0 (ap (λ (s : Laned). s.goes) c.self.view_is ∙ given.1))
-    met.ensures.start.takes met.ensures.start.acked met.ensures.acked met.ensures.next met.ensures.all.0
+    let given = c.own_job-job.ensures.goes in (
+      home_lane (g.L.LaneNames.ring l.number) g.N.StoreNames.tickets l.token c.split-ticket.result.1 job c.split-ticket.result.0 c.split-ticket.ensures.ticket c.split-ticket.ensures.taker
+          (subst (λ n. IsInStep (g.L.LaneNames.ring n) job) number c.split-ticket.ensures.step)
+          (g.L.PostNames.post l.number) l.xid met.new.token met.result.1 met.result.0 c.self.invariant.0.name met.ensures.begun
+          (given.2 ∙ going_xid l.xid l.token.list l.taker l.back given.0 (ap (λ (s : Laned). s.goes) c.self.view_is ∙ given.1))
+          met.ensures.start.takes met.ensures.start.acked met.ensures.acked met.ensures.next met.ensures.all.0,
+      subst (λ (goes : Option Given). IsCounted goes (l.xid, l.count))
+          (goes_still l.number l.xid l.token.list l.taker l.back c.args.self.now c.self.view_is met.result.1 c.split-ticket.result.0 met.new.token.list given.0 given.1 c.own_job-job.ensures.away
+          (ap (λ (h : Half PostEvent). h.list) met.ensures.begun)) c.self.invariant.1,
+    )
 
 pub returns : goal.returns
 returns g c =

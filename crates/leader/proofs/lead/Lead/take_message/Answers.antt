@@ -110,7 +110,7 @@ returns-in_err-take-in-Item g c = λ s rows p at.
     takes_err s rows (led (record c.args.self.now.stream { session = c.admit.new.self }) c.take.new.self) p c.args.payload.now c.from_residual-in_err-take-in-Item.result c.in_err-take-in-Item.field-0.0 c.from_residual-in_err-take-in-Item.ensures.1
     (stops_item s rows (led c.args.self.now.stream c.args.self.now.transactions) (led (record c.args.self.now.stream { session = c.admit.new.self }) c.take.new.self) p c.args.payload.now t.message t.state c.in-Item.xid c.in-Item.item c.in_err-take-in-Item.field-0.0 at t.admits
     (keeps_on s p.state t.state t.told c.in_ok-admit.field-0 at.named t.tells t.within t.says (subst IsNoCommit (sym c.in-Item.is) tt))
-    refl refl refl (handed_on s p.state t.state t.told c.in-Item.xid c.in-Item.item t.tells t.within (subst (Says t.told) c.in-Item.is t.says)) c.in_err-take-in-Item.ensures.err)
+    t.represents.alone refl refl refl (handed_on s p.state t.state t.told c.in-Item.xid c.in-Item.item t.tells t.within (subst (Says t.told) c.in-Item.is t.says)) c.in_err-take-in-Item.ensures.err)
 
 pub returns-in_err-commit-in-Commit : goal.returns-in_err-commit-in-Commit
 returns-in_err-commit-in-Commit g c = λ s rows p at.

@@ -1,0 +1,279 @@
+-- From what a leader's open transactions show as a run ends to what is in hand.
+use Rattle.std.proofs.Common.{◌≡◌, ◌≢◌, ℕ, ◌-◌, ◌^◌, ◌<◌, Bool, true, false, List, [], ◌∷◌, ◌++◌, length, get_or, Option, Some, None, refl, sym, ap, subst, ◌∙◌, inl, inr, arith, append-nil, eq-eqb}
+use Rattle.std.specs.Prelude.{◌⊎◌, map, All, IfSome, MatchOption, Contains, option_map, if◌then◌else◌, slice_index_or}
+use Rattle.std.specs.Cmp.{unsigned_tied}
+use Rattle.std.specs.FinMap.{get, nat_cmp-IsAntisymmetric}
+use Rattle.std.proofs.lemmas.Bool.{false≢true}
+use Rattle.std.proofs.lemmas.Map.Views.{tells_apart}
+use Rattle.std.proofs.lemmas.Grind.{flat_map-append}
+use Rattle.std.proofs.lemmas.List.Elements.{All-contains, All-contains_itself, All-cons, All-map, All-push, Contains-append_left, Contains-append_right, Contains-append_cases, Contains-push, Contains-push_cases}
+use Rattle.model.specs.declared.item.Item.{Item}
+use Rattle.tokens.specs.Lists.{OpenList}
+use Rattle.world.specs.World.{Opened}
+use Rattle.engine.specs.declared.events.Event.{Event}
+use Rattle.engine.specs.Events.{commits_in, is_open_in, is_same}
+use Rattle.frames.specs.declared.item.CopyItem.{CopyItem}
+use Rattle.session.specs.Sized.{item_of}
+use Rattle.session.specs.State.{Way, Worker, Spooled, Open, State, Setting}
+use Rattle.course.specs.Runs.{CommitsNext}
+use Rattle.course.specs.Threads.{work_of, done_by_commit}
+use Rattle.leader.specs.Lanes.{Given, Laned, IsDoing, IsHome, IsCounted, AreCounted}
+use Rattle.leader.specs.Standing.{Own, Standing, own_by, goes_by, items_of, items_by, own_of}
+use Rattle.leader.specs.Threads.{KeepsToWork, IsLeft, AreLeft}
+use Rattle.leader.specs.Ending.{in_lane, holds_in, KeepsGiven, Hand, AreInHand, AreGiven}
+
+none_is : {X : Type 0} (x : X) → None ≡ Some x → ⊥
+none_is x e = cc
+
+-- ---- one transaction
+
+module _ (g : Setting) (s : State) (rest : List CopyItem) (xid : ℕ) where
+  -- it is open in the state where something of it is there
+  by_lane : (found : Option Open) (list : List (List Item)) (own : Option Opened) (b : Bool) → IsLeft g s rest xid found list own b
+      → (items : List Item) → Contains list items → (o : Open) × (found ≡ Some o) × (o.way ≡ Worker) × (items ≡ map item_of o.items)
+  by_lane (Some o) (first ∷ []) None true is items among =
+      (o, refl, is.0, elim (Contains-push_cases [] first items among) [ inl earlier ↦ absurd (nowhere items earlier) | inr here ↦ sym here ∙ is.1 ])
+    where
+      nowhere : (items : List Item) → Contains [] items → ⊥
+      nowhere items there = omega (arith, there.1)
+  by_lane None [] None false is items among = let no : ⊥ = omega (arith, among.1) in absurd no
+  by_lane (Some o) [] (Some done) true is items among = let no : ⊥ = omega (arith, among.1) in absurd no
+  by_lane (Some o) [] None false is items among = let no : ⊥ = omega (arith, among.1) in absurd no
+  by_lane _ _ _ _ is items among = absurd is
+
+  by_own : (found : Option Open) (list : List (List Item)) (own : Option Opened) (b : Bool) → IsLeft g s rest xid found list own b
+      → (done : Opened) → own ≡ Some done
+      → (o : Open) × (found ≡ Some o) × IsDoing done (work_of xid o.way o.items) × (o.way ≡ Spooled → CommitsNext g s rest xid)
+  by_own (Some o) [] (Some mine) true is done e =
+      (o, refl, subst (λ (d : Opened). IsDoing d (work_of xid o.way o.items)) (same_opened mine done e) is.1, is.2)
+    where
+      same_opened : (a c : Opened) → Some a ≡ Some c → a ≡ c
+      same_opened a c is = cc
+  by_own None [] None false is done e = absurd (none_is done e)
+  by_own (Some o) (first ∷ []) None true is done e = absurd (none_is done e)
+  by_own (Some o) [] None false is done e = absurd (none_is done e)
+  by_own _ _ _ _ is done e = absurd is
+
+  -- what is open by the line goes by a lane, or is the leader's own
+  by_line : (found : Option Open) (list : List (List Item)) (own : Option Opened) (b : Bool) → IsLeft g s rest xid found list own b
+      → b ≡ true → ((items : List Item) × Contains list items) ⊎ ((done : Opened) × (own ≡ Some done))
+  by_line (Some o) (first ∷ []) None true is e = inl (first, Contains-push [] first)
+  by_line (Some o) [] (Some done) true is e = inr (done, refl)
+  by_line None [] None false is e = absurd (false≢true e)
+  by_line (Some o) [] None false is e = absurd (false≢true e)
+  by_line _ _ _ _ is e = absurd is
+
+  -- and so is each that isn't spooled
+  by_state : (found : Option Open) (list : List (List Item)) (own : Option Opened) (b : Bool) → IsLeft g s rest xid found list own b
+      → (o : Open) → found ≡ Some o → o.way ≢ Spooled → b ≡ true
+  by_state (Some p) (first ∷ []) None true is o e not = refl
+  by_state (Some p) [] (Some done) true is o e not = refl
+  by_state None [] None false is o e not = absurd (none_is o e)
+  by_state (Some p) [] None false is o e not = absurd (not (sym (ap (λ (q : Open). q.way) (same p o e)) ∙ is))
+    where
+      same : (a c : Open) → Some a ≡ Some c → a ≡ c
+      same a c is = cc
+  by_state _ _ _ _ is o e not = absurd is
+
+-- ---- among lanes
+
+none_among : {X : Type 0} (x : X) → Contains [] x → ⊥
+none_among x is = omega (arith, is.1)
+
+among_cases : {X : Type 0} (y : X) (xs : List X) (x : X) → Contains (y ∷ xs) x → (y ≡ x) ⊎ Contains xs x
+among_cases y xs x is = elim (Contains-append_cases (y ∷ []) xs x is) [
+  | inl first ↦ elim (Contains-push_cases [] y x first) [ inl earlier ↦ absurd (none_among x earlier) | inr here ↦ inl here ]
+  | inr later ↦ inr later
+]
+
+among_map : {X Y : Type 0} (f : X → Y) (xs : List X) (x : X) → Contains xs x → Contains (map f xs) (f x)
+among_map f [] x is = absurd (none_among x is)
+among_map f (y ∷ xs) x is = elim (among_cases y xs x is) [
+  | inl here ↦ Contains-append_left (f y ∷ []) (map f xs) (f x) (subst (λ z. Contains (f y ∷ []) (f z)) here (Contains-push [] (f y)))
+  | inr later ↦ Contains-append_right (f y ∷ []) (map f xs) (f x) (among_map f xs x later)
+]
+
+map_among : {X Y : Type 0} (f : X → Y) (xs : List X) (z : Y) → Contains (map f xs) z → (x : X) × Contains xs x × (f x ≡ z)
+map_among f [] z is = absurd (none_among z is)
+map_among f (y ∷ xs) z is = elim (among_cases (f y) (map f xs) z is) [
+  | inl here ↦ (y, Contains-append_left (y ∷ []) xs y (Contains-push [] y), here)
+  | inr later ↦ let there = map_among f xs z later in (there.0, Contains-append_right (y ∷ []) xs there.0 there.1, there.2)
+]
+
+module _ (xid : ℕ) where
+  items_first : (slot : Option Given) (slots : List (Option Given)) → items_by xid (slot ∷ slots) ≡ items_of xid slot ++ items_by xid slots
+  items_first slot slots =
+      flat_map-append (items_of xid) (slot ∷ []) slots ∙ ap (λ is. is ++ items_by xid slots) (append-nil (items_of xid slot))
+
+  -- the items of a lane's transaction are among those of it
+  items_here : (slots : List (Option Given)) (slot : Option Given) → Contains slots slot → (items : List Item) → Contains (items_of xid slot) items
+      → Contains (items_by xid slots) items
+  items_here [] slot among items is = absurd (none_among slot among)
+  items_here (first ∷ slots) slot among items is =
+      subst (λ is. Contains is items) (sym (items_first first slots))
+      (elim (among_cases first slots slot among) [
+        | inl here ↦ Contains-append_left (items_of xid first) (items_by xid slots) items (subst (λ o. Contains (items_of xid o) items) (sym here) is)
+        | inr later ↦ Contains-append_right (items_of xid first) (items_by xid slots) items (items_here slots slot later items is)
+      ])
+
+  in_slot : (slot : Option Given) (items : List Item) → Contains (items_of xid slot) items → (given : Given) × (slot ≡ Some given) × (given.xid ≡ xid)
+  in_slot None items is = absurd (none_among items is)
+  in_slot (Some given) items is =
+      elim (is_same xid given.xid) as (λ b. is_same xid given.xid ≡ b → Contains (if b then given.items ∷ [] else []) items
+      → (other : Given) × (Some given ≡ Some other) × (other.xid ≡ xid)) [
+        | true ↦ λ same there. (given, refl, sym (tells_apart nat_cmp-IsAntisymmetric xid given.xid same))
+        | false ↦ λ same there. absurd (none_among items there)
+      ] refl is
+
+  -- and they are those of a lane
+  lane_here : (slots : List (Option Given)) (items : List Item) → Contains (items_by xid slots) items
+      → (given : Given) × Contains slots (Some given) × (given.xid ≡ xid)
+  lane_here [] items is = absurd (none_among items is)
+  lane_here (first ∷ slots) items is =
+      elim (Contains-append_cases (items_of xid first) (items_by xid slots) items (subst (λ is. Contains is items) (items_first first slots) is)) [
+        | inl here ↦
+            let at = in_slot first items here in
+            (at.0, subst (λ o. Contains (first ∷ slots) o) at.1 (Contains-append_left (first ∷ []) slots first (Contains-push [] first)), at.2)
+        | inr later ↦
+            let there = lane_here slots items later in
+            (there.0, Contains-append_right (first ∷ []) slots (Some there.0) there.1, there.2)
+      ]
+
+is_itself : (xid : ℕ) → is_same xid xid ≡ true
+is_itself xid = unsigned_tied xid xid ∙ eq-eqb xid xid refl
+
+-- ---- all that is in hand
+
+module _ (g : Setting) (s : State) (rest : List CopyItem) (t : Standing) (begun : Option (OpenList Event)) (lanes : List Laned) (held : AreLeft g s rest t)
+    (commits : commits_in t.line ≡ map done_by_commit s.past) (begun_is : option_map own_by begun ≡ t.begun) (lanes_are : map goes_by lanes ≡ t.lanes)
+    (home : All IsHome lanes) (keeps : All KeepsGiven lanes) where
+  abbrev hand : Hand
+  hand = option_map own_by begun ∷ map holds_in lanes
+
+  abbrev IsKept : Own → Type 0
+  IsKept h = (o : Open) × (get s.transactions h.xid ≡ Some o) × KeepsToWork g s rest h.xid o h.done
+
+  worker_work : (xid : ℕ) (o : Open) → o.way ≡ Worker → map item_of o.items ≡ work_of xid o.way o.items
+  worker_work xid o is = sym (ap (λ (way : Way). work_of xid way o.items) is)
+
+  not_spooled : (o : Open) → o.way ≡ Worker → o.way ≡ Spooled → ⊥
+  not_spooled o is e = let no : Worker ≡ Spooled = sym is ∙ e in cc
+
+  -- of a lane
+  lane_kept : (goes : Option Given) (back : Option Opened) → Contains t.lanes goes
+      → MatchOption goes (Unit {0}) (λ given. MatchOption back (Unit {0}) (λ done. IsDoing done given.items)) → IfSome (in_lane goes back) IsKept
+  lane_kept None back among keeps = tt
+  lane_kept (Some given) None among keeps = tt
+  lane_kept (Some given) (Some done) among keeps =
+      let mine : Contains (items_of given.xid (Some given)) given.items =
+      subst (λ (b : Bool). Contains (if b then given.items ∷ [] else []) given.items) (sym (is_itself given.xid)) (Contains-push [] given.items) in
+      let is = by_lane g s rest given.xid (get s.transactions given.xid) (items_by given.xid t.lanes) (own_of given.xid t.begun) (is_open_in t.line given.xid) (held given.xid)
+      given.items (items_here given.xid t.lanes (Some given) among given.items mine) in (
+        is.0,
+        is.1,
+        (subst (IsDoing done) (is.3 ∙ worker_work given.xid is.0 is.2) keeps, λ e. absurd (not_spooled is.0 is.2 e)),
+      )
+
+  -- of the leader's own
+  own_kept : (ticket : Option (OpenList Event)) → option_map own_by ticket ≡ t.begun → IfSome (option_map own_by ticket) IsKept
+  own_kept None is = tt
+  own_kept (Some ticket) is =
+      let mine : own_of ticket.number t.begun ≡ Some (own_by ticket).done =
+      ap (own_of ticket.number) (sym is) ∙ ap (λ (b : Bool). if b then Some (own_by ticket).done else None) (is_itself ticket.number) in
+      let o = by_own g s rest ticket.number (get s.transactions ticket.number) (items_by ticket.number t.lanes) (own_of ticket.number t.begun) (is_open_in t.line ticket.number)
+      (held ticket.number) (own_by ticket).done mine in
+      (o.0, o.1, (o.2, o.3))
+
+  lanes_kept : All (λ slot. IfSome slot IsKept) (map holds_in lanes)
+  lanes_kept = All-map (λ slot. IfSome slot IsKept) holds_in lanes (λ k d short.
+      let l = slice_index_or lanes k d in
+      lane_kept l.goes l.back
+      (subst (λ gs. Contains gs l.goes) lanes_are (among_map goes_by lanes l (All-contains_itself lanes k d short)))
+      (keeps k d short))
+
+  home_has : (goes : Option Given) (back : Option Opened) (given : Given) → goes ≡ Some given
+      → MatchOption goes (Unit {0}) (λ given. (done : Opened) × (back ≡ Some done)) → (done : Opened) × (in_lane goes back ≡ Some (record { xid = given.xid; done = done }))
+  home_has None back given e is = absurd (none_is given e)
+  home_has (Some other) back given e is =
+      (is.0, ap (in_lane (Some other)) is.1 ∙ ap (λ (o : Given). Some (record { xid = o.xid; done = is.0 })) (same other given e))
+    where
+      same : (a b : Given) → Some a ≡ Some b → a ≡ b
+      same a b is = cc
+
+  in_some_lane : (xid : ℕ) (items : List Item) → Contains (items_by xid t.lanes) items → (h : Own) × Contains hand (Some h) × (h.xid ≡ xid)
+  in_some_lane xid items among =
+      let there = lane_here xid t.lanes items among in
+      let lane = map_among goes_by lanes (Some there.0) (subst (λ gs. Contains gs (Some there.0)) (sym lanes_are) there.1) in
+      let has = home_has lane.0.goes lane.0.back there.0 lane.2 (All-contains IsHome lanes lane.0 home lane.1) in (
+        record { xid = there.0.xid; done = has.0 },
+        Contains-append_right (option_map own_by begun ∷ []) (map holds_in lanes) (Some (record { xid = there.0.xid; done = has.0 }))
+            (subst (Contains (map holds_in lanes)) has.1 (among_map holds_in lanes lane.0 lane.1)),
+        there.2,
+      )
+
+  in_own : (xid : ℕ) (ticket : Option (OpenList Event)) → option_map own_by ticket ≡ t.begun → (done : Opened) → own_of xid t.begun ≡ Some done
+      → (h : Own) × (option_map own_by ticket ≡ Some h) × (h.xid ≡ xid)
+  in_own xid None is done e = absurd (none_is done (ap (own_of xid) is ∙ e))
+  in_own xid (Some ticket) is done e = (
+    own_by ticket,
+    refl,
+    elim (is_same xid ticket.number) as (λ b. is_same xid ticket.number ≡ b → (if b then Some (own_by ticket).done else None) ≡ Some done → ticket.number ≡ xid) [
+      | true ↦ λ same there. sym (tells_apart nat_cmp-IsAntisymmetric xid ticket.number same)
+      | false ↦ λ same there. absurd (none_is done there)
+    ] refl (ap (own_of xid) is ∙ e),
+  )
+
+  pub in_hand : AreInHand g s rest t.line hand
+  in_hand = record {
+    commits = commits;
+    held = All-cons (λ slot. IfSome slot IsKept) (option_map own_by begun) (map holds_in lanes) (own_kept begun begun_is) lanes_kept;
+    all = λ xid is_open.
+        elim (by_line g s rest xid (get s.transactions xid) (items_by xid t.lanes) (own_of xid t.begun) (is_open_in t.line xid) (held xid) is_open) [
+          | inl lane ↦ in_some_lane xid lane.0 lane.1
+          | inr own ↦
+              let is = in_own xid begun begun_is own.0 own.1 in (
+                is.0,
+                subst (Contains hand) is.1 (Contains-append_left (option_map own_by begun ∷ []) (map holds_in lanes) (option_map own_by begun) (Contains-push [] (option_map own_by begun))),
+                is.2,
+              )
+        ];
+    streamed = λ xid o at not.
+        by_state g s rest xid (get s.transactions xid) (items_by xid t.lanes) (own_of xid t.begun) (is_open_in t.line xid) (held xid) o at not;
+  }
+
+-- ---- how many items were given
+
+module _ (g : Setting) (s : State) (rest : List CopyItem) (t : Standing) (held : AreLeft g s rest t) where
+  -- to the transaction of a lane, by what the lane counts
+  pub lane_given : (xid count : ℕ) (o : Open) (goes : Option Given) → Contains t.lanes goes → IsCounted goes (xid, count) → count < 2 ^ 64 - 1
+      → get s.transactions xid ≡ Some o → count ≡ length (work_of xid o.way o.items)
+  lane_given xid count o goes among counted short at =
+      let is = counted short in
+      let mine : Contains (items_of xid goes) is.0.items =
+      subst (λ (slot : Option Given). Contains (items_of xid slot) is.0.items) (sym is.1)
+      (subst (λ (n : ℕ). Contains (items_of n (Some is.0)) is.0.items) is.2
+      (subst (λ (b : Bool). Contains (if b then is.0.items ∷ [] else []) is.0.items) (sym (is_itself is.0.xid)) (Contains-push [] is.0.items))) in
+      let there = by_lane g s rest xid (get s.transactions xid) (items_by xid t.lanes) (own_of xid t.begun) (is_open_in t.line xid) (held xid)
+      is.0.items (items_here xid t.lanes goes among is.0.items mine) in
+      let same : there.0 ≡ o = same_open there.0 o (sym there.1 ∙ at) in
+      is.3 ∙ ap length (there.3 ∙ sym (ap (λ (way : Way). work_of xid way there.0.items) there.2) ∙ ap (λ (p : Open). work_of xid p.way p.items) same)
+    where
+      same_open : (p o : Open) → Some p ≡ Some o → p ≡ o
+      same_open p o e = cc
+
+  -- to each
+  pub are_given : (given : List (ℕ × ℕ)) → AreCounted t.lanes given → AreGiven s given
+  are_given given counted xid count o among short at =
+      let one = All-contains (λ (named : ℕ × ℕ). (goes : Option Given) × Contains t.lanes goes × IsCounted goes named) given (xid, count) counted among in
+      lane_given xid count o one.0 one.1 one.2 short at
+
+-- one count more is told, where there is room for it
+pub counted_one : (lanes : List Laned) (i : ℕ) (lane : Laned) (named : ℕ × ℕ) (given after : List (ℕ × ℕ)) (ok : Bool) → i < length lanes → lane ≡ get_or lanes i lane
+    → after ≡ (if ok then given ++ named ∷ [] else given) → AreCounted (map goes_by lanes) given → IsCounted lane.goes named → AreCounted (map goes_by lanes) after
+counted_one lanes i lane named given after false within is e counted one = subst (AreCounted (map goes_by lanes)) (sym e) counted
+counted_one lanes i lane named given after true within is e counted one =
+    subst (AreCounted (map goes_by lanes)) (sym e)
+    (All-push (λ (n : ℕ × ℕ). (goes : Option Given) × Contains (map goes_by lanes) goes × IsCounted goes n) given named counted (lane.goes, among_map goes_by lanes lane among, one))
+  where
+    among : Contains lanes lane
+    among = subst (Contains lanes) (sym is) (All-contains_itself lanes i lane within)

@@ -1,0 +1,137 @@
+// Those who watch a run, each with a thread and a reader of its own.
+//
+// A watcher has turns until it wants none or the run has ended, and one more behind the end. One that
+// wants none waits for the end without work. The leader tells the end; so a watcher's thread ends if its
+// turns do, and the leader ends the run.
+ghost use Rattle.std.specs.Prelude.{◌≡◌, []};
+ghost use Rattle.origin.specs.Commits.{commits_of};
+
+use crew::Bell;
+use engine::{SharedStore, StoreNames};
+use model::OutOfMemory;
+use origin::{Loader, Origin, Publisher};
+use snapshot::{Reader, Watch};
+use std::alloc::Global;
+use std::sync::{Mutex, Wait};
+use std::thread;
+
+/// Those who are to watch a run, and the position that it is to publish.
+#[derive(Drop)]
+pub struct Audience<V: Drop> {
+    pub watches: Vec<V>,
+    pub origin: Origin,
+    pub publisher: Publisher,
+    pub loader: Loader,
+    ghost published: { publisher ≡ commits_of origin [] },
+    ghost loaded: { loader ≡ commits_of origin [] },
+}
+
+impl<V: Drop> Audience<V> {
+    /// Nothing was published yet.
+    pub fn new(alloc: Global, watches: Vec<V>) -> Result<Audience<V>, OutOfMemory> {
+        let (origin, publisher, loader) = Origin::new(alloc)?;
+        Ok(Audience {
+            watches,
+            origin,
+            publisher,
+            loader,
+        })
+    }
+}
+
+/// Nobody watches: of a run without watchers.
+#[derive(Drop)]
+pub struct NoWatch;
+
+impl Watch for NoWatch {
+    fn turn<N: StoreNames, R: Wait>(&mut self, _rt: &R, _reader: &mut Reader<'_, N>) -> bool {
+        false
+    }
+}
+
+/// What a run shares with those who watch it, beside the store: the position that it publishes, and
+/// whether it has ended.
+#[derive(Drop)]
+pub struct Watching {
+    pub origin: Origin,
+    ended: Bell,
+}
+
+impl Watching {
+    /// It has not ended yet.
+    pub fn new(origin: Origin) -> Watching
+        ensures { result.origin ≡ origin }
+    {
+        Watching {
+            origin,
+            ended: Bell::new(),
+        }
+    }
+
+    /// Tells that the run has ended: no transaction is open.
+    pub fn tell_end<R: Wait>(&self, rt: &R) {
+        self.ended.ring(rt);
+    }
+
+    fn has_ended<R: Wait>(&self, rt: &R) -> bool {
+        self.ended.rung(rt) > 0
+    }
+
+    fn wait_end<R: Wait>(&self, rt: &R) {
+        self.ended.wait_past(rt, 0);
+    }
+}
+
+/// One who watches, with a reader of its own.
+#[derive(Drop)]
+pub struct Watcher<'a, N: StoreNames, V: Watch + Drop> {
+    watch: V,
+    reader: Reader<'a, N>,
+}
+
+/// A watcher of each. They have seen what was committed so far.
+pub fn make_watchers<'a, N: StoreNames, V: Watch + Drop, R: Wait>(
+    rt: &R,
+    alloc: Global,
+    store: &'a Mutex<SharedStore<N>>,
+    origin: &'a Origin,
+    loader: Loader,
+    watches: Vec<V>,
+) -> Result<Vec<Watcher<'a, N, V>>, OutOfMemory>
+    requires { loader.origin ≡ origin.now }
+{
+    let mut loader = loader;
+    let mut watchers = Vec::new(alloc);
+    for watch in watches {
+        let (own, others) = loader.split(origin);
+        loader = others;
+        let seen = store.lock(rt).watch();
+        let reader = Reader::new(store, seen, origin, own);
+        watchers.push(Watcher { watch, reader })?;
+    }
+    Ok(watchers)
+}
+
+/// Who is given turns by a thread.
+pub trait Turn {
+    /// A turn. True asks for another.
+    fn turn<R: Wait>(&mut self, rt: &R) -> bool;
+}
+
+impl<'a, N: StoreNames, V: Watch + Drop> Turn for Watcher<'a, N, V> {
+    fn turn<R: Wait>(&mut self, rt: &R) -> bool {
+        self.watch.turn(rt, &mut self.reader)
+    }
+}
+
+/// Gives a watcher its turns.
+pub fn give_turns<T: Turn + Drop, R: Wait>(rt: &R, watching: &Watching, mut watcher: T) {
+    for _ in rt.forever() {
+        if watching.has_ended(rt) || !watcher.turn(rt) {
+            break;
+        }
+        thread::yield_now();
+    }
+    watching.wait_end(rt);
+    let _ = watcher.turn(rt);
+}
