@@ -1,5 +1,5 @@
 -- How a command ends: its exit status, its line for standard error, and what it appended.
-use Rattle.std.specs.Prelude.{◌≡◌, ℕ, List, [], ◌++◌, ◌⊎◌, Ok, Err, IsUtf8, codes}
+use Rattle.std.specs.Prelude.{◌≡◌, ℕ, Bool, true, false, List, [], ◌++◌, ◌⊎◌, Ok, Err, IsUtf8, codes}
 use Rattle.std.specs.FinMap as finite
 use Rattle.catalog.specs.Definition.{Definition}
 use Rattle.catalog.specs.Catalog.{catalog_of}
@@ -10,8 +10,8 @@ use Rattle.spooled.specs.declared.end.End.TheVariants as ends
 use Rattle.spooled.specs.declared.outcome.Config.{Config}
 use Rattle.spooled.specs.declared.outcome.Outcome.{Outcome}
 use Rattle.spooled.specs.Devices.{DeviceState}
-use Rattle.spooled.specs.Run.{IsRun, spooling}
 use Rattle.spooled.specs.Report.{report_text}
+use Rattle.leader.specs.WithWorkers.{RunsBy}
 use Rattle.pgapply.specs.declared.execute.Ended.{Ended}
 
 -- ---- what is said
@@ -65,6 +65,11 @@ IsFault bytes fault = (¬ IsUtf8 bytes × (fault ≡ NotToml)) ⊎ (IsUtf8 bytes
 
 -- ---- how a command ends
 
+-- how many workers a command has: none where each streamed transaction is spooled
+abbrev pub workers_of : Bool → Config → ℕ
+workers_of true config = 0
+workers_of false config = config.workers
+
 -- The catalog is refused: no device was used, and nothing was appended.
 pub record IsRefused (bytes : List ℕ) (given left : DeviceState) (old new : List ℕ) (ended : Ended) : Type 0 where
   pub fault : CatalogFault
@@ -73,12 +78,12 @@ pub record IsRefused (bytes : List ℕ) (given left : DeviceState) (old new : Li
   pub unused : left ≡ given
   pub nothing : new ≡ old
 
--- The bytes are those of a catalog, and the stream was run from its tables, all empty.
-pub record HasRun (bytes : List ℕ) (config : Config) (given left : DeviceState) : Type 0 where
+-- The bytes are those of a catalog, and the stream was run from its tables, all empty, by so many workers; nobody watched.
+pub record HasRun (workers : ℕ) (bytes : List ℕ) (config : Config) (given left : DeviceState) : Type 0 where
   pub definitions : List Definition
   pub catalog : IsCatalog bytes definitions
   pub outcome : Outcome
-  pub run : IsRun (spooling definitions config) finite.empty given left outcome
+  pub run : RunsBy workers 0 definitions config finite.empty given left outcome
 
 -- The report of an outcome was appended.
 pub record IsTold (definitions : List Definition) (outcome : Outcome) (old new : List ℕ) (ended : Ended) : Type 0 where
@@ -86,8 +91,8 @@ pub record IsTold (definitions : List Definition) (outcome : Outcome) (old new :
   pub said : Says ended (end_status outcome.end) []
 
 -- The stream was run, and the report of what it left was appended.
-pub record HasReported (bytes : List ℕ) (config : Config) (given left : DeviceState) (old new : List ℕ) (ended : Ended) : Type 0 where
-  pub ran : HasRun bytes config given left
+pub record HasReported (workers : ℕ) (bytes : List ℕ) (config : Config) (given left : DeviceState) (old new : List ℕ) (ended : Ended) : Type 0 where
+  pub ran : HasRun workers bytes config given left
   pub told : IsTold ran.definitions ran.outcome old new ended
 
 -- Memory was refused, and nothing was appended.
@@ -100,13 +105,13 @@ abbrev pub Tells : List Definition → Outcome → List ℕ → List ℕ → End
 Tells definitions outcome old new ended = IsTold definitions outcome old new ended ⊎ HasNoMemory old new ended
 
 -- Memory was refused: before a device was used, or for the report of a run.
-pub record LacksMemory (bytes : List ℕ) (config : Config) (given left : DeviceState) (old new : List ℕ) (ended : Ended) : Type 0 where
-  pub when : (left ≡ given) ⊎ HasRun bytes config given left
+pub record LacksMemory (workers : ℕ) (bytes : List ℕ) (config : Config) (given left : DeviceState) (old new : List ℕ) (ended : Ended) : Type 0 where
+  pub when : (left ≡ given) ⊎ HasRun workers bytes config given left
   pub said : HasNoMemory old new ended
 
 -- The catalog was refused, the stream was run and reported, or memory was refused.
-abbrev pub Executes : List ℕ → Config → DeviceState → DeviceState → List ℕ → List ℕ → Ended → Type 0
-Executes bytes config given left old new ended =
+abbrev pub Executes : ℕ → List ℕ → Config → DeviceState → DeviceState → List ℕ → List ℕ → Ended → Type 0
+Executes workers bytes config given left old new ended =
     IsRefused bytes given left old new ended
-    ⊎ HasReported bytes config given left old new ended
-    ⊎ LacksMemory bytes config given left old new ended
+    ⊎ HasReported workers bytes config given left old new ended
+    ⊎ LacksMemory workers bytes config given left old new ended

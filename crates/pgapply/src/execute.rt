@@ -1,16 +1,21 @@
 // What each command runs on what it opened.
-ghost use Rattle.std.specs.Prelude.{◌≡◌, ◌≢◌, map, IfOk, IfErr};
+ghost use Rattle.std.specs.Prelude.{◌≡◌, ◌≢◌, map, length, IfOk, IfErr};
 ghost use Rattle.catalog.specs.declared.fault.CatalogFault.TheVariants as faults;
 ghost use Rattle.model.specs.Rows.{keys_of};
 ghost use Rattle.spooled.specs.Devices.{DeviceState, device_state, health};
-ghost use Rattle.pgapply.specs.Ending.{Says, IsCatalog, IsFault, Executes, Tells, end_status, fault_status, fault_line};
+ghost use Rattle.pgapply.specs.Ending.{Says, IsCatalog, IsFault, Executes, Tells, workers_of, end_status, fault_status, fault_line};
 
 use catalog::{Catalog, CatalogFault};
 use frames::{Sink, Source};
 use indexes::Tables;
-use leader::{Clock, Config, Devices, End, Outcome, report, run_over};
+use leader::{
+    Clock, Config, Devices, End, Gate, NoWatch, OutOfMemory, Outcome, Point, Xid, report, run_over,
+    run_with_workers,
+};
 use std::alloc::Global;
 use std::mem::ManuallyDrop;
+use std::sync::Wait;
+use std::thread::Threads;
 
 /// How a command ended.
 #[derive(Clone, Copy, Debug, PartialEq, Eq)]
@@ -29,10 +34,12 @@ const OUT_OF_MEMORY: Ended = Ended {
 /// Reads the catalog, runs the stream from empty tables and appends the report to `out`. It is
 /// `execute_over` with devices of its own: what it sends is said there.
 ///
-/// `spooled` asks that each streamed transaction is applied at its commit, which is so for now in any case.
-pub fn execute<R: Source + Drop, W: Sink + Drop, C: Clock + Drop>(
+/// Streamed transactions are applied while they come, by as many workers as `config` says; where
+/// `spooled` asks for it, each at its commit.
+pub fn execute<H, R, W, C>(
+    rt: &H,
     alloc: Global,
-    _spooled: bool,
+    spooled: bool,
     config: &Config,
     catalog: &[u8],
     reader: R,
@@ -40,26 +47,47 @@ pub fn execute<R: Source + Drop, W: Sink + Drop, C: Clock + Drop>(
     clock: C,
     out: &mut Vec<u8>,
 ) -> Ended
-    ensures { (left : DeviceState) × Executes catalog.now config.now
+where
+    H: Threads + Wait + Sync,
+    R: Source + Drop,
+    W: Sink + Drop,
+    C: Clock + Drop,
+    ensures { (left : DeviceState) × Executes (workers_of spooled config.now) catalog.now config.now
         (device_state (R.remaining reader) (W.contents writer) (C.told clock) (R.reads_left reader)
         (health (R.failures reader) (R.failed_last reader)) (health (W.failures writer) (W.failed_last writer)))
         left out.old.items out.new.items result }
 {
     let mut devices = Devices::new(reader, writer, clock);
-    execute_over(alloc, config, catalog, &mut devices, out)
+    execute_over(rt, alloc, spooled, config, catalog, &mut devices, out)
 }
 
 /// `execute` over devices that are looked at afterwards: what was read and sent.
-pub fn execute_over<R: Source, W: Sink, C: Clock>(
+pub fn execute_over<H, R, W, C>(
+    rt: &H,
     alloc: Global,
+    spooled: bool,
     config: &Config,
     catalog: &[u8],
     devices: &mut Devices<R, W, C>,
     out: &mut Vec<u8>,
 ) -> Ended
-    ensures { Executes catalog.now config.now devices.old devices.new out.old.items out.new.items result }
+where
+    H: Threads + Wait + Sync,
+    R: Source,
+    W: Sink,
+    C: Clock,
+    ensures { Executes (workers_of spooled config.now) catalog.now config.now devices.old devices.new out.old.items out.new.items result }
 {
-    execute_heard(alloc, config, catalog, devices, &mut Nobody, out)
+    execute_heard(
+        rt,
+        alloc,
+        spooled,
+        config,
+        catalog,
+        devices,
+        &mut Nobody,
+        out,
+    )
 }
 
 /// Hears why a command ended, while it is known. It is shown what there is, and can change nothing of it.
@@ -82,15 +110,23 @@ impl Hearer for Nobody {
 }
 
 /// `execute_over`, and somebody hears why it ends.
-pub fn execute_heard<R: Source, W: Sink, C: Clock, L: Hearer>(
+pub fn execute_heard<H, R, W, C, L>(
+    rt: &H,
     alloc: Global,
+    spooled: bool,
     config: &Config,
     catalog: &[u8],
     devices: &mut Devices<R, W, C>,
     hearer: &mut L,
     out: &mut Vec<u8>,
 ) -> Ended
-    ensures { Executes catalog.now config.now devices.old devices.new out.old.items out.new.items result }
+where
+    H: Threads + Wait + Sync,
+    R: Source,
+    W: Sink,
+    C: Clock,
+    L: Hearer,
+    ensures { Executes (workers_of spooled config.now) catalog.now config.now devices.old devices.new out.old.items out.new.items result }
 {
     let catalog = match read_catalog(alloc, catalog) {
         Ok(catalog) => catalog,
@@ -102,12 +138,39 @@ pub fn execute_heard<R: Source, W: Sink, C: Clock, L: Hearer>(
     let Ok(start) = Tables::empty(alloc, &catalog) else {
         return OUT_OF_MEMORY;
     };
-    let outcome = run_over(alloc, devices, &catalog, start, config);
+    let Ok(gates) = open_gates(alloc, config.workers) else {
+        return OUT_OF_MEMORY;
+    };
+    let outcome = if spooled {
+        run_over(alloc, devices, &catalog, start, config)
+    } else {
+        let watchers = Vec::<NoWatch>::new(alloc);
+        run_with_workers(rt, alloc, devices, &catalog, start, config, gates, watchers)
+    };
     hearer.hear_end(&catalog, &outcome);
     let ended = tell(alloc, &outcome, &catalog, out);
     // The process ends with its report: the memory goes back as a whole, not row by row.
     let _outcome = ManuallyDrop::new(outcome);
     ended
+}
+
+/// A gate at which no worker waits.
+#[derive(Drop)]
+struct OpenGate;
+
+impl Gate for OpenGate {
+    fn pass(&mut self, _xid: Xid, _at: Point) {}
+}
+
+/// One for each worker.
+fn open_gates(alloc: Global, workers: usize) -> Result<Vec<OpenGate>, OutOfMemory>
+    ensures { IfOk result (λ gates. length gates.items ≡ workers) }
+{
+    let mut gates = Vec::new(alloc);
+    for _ in 0..workers {
+        gates.push(OpenGate)?;
+    }
+    Ok(gates)
 }
 
 /// Appends the report of what a run left.

@@ -1,11 +1,14 @@
 // Applies a PostgreSQL logical replication stream to tables, and prints what they have in the end.
 //
 //     pgapply apply  --config F --stream F [--workers N] [--ring N] [--spool N] [--verbose] [--progress]
+//     pgapply follow --config F --connect A [--workers N] [--ring N] [--spool N] [--verbose] [--progress]
 //     pgapply replay --config F --stream F [--spool N] [--verbose] [--progress]
 //
-// Faults are found in this order: the command line, the catalog file, the stream file, the catalog,
-// the run, the output. `execute` is what both commands run on what they opened; this file opens the
-// files and prints. With `--verbose` or `--progress` the stream passes a `Trace` on its way to the run: the
+// Faults are found in this order: the command line, the catalog file, the stream file or the connection,
+// the catalog, the run, the output. `execute` is what each command runs on what it opened: `apply` and
+// `follow` with workers that apply streamed transactions while they come, `replay` without threads. This
+// file opens files and connections, and prints. With `--verbose` or `--progress` the stream passes a
+// `Trace` on its way to the run: the
 // run and its report are the same, and what is said beside them goes to standard error.
 #![tactic(auto)]
 
@@ -13,27 +16,32 @@ mod account;
 mod execute;
 mod options;
 mod progress;
+mod stream;
 mod system;
 #[cfg(test)]
 mod tests;
 
 use account::Account;
+use connection::Connection;
 use execute::{Ended, execute_heard, execute_over};
-use frames::{ReadSource, Source};
+use frames::{ReadSource, Source, WriteSink};
 use leader::Devices;
-use options::Options;
+use options::{Input, Options};
 use progress::Progress;
 use std::fs::File;
 use std::io;
 use std::io::{BufReader, Write};
 use std::process::ExitCode;
-use system::{Nowhere, SystemClock};
+use std::sync::Wait;
+use std::thread::Threads;
+use stream::{Stream, Updates};
+use system::SystemClock;
 use trace::{Trace, Watched};
 
 fn main(rt: HostRuntime) -> anyhow::Result<ExitCode> {
     let words: Vec<String> = std::env::args(&rt)?.collect(rt.alloc())?;
     match options::parse(rt.alloc(), words.as_slice()) {
-        Ok(options) => Ok(ExitCode::from(run(&rt, &options)?)),
+        Ok(options) => Ok(ExitCode::from(run(&rt, &rt, &options)?)),
         Err(error) => {
             error.print(&rt)?;
             Ok(ExitCode::from(if error.use_stderr() { 1 } else { 0 }))
@@ -41,37 +49,77 @@ fn main(rt: HostRuntime) -> anyhow::Result<ExitCode> {
     }
 }
 
-/// Runs a command and prints what it says. It answers the exit status.
-fn run(rt: &HostRuntime, options: &Options<'_>) -> io::Result<u8> {
+/// Runs a command and prints what it says. It answers the exit status. Workers are started by `threads`,
+/// which is the runtime too.
+fn run<T: Threads + Wait + Sync>(
+    rt: &HostRuntime,
+    threads: &T,
+    options: &Options<'_>,
+) -> io::Result<u8> {
     let catalog = match std::fs::read(rt, options.catalog) {
         Ok(catalog) => catalog,
         Err(error) => return cannot_open(rt, options, options.catalog, &error),
     };
-    let stream = match File::open(rt, options.stream) {
-        Ok(stream) => stream,
-        Err(error) => return cannot_open(rt, options, options.stream, &error),
-    };
+    let catalog = catalog.as_slice();
+    match options.input {
+        Input::File(path) => match File::open(rt, path) {
+            Ok(stream) => {
+                let stream = Stream::File(stream);
+                run_stream(rt, threads, options, catalog, stream, Updates::Nowhere)
+            }
+            Err(error) => cannot_open(rt, options, path, &error),
+        },
+        Input::Connection(address) => match connect(rt, address) {
+            Ok((stream, updates)) => run_stream(rt, threads, options, catalog, stream, updates),
+            Err(error) => cannot_connect(rt, options, address, &error),
+        },
+    }
+}
+
+/// What comes over a connection, and where its status updates go.
+fn connect(rt: &HostRuntime, address: &str) -> io::Result<(Stream, Updates)> {
+    let (read, written) = Connection::open(rt, address)?.into_ends()?;
+    Ok((Stream::Connection(read), Updates::Connection(written)))
+}
+
+/// `run` of a stream that is open, and its status updates.
+fn run_stream<T: Threads + Wait + Sync>(
+    rt: &HostRuntime,
+    threads: &T,
+    options: &Options<'_>,
+    catalog: &[u8],
+    stream: Stream,
+    updates: Updates,
+) -> io::Result<u8> {
     if options.verbose || options.progress {
-        return run_watched(rt, options, catalog.as_slice(), stream);
+        return run_watched(rt, threads, options, catalog, stream, updates);
     }
     let mut out = Vec::new(rt.alloc());
-    let mut devices = Devices::new(ReadSource::new(stream), Nowhere, SystemClock::new(rt));
+    let mut devices = Devices::new(
+        ReadSource::new(stream),
+        WriteSink::new(updates),
+        SystemClock::new(rt),
+    );
     let ended = execute_over(
+        threads,
         rt.alloc(),
+        options.spooled,
         &options.config,
-        catalog.as_slice(),
+        catalog,
         &mut devices,
         &mut out,
     );
     print(rt, options, out.as_slice(), ended)
 }
 
-/// `run` of a stream that is watched, with lines on standard error behind the report.
-fn run_watched(
+/// `run_stream` of a stream that is watched, with lines on standard error behind the report.
+fn run_watched<T: Threads + Wait + Sync>(
     rt: &HostRuntime,
+    threads: &T,
     options: &Options<'_>,
     catalog: &[u8],
-    stream: File,
+    stream: Stream,
+    updates: Updates,
 ) -> io::Result<u8> {
     let mut out = Vec::new(rt.alloc());
     let mut trace = Trace::new(rt.alloc());
@@ -79,9 +127,11 @@ fn run_watched(
     let mut account = Account::new(rt.alloc());
     let source = ReadSource::new(BufReader::new(rt.alloc(), stream)?);
     let watched = Watched::new(source, &mut trace, &mut progress, options.verbose);
-    let mut devices = Devices::new(watched, Nowhere, SystemClock::new(rt));
+    let mut devices = Devices::new(watched, WriteSink::new(updates), SystemClock::new(rt));
     let ended = execute_heard(
+        threads,
         rt.alloc(),
+        options.spooled,
         &options.config,
         catalog,
         &mut devices,
@@ -109,6 +159,17 @@ fn cannot_open(
     error: &io::Error,
 ) -> io::Result<u8> {
     eprintln!(rt; "pgapply: cannot open {path}")?;
+    say_why(rt, options, error)?;
+    Ok(1)
+}
+
+fn cannot_connect(
+    rt: &HostRuntime,
+    options: &Options<'_>,
+    address: &str,
+    error: &io::Error,
+) -> io::Result<u8> {
+    eprintln!(rt; "pgapply: cannot connect {address}")?;
     say_why(rt, options, error)?;
     Ok(1)
 }

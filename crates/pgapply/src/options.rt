@@ -5,6 +5,15 @@ use clap::{Arg, ArgAction, ArgMatches, Command, Error};
 use leader::Config;
 use std::alloc::{AllocError, Global};
 
+/// Where the stream comes from, as given.
+#[derive(Clone, Copy, Debug, PartialEq, Eq)]
+pub enum Input<'a> {
+    /// A file.
+    File(&'a str),
+    /// Whoever listens at this `HOST:PORT`, to whom status updates go back.
+    Connection(&'a str),
+}
+
 /// What a command line asks for.
 #[derive(Drop)]
 pub struct Options<'a> {
@@ -12,8 +21,7 @@ pub struct Options<'a> {
     pub spooled: bool,
     /// The catalog file, as given.
     pub catalog: &'a str,
-    /// The stream file, as given.
-    pub stream: &'a str,
+    pub input: Input<'a>,
     pub config: Config,
     /// Whether standard error says why and where a command ended.
     pub verbose: bool,
@@ -24,6 +32,9 @@ pub struct Options<'a> {
 const APPLY_EXAMPLE: &str =
     "Example:\n  pgapply apply --config accounts.toml --stream accounts.stream";
 
+const FOLLOW_EXAMPLE: &str =
+    "Example:\n  pgapply follow --config accounts.toml --connect localhost:5500";
+
 const REPLAY_EXAMPLE: &str =
     "Example:\n  pgapply replay --config accounts.toml --stream accounts.stream";
 
@@ -33,31 +44,20 @@ const NUMBERS: [&str; 3] = ["workers", "ring", "spool"];
 const STATUSES: &str = "\
 Rows, position and end are printed to standard output. Exit statuses:
   0  the stream was applied to its end
-  1  usage, a bad catalog, a file that can't be opened, or output that can't be written
+  1  usage, a bad catalog, a file or connection that can't be opened, or output that can't be written
   2  the stream is broken, or the connection's device failed
   3  a conflict: a row breaks a key
   4  memory was refused";
 
 /// The commands and their options.
 pub fn command<'a>(alloc: Global) -> Result<Command<'a>, AllocError> {
-    let apply = reading(alloc, "apply")?
-        .about("Apply a stream from a file; today as `replay` does")
-        .after_help(APPLY_EXAMPLE)
-        .arg(number(
-            alloc,
-            "workers",
-            "Threads that apply streamed transactions, 0 to 16; no effect yet",
-            ValueParser::unsigned(0, 16),
-            "2",
-        ))?
-        .arg(number(
-            alloc,
-            "ring",
-            "Items that wait for one of these threads, 1 to 1024; no effect yet",
-            ValueParser::unsigned(1, 1024),
-            "64",
-        ))?;
-    let replay = reading(alloc, "replay")?
+    let apply = with_workers(alloc, reading(alloc, "apply", stream_file(alloc))?)?
+        .about("Apply a stream from a file, streamed transactions while they come")
+        .after_help(APPLY_EXAMPLE);
+    let follow = with_workers(alloc, reading(alloc, "follow", address(alloc))?)?
+        .about("Apply a stream from a connection, and tell its sender how far it was applied")
+        .after_help(FOLLOW_EXAMPLE);
+    let replay = reading(alloc, "replay", stream_file(alloc))?
         .about("Apply a stream from a file, each streamed transaction at its commit")
         .after_help(REPLAY_EXAMPLE);
     Command::new(alloc, "pgapply")
@@ -66,22 +66,19 @@ pub fn command<'a>(alloc: Global) -> Result<Command<'a>, AllocError> {
         .after_help(STATUSES)
         .subcommand_required(true)
         .subcommand(apply)?
+        .subcommand(follow)?
         .subcommand(replay)
 }
 
-/// A command that reads a stream from a file.
-fn reading<'a>(alloc: Global, name: &'a str) -> Result<Command<'a>, AllocError> {
+/// A command that reads a stream from this input.
+fn reading<'a>(alloc: Global, name: &'a str, input: Arg<'a>) -> Result<Command<'a>, AllocError> {
     Command::new(alloc, name)
         .arg(file(
             alloc,
             "config",
             "The catalog: a TOML file that defines the tables",
         ))?
-        .arg(file(
-            alloc,
-            "stream",
-            "The stream: the CopyData bytes of a replication connection",
-        ))?
+        .arg(input)?
         .arg(number(
             alloc,
             "spool",
@@ -99,6 +96,44 @@ fn reading<'a>(alloc: Global, name: &'a str) -> Result<Command<'a>, AllocError> 
             "progress",
             "Say on standard error each second how far the stream was read, and at the end",
         ))
+}
+
+/// The numbers of a command whose streamed transactions have workers.
+fn with_workers<'a>(alloc: Global, command: Command<'a>) -> Result<Command<'a>, AllocError> {
+    command
+        .arg(number(
+            alloc,
+            "workers",
+            "Threads that apply streamed transactions, 0 to 16",
+            ValueParser::unsigned(0, 16),
+            "2",
+        ))?
+        .arg(number(
+            alloc,
+            "ring",
+            "Items that wait for one of these threads, 1 to 1024",
+            ValueParser::unsigned(1, 1024),
+            "64",
+        ))
+}
+
+fn stream_file<'a>(alloc: Global) -> Arg<'a> {
+    file(
+        alloc,
+        "stream",
+        "The stream: the CopyData bytes of a replication connection",
+    )
+}
+
+fn address<'a>(alloc: Global) -> Arg<'a> {
+    Arg::new(alloc, "connect")
+        .long("connect")
+        .value_name("A")
+        .help(
+            "The address: HOST:PORT of whoever sends the CopyData bytes of a replication connection",
+        )
+        .required(true)
+        .action(ArgAction::Set)
 }
 
 fn file<'a>(alloc: Global, name: &'a str, help: &'a str) -> Arg<'a> {
@@ -166,7 +201,10 @@ fn options_of<'a>(spooled: bool, given: &ArgMatches<'a>) -> Options<'a> {
     Options {
         spooled,
         catalog: given.get_str("config").unwrap_or(""),
-        stream: given.get_str("stream").unwrap_or(""),
+        input: match given.get_str("connect") {
+            Some(address) => Input::Connection(address),
+            None => Input::File(given.get_str("stream").unwrap_or("")),
+        },
         config: Config {
             workers: number_of(given, "workers").unwrap_or(0) as usize,
             ring: number_of(given, "ring").unwrap_or(1) as usize,

@@ -1,5 +1,4 @@
-// What a command needs of the system beside its files: a clock, and a sink for what nobody reads.
-use frames::{Failed, Sink};
+// What a command needs of the system beside what it opens: a clock.
 use leader::Clock;
 use std::rt::Clock as Host;
 use std::time::{Duration, SystemTime};
@@ -35,23 +34,5 @@ impl<H: Host> Clock for SystemClock<'_, H> {
             Some(since) => i64::try_from(since.as_micros()).unwrap_or(0),
             None => 0,
         }
-    }
-}
-
-/// Takes every byte and drops it: the status updates of a stream that comes from a file.
-#[derive(Drop)]
-pub struct Nowhere;
-
-impl Sink for Nowhere {
-    ghost use Rattle.std.specs.Prelude.{None, false};
-
-    ghost contents = { λ _. None };
-
-    ghost failures = { λ _. 0 };
-
-    ghost failed_last = { λ _. false };
-
-    fn write_some(&mut self, buf: &[u8]) -> Result<usize, Failed> {
-        Ok(buf.len())
     }
 }

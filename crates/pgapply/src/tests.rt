@@ -4,6 +4,7 @@ mod accounts;
 mod cases;
 mod command_line;
 mod devices;
+mod follow;
 mod progress;
 
 use crate::execute::{Ended, execute};
@@ -11,7 +12,9 @@ use cases::CASES;
 use frames::{Failed, Sink, Source};
 use leader::{Clock, Config};
 use std::alloc::Global;
+use std::sync::Wait;
 use std::test::Fail;
+use std::thread::Threads;
 
 const CATALOG: &str =
     "[[table]]\nnamespace = \"public\"\nname = \"accounts\"\nprimary = [\"id\"]\nunique = [[\"email\"]]\n[[table.column]]\nname = \"id\"\ntype = \"int\"\n[[table.column]]\nname = \"email\"\ntype = \"text\"\n[[table.column]]\nname = \"note\"\ntype = \"text\"\ndefault = \"x\"\n";
@@ -121,8 +124,10 @@ fn push_frame(stream: &mut Vec<u8>, payload: &[u8]) -> Result<(), Fail> {
     Ok(())
 }
 
-/// What is printed of a stream that comes in pieces of this length, and what is written back.
-fn printed(
+/// What is printed of a stream that comes in pieces of this length, and what is written back. Without
+/// workers each streamed transaction is spooled.
+fn printed<R: Threads + Wait + Sync>(
+    rt: &R,
     alloc: Global,
     stream: &[u8],
     size: usize,
@@ -143,8 +148,9 @@ fn printed(
         failed_last: false,
     };
     let ended = execute(
+        rt,
         alloc,
-        true,
+        config.workers == 0,
         config,
         CATALOG.as_bytes(),
         reader,
@@ -159,14 +165,22 @@ fn printed(
 fn streams_end_in_their_reports(rt: HostRuntime) -> Result<(), Fail> {
     for case in &CASES {
         let stream = framed(rt.alloc(), case.payloads)?;
-        let config = Config {
-            spool: case.spool,
-            ..CONFIG
-        };
-        let (ended, out, _) = printed(rt.alloc(), stream.as_slice(), usize::MAX, &config);
-        assert_eq!(rt; out.as_slice(), case.report.as_bytes(), "{}", case.name);
-        assert_eq!(rt; ended.status, case.status, "{}", case.name);
-        assert_eq!(rt; ended.line, "", "{}", case.name);
+        for workers in 0..if case.without_workers { 1 } else { 4 } {
+            let config = Config {
+                workers,
+                spool: case.spool,
+                ..CONFIG
+            };
+            let (ended, out, _) = printed(&rt, rt.alloc(), stream.as_slice(), usize::MAX, &config);
+            assert_eq!(rt;
+                out.as_slice(),
+                case.report.as_bytes(),
+                "{} by {workers}",
+                case.name
+            );
+            assert_eq!(rt; ended.status, case.status, "{} by {workers}", case.name);
+            assert_eq!(rt; ended.line, "", "{} by {workers}", case.name);
+        }
     }
     Ok(())
 }

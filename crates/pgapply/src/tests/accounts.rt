@@ -2,12 +2,14 @@
 use super::{CATALOG, CONFIG, Stopped, framed};
 use crate::account::Account;
 use crate::execute::execute_heard;
-use crate::system::Nowhere;
-use frames::ReadSource;
+use crate::stream::Updates;
+use frames::{ReadSource, WriteSink};
 use leader::Devices;
 use std::alloc::Global;
 use std::io::Cursor;
+use std::sync::Wait;
 use std::test::Fail;
+use std::thread::Threads;
 use trace::{Trace, Watched, Watcher};
 
 /// Says nothing.
@@ -19,16 +21,22 @@ impl Watcher for Quiet {
 }
 
 /// What is said of a run of these payloads.
-fn said(alloc: Global, payloads: &[&str]) -> Result<Account, Fail> {
+fn said<R: Threads + Wait + Sync>(
+    rt: &R,
+    alloc: Global,
+    payloads: &[&str],
+) -> Result<Account, Fail> {
     let mut out = Vec::new(alloc);
     let mut trace = Trace::new(alloc);
     let mut account = Account::new(alloc);
     let source = ReadSource::new(Cursor::new(framed(alloc, payloads)?));
     let mut quiet = Quiet;
     let watched = Watched::new(source, &mut trace, &mut quiet, true);
-    let mut devices = Devices::new(watched, Nowhere, Stopped(5));
+    let mut devices = Devices::new(watched, WriteSink::new(Updates::Nowhere), Stopped(5));
     let _ended = execute_heard(
+        rt,
         alloc,
+        true,
         &CONFIG,
         CATALOG.as_bytes(),
         &mut devices,
@@ -65,7 +73,7 @@ fn why_and_where_a_run_ended(rt: HostRuntime) -> Result<(), Fail> {
         ),
     ];
     for (payloads, want) in &cases {
-        let account = said(rt.alloc(), *payloads)?;
+        let account = said(&rt, rt.alloc(), *payloads)?;
         assert_eq!(rt; account.text(), *want);
     }
     Ok(())

@@ -1,5 +1,6 @@
 // What a command line asks for: the limits of its numbers, and what stands where none was given.
 use crate::options;
+use crate::options::Input;
 use leader::Config;
 use std::alloc::Global;
 use std::test::Fail;
@@ -60,17 +61,21 @@ fn numbers_within_their_limits(rt: HostRuntime) -> Result<(), Fail> {
 
 #[test]
 fn numbers_that_are_not_given(rt: HostRuntime) -> Result<(), Fail> {
-    for (command, spooled) in [("apply", false), ("replay", true)] {
+    for (command, spooled, option, input) in [
+        ("apply", false, "--stream", Input::File("s")),
+        ("follow", false, "--connect", Input::Connection("s")),
+        ("replay", true, "--stream", Input::File("s")),
+    ] {
         let words = owned(
             rt.alloc(),
-            &["pgapply", command, "--stream", "s", "--config", "c"],
+            &["pgapply", command, option, "s", "--config", "c"],
         )?;
         let asked = options::parse(rt.alloc(), words.as_slice())
             .ok()
             .ok_or("a command line that is refused")?;
         assert_eq!(rt; asked.spooled, spooled);
         assert_eq!(rt; asked.catalog, "c");
-        assert_eq!(rt; asked.stream, "s");
+        assert_eq!(rt; asked.input, input);
         assert_eq!(rt; asked.config.workers, if spooled { 0 } else { 2 });
         assert_eq!(rt; asked.config.ring, if spooled { 1 } else { 64 });
         assert_eq!(rt; asked.config.spool, 1_073_741_824);
@@ -86,7 +91,7 @@ struct Refused {
     text: &'static str,
 }
 
-static REFUSED: [Refused; 5] = [
+static REFUSED: [Refused; 6] = [
     Refused {
         words: &["pgapply", "--version"],
         is_fault: false,
@@ -117,6 +122,11 @@ static REFUSED: [Refused; 5] = [
         words: &["pgapply", "replay", "--config", "c"],
         is_fault: true,
         text: "error: the following required arguments were not provided:\n  --stream <F>\n\nUsage: pgapply replay --config <F> --stream <F>\n\nFor more information, try '--help'.\n",
+    },
+    Refused {
+        words: &["pgapply", "follow", "--config", "c", "--stream", "s"],
+        is_fault: true,
+        text: "error: unexpected argument '--stream' found\n\nUsage: pgapply follow --config <F> --connect <A>\n\nFor more information, try '--help'.\n",
     },
     Refused {
         words: &["pgapply", "replay", "--help"],

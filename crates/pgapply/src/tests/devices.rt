@@ -3,7 +3,9 @@ use super::{CATALOG, CONFIG, Kept, Pieces, Stopped, framed, printed, push_frame}
 use crate::execute::{Ended, execute};
 use std::alloc::Global;
 use std::fmt::Write;
+use std::sync::Wait;
 use std::test::Fail;
+use std::thread::Threads;
 
 /// B(900,0/100), the relation, I(1,a,n) and C(0/100,0/120).
 pub const ONE_INSERT: [&str; 4] = [
@@ -16,13 +18,15 @@ pub const ONE_INSERT: [&str; 4] = [
 const REPORT: &str = "table public.accounts 1\n1|a|n\nposition 0/120\nend 0 Clean\n";
 
 /// The status update after the commit, with the clock at 5.
-const UPDATE: &str = "6400000026720000000000000120000000000000012000000000000001200000000000000005\
+pub const UPDATE: &str =
+    "6400000026720000000000000120000000000000012000000000000001200000000000000005\
     00";
 
 /// A keepalive at 0/200 that wants a reply, and the status update that answers it.
-const KEEPALIVE: &str = "64000000166b0000000000000200000000000000000001";
+pub const KEEPALIVE: &str = "64000000166b0000000000000200000000000000000001";
 
-const REPLY: &str = "6400000026720000000000000200000000000000012000000000000001200000000000000005\
+pub const REPLY: &str =
+    "6400000026720000000000000200000000000000012000000000000001200000000000000005\
     00";
 
 /// S(700,1), the relation, 700:I(1,a,n), E and c(700,0/200,0/220).
@@ -43,7 +47,7 @@ fn pieces_of_each_length(rt: HostRuntime) -> Result<(), Fail> {
     let stream = framed(rt.alloc(), &ONE_INSERT)?;
     assert_eq!(rt; stream.len(), 258);
     for size in 1..=stream.len() {
-        let (ended, out, _) = printed(rt.alloc(), stream.as_slice(), size, &CONFIG);
+        let (ended, out, _) = printed(&rt, rt.alloc(), stream.as_slice(), size, &CONFIG);
         assert_eq!(rt; out.as_slice(), REPORT.as_bytes(), "pieces of {size}");
         assert_eq!(rt; ended.status, 0);
     }
@@ -55,7 +59,7 @@ fn updates_after_a_commit_and_a_keepalive(rt: HostRuntime) -> Result<(), Fail> {
     let mut stream = framed(rt.alloc(), &ONE_INSERT)?;
     let keepalive = hex::decode(rt.alloc(), KEEPALIVE)?;
     stream.extend_from_slice(keepalive.as_slice())?;
-    let (ended, out, written) = printed(rt.alloc(), stream.as_slice(), usize::MAX, &CONFIG);
+    let (ended, out, written) = printed(&rt, rt.alloc(), stream.as_slice(), usize::MAX, &CONFIG);
     assert_eq!(rt; out.as_slice(), REPORT.as_bytes());
     assert_eq!(rt; ended.status, 0);
     let mut updates = hex::decode(rt.alloc(), UPDATE)?;
@@ -79,7 +83,7 @@ fn a_keepalive_inside_of_a_block(rt: HostRuntime) -> Result<(), Fail> {
     stream.extend_from_slice(keepalive.as_slice())?;
     let rest = framed(rt.alloc(), &STREAMED[2..])?;
     stream.extend_from_slice(rest.as_slice())?;
-    let (_, out, written) = printed(rt.alloc(), stream.as_slice(), usize::MAX, &CONFIG);
+    let (_, out, written) = printed(&rt, rt.alloc(), stream.as_slice(), usize::MAX, &CONFIG);
     let want = "table public.accounts 1\n1|a|n\nposition 0/220\nend 0 Clean\n";
     assert_eq!(rt; out.as_slice(), want.as_bytes());
     let mut updates = hex::decode(rt.alloc(), REPLY_IN_BLOCK)?;
@@ -96,7 +100,7 @@ fn a_keepalive_behind_a_clash_is_not_answered(rt: HostRuntime) -> Result<(), Fai
     push_frames(&mut stream, rt.alloc(), &ONE_INSERT[2..3])?;
     let keepalive = hex::decode(rt.alloc(), KEEPALIVE)?;
     stream.extend_from_slice(keepalive.as_slice())?;
-    let (ended, out, written) = printed(rt.alloc(), stream.as_slice(), usize::MAX, &CONFIG);
+    let (ended, out, written) = printed(&rt, rt.alloc(), stream.as_slice(), usize::MAX, &CONFIG);
     let want = "table public.accounts 0\nposition 0/0\nend 5 Unique public.accounts 0\n";
     assert_eq!(rt; out.as_slice(), want.as_bytes());
     assert_eq!(rt; ended.status, 3);
@@ -111,7 +115,13 @@ fn work_that_is_open_at_copy_done_is_undone(rt: HostRuntime) -> Result<(), Fail>
     for open in [begun, streamed] {
         let mut stream = open;
         stream.extend_from_slice(b"c\x00\x00\x00\x04")?;
-        let (ended, out, written) = printed(rt.alloc(), stream.as_slice(), usize::MAX, &CONFIG);
+        let (ended, out, written) = printed(
+            &rt,
+            rt.alloc(),
+            stream.as_slice(),
+            usize::MAX,
+            &CONFIG,
+        );
         let want = "table public.accounts 0\nposition 0/0\nend 0 Clean\n";
         assert_eq!(rt; out.as_slice(), want.as_bytes());
         assert_eq!(rt; ended.status, 0);
@@ -164,7 +174,7 @@ fn a_thousand_items_of_two_streamed_transactions(rt: HostRuntime) -> Result<(), 
         write!(want, "{key}|\\N|n\n")?;
     }
     want.push_str("position 0/320\nend 0 Clean\n")?;
-    let (ended, out, _) = printed(rt.alloc(), stream.as_slice(), 4096, &CONFIG);
+    let (ended, out, _) = printed(&rt, rt.alloc(), stream.as_slice(), 4096, &CONFIG);
     assert_eq!(rt; out.as_slice(), want.as_bytes());
     assert_eq!(rt; ended.status, 0);
     Ok(())
@@ -181,7 +191,7 @@ fn positions_that_fall(rt: HostRuntime) -> Result<(), Fail> {
     if let Some(byte) = stream.get_mut(12) {
         *byte = 5;
     }
-    let (_, _, written) = printed(rt.alloc(), stream.as_slice(), usize::MAX, &CONFIG);
+    let (_, _, written) = printed(&rt, rt.alloc(), stream.as_slice(), usize::MAX, &CONFIG);
     let update = hex::decode(rt.alloc(), UPDATE_AT_500)?;
     assert_eq!(rt; written.as_slice(), update.as_slice());
     Ok(())
@@ -209,7 +219,7 @@ fn is_edge(stream: &[u8], place: usize) -> bool {
 fn a_streamed_transaction_cut_at_each_byte(rt: HostRuntime) -> Result<(), Fail> {
     let stream = framed(rt.alloc(), &STREAMED)?;
     for cut in 0..=stream.len() {
-        let (ended, out, _) = printed(rt.alloc(), &stream[..cut], usize::MAX, &CONFIG);
+        let (ended, out, _) = printed(&rt, rt.alloc(), &stream[..cut], usize::MAX, &CONFIG);
         let want = if cut == stream.len() {
             "table public.accounts 1\n1|a|n\nposition 0/220\nend 0 Clean\n"
         } else if is_edge(stream.as_slice(), cut) {
@@ -252,7 +262,13 @@ impl frames::Sink for Broken {
 }
 
 /// What is printed of a stream by devices that fail: the source at this read.
-fn printed_by(alloc: Global, stream: &[u8], reads_before_failure: u64, out: &mut Vec<u8>) -> Ended {
+fn printed_by<R: Threads + Wait + Sync>(
+    rt: &R,
+    alloc: Global,
+    stream: &[u8],
+    reads_before_failure: u64,
+    out: &mut Vec<u8>,
+) -> Ended {
     let reader = Pieces {
         bytes: stream,
         size: 40,
@@ -261,6 +277,7 @@ fn printed_by(alloc: Global, stream: &[u8], reads_before_failure: u64, out: &mut
         failed_last: false,
     };
     execute(
+        rt,
         alloc,
         true,
         &CONFIG,
@@ -278,14 +295,14 @@ fn devices_that_fail(rt: HostRuntime) -> Result<(), Fail> {
     // 258 bytes in pieces of 40: the commit's frame is whole with the seventh.
     for read in 0..7 {
         let mut out = Vec::new(rt.alloc());
-        let ended = printed_by(rt.alloc(), stream.as_slice(), read, &mut out);
+        let ended = printed_by(&rt, rt.alloc(), stream.as_slice(), read, &mut out);
         let want = "table public.accounts 0\nposition 0/0\nend 1 Frame Device\n";
         assert_eq!(rt; out.as_slice(), want.as_bytes(), "read {read}");
         assert_eq!(rt; ended.status, 2);
     }
     // The commit stands where its update can't be sent.
     let mut out = Vec::new(rt.alloc());
-    let ended = printed_by(rt.alloc(), stream.as_slice(), u64::MAX, &mut out);
+    let ended = printed_by(&rt, rt.alloc(), stream.as_slice(), u64::MAX, &mut out);
     let want = "table public.accounts 1\n1|a|n\nposition 0/120\nend 1 Frame Device\n";
     assert_eq!(rt; out.as_slice(), want.as_bytes());
     assert_eq!(rt; ended.status, 2);
@@ -319,6 +336,7 @@ fn catalogs_that_are_refused(rt: HostRuntime) -> Result<(), Fail> {
             failed_last: false,
         };
         let ended = execute(
+            &rt,
             rt.alloc(),
             false,
             &CONFIG,
@@ -341,7 +359,7 @@ fn a_run_where_memory_is_refused(rt: HostRuntime) {
     let Ok(stream) = hex::decode(rt.alloc(), STREAMED_FRAMES) else {
         return;
     };
-    let (ended, out, _) = printed(rt.alloc(), stream.as_slice(), 64, &CONFIG);
+    let (ended, out, _) = printed(&rt, rt.alloc(), stream.as_slice(), 64, &CONFIG);
     match ended.status {
         0 => {
             let want = "table public.accounts 1\n1|a|n\nposition 0/220\nend 0 Clean\n";
