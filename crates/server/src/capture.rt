@@ -89,10 +89,10 @@ impl Output for Keeper {
         }
     }
 
-    fn tell(&mut self, position: u64, due: bool, updates: &mut Vec<u8>) -> Result<bool, Fault> {
+    fn tell(&mut self, put: &Relayed, due: bool, updates: &mut Vec<u8>) -> Result<bool, Fault> {
         if due {
             settle(&mut self.target)?;
-            let update = status(self.alloc, position, true)?;
+            let update = status(self.alloc, put.position, true)?;
             updates.extend_from_slice(update.as_slice())?;
         }
         Ok(true)

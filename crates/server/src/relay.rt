@@ -16,9 +16,9 @@ pub trait Output {
     fn put(&mut self, frames: &[u8]) -> Result<(), Fault>
         requires { AreFrames frames.now };
 
-    /// Appends status updates for the server, of a stream that was put up to `position`. One is `due`
-    /// where a keepalive wants it and now and then. It answers whether more frames are wanted.
-    fn tell(&mut self, position: u64, due: bool, updates: &mut Vec<u8>) -> Result<bool, Fault>;
+    /// Appends status updates for the server, of a stream of which this was put. One is `due` where a
+    /// keepalive wants it and now and then. It answers whether more frames are wanted.
+    fn tell(&mut self, put: &Relayed, due: bool, updates: &mut Vec<u8>) -> Result<bool, Fault>;
 }
 
 /// When a relay ends by itself.
@@ -45,6 +45,8 @@ pub struct Relayed {
     pub bytes: u64,
     /// The greatest place of the log that a frame named.
     pub position: u64,
+    /// The greatest place at which a commit ends; 0 before the first.
+    pub committed: u64,
 }
 
 impl Relayed {
@@ -53,6 +55,7 @@ impl Relayed {
         frames: 0,
         bytes: 0,
         position: 0,
+        committed: 0,
     };
 }
 
@@ -106,7 +109,7 @@ pub fn relay<L: Line + Drop, O: Output>(
         let ended = turn(connection, output, bounds, &mut standing);
         *relayed = standing.relayed;
         if let Some(end) = ended? {
-            return finish(connection, output, standing.relayed.position, end);
+            return finish(connection, output, &standing.relayed, end);
         }
     }
     Err(Fault::TimedOut)
@@ -154,8 +157,9 @@ struct Scan {
     /// The bytes of whole frames to put.
     ready: usize,
     frames: u64,
-    /// The greatest place that they name.
+    /// The greatest place that they name, and the greatest at which a commit ends.
     position: u64,
+    committed: u64,
     /// Whether one of them wants a status update.
     due: bool,
     stop: Stop,
@@ -183,6 +187,7 @@ fn go_over(bytes: &[u8], until: Option<u64>) -> Scan
         ready: 0,
         frames: 0,
         position: 0,
+        committed: 0,
         due: false,
         stop: Stop::Part,
     };
@@ -214,11 +219,12 @@ fn judge(scan: &mut Scan, frame: &[u8], until: Option<u64>) -> (bool, Option<Sto
     ensures { scan.new.ready ≡ scan.old.ready }
 {
     match read_frame(frame) {
-        Ok(Sent::Data { start, end }) => {
+        Ok(Sent::Data { start, end, commit }) => {
             if is_past(start, until) {
                 return (false, Some(Stop::End(End::Reached)));
             }
             scan.position = scan.position.max(start).max(end);
+            scan.committed = scan.committed.max(commit.unwrap_or(0));
             (true, None)
         }
         Ok(Sent::Keepalive { end, reply }) => {
@@ -263,6 +269,7 @@ fn put_scanned<O: Output>(
     relayed.frames = relayed.frames.saturating_add(scan.frames);
     relayed.bytes = relayed.bytes.saturating_add(scan.ready as u64);
     relayed.position = relayed.position.max(scan.position);
+    relayed.committed = relayed.committed.max(scan.committed);
     match scan.stop {
         Stop::Part => Ok(None),
         Stop::End(End::Shutdown) => {
@@ -302,7 +309,7 @@ fn tell_server<L: Line + Drop, O: Output>(
     let asking = ASKING.min(connection.limit() / 4);
     let due = due || now.saturating_sub(standing.told) >= asking;
     let mut updates = Vec::new(connection.alloc());
-    let wanted = output.tell(standing.relayed.position, due, &mut updates)?;
+    let wanted = output.tell(&standing.relayed, due, &mut updates)?;
     if due {
         standing.told = now;
     }
@@ -316,11 +323,11 @@ fn tell_server<L: Line + Drop, O: Output>(
 fn finish<L: Line + Drop, O: Output>(
     connection: &mut Connection<L>,
     output: &mut O,
-    position: u64,
+    put: &Relayed,
     end: End,
 ) -> Result<End, Fault> {
     let mut updates = Vec::new(connection.alloc());
-    output.tell(position, true, &mut updates)?;
+    output.tell(put, true, &mut updates)?;
     updates.extend_from_slice(&COPY_DONE)?;
     match connection.send(updates.as_slice()) {
         Ok(()) => {}

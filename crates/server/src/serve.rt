@@ -88,7 +88,7 @@ const STATUS_LENGTH: usize = 39;
 pub struct Told {
     /// The beginning of a frame that isn't whole.
     part: Vec<u8>,
-    /// The place up to which its last status update says that the log is flushed; 0 before the first.
+    /// The place up to which the server was told that the log is flushed; 0 before the first update.
     flushed: u64,
 }
 
@@ -100,9 +100,18 @@ impl Told {
         }
     }
 
-    /// Appends the status updates that are whole with these bytes. It answers whether the follower goes
-    /// on: CopyDone ends it.
-    pub fn hear(&mut self, bytes: &[u8], updates: &mut Vec<u8>) -> Result<bool, Fault> {
+    /// Appends the status updates that are whole with these bytes, of a stream whose commits were put
+    /// up to `committed`. It answers whether the follower goes on: CopyDone ends it.
+    ///
+    /// A follower tells where the last commit ends that it applied, and how far it saw the log. Where it
+    /// has applied all commits that were put, nothing of what it saw is needed again, and the server is
+    /// told that it is flushed: else one that shuts down would wait for ever.
+    pub fn hear(
+        &mut self,
+        bytes: &[u8],
+        committed: u64,
+        updates: &mut Vec<u8>,
+    ) -> Result<bool, Fault> {
         self.part.extend_from_slice(bytes)?;
         let mut taken = 0;
         let mut goes_on = true;
@@ -118,8 +127,8 @@ impl Told {
                 goes_on = false;
                 break;
             }
-            self.flushed = flushed_in(frame)?;
-            updates.extend_from_slice(frame)?;
+            self.flushed = flushed_by(frame, committed)?;
+            push_update(frame, self.flushed, updates)?;
             taken += frame.len();
         }
         self.part.drain(..taken.min(self.part.len()));
@@ -127,16 +136,41 @@ impl Told {
     }
 }
 
-/// The place up to which a status update says that the log is flushed.
-fn flushed_in(frame: &[u8]) -> Result<u64, Fault> {
+/// The place up to which the log is flushed by a status update, of a stream whose commits were put up to
+/// `committed`.
+fn flushed_by(frame: &[u8], committed: u64) -> Result<u64, Fault> {
     let refused = Fault::Follower("it sent what is no status update");
     if frame.len() != STATUS_LENGTH || !frame.starts_with(&STATUS) {
         return Err(refused);
     }
-    match frame.get(14..).and_then(|rest| rest.first_chunk::<8>()) {
-        Some(bytes) => Ok(u64::from_be_bytes(*bytes)),
-        None => Err(refused),
+    match (place_at(frame, WRITTEN), place_at(frame, FLUSHED)) {
+        (Some(written), Some(flushed)) if flushed >= committed => Ok(flushed.max(written)),
+        (Some(_), Some(flushed)) => Ok(flushed),
+        _ => Err(refused),
     }
+}
+
+/// Where a status update's frame has the places written, flushed and applied, and what stands behind.
+const WRITTEN: usize = 6;
+
+const FLUSHED: usize = 14;
+
+const BEHIND: usize = 30;
+
+/// The place in the log that stands here.
+fn place_at(frame: &[u8], start: usize) -> Option<u64> {
+    let bytes = frame.get(start..)?.first_chunk::<8>()?;
+    Some(u64::from_be_bytes(*bytes))
+}
+
+/// Appends a status update that says the log is flushed and applied up to this place.
+fn push_update(frame: &[u8], flushed: u64, updates: &mut Vec<u8>) -> Result<(), Fault> {
+    updates.extend_from_slice(frame.get(..FLUSHED).unwrap_or(&[]))?;
+    for _ in 0..2 {
+        updates.extend_from_slice(&flushed.to_be_bytes())?;
+    }
+    updates.extend_from_slice(frame.get(BEHIND..).unwrap_or(&[]))?;
+    Ok(())
 }
 
 /// A follower that is connected.
@@ -185,13 +219,13 @@ impl Output for Follower {
         }
     }
 
-    fn tell(&mut self, _position: u64, due: bool, updates: &mut Vec<u8>) -> Result<bool, Fault> {
+    fn tell(&mut self, put: &Relayed, due: bool, updates: &mut Vec<u8>) -> Result<bool, Fault> {
         let mut buf = [0u8; 4096];
         let Some(count) = self.read_ready(&mut buf)? else {
             return Ok(false);
         };
         let heard = buf.as_slice().get(..count).unwrap_or(&[]);
-        let goes_on = self.told.hear(heard, updates)?;
+        let goes_on = self.told.hear(heard, put.committed, updates)?;
         if due && updates.is_empty() {
             let update = status(self.alloc, self.told.flushed, true)?;
             updates.extend_from_slice(update.as_slice())?;

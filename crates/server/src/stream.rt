@@ -57,10 +57,18 @@ pub fn start<L: Line + Drop>(
 /// What a frame of the stream is.
 #[derive(Clone, Copy, Debug, PartialEq, Eq)]
 pub enum Sent {
-    /// A piece of the log: where it starts, and where the log ended when it was sent.
-    Data { start: u64, end: u64 },
+    /// A piece of the log: where it starts, where the log ended when it was sent, and where the commit
+    /// ends that it is, if it is one.
+    Data {
+        start: u64,
+        end: u64,
+        commit: Option<u64>,
+    },
     /// Where the log ends, and whether an answer is wanted.
-    Keepalive { end: u64, reply: bool },
+    Keepalive {
+        end: u64,
+        reply: bool,
+    },
     /// A notice or a parameter, which a subscriber skips.
     Skipped,
     /// CopyDone.
@@ -93,7 +101,11 @@ fn read_copy_data(fields: Fields<'_>) -> Result<Sent, Nonsense> {
             let start = fields.int64()?;
             let end = fields.int64()?;
             fields.int64()?;
-            Ok(Sent::Data { start, end })
+            Ok(Sent::Data {
+                start,
+                end,
+                commit: commit_end(fields),
+            })
         }
         b'k' => {
             let end = fields.int64()?;
@@ -106,6 +118,21 @@ fn read_copy_data(fields: Fields<'_>) -> Result<Sent, Nonsense> {
         }
         _ => Err(Nonsense::Unexpected),
     }
+}
+
+/// Where the commit ends that this message is, if it is Commit or Stream Commit.
+fn commit_end(message: Fields<'_>) -> Option<u64> {
+    let mut fields = message;
+    match fields.byte().ok()? {
+        b'C' => {}
+        b'c' => {
+            fields.int32().ok()?;
+        }
+        _ => return None,
+    }
+    fields.byte().ok()?;
+    fields.int64().ok()?;
+    fields.int64().ok()
 }
 
 /// A status update's clock, in microseconds since 2000-01-01: left at its start, since no server goes by it.

@@ -102,11 +102,7 @@ fn a_stream_to_a_follower(rt: HostRuntime) -> Result<(), Fail> {
     let mut connection = line(&rt, ours)?;
     start(&mut connection, "it's \"p\"", SLOT)?;
     let mut follower = Follower::new(alloc, near);
-    let mut relayed = Relayed {
-        frames: 0,
-        bytes: 0,
-        position: 0,
-    };
+    let mut relayed = Relayed::NOTHING;
     let end = relay(&mut connection, &mut follower, NO_BOUNDS, &mut relayed)?;
     assert!(rt; end == End::Shutdown);
     drop(follower);

@@ -27,9 +27,9 @@ impl Output for Kept<'_> {
         Ok(())
     }
 
-    fn tell(&mut self, position: u64, due: bool, updates: &mut Vec<u8>) -> Result<bool, Fault> {
+    fn tell(&mut self, put: &Relayed, due: bool, updates: &mut Vec<u8>) -> Result<bool, Fault> {
         if due {
-            let update = status(*updates.allocator(), position, true)?;
+            let update = status(*updates.allocator(), put.position, true)?;
             updates.extend_from_slice(update.as_slice())?;
         }
         Ok(self.wanted)
@@ -77,11 +77,7 @@ impl<'a> Trial<'a> {
     fn run(&self, alloc: Global) -> Result<Came, Fail> {
         let mut sent = Vec::new(alloc);
         let mut put = Vec::new(alloc);
-        let mut relayed = Relayed {
-            frames: 0,
-            bytes: 0,
-            position: 0,
-        };
+        let mut relayed = Relayed::NOTHING;
         let line = Script {
             input: self.input,
             piece: self.piece,
@@ -146,9 +142,13 @@ fn stream(alloc: Global) -> Result<Vec<u8>, Fail> {
 
 /// A status update at a place that asks for a keepalive, as the manual spells it.
 fn update_at(place: u8) -> [u8; 39] {
+    update_of(place, place)
+}
+
+fn update_of(written: u8, flushed: u8) -> [u8; 39] {
     [
-        b'd', 0, 0, 0, 38, b'r', 0, 0, 0, 0, 0, 0, 0, place, 0, 0, 0, 0, 0, 0, 0, place, 0, 0, 0,
-        0, 0, 0, 0, place, 0, 0, 0, 0, 0, 0, 0, 0, 1,
+        b'd', 0, 0, 0, 38, b'r', 0, 0, 0, 0, 0, 0, 0, written, 0, 0, 0, 0, 0, 0, 0, flushed, 0, 0,
+        0, 0, 0, 0, 0, flushed, 0, 0, 0, 0, 0, 0, 0, 0, 1,
     ]
 }
 
@@ -309,7 +309,7 @@ fn a_follower_is_heard_in_pieces(rt: HostRuntime) -> Result<(), Fail> {
         let mut heard = Vec::new(alloc);
         let mut goes_on = true;
         for part in said.as_slice().chunks(piece) {
-            goes_on = told.hear(part, &mut heard)?;
+            goes_on = told.hear(part, 0, &mut heard)?;
         }
         assert!(rt; !goes_on, "{piece}");
         assert_eq!(rt; heard.as_slice(), updates.as_slice(), "{piece}");
@@ -323,9 +323,46 @@ fn a_follower_is_heard_in_pieces(rt: HostRuntime) -> Result<(), Fail> {
     for bytes in &refused {
         let mut told = Told::new(alloc);
         let mut heard = Vec::new(alloc);
-        let answer = told.hear(*bytes, &mut heard);
+        let answer = told.hear(*bytes, 0, &mut heard);
         assert_eq!(rt; name_of(alloc, answer)?.as_str(), "Follower");
         assert!(rt; heard.is_empty());
+    }
+    Ok(())
+}
+
+#[test]
+fn commits_that_were_put_are_known(rt: HostRuntime) -> Result<(), Fail> {
+    let alloc = rt.alloc();
+    let mut input = Vec::new(alloc);
+    data(
+        &mut input,
+        16,
+        b"C\0\0\0\0\0\0\0\0\x10\0\0\0\0\0\0\0\x18\0\0\0\0\0\0\0\0",
+    )?;
+    data(
+        &mut input,
+        32,
+        b"c\0\0\x02\xbc\0\0\0\0\0\0\0\0\x20\0\0\0\0\0\0\0\x28\0\0\0\0\0\0\0\0",
+    )?;
+    data(&mut input, 48, b"c\0")?;
+    input.extend_from_slice(&COPY_DONE)?;
+    let came = Trial::of(input.as_slice()).run(alloc)?;
+    assert_eq!(rt; came.relayed.committed, 40);
+    Ok(())
+}
+
+#[test]
+fn all_commits_applied_is_all_flushed(rt: HostRuntime) -> Result<(), Fail> {
+    let alloc = rt.alloc();
+    for (committed, flushed) in [(0, 48), (32, 48), (33, 32)] {
+        let mut told = Told::new(alloc);
+        let mut heard = Vec::new(alloc);
+        told.hear(&update_of(48, 32), committed, &mut heard)?;
+        assert_eq!(rt;
+            heard.as_slice(),
+            update_of(48, flushed).as_slice(),
+            "{committed}"
+        );
     }
     Ok(())
 }
