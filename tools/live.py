@@ -4,9 +4,10 @@
 Sets up a server of its own in a temporary folder (PostgreSQL 16 or later), captures the stream of a
 publication with `publisher capture` while sessions work on its tables side by side: large transactions
 that are streamed, savepoints, rollbacks, truncates, changes of keys, long texts that stay, odd texts.
-Then it shuts the server down, which ends the capture, replays the file with `pgapply replay`, and prints
-a line for each table. A second capture, of a slot that was made before the work and is read after it,
-is replayed too. It exits with 0 where all rows are right.
+Beside it `pgapply follow` takes the same work from `publisher serve` while it comes. Then it shuts the
+server down, which ends both, applies the file with `pgapply replay` and `pgapply apply`, and prints a line
+for each table. A second capture, of a slot that was made before the work and is read after it, is applied
+too. It exits with 0 where all rows are right.
 
 Needs: python3 (3.11), PostgreSQL's programs (Debian: postgresql-16 or later) in --bin, and the built
 programs `publisher` and `pgapply` (`rt run` or `rt ci` leave them in crates/NAME/out).
@@ -178,21 +179,52 @@ def reported(text):
     return tables, lines[at:]
 
 
-def compare(name, options, catalog_file, stream, wanted):
-    began = time.monotonic()
-    words = [options.pgapply, "replay", "--config", catalog_file, "--stream", stream]
-    done = subprocess.run(words, capture_output=True)
-    seconds = time.monotonic() - began
-    tables, rest = reported(done.stdout.decode())
-    right = done.returncode == 0
+def compare(name, report, status, wanted):
+    """Whether a report has the server's rows, with a line for each table."""
+    tables, rest = reported(report)
+    right = status == 0
     for label, rows in wanted.items():
         same = tables.get(label) == rows
         right = right and same
         print(f"{name}: {label}: {len(rows)} rows {'right' if same else 'WRONG'}")
-    size = os.path.getsize(stream)
-    print(f"{name}: {size} bytes, {sum(map(len, wanted.values()))} rows, {rest[0]}, {rest[1]}, status "
-          f"{done.returncode}, replayed in {seconds:.2f} s ({size / 1e6 / seconds:.1f} MB/s)")
+    print(f"{name}: {sum(map(len, wanted.values()))} rows, {rest[0]}, {rest[1]}, status {status}")
     return right
+
+
+def compare_file(name, verb, options, catalog_file, stream, wanted):
+    began = time.monotonic()
+    words = [options.pgapply, verb, "--config", catalog_file, "--stream", stream]
+    done = subprocess.run(words, capture_output=True)
+    seconds = time.monotonic() - began
+    size = os.path.getsize(stream)
+    print(f"{name} {verb}: {size} bytes in {seconds:.2f} s ({size / 1e6 / seconds:.1f} MB/s)")
+    return compare(f"{name} {verb}", done.stdout.decode(), done.returncode, wanted)
+
+
+class Follower:
+    """`pgapply follow`, which takes a slot's stream from `publisher serve`."""
+
+    def __init__(self, server, options, where, catalog_file):
+        address = f"127.0.0.1:{options.port + 1}"
+        self.serve = subprocess.Popen([options.publisher, "serve", *where, "--slot", "followed", "--create",
+                                       "--listen", address, "--once"])
+        # The slot is made when a follower has come, and a follower that comes too early is refused.
+        while True:
+            self.follow = subprocess.Popen([options.pgapply, "follow", "--config", catalog_file, "--connect", address],
+                                           stdout=subprocess.PIPE, stderr=subprocess.PIPE)
+            while self.follow.poll() is None:
+                if server.sql("SELECT 1 FROM pg_replication_slots WHERE slot_name = 'followed' AND active;")[0]:
+                    return
+                time.sleep(0.1)
+            if self.serve.poll() is not None:
+                sys.exit("serve ended before the work")
+            time.sleep(0.2)
+
+    def report(self):
+        report, errors = self.follow.communicate(timeout=120)
+        sys.stderr.write(errors.decode())
+        self.serve.wait(timeout=60)
+        return report.decode(), self.follow.returncode
 
 
 def main():
@@ -236,6 +268,7 @@ def run(server, options):
         time.sleep(0.1)
         if live.poll() is not None:
             sys.exit("the capture ended before the work")
+    follower = Follower(server, options, where, place("catalog.toml"))
     failures = []
     began = time.monotonic()
     threads = [threading.Thread(target=session_work, args=(server, s, options.turns, options.seed, failures))
@@ -257,8 +290,11 @@ def run(server, options):
     server.stop()
     if live.wait(timeout=60) != 0:
         sys.exit("the capture failed")
-    return all([compare("live", options, place("catalog.toml"), place("live.stream"), wanted),
-                compare("late", options, place("catalog.toml"), place("late.stream"), wanted)])
+    right = [compare("follow", *follower.report(), wanted)]
+    for name in ["live", "late"]:
+        for verb in ["replay", "apply"]:
+            right.append(compare_file(name, verb, options, place("catalog.toml"), place(f"{name}.stream"), wanted))
+    return all(right)
 
 
 if __name__ == "__main__":
