@@ -1,4 +1,4 @@
-use Rattle.frames.proofs.tests.take_kept.Goals as goal
+use Rattle.wire_tests.proofs.framing.take_kept.Goals as goal
 
 pub loop-item-preserved : goal.loop-item-preserved
 loop-item-preserved c = record {

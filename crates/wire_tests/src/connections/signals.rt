@@ -1,5 +1,5 @@
 // A stream whose calls a signal interrupts.
-use crate::Retried;
+use connection::Retried;
 use std::io;
 use std::io::{ErrorKind, Read, Write};
 use std::test::Fail;

@@ -4,8 +4,11 @@ ghost use Rattle.std.specs.Io.KnownBytes.{Consumes};
 ghost use Rattle.frames.specs.Stream.{ending_of};
 ghost use Rattle.frames.specs.Reads.{HasRead, HasEnded, AtEndOf};
 
-use super::*;
 use bytes::Bytes;
+use frames::{
+    CopyItem, Failed, FrameFault, Frames, Lsn, ReadSource, Sink, Source, Status, WriteSink,
+    send_status, write_status,
+};
 use std::alloc::{AllocError, Global};
 use std::io::Cursor;
 use std::test::Fail;

@@ -1,8 +1,8 @@
 // What no clause says: what a trace makes of a stream, in pieces of each length.
-use crate::{Counts, Trace, Watched, Watcher};
 use frames::{ReadSource, Source};
 use std::alloc::Global;
 use std::test::Fail;
+use trace::{Counts, Trace, Watched, Watcher};
 
 /// Appends an XLogData frame whose piece of the log starts at this place.
 fn push_frame(stream: &mut Vec<u8>, start: u8, payload: &[u8]) -> Result<(), Fail> {

@@ -1,4 +1,3 @@
-use crate::{Mapping, RelCache, RelFault, plan};
 use bytes::ByteStr;
 use catalog::Catalog;
 use messages::{
@@ -6,6 +5,7 @@ use messages::{
     Text, Tuple,
 };
 use model::{Change, ColumnPatch, Key, Value};
+use relcache::{Mapping, RelCache, RelFault, plan};
 use std::alloc::Global;
 use std::process::Abort;
 use std::sync::Arc;

@@ -3,8 +3,13 @@
 ghost use Rattle.std.specs.Prelude.{◌<◌};
 ghost use Rattle.messages.specs.Messages.{HasXid};
 
-use super::*;
 use bytes::{ByteStr, Bytes};
+use messages::{
+    Begin, Column, Columns, Commit, Content, Delete, Insert, LogicalMessage, Message, MsgFault,
+    Name, Oid, OldTuple, Origin, Relation, RelationColumn, Relations, ReplicaIdentity, RowMessage,
+    StreamAbort, StreamCommit, StreamStart, Text, Truncate, TruncateOptions, Tuple, TypeName,
+    Update, decode, encode,
+};
 use std::alloc::{AllocError, Global};
 use std::process::Abort;
 use std::test::Fail;

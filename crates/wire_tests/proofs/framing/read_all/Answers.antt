@@ -1,7 +1,7 @@
 use Rattle.std.proofs.Common.{◌++◌}
 use Rattle.std.proofs.KnownBytes.{Consumes-trans}
 use Rattle.std.proofs.lemmas.Result.{on_ok_weaker}
-use Rattle.frames.proofs.tests.read_all.Goals as goal
+use Rattle.wire_tests.proofs.framing.read_all.Goals as goal
 
 pub pulls-preserved : goal.pulls-preserved
 pulls-preserved g c =

@@ -1,6 +1,6 @@
 // Both sides of a connection over a socket of this machine. Where what is sent fits the system's
 // buffers, one thread plays both.
-use crate::Connection;
+use connection::Connection;
 use frames::{
     CopyItem, FrameFault, Frames, ReadSource, Source, Status, WriteSink, send_status, write_status,
 };

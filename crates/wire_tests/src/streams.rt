@@ -1,9 +1,9 @@
 // That the calls succeed with ample memory, and what they then answer, by payloads in the manual's formats.
 ghost use Rattle.std.specs.Prelude.{◌<◌};
 
-use crate::{Session, laws};
 use bytes::Bytes;
 use catalog::Catalog;
+use session::{Session, laws};
 use std::alloc::{AllocError, Global};
 use std::process::Abort;
 use std::test::Fail;

@@ -1,7 +1,7 @@
 use Rattle.std.proofs.Common.{ℕ, List}
 use Rattle.std.specs.Io.KnownBytes.{Consumes}
 use Rattle.frames.specs.Reads.{HasRead}
-use Rattle.frames.proofs.tests.read_all.Given as goal
+use Rattle.wire_tests.proofs.framing.read_all.Given as goal
 
 -- of the bytes so far, the items so far and those kept
 abbrev pub invariant-pulls : goal.invariant-pulls

@@ -1,5 +1,5 @@
-use crate::{Catalog, CatalogFault, ColumnType, Key, Row, Value};
 use bytes::ByteStr;
+use catalog::{Catalog, CatalogFault, ColumnType, Key, Row, Value};
 use std::alloc::{AllocError, Global};
 use std::test::Fail;
 

@@ -1,6 +1,6 @@
 use Rattle.std.proofs.Common.{◌≡◌, ℕ, List, length}
 use Rattle.frames.specs.Reads.{HasRead}
-use Rattle.frames.proofs.tests.take_kept.Given as goal
+use Rattle.wire_tests.proofs.framing.take_kept.Given as goal
 
 -- the same is known of the items moved and those kept
 abbrev pub invariant-loop-item : goal.invariant-loop-item
