@@ -29,8 +29,6 @@ mod document;
 mod draft;
 mod fault;
 pub mod laws;
-#[cfg(test)]
-mod tests;
 
 pub use catalog::Catalog;
 pub use fault::CatalogFault;

@@ -41,8 +41,3 @@ pub use model::{Change, ColumnPatch, Patch, TableIds};
 pub use outcome::{Applied, Clash, apply};
 pub use reading::PatchedRow;
 pub use search::{CellTest, any_cell};
-
-#[cfg(test)]
-mod cell_tests;
-#[cfg(test)]
-mod tests;

@@ -25,8 +25,6 @@
 // It stands on `frames` for sources and sinks, and on std's sockets.
 mod connection;
 mod retried;
-#[cfg(test)]
-mod tests;
 
 pub use connection::Connection;
 pub use retried::Retried;

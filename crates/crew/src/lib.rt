@@ -50,6 +50,3 @@ mod workers;
 pub use bell::Bell;
 pub use desk::{Desk, make_desks};
 pub use workers::{Work, with_workers};
-
-#[cfg(test)]
-mod tests;

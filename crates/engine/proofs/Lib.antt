@@ -1,2 +1,1 @@
 mod Stands
-mod Scenes

@@ -95,6 +95,3 @@ pub use events::{Event, LineEvent};
 pub use shared::{SharedStore, StoreNames};
 pub use store::Store;
 pub use tickets::{Line, Seen, Ticket};
-
-#[cfg(test)]
-mod tests;

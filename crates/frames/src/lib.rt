@@ -33,8 +33,6 @@ mod fault;
 mod item;
 pub mod laws;
 mod reader;
-#[cfg(test)]
-mod tests;
 mod update;
 mod wire;
 

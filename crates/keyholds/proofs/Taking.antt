@@ -11,7 +11,7 @@ use Rattle.std.proofs.lemmas.Bool.{cases_eq}
 use Rattle.std.proofs.lemmas.List.{take-append-le, map-append}
 use Rattle.std.proofs.Common.{length-append}
 use Rattle.std.proofs.Math.Seq.{take-length}
-use Rattle.std.proofs.lemmas.List.Elements.{All-contains, All-cons, All-nil, Contains-append_right}
+use Rattle.std.proofs.lemmas.List.Elements.{All-contains, Contains-append_right}
 use Rattle.std.specs.Iterator.{Yields}
 use Rattle.std.specs.Vec.Iter.{into_iter_items, into_iter_steps}
 use Rattle.std.specs.declared.vec.IntoIter.{IntoIter}
@@ -109,12 +109,6 @@ module _ {S : Type 0} where
   free_among held xid holds before after hold is free =
       let split : keys_of holds ≡ keys_of before ++ hold.0 ∷ keys_of after = ap keys_of is ∙ map-append (λ e. e.0) before (hold ∷ after) in
       All-contains (IsFree held xid) (keys_of holds) hold.0 free (subst (λ l. Contains l hold.0) (sym split) (Contains-append_right (keys_of before) (hold.0 ∷ keys_of after) hold.0 (contains_at (hold.0 ∷ keys_of after) 0 hold.0 refl)))
-
-  -- a list of one
-  pub free_alone : (held : ℕ → List Cell) (xid : ℕ) (holds before : List (Cell × S)) (hold : Cell × S) → before ≡ [] → holds ≡ before ++ hold ∷ [] → IsFree held xid hold.0 → All (IsFree held xid) (keys_of holds)
-  free_alone held xid holds before hold none is free =
-      let one : hold.0 ∷ [] ≡ keys_of holds = ap keys_of (ap (λ l. l ++ hold ∷ []) (sym none) ∙ sym is) in
-      subst (λ l. All (IsFree held xid) l) one (All-cons (IsFree held xid) hold.0 [] free (All-nil (IsFree held xid)))
 
 -- what the iterator of a vector has given is a front of its items
 pub taken_front : {X A : Type 0} (s : IntoIter X A) (xs : List X) (t : IntoIter X A) → Yields into_iter_steps s xs t → into_iter_items s ≡ xs ++ into_iter_items t

@@ -36,6 +36,3 @@ mod sought;
 pub use holds::Holds;
 pub use model::{Cell, Xid};
 pub use sought::{SoughtCell, SoughtRow};
-
-#[cfg(test)]
-mod tests;

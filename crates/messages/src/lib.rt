@@ -52,6 +52,3 @@ pub use relation::{
 pub use row::{Delete, Insert, RowMessage, Update};
 pub use text::{Content, Name, Text};
 pub use tuple::{Column, OldTuple, Tuple};
-
-#[cfg(test)]
-mod tests;

@@ -36,6 +36,3 @@ mod protocol;
 
 pub use origin::{Loader, Origin, Publisher};
 pub use position::Position;
-
-#[cfg(test)]
-mod tests;

@@ -37,8 +37,6 @@ mod mapping;
 mod planning;
 mod published;
 mod resolve;
-#[cfg(test)]
-mod tests;
 mod tuples;
 mod values;
 

@@ -41,6 +41,3 @@ pub use ends::{Ends, meet};
 pub use pair::Ring;
 pub use sender::{Full, Sender};
 pub use taker::Taker;
-
-#[cfg(test)]
-mod tests;

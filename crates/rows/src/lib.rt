@@ -24,8 +24,6 @@ pub mod block_rows;
 mod hashing;
 pub mod ordered;
 pub mod store;
-#[cfg(test)]
-mod tests;
 pub mod view;
 pub mod walk;
 

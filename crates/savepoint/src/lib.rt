@@ -34,6 +34,3 @@ pub use mark::Mark;
 pub use model::{CommitInfo, Item, Lsn, Xid};
 pub use record::TxRecord;
 pub use savepoints::Savepoints;
-
-#[cfg(test)]
-mod tests;

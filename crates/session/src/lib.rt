@@ -33,8 +33,6 @@ mod relations;
 mod session;
 mod spool;
 mod step;
-#[cfg(test)]
-mod tests;
 mod transactions;
 
 pub use fault::{Refused, SessionFault};

@@ -37,6 +37,3 @@ mod watch;
 pub use fault::ReadFault;
 pub use reader::Reader;
 pub use watch::Watch;
-
-#[cfg(test)]
-mod tests;

@@ -16,8 +16,6 @@
 mod frame;
 mod front;
 mod place;
-#[cfg(test)]
-mod tests;
 mod trace;
 mod watched;
 

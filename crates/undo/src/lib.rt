@@ -20,6 +20,3 @@ pub mod laws;
 pub mod log;
 
 pub use log::UndoLog;
-
-#[cfg(test)]
-mod tests;

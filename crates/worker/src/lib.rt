@@ -60,8 +60,3 @@ pub use job::Job;
 pub use names::LaneNames;
 pub use post::{Collected, Post, PostEvent, PostNames, lock_post};
 pub use progress::{work, work_on};
-
-#[cfg(test)]
-mod post_tests;
-#[cfg(test)]
-mod tests;

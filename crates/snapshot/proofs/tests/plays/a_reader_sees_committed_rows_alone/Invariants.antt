@@ -1,9 +1,0 @@
-use Rattle.snapshot.proofs.tests.plays.a_reader_sees_committed_rows_alone.Given as goal
-
-abbrev pub ghosts-play : goal.ghosts-play
-ghosts-play g a = record {
-  tickets = a.parts.store.tickets;
-  line = a.parts.store.line.name;
-  schema = a.parts.store.schema;
-  start = a.parts.store.world.start;
-}

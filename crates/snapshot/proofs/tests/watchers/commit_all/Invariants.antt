@@ -1,6 +1,0 @@
-use Rattle.std.proofs.Common.{◌≡◌, length}
-use Rattle.snapshot.proofs.tests.watchers.commit_all.Given as goal
-
-abbrev pub invariant-loop-commits : goal.invariant-loop-commits
-invariant-loop-commits g l =
-    (l.publisher.origin ≡ l.initial.publisher.origin) × (length l.publisher.ends ≡ l.commits)

@@ -1,0 +1,259 @@
+// A store with its line and the tickets of its open transactions, called by their numbers.
+ghost use Rattle.std.specs.Prelude.{◌≡◌, ℕ, IsTrue, IfErr, OnOk, OnErr, true, is_some, Some, length};
+ghost use Rattle.std.specs.Ordering.{nat_cmp};
+ghost use Rattle.std.specs.BTreeMap as tree;
+ghost use Rattle.std.specs.FinMap as finite;
+ghost use Rattle.model.specs.Named.{NamesTables};
+ghost use Rattle.tokens.specs.Lists.{OpenList};
+ghost use Rattle.engine.specs.declared.events.Event.{Event};
+ghost use Rattle.engine.specs.Events.{last_end};
+
+use super::calls::{ACCOUNTS, Call, TABLES, change, empty_tables, put, rows_of};
+use engine::{Acted, EngineFault, Entry, Line, NotSettled, Stop, Store, Ticket};
+use indexes::Tables;
+use model::{Change, CommitInfo, Key, Lsn, OutOfMemory, Row, TableId, Xid};
+use std::alloc::Global;
+use std::collections::BTreeMap;
+use std::process::Abort;
+use std::test::Fail;
+
+/// A store, and what its callers hold of it.
+#[derive(Drop)]
+pub(super) struct Scene {
+    pub(super) store: Store,
+    pub(super) line: Line,
+    tickets: BTreeMap<Xid, Ticket>,
+    /// Where the log goes on behind the last commit.
+    end: Lsn,
+    ghost counted: { length store.schema ≡ 2 },
+    ghost lined: { line.name ≡ store.line.name },
+    ghost ended: { last_end line.list ≡ end },
+    ghost belong: { (xid : ℕ) (t : OpenList Event) → tree.get nat_cmp tickets xid ≡ Some t → (t.name ≡ store.tickets) × (t.number ≡ xid) },
+    ghost known: { (xid : ℕ) → is_some (finite.get store.world.opened xid) ≡ true → is_some (tree.get nat_cmp tickets xid) ≡ true },
+}
+
+/// Where the next commit stands in the log, by how many came before it.
+pub(super) fn commit_info(commits: usize) -> CommitInfo {
+    let end = (commits as Lsn).saturating_mul(16).saturating_add(32);
+    CommitInfo {
+        commit: end - 16,
+        end,
+    }
+}
+
+/// Whether the tables of a change are there.
+fn are_there(c: &Change) -> bool
+    ensures { IsTrue result → NamesTables 2 c.now }
+{
+    match c {
+        Change::Put { table, .. } | Change::Set { table, .. } | Change::Remove { table, .. } => {
+            *table < TABLES
+        }
+        Change::Wipe { tables } => tables.ids().iter().all(|table| *table < TABLES),
+    }
+}
+
+/// The ticket of a transaction that opened is kept, or is handed back for want of memory.
+fn keep(tickets: &mut BTreeMap<Xid, Ticket>, xid: Xid, ticket: Ticket) -> Result<(), Ticket>
+    ensures ok { OnOk result (tree.Updates nat_cmp tickets.old tickets.new xid (Some ticket)) }
+    ensures err { IfErr result (λ given. given ≡ ticket) }
+    ensures unchanged { OnErr result (tickets.new.entries ≡ tickets.old.entries) }
+{
+    match tickets.insert(xid, ticket) {
+        Ok(_) => Ok(()),
+        Err(failed) => {
+            let (_, ticket) = failed.value;
+            Err(ticket)
+        }
+    }
+}
+
+impl Scene {
+    /// A store over these tables, which are handed back for want of memory.
+    pub(super) fn new(rt: &impl Abort, alloc: Global, tables: Tables) -> Result<Scene, Tables> {
+        assert!(rt; tables.len() == TABLES);
+        let (store, line) = Store::new(alloc, tables)?;
+        Ok(Scene {
+            store,
+            line,
+            tickets: BTreeMap::new(alloc),
+            end: 0,
+        })
+    }
+
+    /// A store over these tables.
+    pub(super) fn over(
+        rt: &impl Abort,
+        alloc: Global,
+        tables: Tables,
+    ) -> Result<Scene, OutOfMemory> {
+        match Scene::new(rt, alloc, tables) {
+            Ok(scene) => Ok(scene),
+            Err(_) => Err(OutOfMemory),
+        }
+    }
+
+    /// A store over the accounts `1|a|n` and `2|b|n`, with these transactions open.
+    pub(super) fn worked(
+        rt: &impl Abort,
+        alloc: Global,
+        xids: &[Xid],
+    ) -> Result<Scene, EngineFault> {
+        let mut scene = Scene::over(rt, alloc, empty_tables(alloc)?)?;
+        scene.open(alloc, 1)?;
+        for call in [put("1", "a", "n"), put("2", "b", "n")] {
+            assert_eq!(rt; scene.act(rt, alloc, 1, 1, &call)?, Acted::Done);
+        }
+        scene.commit(rt, 1);
+        let (tables, _) = scene.close(rt);
+        let mut scene = Scene::over(rt, alloc, tables)?;
+        for xid in xids {
+            scene.open(alloc, *xid)?;
+        }
+        Ok(scene)
+    }
+
+    pub(super) fn open(&mut self, alloc: Global, xid: Xid) -> Result<(), EngineFault> {
+        let ticket = match self.store.open(alloc, &mut self.line, xid) {
+            Ok(ticket) => ticket,
+            Err(fault) => return Err(fault),
+        };
+        match keep(&mut self.tickets, xid, ticket) {
+            Ok(()) => Ok(()),
+            Err(ticket) => {
+                self.store.abort(&mut self.line, ticket);
+                Err(EngineFault::OutOfMemory)
+            }
+        }
+    }
+
+    pub(super) fn is_open(&self, xid: Xid) -> bool {
+        self.tickets.contains_key(&xid)
+    }
+
+    pub(super) fn act(
+        &mut self,
+        rt: &impl Abort,
+        alloc: Global,
+        xid: Xid,
+        sub: Xid,
+        call: &Call,
+    ) -> Result<Acted, EngineFault> {
+        let change = change(alloc, call)?;
+        assert!(rt; are_there(&change));
+        let Some(ticket) = self.tickets.get_mut(&xid) else {
+            panic!(rt; "{xid} is not open")
+        };
+        self.store.act(alloc, ticket, sub, &change)
+    }
+
+    pub(super) fn touch(&mut self, rt: &impl Abort, xid: Xid, sub: Xid) -> Result<(), EngineFault> {
+        let Some(ticket) = self.tickets.get_mut(&xid) else {
+            panic!(rt; "{xid} is not open")
+        };
+        self.store.touch(ticket, sub)
+    }
+
+    pub(super) fn back_to(&mut self, rt: &impl Abort, xid: Xid, sub: Xid) {
+        let Some(ticket) = self.tickets.get_mut(&xid) else {
+            panic!(rt; "{xid} is not open")
+        };
+        self.store.back_to(ticket, sub);
+    }
+
+    pub(super) fn wants(&mut self, rt: &impl Abort, xid: Xid) -> bool {
+        let Some(ticket) = self.tickets.get_mut(&xid) else {
+            panic!(rt; "{xid} is not open")
+        };
+        self.store.wants(ticket)
+    }
+
+    /// A commit, at the place that its number gives.
+    pub(super) fn commit(&mut self, rt: &impl Abort, xid: Xid) {
+        let info = commit_info(self.store.journal().len());
+        assert!(rt; info.end > self.end);
+        let Some(ticket) = self.tickets.remove(&xid) else {
+            panic!(rt; "{xid} is not open")
+        };
+        self.store.commit(&mut self.line, ticket, info);
+        self.end = info.end;
+    }
+
+    pub(super) fn abort(&mut self, rt: &impl Abort, xid: Xid) {
+        let Some(ticket) = self.tickets.remove(&xid) else {
+            panic!(rt; "{xid} is not open")
+        };
+        self.store.abort(&mut self.line, ticket);
+    }
+
+    pub(super) fn stop(&self) -> Option<Stop> {
+        self.store.stop()
+    }
+
+    /// Stops the store where all wait, given how many items were sent to each.
+    pub(super) fn stop_held(
+        &mut self,
+        waiter: Xid,
+        sent: &[(Xid, u64)],
+    ) -> Result<Xid, NotSettled> {
+        self.store.stop_held(&self.line, waiter, sent)
+    }
+
+    pub(super) fn live(
+        &self,
+        rt: &impl Abort,
+        table: TableId,
+        key: &Key,
+    ) -> Result<Option<Row>, EngineFault> {
+        assert!(rt; table < TABLES);
+        self.store.live(table, key)
+    }
+
+    pub(super) fn committed(
+        &self,
+        rt: &impl Abort,
+        table: TableId,
+        key: &Key,
+    ) -> Result<Option<Row>, EngineFault> {
+        assert!(rt; table < TABLES);
+        self.store.committed(table, key)
+    }
+
+    pub(super) fn rows_after(
+        &self,
+        rt: &impl Abort,
+        alloc: Global,
+        table: TableId,
+        entries: usize,
+    ) -> Result<Vec<Row>, EngineFault> {
+        assert!(rt; table < TABLES);
+        assert!(rt; entries <= self.store.journal().len());
+        self.store.rows_after(alloc, table, entries)
+    }
+
+    /// The tables and the journal. None may be open.
+    pub(super) fn close(self, rt: &impl Abort) -> (Tables, Vec<Entry>) {
+        let Scene {
+            store,
+            line,
+            tickets,
+            end: _,
+        } = self;
+        assert!(rt; tickets.is_empty());
+        store.close(line)
+    }
+
+    /// The accounts and how many entries the journal has. None may be open.
+    pub(super) fn ends_with(
+        self,
+        rt: &impl Abort,
+        alloc: Global,
+        accounts: &str,
+        entries: usize,
+    ) -> Result<(), Fail> {
+        let (tables, journal) = self.close(rt);
+        assert_eq!(rt; rows_of(alloc, &tables, ACCOUNTS)?.as_str(), accounts);
+        assert_eq!(rt; journal.len(), entries);
+        Ok(())
+    }
+}

@@ -1,0 +1,279 @@
+// What a reader is answered while transactions are open.
+ghost use Rattle.std.specs.Prelude.{◌≡◌, []};
+ghost use Rattle.model.specs.Named.{NamesTables};
+ghost use Rattle.origin.specs.Commits.{commits_of};
+
+use super::scene::{Parts, Scene, TABLE, key, put, remove, written};
+use engine::{EngineFault, SharedStore, StoreNames};
+use model::{Change, Key, Lsn, TableId, Xid};
+use origin::{Origin, Position, Publisher};
+use snapshot::{ReadFault, Reader};
+use std::alloc::Global;
+use std::marker::Brand;
+use std::process::Abort;
+use std::sync::{Mutex, Wait};
+use std::test::Fail;
+
+// What is played on one thread.
+#[derive(Clone, Copy)]
+enum Scenario {
+    Between,
+    Positions,
+    Unknown,
+    Published,
+    Refused,
+}
+
+// The rows of the table as text.
+fn rows_of<N: StoreNames, R: Wait>(
+    rt: &R,
+    alloc: Global,
+    reader: &mut Reader<'_, N>,
+) -> Result<String, Fail> {
+    let rows = reader.rows(rt, alloc, TABLE)?;
+    Ok(written(alloc, rows.as_slice())?)
+}
+
+// The row at a key as text.
+fn row_of<N: StoreNames, R: Wait>(
+    rt: &R,
+    alloc: Global,
+    reader: &mut Reader<'_, N>,
+    id: i64,
+) -> Result<String, Fail> {
+    match reader.get(rt, TABLE, &key(alloc, id)?)? {
+        None => Ok(String::new(alloc)),
+        Some(row) => Ok(written(alloc, &[row])?),
+    }
+}
+
+// The rows at a position as text.
+fn rows_at<N: StoreNames, R: Wait>(
+    rt: &R,
+    alloc: Global,
+    reader: &mut Reader<'_, N>,
+    position: Lsn,
+) -> Result<String, Fail> {
+    let rows = reader.rows_at(rt, alloc, TABLE, position)?;
+    Ok(written(alloc, rows.as_slice())?)
+}
+
+// Between the changes and the commits of two transactions.
+fn reads_between<N: StoreNames, R: Abort + Wait>(
+    rt: &R,
+    alloc: Global,
+    scene: &mut Scene<'_, N>,
+    reader: &mut Reader<'_, N>,
+) -> Result<(), Fail> {
+    let mut first = scene.open(rt, alloc, 1)?;
+    scene.act(rt, alloc, &mut first, &put(alloc, 1, 10)?)?;
+    scene.act(rt, alloc, &mut first, &put(alloc, 2, 20)?)?;
+    assert_eq!(rt; rows_of(rt, alloc, reader)?.as_str(), "");
+    scene.commit(rt, first, 16);
+    assert_eq!(rt; rows_of(rt, alloc, reader)?.as_str(), "1|10 2|20");
+    let mut one = scene.open(rt, alloc, 700)?;
+    let mut other = scene.open(rt, alloc, 900)?;
+    scene.act(rt, alloc, &mut one, &put(alloc, 3, 30)?)?;
+    scene.act(rt, alloc, &mut other, &remove(alloc, 1)?)?;
+    assert_eq!(rt; row_of(rt, alloc, reader, 3)?.as_str(), "");
+    assert_eq!(rt; row_of(rt, alloc, reader, 1)?.as_str(), "1|10");
+    assert_eq!(rt; rows_of(rt, alloc, reader)?.as_str(), "1|10 2|20");
+    scene.commit(rt, other, 32);
+    assert_eq!(rt; row_of(rt, alloc, reader, 1)?.as_str(), "");
+    assert_eq!(rt; row_of(rt, alloc, reader, 3)?.as_str(), "");
+    assert_eq!(rt; rows_of(rt, alloc, reader)?.as_str(), "2|20");
+    scene.commit(rt, one, 48);
+    assert_eq!(rt; row_of(rt, alloc, reader, 3)?.as_str(), "3|30");
+    assert_eq!(rt; rows_of(rt, alloc, reader)?.as_str(), "2|20 3|30");
+    Ok(())
+}
+
+// A transaction of one change that ends here.
+fn commit_one<N: StoreNames, R: Abort + Wait>(
+    rt: &R,
+    alloc: Global,
+    scene: &mut Scene<'_, N>,
+    xid: Xid,
+    change: &Change,
+    end: Lsn,
+) -> Result<(), Fail>
+    requires { NamesTables 1 change.now }
+{
+    let mut ticket = scene.open(rt, alloc, xid)?;
+    scene.act(rt, alloc, &mut ticket, change)?;
+    scene.commit(rt, ticket, end);
+    Ok(())
+}
+
+// At each position of three commits, while another transaction is open.
+fn reads_positions<N: StoreNames, R: Abort + Wait>(
+    rt: &R,
+    alloc: Global,
+    scene: &mut Scene<'_, N>,
+    reader: &mut Reader<'_, N>,
+) -> Result<(), Fail> {
+    let mut open = scene.open(rt, alloc, 900)?;
+    scene.act(rt, alloc, &mut open, &put(alloc, 9, 90)?)?;
+    commit_one(rt, alloc, scene, 701, &put(alloc, 2, 20)?, 16)?;
+    commit_one(rt, alloc, scene, 702, &put(alloc, 1, 10)?, 40)?;
+    commit_one(rt, alloc, scene, 703, &remove(alloc, 2)?, 64)?;
+    for (position, rows) in [(0, ""), (16, "2|20"), (40, "1|10 2|20"), (64, "1|10")] {
+        assert_eq!(rt;
+            rows_at(rt, alloc, reader, position)?.as_str(),
+            rows,
+            "{position}"
+        );
+    }
+    for position in [1, 15, 17, 41, 63, 65, Lsn::MAX] {
+        let answer = reader.rows_at(rt, alloc, TABLE, position).err();
+        assert_eq!(rt; answer, Some(ReadFault::PositionUnknown), "{position}");
+    }
+    scene.commit(rt, open, 65);
+    assert_eq!(rt; rows_at(rt, alloc, reader, 65)?.as_str(), "1|10 9|90");
+    assert_eq!(rt; rows_at(rt, alloc, reader, 16)?.as_str(), "2|20");
+    Ok(())
+}
+
+// A table that isn't there, whatever the position.
+fn reads_unknown<N: StoreNames, R: Abort + Wait>(
+    rt: &R,
+    alloc: Global,
+    reader: &mut Reader<'_, N>,
+) -> Result<(), Fail> {
+    let unknown = Some(ReadFault::UnknownTable);
+    for table in [1, 2, TableId::MAX] {
+        assert_eq!(rt; reader.get(rt, table, &key(alloc, 1)?).err(), unknown);
+        assert_eq!(rt; reader.rows(rt, alloc, table).err(), unknown);
+        assert_eq!(rt; reader.rows_at(rt, alloc, table, 0).err(), unknown);
+        assert_eq!(rt; reader.rows_at(rt, alloc, table, 7).err(), unknown);
+    }
+    Ok(())
+}
+
+// Commits a row, or gives up for memory.
+fn commit_a_row<N: StoreNames, R: Abort + Wait>(
+    rt: &R,
+    alloc: Global,
+    scene: &mut Scene<'_, N>,
+) -> Result<Key, EngineFault> {
+    let mut ticket = scene.open(rt, alloc, 1)?;
+    scene.act(rt, alloc, &mut ticket, &put(alloc, 1, 10)?)?;
+    scene.commit(rt, ticket, 16);
+    Ok(key(alloc, 1)?)
+}
+
+// The rows of a commit, where one allocation may be refused: then they are read again. `get` takes no
+// memory. Where it was refused before, there is nothing to read.
+fn reads_refused<N: StoreNames, R: Abort + Wait>(
+    rt: &R,
+    alloc: Global,
+    scene: &mut Scene<'_, N>,
+    reader: &mut Reader<'_, N>,
+) -> Result<(), Fail> {
+    let Ok(key) = commit_a_row(rt, alloc, scene) else {
+        return Ok(());
+    };
+    let refused = Some(ReadFault::OutOfMemory);
+    let first = reader.rows(rt, alloc, TABLE).err();
+    assert!(rt; first.is_none() || first == refused);
+    assert!(rt; matches!(reader.get(rt, TABLE, &key), Ok(Some(_))));
+    let second = reader.rows(rt, alloc, TABLE).err();
+    assert!(rt; second.is_none() || (second == refused && first.is_none()));
+    Ok(())
+}
+
+// A position that is published is loaded, and what was seen is given back.
+fn reads_published<N: StoreNames, R: Abort + Wait>(
+    rt: &R,
+    store: &Mutex<SharedStore<N>>,
+    origin: &Origin,
+    mut publisher: Publisher,
+    mut reader: Reader<'_, N>,
+)
+    requires publisher { publisher ≡ commits_of origin.now [] }
+    requires reader { reader.published ≡ commits_of origin.now [] }
+{
+    assert_eq!(rt; reader.position(rt).commits, 0);
+    let first = Position {
+        commits: 1,
+        end_lsn: 16,
+    };
+    origin.publish(rt, &mut publisher, first);
+    assert_eq!(rt; reader.position(rt), first);
+    let (mut seen, mut loader) = reader.into_parts();
+    store.lock(rt).look(&mut seen);
+    origin.meet(rt, &mut publisher, &mut loader);
+}
+
+// Plays with one reader on one thread.
+fn play<N: StoreNames, R: Abort + Wait>(
+    rt: &R,
+    alloc: Global,
+    parts: Parts,
+    which: Scenario,
+) -> Result<(), Fail>
+    requires tickets { parts.store.tickets ≡ N.tickets }
+    requires line { parts.store.line.name ≡ N.line }
+    requires schema { parts.store.schema ≡ N.schema }
+    requires start { parts.store.world.start ≡ N.start }
+{
+    let Parts {
+        store,
+        line,
+        origin,
+        publisher,
+        loader,
+        ..
+    } = parts;
+    let store = Mutex::new(SharedStore::<N>::new(store));
+    let seen = store.lock(rt).watch();
+    let mut reader = Reader::new(&store, seen, &origin, loader);
+    let mut scene = Scene::new(&store, line);
+    match which {
+        Scenario::Between => reads_between(rt, alloc, &mut scene, &mut reader),
+        Scenario::Positions => reads_positions(rt, alloc, &mut scene, &mut reader),
+        Scenario::Unknown => reads_unknown(rt, alloc, &mut reader),
+        Scenario::Refused => reads_refused(rt, alloc, &mut scene, &mut reader),
+        Scenario::Published => {
+            reads_published(rt, &store, &origin, publisher, reader);
+            Ok(())
+        }
+    }
+}
+
+#[test]
+fn a_reader_sees_committed_rows_alone(rt: HostRuntime) -> Result<(), Fail> {
+    let alloc = rt.alloc();
+    let parts = Parts::new(&rt, alloc)?;
+    play::<Brand, HostRuntime>(&rt, alloc, parts, Scenario::Between)
+}
+
+#[test]
+fn a_reader_sees_the_rows_at_each_position(rt: HostRuntime) -> Result<(), Fail> {
+    let alloc = rt.alloc();
+    let parts = Parts::new(&rt, alloc)?;
+    play::<Brand, HostRuntime>(&rt, alloc, parts, Scenario::Positions)
+}
+
+#[test]
+fn a_table_that_is_not_there_is_told(rt: HostRuntime) -> Result<(), Fail> {
+    let alloc = rt.alloc();
+    let parts = Parts::new(&rt, alloc)?;
+    play::<Brand, HostRuntime>(&rt, alloc, parts, Scenario::Unknown)
+}
+
+#[test]
+fn a_reader_loads_what_was_published(rt: HostRuntime) -> Result<(), Fail> {
+    let alloc = rt.alloc();
+    let parts = Parts::new(&rt, alloc)?;
+    play::<Brand, HostRuntime>(&rt, alloc, parts, Scenario::Published)
+}
+
+#[test]
+fn a_reader_goes_on_where_memory_was_refused(rt: HostRuntime) -> Result<(), Fail> {
+    let alloc = rt.alloc();
+    let Ok(parts) = Parts::new(&rt, alloc) else {
+        return Ok(());
+    };
+    play::<Brand, HostRuntime>(&rt, alloc, parts, Scenario::Refused)
+}

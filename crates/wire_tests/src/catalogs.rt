@@ -1,0 +1,367 @@
+use bytes::ByteStr;
+use catalog::{Catalog, CatalogFault, ColumnType, Key, Row, Value};
+use std::alloc::{AllocError, Global};
+use std::test::Fail;
+
+const ACCOUNTS: &str = r#"
+[[table]]
+namespace = "public"
+name = "accounts"
+primary = ["id"]
+unique = [["email"]]
+[[table.column]]
+name = "id"
+type = "int"
+[[table.column]]
+name = "email"
+type = "text"
+[[table.column]]
+name = "note"
+type = "text"
+default = "x"
+"#;
+
+#[test]
+fn reads_the_accounts(rt: HostRuntime) -> Result<(), Fail> {
+    let catalog = Catalog::read(rt.alloc(), ACCOUNTS)?;
+    let [accounts] = catalog.tables() else {
+        return Err(Fail::from("one table"));
+    };
+    assert_eq!(rt; accounts.namespace().as_str(), "public");
+    assert_eq!(rt; accounts.name().as_str(), "accounts");
+    let names = ["id", "email", "note"];
+    let kinds = [ColumnType::Int, ColumnType::Text, ColumnType::Text];
+    assert_eq!(rt; accounts.columns().len(), 3);
+    for (column, (name, kind)) in accounts
+        .columns()
+        .iter()
+        .zip(names.iter().zip(kinds.iter()))
+    {
+        assert_eq!(rt; column.name.as_str(), *name);
+        assert_eq!(rt; column.kind, *kind);
+    }
+    assert!(rt; accounts.primary().numbers() == [0].as_slice());
+    let [email] = accounts.uniques() else {
+        return Err(Fail::from("one unique key"));
+    };
+    assert!(rt; email.numbers() == [1].as_slice());
+    let defaults = [None, None, Some(Value::Text(ByteStr::from_static("x")))];
+    assert!(rt; accounts.defaults() == defaults.as_slice());
+    Ok(())
+}
+
+// Texts that are a catalog, and how many tables they have.
+const TAKEN: [(&str, usize); 7] = [
+    ("", 0),
+    ("# no table\n", 0),
+    ("table = []", 0),
+    (
+        r#"table = [{namespace="n", name="t", primary=["a"], column=[{name="a", type="bool"}]}]"#,
+        1,
+    ),
+    (
+        r#"table = [{namespace="n", name="t", primary=["b", "a"], unique=[], column=[{name="a", type="int", default=-7}, {name="b", type="bool", default=true}]}]"#,
+        1,
+    ),
+    (
+        r#"table = [{namespace="n", name="t", primary=["a"], unique=[["a"], ["a"]], column=[{name="a", type="text", default="\u0000"}]}]"#,
+        1,
+    ),
+    (
+        r#"table = [{namespace="n", name="t", primary=["a"], column=[{name="a", type="int"}]}, {namespace="m", name="t", primary=["a"], column=[{name="a", type="int"}]}, {namespace="n", name="u", primary=["a"], column=[{name="a", type="int"}]}]"#,
+        3,
+    ),
+];
+
+#[test]
+fn takes_what_is_a_catalog(rt: HostRuntime) -> Result<(), Fail> {
+    for (text, count) in TAKEN {
+        let catalog = Catalog::read(rt.alloc(), text)?;
+        assert_eq!(rt; catalog.tables().len(), count, "in {text}");
+    }
+    Ok(())
+}
+
+// Texts that are none, and the fault that is answered.
+const REFUSED: [(&str, CatalogFault); 48] = [
+    ("table", CatalogFault::NotToml),
+    ("table = []\ntable = []", CatalogFault::NotToml),
+    ("limit = 9223372036854775808", CatalogFault::NotToml),
+    ("tables = []", CatalogFault::UnknownField),
+    ("table = 1", CatalogFault::UnknownField),
+    ("table = [1]", CatalogFault::UnknownField),
+    (
+        r#"table = {namespace="n", name="t", primary=["a"], column=[{name="a", type="int"}]}"#,
+        CatalogFault::UnknownField,
+    ),
+    (
+        r#"table = [{namespace="n", name="t", primary=["a"], column=[{name="a", type="int"}], owner="x"}]"#,
+        CatalogFault::UnknownField,
+    ),
+    (
+        r#"table = [{name="t", primary=["a"], column=[{name="a", type="int"}]}]"#,
+        CatalogFault::UnknownField,
+    ),
+    (
+        r#"table = [{namespace="n", primary=["a"], column=[{name="a", type="int"}]}]"#,
+        CatalogFault::UnknownField,
+    ),
+    (
+        r#"table = [{namespace="n", name="t", primary=["a"]}]"#,
+        CatalogFault::UnknownField,
+    ),
+    (
+        r#"table = [{namespace=1, name="t", primary=["a"], column=[{name="a", type="int"}]}]"#,
+        CatalogFault::UnknownField,
+    ),
+    (
+        r#"table = [{namespace="", name="t", primary=["a"], column=[{name="a", type="int"}]}]"#,
+        CatalogFault::UnknownField,
+    ),
+    (
+        r#"table = [{namespace="n", name=["t"], primary=["a"], column=[{name="a", type="int"}]}]"#,
+        CatalogFault::UnknownField,
+    ),
+    (
+        r#"table = [{namespace="n", name="t\u0000", primary=["a"], column=[{name="a", type="int"}]}]"#,
+        CatalogFault::UnknownField,
+    ),
+    (
+        r#"table = [{namespace="n", name="t", primary="a", column=[{name="a", type="int"}]}]"#,
+        CatalogFault::UnknownField,
+    ),
+    (
+        r#"table = [{namespace="n", name="t", primary=[1], column=[{name="a", type="int"}]}]"#,
+        CatalogFault::UnknownField,
+    ),
+    (
+        r#"table = [{namespace="n", name="t", primary=["a"], unique="a", column=[{name="a", type="int"}]}]"#,
+        CatalogFault::UnknownField,
+    ),
+    (
+        r#"table = [{namespace="n", name="t", primary=["a"], unique=["a"], column=[{name="a", type="int"}]}]"#,
+        CatalogFault::UnknownField,
+    ),
+    (
+        r#"table = [{namespace="n", name="t", primary=["a"], unique=[[1]], column=[{name="a", type="int"}]}]"#,
+        CatalogFault::UnknownField,
+    ),
+    (
+        r#"table = [{namespace="n", name="t", primary=["a"], column={name="a", type="int"}}]"#,
+        CatalogFault::UnknownField,
+    ),
+    (
+        r#"table = [{namespace="n", name="t", primary=["a"], column=["a"]}]"#,
+        CatalogFault::UnknownField,
+    ),
+    (
+        r#"table = [{namespace="n", name="t", primary=["a"], column=[{name="a", type="int", width=8}]}]"#,
+        CatalogFault::UnknownField,
+    ),
+    (
+        r#"table = [{namespace="n", name="t", primary=["a"], column=[{type="int"}]}]"#,
+        CatalogFault::UnknownField,
+    ),
+    (
+        r#"table = [{namespace="n", name="t", primary=["a"], column=[{name="a"}]}]"#,
+        CatalogFault::UnknownField,
+    ),
+    (
+        r#"table = [{namespace="n", name="t", primary=["a"], column=[{name="", type="int"}]}]"#,
+        CatalogFault::UnknownField,
+    ),
+    (
+        r#"table = [{namespace="n", name="t", primary=["a"], column=[{name="a", type=1}]}]"#,
+        CatalogFault::UnknownField,
+    ),
+    (
+        r#"table = [{namespace="n", name="t", primary=["a"], column=[{name="a", type="float"}]}]"#,
+        CatalogFault::UnknownField,
+    ),
+    (
+        r#"table = [{namespace="n", name="t", primary=["a"], column=[{name="a", type="int"}]}, {namespace="n", name="t", primary=["b"], column=[{name="b", type="int"}]}]"#,
+        CatalogFault::DuplicateTable,
+    ),
+    (
+        r#"table = [{namespace="n", name="t", primary=["a"], column=[{name="a", type="int"}, {name="b", type="int"}, {name="a", type="text"}]}]"#,
+        CatalogFault::DuplicateColumn,
+    ),
+    (
+        r#"table = [{namespace="n", name="t", column=[{name="a", type="int"}]}]"#,
+        CatalogFault::NoPrimaryKey,
+    ),
+    (
+        r#"table = [{namespace="n", name="t", primary=[], column=[]}]"#,
+        CatalogFault::NoPrimaryKey,
+    ),
+    (
+        r#"table = [{namespace="n", name="t", primary=["a"], column=[]}]"#,
+        CatalogFault::KeyColumnUnknown,
+    ),
+    (
+        r#"table = [{namespace="n", name="t", primary=["a", "a"], column=[{name="a", type="int"}]}]"#,
+        CatalogFault::KeyColumnUnknown,
+    ),
+    (
+        r#"table = [{namespace="n", name="t", primary=["a"], unique=[[]], column=[{name="a", type="int"}]}]"#,
+        CatalogFault::KeyColumnUnknown,
+    ),
+    (
+        r#"table = [{namespace="n", name="t", primary=["a"], unique=[["a"], ["b"]], column=[{name="a", type="int"}]}]"#,
+        CatalogFault::KeyColumnUnknown,
+    ),
+    (
+        r#"table = [{namespace="n", name="t", primary=["a"], unique=[[""]], column=[{name="a", type="int"}]}]"#,
+        CatalogFault::KeyColumnUnknown,
+    ),
+    (
+        r#"table = [{namespace="n", name="t", primary=["a"], column=[{name="a", type="int", default="1"}]}]"#,
+        CatalogFault::BadDefault,
+    ),
+    (
+        r#"table = [{namespace="n", name="t", primary=["a"], column=[{name="a", type="text", default=1}]}]"#,
+        CatalogFault::BadDefault,
+    ),
+    (
+        r#"table = [{namespace="n", name="t", primary=["a"], column=[{name="a", type="bool", default="t"}]}]"#,
+        CatalogFault::BadDefault,
+    ),
+    (
+        r#"table = [{namespace="n", name="t", primary=["a"], column=[{name="a", type="int", default=1.0}]}]"#,
+        CatalogFault::BadDefault,
+    ),
+    (
+        r#"table = [{namespace="n", name="t", primary=["a"], column=[{name="a", type="text", default=2000-01-01}]}]"#,
+        CatalogFault::BadDefault,
+    ),
+    // Two faults each, the greater one first in the text.
+    (
+        r#"table = [{namespace="n", name="t", column=[{name="a", type="int"}]}, {namespace="n", name="t", column=[]}, {namespace="n", name="u", row=1}]"#,
+        CatalogFault::UnknownField,
+    ),
+    (
+        r#"table = [{namespace="n", name="u", column=[{name="a", type="int"}, {name="a", type="int"}]}, {namespace="n", name="t", column=[]}, {namespace="n", name="t", column=[]}]"#,
+        CatalogFault::DuplicateTable,
+    ),
+    (
+        r#"table = [{namespace="n", name="u", column=[]}, {namespace="n", name="t", primary=["a"], column=[{name="a", type="int"}, {name="a", type="int"}]}]"#,
+        CatalogFault::DuplicateColumn,
+    ),
+    (
+        r#"table = [{namespace="n", name="u", primary=["b"], column=[]}, {namespace="n", name="t", column=[{name="a", type="int"}]}]"#,
+        CatalogFault::NoPrimaryKey,
+    ),
+    (
+        r#"table = [{namespace="n", name="u", primary=["a"], column=[{name="a", type="int", default=""}]}, {namespace="n", name="t", primary=["b"], column=[]}]"#,
+        CatalogFault::KeyColumnUnknown,
+    ),
+    (
+        r#"table = [{namespace="n", name="u", primary=["a"], unique=[["a"],["a"],["a"],["a"],["a"],["a"],["a"],["a"],["a"],["a"],["a"],["a"],["a"],["a"],["a"],["a"],["a"]], column=[{name="a", type="int", default=""}]}]"#,
+        CatalogFault::BadDefault,
+    ),
+];
+
+#[test]
+fn answers_the_least_fault(rt: HostRuntime) {
+    for (text, fault) in REFUSED {
+        assert_eq!(rt;
+            Catalog::read(rt.alloc(), text).err(),
+            Some(fault),
+            "in {text}"
+        );
+    }
+}
+
+// A text with so many tables, of which the first has so many columns and unique keys.
+fn large_text(
+    alloc: Global,
+    tables: usize,
+    columns: usize,
+    uniques: usize,
+) -> Result<String, AllocError> {
+    let mut text = String::new(alloc);
+    for number in 0..tables {
+        let (columns, uniques) = if number == 0 {
+            (columns, uniques)
+        } else {
+            (1, 0)
+        };
+        write!(
+            text,
+            "[[table]]\nnamespace = \"n\"\nname = \"t{number}\"\nprimary = [\"c0\"]\nunique = ["
+        )?;
+        for _ in 0..uniques {
+            text.push_str("[\"c0\"],")?;
+        }
+        text.push_str("]\n")?;
+        for column in 0..columns {
+            write!(
+                text,
+                "[[table.column]]\nname = \"c{column}\"\ntype = \"int\"\n"
+            )?;
+        }
+    }
+    Ok(text)
+}
+
+// Tables, columns and unique keys, and whether a catalog may have so many.
+const SIZES: [(usize, usize, usize, bool); 6] = [
+    (1024, 1, 0, true),
+    (1025, 1, 0, false),
+    (1, 1600, 0, true),
+    (1, 1601, 0, false),
+    (1, 1, 16, true),
+    (1, 1, 17, false),
+];
+
+#[test]
+fn takes_up_to_the_limits(rt: HostRuntime) -> Result<(), Fail> {
+    for (tables, columns, uniques, taken) in SIZES {
+        let text = large_text(rt.alloc(), tables, columns, uniques)?;
+        let fault = Catalog::read(rt.alloc(), text.as_str()).err();
+        let wanted = if taken {
+            None
+        } else {
+            Some(CatalogFault::OverLimit)
+        };
+        assert_eq!(rt;
+            fault,
+            wanted,
+            "at {tables} tables, {columns} columns, {uniques} unique keys"
+        );
+    }
+    Ok(())
+}
+
+#[test]
+fn orders_and_copies_values(rt: HostRuntime) -> Result<(), Fail> {
+    let ascending = [
+        Value::Int(-2),
+        Value::Int(1),
+        Value::Text(ByteStr::from_static("")),
+        Value::Text(ByteStr::from_static("ab")),
+        Value::Text(ByteStr::from_static("b")),
+        Value::Bool(false),
+        Value::Bool(true),
+    ];
+    for (place, value) in ascending.iter().enumerate() {
+        for (other_place, other) in ascending.iter().enumerate() {
+            assert_eq!(rt;
+                value.cmp(other),
+                place.cmp(&other_place),
+                "{value:?} to {other:?}"
+            );
+        }
+        assert!(rt; value.copy()? == *value);
+    }
+    let key = Key::from_values(vec![in rt.alloc(); Value::Int(1), Value::Bool(true)]?)?;
+    let longer = Key::from_values(vec![in rt.alloc();
+        Value::Int(1),
+        Value::Bool(true),
+        Value::Int(0),
+    ]?)?;
+    assert!(rt; key < longer && key.copy()? == key);
+    let row = Row::from_values(vec![in rt.alloc(); None, Some(Value::Int(1))]?)?;
+    assert!(rt; row.copy()?.values() == row.values());
+    Ok(())
+}
