@@ -3,9 +3,11 @@ ghost use Rattle.std.specs.Prelude.{◌≡◌};
 ghost use Rattle.model.specs.Key.{key_cmp};
 ghost use Rattle.model.specs.Cells.{overlaps, table_of};
 ghost use Rattle.model.specs.CellOrder.{cell_cmp, within_table_cmp};
+ghost use Rattle.model.specs.Hashing.{hash_of, hash_cell};
 ghost use Rattle.change.specs.Reading.{cell_read, values_read};
 
-use crate::reading::{PatchedRow, compare_key};
+use crate::reading::{PatchedRow, compare_key, hash_values};
+use model::hashing::{hash_key, hash_natural};
 use model::{Cell, Key, TableId};
 use std::cmp::Ordering;
 use std::collections::btree_map::Comparable;
@@ -40,6 +42,16 @@ impl<'a> KeyRef<'a> {
             KeyRef::Columns(columns, row) => compare_key(columns, row, key),
         }
     }
+
+    // The hash of these values.
+    fn hash(self) -> u64
+        ensures { result ≡ hash_of (values_read self.entry) }
+    {
+        match self {
+            KeyRef::Key(own) => hash_key(own),
+            KeyRef::Columns(columns, row) => hash_values(columns, row),
+        }
+    }
 }
 
 impl<'a> CellRef<'a> {
@@ -49,6 +61,20 @@ impl<'a> CellRef<'a> {
     {
         match self {
             CellRef::Row(table, _) | CellRef::Uniq(table, _, _) | CellRef::Whole(table) => table,
+        }
+    }
+
+    /// Its hash, which is that of an equal cell that is kept. It takes no memory.
+    pub fn hash(self) -> u64
+        ensures { result ≡ hash_cell (cell_read self.entry) }
+    {
+        match self {
+            CellRef::Row(table, key) => hash_natural(key.hash(), table as u64),
+            CellRef::Uniq(table, number, values) => {
+                let hash = hash_natural(values.hash(), table as u64);
+                hash_natural(hash, number as u64)
+            }
+            CellRef::Whole(table) => hash_natural(0, table as u64),
         }
     }
 

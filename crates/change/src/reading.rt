@@ -9,9 +9,11 @@ ghost use Rattle.model.specs.Effect.{patch_row};
 ghost use Rattle.model.specs.Footprint.{both_have};
 ghost use Rattle.rows.specs.View.{read_value};
 ghost use Rattle.indexes.specs.Columns.{present};
+ghost use Rattle.model.specs.Hashing.{hash_of, hash_value as hashed_value};
 ghost use Rattle.change.specs.Reading.{read_row};
 
 use bytes::ByteStr;
+use model::hashing::{hash_number, hash_text};
 use model::{ColumnPatch, Key, KeyValues, OutOfMemory, Patch, Value};
 use rows::{RowView, ValueRef};
 use std::alloc::Global;
@@ -172,6 +174,30 @@ fn compare_values(columns: &[usize], row: PatchedRow<'_>, key: &[Value]) -> Orde
         Ordering::Equal
     } else {
         Ordering::Less
+    }
+}
+
+// The hash of the values that a row has in some columns, nulls left out.
+pub(crate) fn hash_values(columns: &[usize], row: PatchedRow<'_>) -> u64
+    ensures { result ≡ hash_of (present columns.now (read_row row.entry)) }
+{
+    let mut hash = 0;
+    for column in columns {
+        if let Some(value) = row.column(*column) {
+            hash = hash_value(hash, value);
+        }
+    }
+    hash
+}
+
+// A hash with one more value, as it is read.
+fn hash_value(hash: u64, value: ValueRef<'_>) -> u64
+    ensures { result ≡ hashed_value hash (read_value value.entry) }
+{
+    match value {
+        ValueRef::Int(number) => hash_number(hash, number),
+        ValueRef::Text(text) => hash_text(hash, text),
+        ValueRef::Bool(_) => hash,
     }
 }
 

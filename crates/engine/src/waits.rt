@@ -40,6 +40,10 @@ impl<'a> SoughtCell for Sought<'a> {
     fn compare(&self, other: &Cell) -> Ordering {
         self.0.order(other)
     }
+
+    fn hash(&self) -> u64 {
+        self.0.hash()
+    }
 }
 
 /// A test of cells: whether this transaction holds one that overlaps.

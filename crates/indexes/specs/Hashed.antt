@@ -1,7 +1,6 @@
 -- The order of an index: by the hashes of values first, so that a search seldom reads their texts.
---     hash_of      the hash of values: of their texts and numbers
 --     hashed_cmp      by the hashes, and where these are one by the values
-use Rattle.std.specs.Prelude.{◌≡◌, ℕ, ℤ, unsigned_abs, ◌+◌, ◌*◌, ◌%◌, ◌^◌, List, [], ◌∷◌, IsTrue, refl}
+use Rattle.std.specs.Prelude.{◌≡◌, IsTrue, refl}
 use Rattle.std.proofs.Common.{sym, ◌∙◌, ap, true≢false}
 use Rattle.std.specs.Ordering.{is_le, nat_cmp, ordering_then}
 use Rattle.std.specs.Cmp.{IsTotalOrder}
@@ -9,39 +8,10 @@ use Rattle.std.specs.FinMap.{IsAntisymmetric}
 use Rattle.std.proofs.lemmas.Cmp.{nat_cmp_total, on_total, then_total}
 use Rattle.std.specs.declared.cmp.Ordering.{Ordering}
 use Rattle.std.specs.declared.cmp.Ordering.TheVariants.{Less, Equal, Greater}
-use Rattle.model.specs.declared.value.Value.{Value}
-use Rattle.model.specs.declared.value.Value.TheVariants.{Int, Text, Bool}
 use Rattle.model.specs.declared.key.Key.{Key}
 use Rattle.model.specs.Key.{key_cmp, key_cmp_total}
 use Rattle.model.specs.Exact.{key_cmp_exact}
-
--- the hash with a byte more: times the prime of the FNV hashes, plus the byte, in 64 bits
-abbrev pub hash_byte : ℕ → ℕ → ℕ
-hash_byte hash byte = ((hash * 1099511628211) % 2 ^ 64 + byte) % 2 ^ 64
-
--- the hash with these bytes more
-abbrev pub hash_bytes : ℕ → List ℕ → ℕ
-hash_bytes hash [] = hash
-hash_bytes hash (byte ∷ bytes) = hash_bytes (hash_byte hash byte) bytes
-
--- Of one number alone that is not negative, it is that number: so the order of hashes is that of the numbers.
-abbrev pub hash_number : ℕ → ℤ → ℕ
-hash_number hash number = ((hash * 1099511628211) % 2 ^ 64 + unsigned_abs number) % 2 ^ 64
-
--- the hash with a value more; a bool leaves it as it is
-abbrev pub hash_value : ℕ → Value → ℕ
-hash_value hash (Int number) = hash_number hash number
-hash_value hash (Text text) = hash_bytes hash text
-hash_value hash (Bool truth) = hash
-
--- the hash with these values more
-abbrev pub hash_values : ℕ → List Value → ℕ
-hash_values hash [] = hash
-hash_values hash (value ∷ values) = hash_values (hash_value hash value) values
-
--- the hash of a key's values, begun at 0
-abbrev pub hash_of : Key → ℕ
-hash_of values = hash_values 0 values
+use Rattle.model.specs.Hashing.{hash_of}
 
 -- the order of an index: by the hashes, and where these are one by the values
 abbrev pub hashed_cmp : Key → Key → Ordering

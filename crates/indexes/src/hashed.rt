@@ -3,21 +3,19 @@
 // A search compares hashes, numbers that lie in the tree's own nodes, and reads values only where
 // two hashes are one. The tree's bound on a search holds whatever the values are, which a hash
 // table's doesn't.
-ghost use Rattle.std.specs.Prelude.{◌≡◌, ◌<◌, ◌^◌};
+ghost use Rattle.std.specs.Prelude.{◌≡◌};
 ghost use Rattle.model.specs.Key.{key_cmp};
 ghost use Rattle.indexes.specs.Columns.{present};
-ghost use Rattle.indexes.specs.Hashed.{hash_bytes, hash_number, hash_value, hash_of};
+ghost use Rattle.model.specs.Hashing.{hash_of};
 
 use crate::columns::value_of;
+use model::hashing::{hash_key, hash_value};
 use model::{Key, KeyValues, Row, Value};
 use std::alloc::AllocError;
 use std::cmp::Ordering;
 use std::collections::btree_map::Comparable;
 use std::marker::Model;
 use std::slice;
-
-/// The prime of the FNV hashes of 64 bits.
-const FACTOR: u64 = 1_099_511_628_211;
 
 /// Values with their hash. A clause sees the values.
 #[derive(Debug, Drop)]
@@ -32,7 +30,7 @@ impl Model for Hashed {
 
     ghost Value = { Key };
 
-    ghost use Rattle.indexes.specs.Hashed.{hash_of};
+    ghost use Rattle.model.specs.Hashing.{hash_of};
 
     ghost view = { λ h. h.values };
 
@@ -232,27 +230,6 @@ fn compare_values(columns: &[usize], row: &Row, key: &[Value]) -> Ordering
     }
 }
 
-/// The hash of a key's values.
-fn hash_key(key: &Key) -> u64
-    ensures { result ≡ hash_of key.now }
-{
-    match key.values() {
-        KeyValues::Int(number) => hash_number(0, number),
-        KeyValues::List(values) => hash_values(values),
-    }
-}
-
-/// The hash of values.
-fn hash_values(values: &[Value]) -> u64
-    ensures { result ≡ hash_of values.now }
-{
-    let mut hash = 0;
-    for value in values {
-        hash = hash_value(hash, value);
-    }
-    hash
-}
-
 /// The hash of the values that a row has in some columns, nulls left out.
 fn hash_row(columns: &[usize], row: &Row) -> u64
     ensures { result ≡ hash_of (present columns.now row.now) }
@@ -262,36 +239,6 @@ fn hash_row(columns: &[usize], row: &Row) -> u64
         if let Some(value) = value_of(row, *column) {
             hash = hash_value(hash, value);
         }
-    }
-    hash
-}
-
-/// A hash with one more value.
-fn hash_value(hash: u64, value: &Value) -> u64
-    ensures { result ≡ hash_value hash value.now }
-{
-    match value {
-        Value::Text(text) => hash_bytes(hash, text.as_str().as_bytes()),
-        Value::Int(number) => hash_number(hash, *number),
-        Value::Bool(_) => hash,
-    }
-}
-
-/// A hash with one more number.
-fn hash_number(hash: u64, number: i64) -> u64
-    ensures { result ≡ hash_number hash number }
-{
-    hash.wrapping_mul(FACTOR)
-        .wrapping_add(number.unsigned_abs())
-}
-
-/// A hash with more bytes.
-fn hash_bytes(hash: u64, bytes: &[u8]) -> u64
-    ensures { result ≡ hash_bytes hash bytes.now }
-{
-    let mut hash = hash;
-    for byte in bytes {
-        hash = hash.wrapping_mul(FACTOR).wrapping_add(u64::from(*byte));
     }
     hash
 }

@@ -1,11 +1,11 @@
 -- What a look-up among the addresses says of the cells that transactions hold.
-use Rattle.std.specs.Prelude.{◌≡◌, ◌≢◌, ℕ, ◌+◌, ◌-◌, ◌<◌, ◌||◌, zero, suc, Bool, true, false, List, [], ◌∷◌, slice_get, Option, Some, None, refl, Contains, MatchOption, IfSome, IfNone}
+use Rattle.std.specs.Prelude.{◌≡◌, ◌≢◌, ℕ, ◌+◌, ◌-◌, ◌<◌, ◌||◌, zero, suc, Bool, true, false, List, [], ◌∷◌, slice_get, Option, Some, None, refl, Contains, MatchOption}
 use Rattle.std.proofs.Common.{sym, ◌∙◌, ap, subst, inl, inr, true≢false, arith, nat_lt}
 use Rattle.std.specs.Ordering.{eq_by_cmp}
 use Rattle.std.specs.List.{list_any}
 use Rattle.std.proofs.lemmas.Bool.{ltb-true, ltb-false}
 use Rattle.std.proofs.lemmas.Map.Views.{tells_apart}
-use Rattle.std.specs.BTreeMap.{Updates}
+use Rattle.std.specs.HashMap.{Updates}
 use Rattle.std.specs.Prelude.{Result, Ok, Err, OnOk, OnErr, is_err}
 use Rattle.model.specs.declared.cell.Cell.{Cell}
 use Rattle.model.specs.declared.cell.Cell.TheVariants.{Whole}
@@ -15,31 +15,31 @@ use Rattle.keyholds.specs.declared.addresses.Address.{Address}
 use Rattle.keyholds.specs.declared.addresses.Addresses.{Addresses}
 use Rattle.keyholds.specs.Counts.{count_in, SetsCount}
 use Rattle.keyholds.specs.Holds.{IsFree, IsHeldBy}
-use Rattle.keyholds.specs.Addresses.{AreAddresses, IsAlone, IsHeldAt, TellsAt, AddsAddress, RemovesAddress}
+use Rattle.keyholds.specs.Addresses.{address_at, AreAddresses, IsAlone, IsHeldAt, TellsAt, AddsAddress, RemovesAddress}
 use Rattle.keyholds.proofs.Ties.{tied_self, updated_here, updated_beside, same_value}
-use Rattle.keyholds.proofs.Overlaps.{contains_at, at_contains, some_counted, none_counted_at, overlaps_itself, overlaps_whole, overlap_cases}
+use Rattle.keyholds.proofs.Overlaps.{contains_at, at_contains, some_counted, none_counted_at, overlaps_itself, overlaps_whole, overlaps_above, overlap_cases}
 
 module _ (held : ℕ → List Cell) (addresses : Addresses) (kept : AreAddresses held addresses) (xid : ℕ) where
   -- a table that no other has a cell in
-  pub whole_free : (table : ℕ) → ((other : ℕ) → other ≢ xid → count_in addresses.counts.counts table other ≡ 0) → IsFree held xid (Whole table)
+  whole_free : (table : ℕ) → ((other : ℕ) → other ≢ xid → count_in addresses.counts.counts table other ≡ 0) → IsFree held xid (Whole table)
   whole_free table none other d apart has =
       none_counted_at (overlaps (Whole table)) (held other) (sym (kept.counted table other) ∙ none other apart) has.0 d (at_contains (held other) d has)
 
-  pub whole_held : (table other : ℕ) → other ≢ xid → 0 < count_in addresses.counts.counts table other → IsHeldBy held xid (Whole table) other
+  -- a cell in such a table
+  pub cell_free : (cell : Cell) → ((other : ℕ) → other ≢ xid → count_in addresses.counts.counts (table_of cell) other ≡ 0) → IsFree held xid cell
+  cell_free cell none other d apart has = elim (overlaps cell d) as (λ b. overlaps cell d ≡ b → b ≡ false) [
+    | true ↦ λ e. absurd (true≢false (sym (overlaps_above cell d e) ∙ whole_free (table_of cell) none other d apart has))
+    | false ↦ λ e. refl
+  ] refl
+
+  whole_held : (table other : ℕ) → other ≢ xid → 0 < count_in addresses.counts.counts table other → IsHeldBy held xid (Whole table) other
   whole_held table other apart some =
       let found = some_counted (overlaps (Whole table)) (held other) (subst (λ n. 0 < n) (kept.counted table other) some) in
       record { another = apart; its = found.0; holds = found.1; overlap = found.2 }
 
-  whole_answered : (table : ℕ) (r : Option ℕ) → IfSome r (λ other. (other ≢ xid) × (0 < count_in addresses.counts.counts table other)) → IfNone r ((other : ℕ) → other ≢ xid → count_in addresses.counts.counts table other ≡ 0)
-      → MatchOption r (IsFree held xid (Whole table)) (IsHeldBy held xid (Whole table))
-  whole_answered table None some none = whole_free table none
-  whole_answered table (Some other) some none = whole_held table other some.0 some.1
-
   -- a look-up for a whole table
-  pub answered_whole : (table : ℕ) (cell : Cell) → cell ≡ Whole table → (r : Option ℕ) → IfSome r (λ other. (other ≢ xid) × (0 < count_in addresses.counts.counts table other)) → IfNone r ((other : ℕ) → other ≢ xid → count_in addresses.counts.counts table other ≡ 0)
-      → MatchOption r (IsFree held xid cell) (IsHeldBy held xid cell)
-  answered_whole table cell is r some none =
-      subst (λ (c : Cell). MatchOption r (IsFree held xid c) (IsHeldBy held xid c)) (sym is) (whole_answered table r some none)
+  pub answered_whole : (table : ℕ) (cell : Cell) → cell ≡ Whole table → (other : ℕ) → other ≢ xid → 0 < count_in addresses.counts.counts table other → IsHeldBy held xid cell other
+  answered_whole table cell is other apart some = subst (λ (c : Cell). IsHeldBy held xid c other) (sym is) (whole_held table other apart some)
 
   -- another has a cell that overlaps it
   pub held_there : (cell its : Cell) (other : ℕ) → overlaps cell its ≡ true → IsHeldAt xid its addresses other → IsHeldBy held xid cell other
@@ -92,17 +92,17 @@ at_err (Ok x) P e h = absurd cc
 at_err (Err x) P e h = h
 
 module _ (cell : Cell) (table : ℕ) (is : table ≡ table_of cell) (old new : Addresses) where
-  pub adds_address : (address : Address) → Updates cell_cmp old.addresses new.addresses cell (Some address) → SetsCount table address.xid (count_in old.counts.counts table address.xid + 1) old.counts.counts new.counts.counts → AddsAddress cell address old new
+  pub adds_address : (address : Address) → Updates (eq_by_cmp cell_cmp) old.addresses new.addresses cell (Some address) → SetsCount table address.xid (count_in old.counts.counts table address.xid + 1) old.counts.counts new.counts.counts → AddsAddress cell address old new
   adds_address address step count = record {
-    here = updated_here old.addresses new.addresses cell (Some address) step cell_cmp_total;
-    beside = updated_beside old.addresses new.addresses cell (Some address) step cell_cmp_exact;
+    here = updated_here (address_at old) (address_at new) cell (Some address) step.0 cell_cmp_total;
+    beside = updated_beside (address_at old) (address_at new) cell (Some address) step.0 cell_cmp_exact;
     count = subst (λ t. SetsCount t address.xid (count_in old.counts.counts t address.xid + 1) old.counts.counts new.counts.counts) is count;
   }
 
-  pub removes_address : (xid : ℕ) → Updates cell_cmp old.addresses new.addresses cell None → SetsCount table xid (count_in old.counts.counts table xid - 1) old.counts.counts new.counts.counts → RemovesAddress cell xid old new
+  pub removes_address : (xid : ℕ) → Updates (eq_by_cmp cell_cmp) old.addresses new.addresses cell None → SetsCount table xid (count_in old.counts.counts table xid - 1) old.counts.counts new.counts.counts → RemovesAddress cell xid old new
   removes_address xid step count = record {
-    here = updated_here old.addresses new.addresses cell None step cell_cmp_total;
-    beside = updated_beside old.addresses new.addresses cell None step cell_cmp_exact;
+    here = updated_here (address_at old) (address_at new) cell None step.0 cell_cmp_total;
+    beside = updated_beside (address_at old) (address_at new) cell None step.0 cell_cmp_exact;
     count = subst (λ t. SetsCount t xid (count_in old.counts.counts t xid - 1) old.counts.counts new.counts.counts) is count;
   }
 
@@ -123,6 +123,15 @@ any_true p xs x has is = at_index p xs has.0 x (at_contains xs x has) is
 any_false : (p : Cell → Bool) (xs : List Cell) → ((i : ℕ) (x : Cell) → slice_get xs i ≡ Some x → p x ≡ false) → list_any p xs ≡ false
 any_false p [] none = refl
 any_false p (y ∷ ys) none = ap (λ b. b || list_any p ys) (none 0 y refl) ∙ any_false p ys (λ i x at. none (suc i) x at)
+
+-- ---- what a look-up of just one cell says
+
+module _ (addresses : Addresses) (cell : Cell) (address : Address) (found : Some address ≡ address_at addresses cell) where
+  pub tells_held : (holder : ℕ) → address.xid ≡ holder → TellsAt holder cell addresses true
+  tells_held holder whose = (address.index, sym found ∙ (λ i. Some (record { xid = whose i; index = address.index })))
+
+  pub tells_another : (xid : ℕ) → address.xid ≢ xid → IsHeldAt xid cell addresses address.xid
+  tells_another xid apart = record { another = apart; index = address.index; at = sym found }
 
 -- whether a number is above 0
 abbrev pub IsPositive : ℕ → Bool → Type 0

@@ -60,7 +60,7 @@ module _ {S Z : Type 0} (lists : BTreeMap ℕ (Vec (Cell × S) Z)) (xid index : 
 
 -- a list with room, once it is in the map
 pub has_room : {X Z : Type 0} (old new : BTreeMap ℕ (Vec X Z)) (xid : ℕ) (list : Vec X Z) → Updates nat_cmp old new xid (Some list) → vec_len list < vec_capacity list → HasRoom new xid
-has_room old new xid list step room = record { list = list; at = updated_here old new xid (Some list) step nat_cmp_total; room = room }
+has_room old new xid list step room = record { list = list; at = updated_here (tree.get nat_cmp old) (tree.get nat_cmp new) xid (Some list) step.0 nat_cmp_total; room = room }
 
 -- what follows from either outcome of a call
 pub either_way : {T E : Type 0} (r : Result T E) (P Q G : Type 0) → OnOk r P → OnErr r Q → (P → G) → (Q → G) → G

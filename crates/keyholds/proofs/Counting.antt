@@ -28,9 +28,9 @@ pair_cmp_exact = exact_pairs nat_cmp nat_cmp nat_cmp-IsAntisymmetric nat_cmp-IsA
 module _ (m n : BTreeMap (ℕ × ℕ) ℕ) (table xid : ℕ) (w : Option ℕ) (step : Updates pair_cmp m n (table, xid) w) where
   pub sets_count : SetsCount table xid (unwrap_or w 0) m n
   sets_count = record {
-    here = ap (λ o. unwrap_or o 0) (updated_here m n (table, xid) w step pair_cmp_total);
-    tables = λ t x apart. ap (λ o. unwrap_or o 0) (updated_beside m n (table, xid) w step pair_cmp_exact (t, x) (λ e. apart (ap (λ (p : ℕ × ℕ). p.0) e)));
-    others = λ t x apart. ap (λ o. unwrap_or o 0) (updated_beside m n (table, xid) w step pair_cmp_exact (t, x) (λ e. apart (ap (λ (p : ℕ × ℕ). p.1) e)));
+    here = ap (λ o. unwrap_or o 0) (updated_here (get pair_cmp m) (get pair_cmp n) (table, xid) w step.0 pair_cmp_total);
+    tables = λ t x apart. ap (λ o. unwrap_or o 0) (updated_beside (get pair_cmp m) (get pair_cmp n) (table, xid) w step.0 pair_cmp_exact (t, x) (λ e. apart (ap (λ (p : ℕ × ℕ). p.0) e)));
+    others = λ t x apart. ap (λ o. unwrap_or o 0) (updated_beside (get pair_cmp m) (get pair_cmp n) (table, xid) w step.0 pair_cmp_exact (t, x) (λ e. apart (ap (λ (p : ℕ × ℕ). p.1) e)));
   }
 
   either : (b : Bool) (o : Option ℕ) → cond b w o ≡ Some 0 → w ≢ Some 0 → o ≢ Some 0 → ⊥

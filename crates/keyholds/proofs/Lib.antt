@@ -1,3 +1,4 @@
+pub mod Hashes
 mod Ties
 mod Counting
 mod Overlaps

@@ -1,12 +1,14 @@
 -- The lists of transactions as their finite map, and after a change of one of them.
-use Rattle.std.specs.Prelude.{◌≡◌, ◌≢◌, ℕ, Bool, true, false, cond, List, [], ◌∷◌, Option, Some, None, Vec, refl, unwrap_or}
+use Rattle.std.specs.Prelude.{◌≡◌, ◌≢◌, ℕ, length, Bool, true, false, cond, List, [], ◌∷◌, Option, Some, None, Vec, refl, unwrap_or}
 use Rattle.std.proofs.Common.{sym, ◌∙◌, ap}
 use Rattle.std.specs.Ordering.{nat_cmp, eq_by_cmp}
 use Rattle.std.specs.Cmp.{nat_cmp_total}
 use Rattle.std.specs.Option.{option_map}
 use Rattle.std.specs.Map.{lookup}
+use Rattle.std.specs.BTreeMap as tree
 use Rattle.std.specs.BTreeMap.{BTreeMap, is_at, Updates}
 use Rattle.std.specs.FinMap.{FinMap, get, get-insert, get-remove, get-empty, same_map, nat_cmp-IsAntisymmetric}
+use Rattle.std.proofs.lemmas.List.{nil_from_length}
 use Rattle.std.proofs.lemmas.Map.Made.{lookup-map_values}
 use Rattle.model.specs.declared.cell.Cell.{Cell}
 use Rattle.keyholds.specs.Holds.{holds_of, HasNoEmptyList}
@@ -64,14 +66,17 @@ module _ {X Z : Type 0} where
   pub no_lists : (lists : BTreeMap ℕ (Vec X Z)) → lists.entries ≡ [] → (xid : ℕ) → unwrap_or (get (lists_seen lists) xid) [] ≡ []
   no_lists lists none xid = get-lists_seen lists xid ∙ ap (λ (es : List (ℕ × Vec X Z)). items_in (lookup (is_at (nat_cmp xid)) es)) none
 
+  pub no_entries : (lists : BTreeMap ℕ (Vec X Z)) → length lists.entries ≡ 0 → (xid : ℕ) → unwrap_or (get (lists_seen lists) xid) [] ≡ []
+  no_entries lists none = no_lists lists (nil_from_length lists.entries none)
+
   pub lists_seen_filled : (lists : BTreeMap ℕ (Vec X Z)) (xid : ℕ) → get (lists_seen lists) xid ≢ Some []
   lists_seen_filled lists xid e = never_empty _ (sym (get-lists_in _ xid) ∙ e)
 
   -- after the list was written, or went
   pub sets_list : (old new : BTreeMap ℕ (Vec X Z)) (xid : ℕ) (w : Option (Vec X Z)) → Updates nat_cmp old new xid w → SetsList xid (items_in w) old new
   sets_list old new xid w step = record {
-    here = ap items_in (updated_here old new xid w step nat_cmp_total);
-    beside = λ other apart. ap items_in (updated_beside old new xid w step nat_cmp-IsAntisymmetric other apart);
+    here = ap items_in (updated_here (tree.get nat_cmp old) (tree.get nat_cmp new) xid w step.0 nat_cmp_total);
+    beside = λ other apart. ap items_in (updated_beside (tree.get nat_cmp old) (tree.get nat_cmp new) xid w step.0 nat_cmp-IsAntisymmetric other apart);
   }
 
 module _ {S : Type 0} where

@@ -9,15 +9,14 @@ use Rattle.std.proofs.lemmas.Option.{slice_get_within}
 use Rattle.std.proofs.lemmas.List.Sums.{sum_by-append}
 use Rattle.std.specs.Cmp.{nat_eq_equiv}
 use Rattle.std.proofs.lemmas.Map.Views.{exact_unsigned_eq}
-use Rattle.std.specs.BTreeMap as tree
 use Rattle.model.specs.declared.cell.Cell.{Cell}
 use Rattle.model.specs.Cells.{table_of, overlaps}
-use Rattle.model.specs.CellOrder.{cell_cmp, cell_cmp_total, cell_cmp_exact}
+use Rattle.model.specs.CellOrder.{cell_cmp_total, cell_cmp_exact}
 use Rattle.keyholds.specs.declared.addresses.Address.{Address}
 use Rattle.keyholds.specs.declared.addresses.Addresses.{Addresses}
 use Rattle.keyholds.specs.Counts.{count_in}
 use Rattle.keyholds.specs.Holds.{IsFree, AreApart}
-use Rattle.keyholds.specs.Addresses.{AreAddresses, AddsAddress, RemovesAddress, SameAddresses, HasNoAddresses, count_of_table, with_cells}
+use Rattle.keyholds.specs.Addresses.{address_at, AreAddresses, AddsAddress, RemovesAddress, SameAddresses, HasNoAddresses, count_of_table, with_cells}
 use Rattle.keyholds.proofs.Ties.{same_or_apart, same_value}
 use Rattle.keyholds.proofs.Overlaps.{contains_at, at_contains, overlaps_symm}
 
@@ -109,18 +108,18 @@ module _ (held more : ℕ → List Cell) (xid : ℕ) (cell : Cell) (longer : IsL
 
   -- ---- the cell comes
 
-  module _ (old new : Addresses) (kept : AreAddresses held old) (absent : tree.get cell_cmp old.addresses cell ≡ None) (free : IsFree held xid cell) (adds : AddsAddress cell (record { xid = xid; index = length (held xid) }) old new) where
-    added_at : (x i : ℕ) (c : Cell) → slice_get (more x) i ≡ Some c → tree.get cell_cmp new.addresses c ≡ Some (record { xid = x; index = i })
+  module _ (old new : Addresses) (kept : AreAddresses held old) (absent : address_at old cell ≡ None) (free : IsFree held xid cell) (adds : AddsAddress cell (record { xid = xid; index = length (held xid) }) old new) where
+    added_at : (x i : ℕ) (c : Cell) → slice_get (more x) i ≡ Some c → address_at new c ≡ Some (record { xid = x; index = i })
     added_at x i c e = elim (at_cases x i c e) [
-      | inl at ↦ let stood = kept.at x i c at in adds.beside c (λ is. absurd (let none : tree.get cell_cmp old.addresses c ≡ None = ap (tree.get cell_cmp old.addresses) is ∙ absent in cc)) ∙ stood
-      | inr last ↦ ap (tree.get cell_cmp new.addresses) last.2 ∙ adds.here ∙ (λ j. Some (record { xid = sym last.0 j; index = sym last.1 j }))
+      | inl at ↦ let stood = kept.at x i c at in adds.beside c (λ is. absurd (let none : address_at old c ≡ None = ap (address_at old) is ∙ absent in cc)) ∙ stood
+      | inr last ↦ ap (address_at new) last.2 ∙ adds.here ∙ (λ j. Some (record { xid = sym last.0 j; index = sym last.1 j }))
     ]
 
-    added_found : (c : Cell) (p : Address) → tree.get cell_cmp new.addresses c ≡ Some p → slice_get (more p.xid) p.index ≡ Some c
+    added_found : (c : Cell) (p : Address) → address_at new c ≡ Some p → slice_get (more p.xid) p.index ≡ Some c
     added_found c p e = elim (same_or_apart cell_cmp_total cell_cmp_exact c cell) [
       | inl is ↦
           let address : Address = record { xid = xid; index = length (held xid) } in
-          let same : address ≡ p = same_value address p (sym adds.here ∙ ap (tree.get cell_cmp new.addresses) (sym is) ∙ e) in
+          let same : address ≡ p = same_value address p (sym adds.here ∙ ap (address_at new) (sym is) ∙ e) in
           ap (λ (q : Address). slice_get (more q.xid) q.index) (sym same) ∙ at_new ∙ ap Some (sym is)
       | inr apart ↦ at_old p.xid p.index c (kept.found c p (sym (adds.beside c apart) ∙ e))
     ]
@@ -152,14 +151,14 @@ module _ (held more : ℕ → List Cell) (xid : ℕ) (cell : Cell) (longer : IsL
   -- ---- the cell goes
 
   module _ (old new : Addresses) (kept : AreAddresses more old) (removes : RemovesAddress cell xid old new) where
-    removed_at : (x i : ℕ) (c : Cell) → slice_get (held x) i ≡ Some c → tree.get cell_cmp new.addresses c ≡ Some (record { xid = x; index = i })
+    removed_at : (x i : ℕ) (c : Cell) → slice_get (held x) i ≡ Some c → address_at new c ≡ Some (record { xid = x; index = i })
     removed_at x i c e =
         let stood = kept.at x i c (at_old x i c e) in
         removes.beside c (λ is.
         let last = kept.at xid (length (held xid)) cell at_new in
         let address : Address = record { xid = x; index = i } in
         let end : Address = record { xid = xid; index = length (held xid) } in
-        let same : address ≡ end = same_value address end (sym stood ∙ ap (tree.get cell_cmp old.addresses) is ∙ last) in
+        let same : address ≡ end = same_value address end (sym stood ∙ ap (address_at old) is ∙ last) in
         let within = slice_get_within (held x) i c e in
         let whose : x ≡ xid = ap (λ (q : Address). q.xid) same in
         let where_at : i ≡ length (held xid) = ap (λ (q : Address). q.index) same in
@@ -167,9 +166,9 @@ module _ (held more : ℕ → List Cell) (xid : ℕ) (cell : Cell) (longer : IsL
         omega (arith, within, where_at, long))
         ∙ stood
 
-    removed_found : (c : Cell) (p : Address) → tree.get cell_cmp new.addresses c ≡ Some p → slice_get (held p.xid) p.index ≡ Some c
+    removed_found : (c : Cell) (p : Address) → address_at new c ≡ Some p → slice_get (held p.xid) p.index ≡ Some c
     removed_found c p e =
-        let apart : c ≢ cell = λ is. absurd (let none : tree.get cell_cmp new.addresses c ≡ None = ap (tree.get cell_cmp new.addresses) is ∙ removes.here in cc) in
+        let apart : c ≢ cell = λ is. absurd (let none : address_at new c ≡ None = ap (address_at new) is ∙ removes.here in cc) in
         elim (at_cases p.xid p.index c (kept.found c p (sym (removes.beside c apart) ∙ e))) [
           | inl at ↦ at
           | inr last ↦ absurd (apart last.2)

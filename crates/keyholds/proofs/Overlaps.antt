@@ -93,6 +93,16 @@ overlap_cases (Uniq t n k) (Uniq u m l) apart e =
 overlap_cases (Uniq t n k) (Whole u) apart e = inr (ap Whole (sym (same_number t u e)))
 overlap_cases (Whole t) d apart e = absurd (apart t refl)
 
+-- a cell that overlaps another lies in its table
+pub overlaps_above : (cell d : Cell) → overlaps cell d ≡ true → overlaps (Whole (table_of cell)) d ≡ true
+overlaps_above (Row t k) (Row u l) e = (both (t == u) (same_key k l) e).0
+overlaps_above (Row t k) (Uniq u m l) e = absurd cc
+overlaps_above (Row t k) (Whole u) e = e
+overlaps_above (Uniq t n k) (Row u l) e = absurd cc
+overlaps_above (Uniq t n k) (Uniq u m l) e = (both (t == u) ((n == m) && same_key k l) e).0
+overlaps_above (Uniq t n k) (Whole u) e = e
+overlaps_above (Whole t) d e = e
+
 both_symm : (a b c d : Bool) → a ≡ c → b ≡ d → (a && b) ≡ (c && d)
 both_symm a b c d e f = λ i. e i && f i
 

@@ -5,7 +5,6 @@ use Rattle.std.specs.Ordering.{nat_cmp}
 use Rattle.std.specs.Cmp.{eq_by_cmp_equiv}
 use Rattle.std.specs.Map.{keys_of}
 use Rattle.std.specs.FinMap.{FinMap}
-use Rattle.std.specs.BTreeMap as tree
 use Rattle.std.specs.BTreeMap.{BTreeMap}
 use Rattle.std.proofs.lemmas.Bool.{cases_eq}
 use Rattle.std.proofs.lemmas.List.{take-append-le, map-append}
@@ -20,13 +19,13 @@ use Rattle.std.proofs.lemmas.Map.Entries.{length-keys_of}
 use Rattle.std.proofs.lemmas.Map.Views.{IsSome-lookup_from_Contains, Contains-keys_from_lookup, tells_apart}
 use Rattle.model.specs.declared.cell.Cell.{Cell}
 use Rattle.model.specs.Cells.{table_of}
-use Rattle.model.specs.CellOrder.{cell_cmp, cell_cmp_total, cell_cmp_exact}
+use Rattle.model.specs.CellOrder.{cell_cmp_total, cell_cmp_exact}
 use Rattle.keyholds.specs.declared.addresses.Address.{Address}
 use Rattle.keyholds.specs.declared.addresses.Addresses.{Addresses}
 use Rattle.keyholds.specs.Counts.{count_in}
 use Rattle.keyholds.specs.Holds.{holds_of, cells_held, has_cell, with_hold, with_holds, IsFree}
 use Rattle.keyholds.specs.Lists.{lists_seen, listed, SetsList}
-use Rattle.keyholds.specs.Addresses.{AreAddresses, AddsAddress, count_of_table}
+use Rattle.keyholds.specs.Addresses.{address_at, AreAddresses, AddsAddress, count_of_table}
 use Rattle.keyholds.proofs.Overlaps.{contains_at, at_contains, overlaps_itself}
 use Rattle.keyholds.proofs.Listing.{get-lists_seen}
 use Rattle.keyholds.proofs.Longer.{IsLonger, addresses_added, keys_of-push}
@@ -42,18 +41,18 @@ module _ {S : Type 0} (held : List (Cell × S)) (cell : Cell) (stood : S) where
 
 module _ {S : Type 0} (holds : FinMap nat_cmp (List (Cell × S))) (addresses : Addresses) (kept : AreAddresses (cells_held holds) addresses) (xid : ℕ) (cell : Cell) where
   -- a cell at an address that no other transaction has is one of its own
-  pub own_cell : IsFree (cells_held holds) xid cell → (address : Address) → tree.get cell_cmp addresses.addresses cell ≡ Some address → has_cell cell (holds_of holds xid) ≡ true
+  pub own_cell : IsFree (cells_held holds) xid cell → (address : Address) → address_at addresses cell ≡ Some address → has_cell cell (holds_of holds xid) ≡ true
   own_cell free address e = elim (cases_eq address.xid xid) [
     | inl is ↦ IsSome-lookup_from_Contains (eq_by_cmp_equiv cell_cmp_total) cell (holds_of holds xid) (subst (λ x. Contains (cells_held holds x) cell) is (contains_at (cells_held holds address.xid) address.index cell (kept.found cell address e)))
     | inr apart ↦ absurd (true≢false (sym (overlaps_itself cell) ∙ free address.xid cell apart (contains_at (cells_held holds address.xid) address.index cell (kept.found cell address e))))
   ]
 
-  pub own_cell_some : IsFree (cells_held holds) xid cell → (o : Option Address) → o ≡ tree.get cell_cmp addresses.addresses cell → is_some o ≡ true → has_cell cell (holds_of holds xid) ≡ true
+  pub own_cell_some : IsFree (cells_held holds) xid cell → (o : Option Address) → o ≡ address_at addresses cell → is_some o ≡ true → has_cell cell (holds_of holds xid) ≡ true
   own_cell_some free None e some = absurd cc
   own_cell_some free (Some address) e some = own_cell free address (sym e)
 
   -- a cell at no address is none of its own
-  pub new_cell : tree.get cell_cmp addresses.addresses cell ≡ None → has_cell cell (holds_of holds xid) ≡ false
+  pub new_cell : address_at addresses cell ≡ None → has_cell cell (holds_of holds xid) ≡ false
   new_cell absent = by (has_cell cell (holds_of holds xid)) refl
     where
       by : (b : Bool) → has_cell cell (holds_of holds xid) ≡ b → b ≡ false
@@ -65,7 +64,7 @@ module _ {S : Type 0} (holds : FinMap nat_cmp (List (Cell × S))) (addresses : A
   counts_within long = subst (λ n. n ≤ length (holds_of holds xid)) (sym (kept.counted (table_of cell) xid)) (subst (λ n. count_of_table (table_of cell) (cells_held holds xid) ≤ n) long (count_by-le-length (λ c. table_of cell == table_of c) (cells_held holds xid)))
 
 -- everything has its address once the cell was added
-pub taken_placed : {S Z : Type 0} (old new : BTreeMap ℕ (Vec (Cell × S) Z)) (addresses after : Addresses) (xid : ℕ) (hold : Cell × S) → AreAddresses (cells_held (lists_seen old)) addresses → IsFree (cells_held (lists_seen old)) xid hold.0 → tree.get cell_cmp addresses.addresses hold.0 ≡ None
+pub taken_placed : {S Z : Type 0} (old new : BTreeMap ℕ (Vec (Cell × S) Z)) (addresses after : Addresses) (xid : ℕ) (hold : Cell × S) → AreAddresses (cells_held (lists_seen old)) addresses → IsFree (cells_held (lists_seen old)) xid hold.0 → address_at addresses hold.0 ≡ None
     → SetsList xid (listed old xid ++ hold ∷ []) old new → AddsAddress hold.0 (record { xid = xid; index = length (listed old xid) }) addresses after → AreAddresses (cells_held (lists_seen new)) after
 taken_placed old new addresses after xid hold kept free absent sets adds =
     addresses_added (cells_held (lists_seen old)) (cells_held (lists_seen new)) xid hold.0 longer addresses after kept absent free

@@ -4,7 +4,6 @@ use Rattle.std.proofs.Common.{sym, ◌∙◌, ap, inl, inr, true≢false}
 use Rattle.std.specs.Ordering.{eq_by_cmp, is_eq}
 use Rattle.std.specs.Cmp.{IsTotalOrder, tied_itself}
 use Rattle.std.specs.FinMap.{IsAntisymmetric}
-use Rattle.std.specs.BTreeMap.{BTreeMap, get, Updates}
 use Rattle.std.proofs.lemmas.Map.Views.{tells_apart}
 use Rattle.std.specs.declared.cmp.Ordering.{Ordering}
 
@@ -18,12 +17,13 @@ not_tied {R = R} exact key other apart =
 pub tied_self : {K : Type 0} {R : K → K → Ordering} → IsTotalOrder R → (key : K) → eq_by_cmp R key key ≡ true
 tied_self o key = ap is_eq (tied_itself o key)
 
-module _ {K X : Type 0} {R : K → K → Ordering} (m n : BTreeMap K X) (key : K) (w : Option X) (step : Updates R m n key w) where
-  pub updated_here : IsTotalOrder R → get R n key ≡ w
-  updated_here o = step.0 key ∙ ap (λ b. cond b w (get R m key)) (tied_self o key)
+-- what two maps have at each key, where the second has `w` at one key and elsewhere what the first has
+module _ {K X : Type 0} {R : K → K → Ordering} (before after : K → Option X) (key : K) (w : Option X) (step : (other : K) → after other ≡ cond (eq_by_cmp R key other) w (before other)) where
+  pub updated_here : IsTotalOrder R → after key ≡ w
+  updated_here o = step key ∙ ap (λ b. cond b w (before key)) (tied_self o key)
 
-  pub updated_beside : IsAntisymmetric R → (other : K) → other ≢ key → get R n other ≡ get R m other
-  updated_beside exact other apart = step.0 other ∙ ap (λ b. cond b w (get R m other)) (not_tied exact key other apart)
+  pub updated_beside : IsAntisymmetric R → (other : K) → other ≢ key → after other ≡ before other
+  updated_beside exact other apart = step other ∙ ap (λ b. cond b w (before other)) (not_tied exact key other apart)
 
 -- keys are one or apart
 pub same_or_apart : {K : Type 0} {R : K → K → Ordering} → IsTotalOrder R → IsAntisymmetric R → (key other : K) → (key ≡ other) ⊎ (key ≢ other)

@@ -3,3 +3,4 @@ pub mod Counts
 pub mod Addresses
 pub mod Lists
 pub mod Laws
+pub mod Hashed

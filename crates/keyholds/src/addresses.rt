@@ -1,7 +1,5 @@
 // Where each cell that is held stands, and who holds one that overlaps.
-ghost use Rattle.std.specs.Prelude.{◌≡◌, ◌≢◌, ℕ, ◌+◌, ◌<◌, List, OnOk, OnErr, MatchOption, option_map, None};
-ghost use Rattle.std.specs.Option.{option_copied};
-ghost use Rattle.std.specs.BTreeMap.{get};
+ghost use Rattle.std.specs.Prelude.{◌≡◌, ◌≢◌, ℕ, ◌+◌, ◌<◌, List, OnOk, OnErr, MatchOption, None};
 ghost use Rattle.model.specs.declared.cell.Cell.{Cell as AnyCell};
 ghost use Rattle.std.specs.Ordering.{eq_by_cmp};
 ghost use Rattle.model.specs.declared.cell.Cell.TheVariants.{Whole};
@@ -10,14 +8,15 @@ ghost use Rattle.model.specs.Cells.{table_of, overlaps};
 ghost use Rattle.std.specs.List.{list_any};
 ghost use Rattle.keyholds.specs.Counts.{count_in};
 ghost use Rattle.keyholds.specs.Holds.{IsFree, IsHeldBy};
-ghost use Rattle.keyholds.specs.Addresses.{AreAddresses, IsAlone, IsHeldAt, TellsAt, AddsAddress, RemovesAddress, SameAddresses, HasNoAddresses};
+ghost use Rattle.keyholds.specs.Addresses.{address_at, AreAddresses, IsAlone, IsHeldAt, TellsAt, AddsAddress, RemovesAddress, SameAddresses, HasNoAddresses};
 
 use crate::Xid;
 use crate::counts::Counts;
-use crate::sought::{Asked, SoughtCell};
+use crate::hashed::{Asked, HashedCell};
+use crate::sought::SoughtCell;
 use model::{Cell, OutOfMemory};
 use std::alloc::Global;
-use std::collections::BTreeMap;
+use std::collections::HashMap;
 
 /// Where a cell stands: whose it is, and where in the list of that transaction's cells.
 #[derive(Clone, Copy, Debug)]
@@ -29,7 +28,7 @@ pub(crate) struct Address {
 /// The address of each cell that is held, and how many each transaction holds in each table.
 #[derive(Drop)]
 pub(crate) struct Addresses {
-    pub(crate) addresses: BTreeMap<Cell, Address>,
+    pub(crate) addresses: HashMap<HashedCell, Address>,
     pub(crate) counts: Counts,
 }
 
@@ -39,27 +38,28 @@ impl Addresses {
         ensures { HasNoAddresses result }
     {
         Addresses {
-            addresses: BTreeMap::new(alloc),
+            addresses: HashMap::new(alloc),
             counts: Counts::new(alloc),
         }
     }
 
     /// Where a cell stands, if it is held.
     pub(crate) fn find<C: SoughtCell>(&self, cell: &C) -> Option<Address>
-        ensures { result ≡ get cell_cmp self.now.addresses (C.cell cell.now) }
+        ensures { result ≡ address_at self.now (C.cell cell.now) }
     {
-        self.addresses.get(Asked(cell)).copied()
+        self.addresses.get(Asked::of(cell)).copied()
     }
 
     /// One cell more, which isn't held yet. Refused for memory, nothing changes.
     pub(crate) fn add(&mut self, cell: Cell, address: Address) -> Result<(), OutOfMemory>
-        requires absent { get cell_cmp self.old.addresses cell ≡ None }
+        requires absent { address_at self.old cell ≡ None }
         requires small { count_in self.old.counts.counts (table_of cell) address.xid < usize.MAX }
         ensures ok { OnOk result (AddsAddress cell address self.old self.new) }
         ensures err { OnErr result (SameAddresses self.old self.new) }
     {
         let table = cell.table();
         self.counts.add(table, address.xid)?;
+        let cell = HashedCell::of(cell);
         if self.addresses.insert(cell, address).is_err() {
             self.counts.remove_one(table, address.xid);
             return Err(OutOfMemory);
@@ -71,7 +71,7 @@ impl Addresses {
     pub(crate) fn remove(&mut self, cell: &Cell, xid: Xid)
         ensures { RemovesAddress cell.now xid self.old self.new }
     {
-        self.addresses.remove(cell);
+        self.addresses.remove(Asked::of(cell));
         self.counts.remove_one(cell.table(), xid);
     }
 
@@ -81,8 +81,11 @@ impl Addresses {
             → MatchOption result (IsFree held xid (C.cell cell.now)) (IsHeldBy held xid (C.cell cell.now)) }
     {
         let table = cell.table();
+        let Some(other) = self.counts.other(table, xid) else {
+            return None;
+        };
         if is_whole(cell) {
-            return self.counts.other(table, xid);
+            return Some(other);
         }
         match self.other_at(xid, cell) {
             Some(other) => Some(other),
@@ -109,7 +112,7 @@ impl Addresses {
     fn is_at<C: SoughtCell>(&self, holder: Xid, cell: &C) -> bool
         ensures { TellsAt holder (C.cell cell.now) self.now result }
     {
-        match self.addresses.get(Asked(cell)) {
+        match self.find(cell) {
             Some(address) if address.xid == holder => true,
             _ => false,
         }
@@ -119,7 +122,7 @@ impl Addresses {
     fn other_at<C: SoughtCell>(&self, xid: Xid, cell: &C) -> Option<Xid>
         ensures { MatchOption result (IsAlone xid (C.cell cell.now) self.now) (IsHeldAt xid (C.cell cell.now) self.now) }
     {
-        match self.addresses.get(Asked(cell)) {
+        match self.find(cell) {
             Some(address) if address.xid != xid => Some(address.xid),
             _ => None,
         }

@@ -3,12 +3,10 @@ ghost use Rattle.std.specs.Prelude.{◌≡◌, ◌≢◌, ℕ, ◌<◌, ◌↔�
 ghost use Rattle.std.specs.Map.{keys_of};
 ghost use Rattle.model.specs.declared.cell.Cell.{Cell as AnyCell};
 ghost use Rattle.keyholds.specs.Holds.{holds_of, cells_held, with_hold, with_holds, HasNoEmptyList, IsFree, IsHeldBy, IsFirstHeldBy, AreApart, StoodAt};
-ghost use Rattle.model.specs.CellOrder.{cell_cmp};
 ghost use Rattle.model.specs.Cells.{table_of, overlaps};
 ghost use Rattle.std.specs.List.{list_any};
-ghost use Rattle.std.specs.BTreeMap.{get};
 ghost use Rattle.keyholds.specs.Counts.{count_in};
-ghost use Rattle.keyholds.specs.Addresses.{AreAddresses, with_cells, AddsAddress, SameAddresses};
+ghost use Rattle.keyholds.specs.Addresses.{address_at, AreAddresses, with_cells, AddsAddress, SameAddresses};
 ghost use Rattle.keyholds.specs.Lists.{listed, SameLists, SetsList, HasRoom};
 
 use crate::Xid;
@@ -23,7 +21,7 @@ use std::marker::Model;
 ///
 /// A clause sees it as a finite map from a transaction to the list of its cells, in the order in
 /// which they were first held; one that holds nothing has no entry. No two transactions hold cells
-/// that overlap. A cell is looked up with the work of a search in a tree of all that are held.
+/// that overlap. A cell is looked up by its hash.
 #[derive(Drop)]
 pub struct Holds<S> {
     lists: BTreeMap<Xid, Vec<(Cell, S)>>,
@@ -208,9 +206,15 @@ impl<S: Drop> Holds<S> {
         ensures others { (other : ℕ) → other ≢ xid → holds_of self.new other ≡ holds_of self.old other }
         ensures filled { HasNoEmptyList self.new }
     {
-        if let Some(mut list) = self.lists.remove(&xid) {
-            release_from(&mut list, &mut self.addresses, xid, 0);
+        let Some(mut list) = self.lists.remove(&xid) else {
+            return;
+        };
+        // Where nobody holds anything any more, no cell has to be looked for.
+        if self.lists.is_empty() {
+            self.addresses = Addresses::new(self.alloc);
+            return;
         }
+        release_from(&mut list, &mut self.addresses, xid, 0);
     }
 }
 
@@ -222,7 +226,7 @@ fn hold_cell<S: Drop>(
     xid: Xid,
     hold: (Cell, S),
 ) -> Result<(), OutOfMemory>
-    requires absent { get cell_cmp addresses.old.addresses hold.0 ≡ None }
+    requires absent { address_at addresses.old hold.0 ≡ None }
     requires counted { count_in addresses.old.counts.counts (table_of hold.0) xid ≤ length (listed lists.old xid) }
     ensures list { OnOk result (SetsList xid (listed lists.old xid ++ hold ∷ []) lists.old lists.new) }
     ensures address { OnOk result (AddsAddress hold.0 (record { xid = xid; index = length (listed lists.old xid) }) addresses.old addresses.new) }

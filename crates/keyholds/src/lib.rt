@@ -13,14 +13,15 @@
 // which it was first held, with what the caller says stood there then. So a mark is a number, how
 // many cells are held, and a release to it leaves just those held before it.
 //
-// Each cell that is held lies in an ordered map with the transaction that holds it and its address in
-// that transaction's list, so a cell is looked up with the work of a search in a tree, whatever the
-// values are, and so is the table that it lies in as a whole. For a whole table a second map counts
-// the cells that each transaction holds in each table: who stands before and who behind the asker
-// there. To let go takes a search for each cell that goes. Room is made when a cell is taken:
-// no other call takes memory.
+// Each cell that is held lies in a map of hashes with the transaction that holds it and its address
+// in that transaction's list, so a cell is looked up by a few reads, and so is the table that it lies
+// in as a whole. A second map counts the cells that each transaction holds in each table: who stands
+// before and who behind the asker there. Where nobody else holds a cell of a table, that map alone
+// answers. To let go takes a look-up for each cell that goes, and none where nobody else holds
+// anything. Room is made when a cell is taken: no other call takes memory.
 //
 //   counts      how many cells each transaction holds in each table
+//   hashed      cells with their hashes
 //   addresses   where each cell that is held stands, and who holds one that overlaps
 //   sought      what stands for a cell that is looked for, so that nobody has to make one
 //   holds       `Holds`
@@ -29,6 +30,7 @@
 // It stands on `model` for cells and their overlap.
 mod addresses;
 mod counts;
+mod hashed;
 mod holds;
 pub mod laws;
 mod sought;

@@ -3,10 +3,11 @@ ghost use Rattle.std.specs.Prelude.{◌≡◌};
 ghost use Rattle.model.specs.declared.cell.Cell.{Cell as AnyCell};
 ghost use Rattle.model.specs.Cells.{table_of};
 ghost use Rattle.model.specs.CellOrder.{cell_cmp};
+ghost use Rattle.model.specs.Hashing.{hash_cell};
 
+use model::hashing::{hash_key, hash_natural};
 use model::{Cell, Key, TableId};
 use std::cmp::Ordering;
-use std::collections::btree_map::Comparable;
 
 /// What stands for a cell and need not be one: its values may lie in a row, so that nobody has to
 /// make a key of them.
@@ -21,6 +22,10 @@ pub trait SoughtCell {
     /// The order of the cell and another. It takes no memory.
     fn compare(&self, other: &Cell) -> Ordering
         ensures { result ≡ cell_cmp (cell self.now) other.now };
+
+    /// The hash of the cell. It takes no memory.
+    fn hash(&self) -> u64
+        ensures { result ≡ hash_cell (cell self.now) };
 }
 
 impl SoughtCell for Cell {
@@ -32,6 +37,10 @@ impl SoughtCell for Cell {
 
     fn compare(&self, other: &Cell) -> Ordering {
         self.cmp(other)
+    }
+
+    fn hash(&self) -> u64 {
+        Cell::hash(self)
     }
 }
 
@@ -62,32 +71,8 @@ impl<'a> SoughtCell for SoughtRow<'a> {
             differ => differ,
         }
     }
-}
 
-/// A cell that is looked for, as the map of addresses asks for it.
-pub(crate) struct Asked<'a, C>(pub(crate) &'a C);
-
-impl<'a, C> Clone for Asked<'a, C> {
-    ghost is_clone = { λ q other. other ≡ q };
-
-    fn clone(&self) -> Result<Asked<'a, C>, std::alloc::AllocError> {
-        Ok(Asked(self.0))
-    }
-}
-
-impl<'a, C> Copy for Asked<'a, C> {}
-
-impl<'a, C: SoughtCell> Comparable<Cell> for Asked<'a, C> {
-    ghost use Rattle.model.specs.CellOrder.{cell_cmp, cell_cmp_total};
-    ghost use Rattle.std.specs.BTreeMap.Comparable.{le_lt_trans};
-
-    ghost compare = { λ q. cell_cmp (C.cell q.0.now) };
-
-    ghost respects_cmp = { λ q. cell_cmp_total.congr (C.cell q.0.now) };
-
-    ghost below_greater = { λ q. le_lt_trans cell_cmp_total (C.cell q.0.now) };
-
-    fn compare(&self, other: &Cell) -> Ordering {
-        self.0.compare(other)
+    fn hash(&self) -> u64 {
+        hash_natural(hash_key(self.key), self.table as u64)
     }
 }

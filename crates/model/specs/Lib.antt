@@ -29,3 +29,4 @@ pub mod SerialLaws
 pub mod SurvivorLaws
 pub mod LawsOfCells
 pub mod CellOrder
+pub mod Hashing

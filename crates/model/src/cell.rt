@@ -2,8 +2,10 @@
 ghost use Rattle.std.specs.Prelude.{◌≡◌, IfOk};
 ghost use Rattle.model.specs.Cells.{table_of};
 ghost use Rattle.model.specs.CellOrder.{within_table_cmp};
+ghost use Rattle.model.specs.Hashing.{hash_cell};
 
 use crate::TableId;
+use crate::hashing::{hash_key, hash_natural};
 use crate::key::Key;
 use crate::memory::OutOfMemory;
 use std::cmp::Ordering;
@@ -26,6 +28,20 @@ impl Cell {
     {
         match self {
             Cell::Row(table, _) | Cell::Uniq(table, _, _) | Cell::Whole(table) => *table,
+        }
+    }
+
+    /// Its hash: of its values, its table and the number of its unique key. Equal cells have one.
+    pub fn hash(&self) -> u64
+        ensures { result ≡ hash_cell self.now }
+    {
+        match self {
+            Cell::Row(table, key) => hash_natural(hash_key(key), *table as u64),
+            Cell::Uniq(table, number, values) => {
+                let hash = hash_natural(hash_key(values), *table as u64);
+                hash_natural(hash, *number as u64)
+            }
+            Cell::Whole(table) => hash_natural(0, *table as u64),
         }
     }
 

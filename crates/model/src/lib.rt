@@ -13,6 +13,7 @@
 //   specs/Rows           all rows of all tables as one finite map; valid rows
 //   specs/Effect         what a change does, and what takes it back
 //   specs/Cells          cells, and those that a row fills
+//   specs/Hashing        hashes of values and of cells
 //   specs/Footprint      the cells that a change looks up or alters
 //   specs/CellContents   when two states of the rows have the same in a cell
 //   specs/Survivors      the items of a transaction that survive its rollbacks
@@ -31,6 +32,7 @@
 //   specs/Laws, LawsOfCells   the main ones as statements, which `laws`, `laws_of_cells` promise
 pub mod cell;
 pub mod change;
+pub mod hashing;
 pub mod item;
 pub mod key;
 pub mod laws;

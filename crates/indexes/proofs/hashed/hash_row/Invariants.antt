@@ -1,6 +1,6 @@
 use Rattle.std.proofs.Common.{◌≡◌, drop}
 use Rattle.indexes.specs.Columns.{present}
-use Rattle.indexes.specs.Hashed as spec
+use Rattle.model.specs.Hashing as spec
 use Rattle.indexes.proofs.hashed.hash_row.Given as goal
 
 abbrev pub invariant-loop-column : goal.invariant-loop-column
