@@ -20,15 +20,17 @@ const AFTER: [&str; 4] = [
     "table public.accounts 3\n1|a|w\n2|b|n\n3|c|n\nposition 0/320\n",
 ];
 
-// What is left is that of the commits. A run that memory was not refused to ends so. Memory that is
-// refused to the sink, which keeps what it is given, ends it as a device does that fails.
-fn is_exact(rt: &impl Abort, ran: &Ran, end: End) {
+// What is left is that of the commits. A run ends so, or for want of memory, or with so many commits
+// having read all: where the worker was refused what its first item needs, it holds nothing. Memory that
+// is refused to the sink, which keeps what it is given, ends a run as a device does that fails.
+fn is_exact(rt: &impl Abort, ran: &Ran, all: usize, end: End) {
     let Some(after) = AFTER.get(ran.commits().len()) else {
         panic!(rt; "a commit too many")
     };
     assert!(rt; ran.report.as_slice().starts_with(after.as_bytes()));
     match ran.outcome.end {
         End::OutOfMemory | End::Frame(_) => {}
+        End::Clean => assert!(rt; ran.commits().len() == all),
         other => assert!(rt; other == end),
     }
 }
@@ -43,8 +45,7 @@ fn a_run_by_workers_where_memory_is_refused(rt: HostRuntime) {
     let Ok(ran) = run_by(&rt, rt.alloc(), &plan, &config_of(2, 1), 1) else {
         return;
     };
-    is_exact(&rt, &ran, End::Clean);
-    assert!(rt; ran.outcome.end != End::Clean || ran.commits().len() == 3);
+    is_exact(&rt, &ran, 3, End::Clean);
 }
 
 // The worker of 700 holds the row that 900 needs, and has more to do.
@@ -84,5 +85,5 @@ fn a_holder_to_which_memory_is_refused(rt: HostRuntime) {
         xid: 900,
         holder: 700,
     };
-    is_exact(&rt, &ran, held);
+    is_exact(&rt, &ran, 2, held);
 }
