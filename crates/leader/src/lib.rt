@@ -16,6 +16,9 @@
 //                                                                     under the store's lock
 //   a watcher that wants no turn          the end of the run          the leader, once it has left
 //
+// A worker that lags, with items late still, rings behind each 64th item alone: it has more to do, so it
+// rings again.
+//
 // Before the leader waits it notes how often the bell was rung, and looks at all that may have moved. It
 // looks too whether the store was stopped, whether nothing more can come, and whether memory was refused
 // to a worker, whose transaction keeps what it holds: each ends the run.

@@ -39,7 +39,11 @@ pub struct Seat<N: StoreNames, L: PostNames, G: Drop> {
     pub gate: Mutex<G>,
 }
 
-// A worker's gate: behind each item it sends on what is late, and it wakes the leader.
+// A worker that lags wakes the leader behind each item whose count is a multiple of this.
+const LAGGING: u64 = 64;
+
+// A worker's gate: behind each item it sends on what is late, and it wakes the leader. While items are
+// late still the leader has nothing to commit of this worker, so it is woken now and then alone.
 #[derive(Drop)]
 struct Ringing<'a, R: Wait, N: StoreNames, L: PostNames, G: Gate> {
     rt: &'a R,
@@ -48,12 +52,25 @@ struct Ringing<'a, R: Wait, N: StoreNames, L: PostNames, G: Gate> {
     gate: &'a mut G,
 }
 
+impl<'a, R: Wait, N: StoreNames, L: PostNames, G: Gate> Ringing<'a, R, N, L, G> {
+    // Sends on what is late. Answers whether nothing is late any more.
+    fn send_on(&mut self) -> bool {
+        let mut post = self.post.lock(self.rt);
+        post.send_on();
+        post.late_len() == 0
+    }
+}
+
 impl<'a, R: Wait, N: StoreNames, L: PostNames, G: Gate> Gate for Ringing<'a, R, N, L, G> {
     fn pass(&mut self, xid: Xid, at: Point) {
-        if let Point::After(_) = at {
-            self.post.lock(self.rt).send_on();
+        let is_heard = match at {
+            Point::Before(_) => false,
+            Point::After(count) => self.send_on() || count % LAGGING == 0,
+            Point::Clash(_) => true,
+        };
+        if is_heard {
+            self.bell.ring(self.rt);
         }
-        self.bell.ring(self.rt);
         self.gate.pass(xid, at);
     }
 

@@ -14,8 +14,9 @@
 //   - `doomed` is true only if the sender doomed the taker.
 //
 // `specs/Ends` says what each end knows, call by call, and `Meets` brings the two together. A sender
-// never waits: a full ring hands the item back. A taker sleeps in `wait_more` alone. Only `Ring::new`
-// takes memory. That a taker wakes is tested, and no clause says it.
+// never waits: a full ring hands the item back. A taker waits in `wait_more` alone: it looks for some
+// microseconds, and then sleeps. Only `Ring::new` takes memory. That a taker wakes is tested, and no
+// clause says it.
 //
 // Inside, both ends step on one table of three words (items acknowledged, items sent, the doom) and
 // as many slots as the ring has room for. Each step is one load or one store, never tried again.

@@ -5,9 +5,14 @@ ghost use Rattle.ring.specs.Ends.{Looked, Acknowledged, Heard, Waited};
 use crate::protocol::{Ack, DOOM, Find, HEAD, Hear, RingSeat, RingTable, TAIL};
 use crossbeam_utils::sync::Parker;
 use std::alloc::Global;
+use std::hint;
 use std::marker::Model;
 use std::mem;
 use std::sync::{Arc, Wait};
+
+// How often a taker looks before it sleeps: for some microseconds, which is what waking it would cost
+// its sender at the next item.
+const LOOKS: u32 = 128;
 
 /// The end that takes. There is one to a ring.
 #[derive(Drop)]
@@ -72,14 +77,28 @@ impl<T> Taker<T> {
         doom == 1
     }
 
-    /// Waits until an item is taken or it is doomed. It sleeps between two looks, and a wake that
-    /// comes before it sleeps is kept.
+    // Looks for an item or a doom again and again, for a short while. Answers whether one is there.
+    fn look_often(&mut self) -> bool
+        ensures same { Waited self.old self.new }
+        ensures found { result ≡ true → IsSome self.new.taken ⊎ (self.new.doomed ≡ true) }
+    {
+        for _ in 0..LOOKS {
+            if self.take().is_some() || self.doomed() {
+                return true;
+            }
+            hint::spin_loop();
+        }
+        false
+    }
+
+    /// Waits until an item is taken or it is doomed. It looks for a short while, and sleeps where
+    /// nothing came; a wake that comes before it sleeps is kept.
     pub fn wait_more<R: Wait>(&mut self, rt: &R)
         ensures same { Waited self.old self.new }
         ensures wakes { IsSome self.new.taken ⊎ (self.new.doomed ≡ true) }
     {
         for _ in rt.forever() {
-            if self.take().is_some() || self.doomed() {
+            if self.look_often() {
                 return;
             }
             self.parker.park(rt);
