@@ -4,6 +4,7 @@ use super::devices::{KEEPALIVE, ONE_INSERT};
 use super::{CATALOG, CONFIG, Stopped, framed};
 use crate::execute::{Ended, execute};
 use connection::Connection;
+use leader::Config;
 use std::alloc::Global;
 use std::io::{Read, Write};
 use std::net::{Shutdown, TcpListener, TcpStream};
@@ -81,18 +82,22 @@ fn followed<T: Threads + Wait + Sync>(
     (ended, out, heard)
 }
 
-/// What `follow` runs, with the clock at 5.
+/// What `follow` runs by two workers, with the clock at 5.
 fn follow<T: Threads + Wait + Sync>(
     threads: &T,
     alloc: Global,
     connection: &Connection,
 ) -> (Ended, Vec<u8>) {
     let mut out = Vec::new(alloc);
+    let config = Config {
+        workers: 2,
+        ..CONFIG
+    };
     let ended = execute(
         threads,
         alloc,
         false,
-        &CONFIG,
+        &config,
         CATALOG.as_bytes(),
         connection.source(),
         connection.sink(),
