@@ -311,13 +311,33 @@ fn devices_that_fail(rt: HostRuntime) -> Result<(), Fail> {
 
 #[test]
 fn catalogs_that_are_refused(rt: HostRuntime) -> Result<(), Fail> {
-    let cases: [(&[u8], &str); 4] = [
+    let cases: [(&[u8], &str); 9] = [
         (b"\xff", "pgapply: catalog NotToml"),
         (b"[[table]", "pgapply: catalog NotToml"),
         (b"tables = 1\n", "pgapply: catalog UnknownField"),
         (
             b"[[table]]\nnamespace = \"a\"\nname = \"b\"\n[[table.column]]\nname = \"c\"\ntype = \"int\"\n",
             "pgapply: catalog NoPrimaryKey",
+        ),
+        (
+            b"[[table]]\nnamespace = \"a\"\nname = \"b\"\nprimary = [\"c\"]\n[[table.column]]\nname = \"c\"\ntype = \"int\"\n[[table]]\nnamespace = \"a\"\nname = \"b\"\nprimary = [\"c\"]\n[[table.column]]\nname = \"c\"\ntype = \"int\"\n",
+            "pgapply: catalog DuplicateTable",
+        ),
+        (
+            b"[[table]]\nnamespace = \"a\"\nname = \"b\"\nprimary = [\"c\"]\n[[table.column]]\nname = \"c\"\ntype = \"int\"\n[[table.column]]\nname = \"c\"\ntype = \"int\"\n",
+            "pgapply: catalog DuplicateColumn",
+        ),
+        (
+            b"[[table]]\nnamespace = \"a\"\nname = \"b\"\nprimary = [\"d\"]\n[[table.column]]\nname = \"c\"\ntype = \"int\"\n",
+            "pgapply: catalog KeyColumnUnknown",
+        ),
+        (
+            b"[[table]]\nnamespace = \"a\"\nname = \"b\"\nprimary = [\"c\"]\n[[table.column]]\nname = \"c\"\ntype = \"int\"\ndefault = \"x\"\n",
+            "pgapply: catalog BadDefault",
+        ),
+        (
+            b"[[table]]\nnamespace = \"a\"\nname = \"b\"\nprimary = [\"c\"]\nunique = [[\"c\"], [\"c\"], [\"c\"], [\"c\"], [\"c\"], [\"c\"], [\"c\"], [\"c\"], [\"c\"], [\"c\"], [\"c\"], [\"c\"], [\"c\"], [\"c\"], [\"c\"], [\"c\"], [\"c\"]]\n[[table.column]]\nname = \"c\"\ntype = \"int\"\n",
+            "pgapply: catalog OverLimit",
         ),
     ];
     for (catalog, line) in &cases {
