@@ -15,7 +15,7 @@ use Rattle.spooled.specs.declared.end.End.TheVariants.{Clean}
 use Rattle.spooled.specs.declared.outcome.Config.{Config}
 use Rattle.spooled.specs.declared.outcome.Outcome.{Outcome}
 use Rattle.spooled.specs.Devices.{DeviceState}
-use Rattle.spooled.specs.Run.{IsRun, spooling}
+use Rattle.leader.specs.WithWorkers.{RunsBy}
 
 -- the columns of the email's unique key
 abbrev pub email_columns : Schema → List ℕ
@@ -31,11 +31,11 @@ abbrev pub HasEmail : Content → List ℕ → Row → Type 0
 HasEmail tables email row =
     (key : Key) × (finite.get tables.rows (0, key) ≡ Some row) × (values_in (email_columns tables.schema) row ≡ Some (Text email ∷ []))
 
--- The rows are what the commits of a stream leave that a run read to a clean end, from empty tables: `IsRun` says which commits
--- these are, and that they are applied one after another.
-pub record IsKeptFrom (definitions : List Definition) (config : Config) (given : DeviceState) (rows : Rows) : Type 0 where
+-- The rows are what the commits of a stream leave that a run by so many workers, beside so many watchers, read to a clean end,
+-- from empty tables: `RunsBy` says which commits these are, and that they are applied one after another.
+pub record IsKeptFrom (workers watchers : ℕ) (definitions : List Definition) (config : Config) (given : DeviceState) (rows : Rows) : Type 0 where
   pub left : DeviceState
   pub outcome : Outcome
-  pub run : IsRun (spooling definitions config) finite.empty given left outcome
+  pub run : RunsBy workers watchers definitions config finite.empty given left outcome
   pub clean : outcome.end ≡ Clean
   pub same : rows ≡ outcome.tables.rows

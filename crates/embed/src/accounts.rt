@@ -6,12 +6,12 @@ ghost use Rattle.model.specs.TableRows.{rows_of_table};
 ghost use Rattle.model.specs.declared.value.Value.TheVariants.{Int, Text};
 ghost use Rattle.embed.specs.Accounts.{email_columns, HasEmail};
 
-use spooled::{ByteStr, Key, OutOfMemory, RowView, TableId, Tables, Value, Walk};
+use leader::{ByteStr, Key, OutOfMemory, RowView, TableId, Tables, Value, Walk};
 use std::alloc::Global;
 use std::marker::Model;
 
 /// The table's place in the catalog.
-const ACCOUNTS: TableId = 0;
+pub const ACCOUNTS: TableId = 0;
 
 /// The number of its unique key over the email: unique keys are counted from 1.
 const EMAIL: usize = 1;

@@ -3,31 +3,42 @@
 //     embed < FILE          the stream's bytes on standard input
 //     embed HOST:PORT       from whoever listens there: `publisher serve`, for one
 //
-// It is what a program of your own would be. `spooled` has all that a caller of a run without threads
-// needs: the catalog, the tables, keys and values, sources, sinks and the clock. A run applies the stream's
-// commits and answers with the tables; `accounts` asks these.
+// It is what a program of your own would be. `leader` has all that a caller of a run needs: the catalog,
+// the tables, keys and values, sources, sinks and the clock, those who hold a worker or watch the run. A
+// run applies the stream's commits and answers with the tables; `accounts` asks these. Meanwhile a `Desk`
+// is asked, which reads what is committed so far.
 //
 // What is promised. `keep` answers with the rows that the commits of the stream leave, applied one after
 // another, or says why there is no clean end (`IsKeptFrom` in `specs/Accounts.antt`, by the contract of
-// `run_spooled`). Each look-up answers with what stands in these rows, and with none only where there is
-// none. So no answer is of a transaction that was rolled back, or that has not come whole. Which bytes come
-// over a socket is said by no clause.
+// `run`). Each look-up answers with what stands in these rows, and with none only where there is none; at
+// the desk, with what stands in the rows of the commits so far. So no answer is of a transaction that was
+// rolled back, or that has not come whole. Which bytes come over a socket is said by no clause.
+//
+//   accounts   the cache, asked by number and by email
+//   desk       whoever asks while the stream comes
+//   shown      rows as they are printed
 #![tactic(auto)]
 
 mod accounts;
+mod desk;
+mod shown;
 
-ghost use Rattle.std.specs.Prelude.{◌≡◌, None, IfOk};
+ghost use Rattle.std.specs.Prelude.{◌≡◌, None, IfOk, length, min};
 ghost use Rattle.spooled.specs.Devices.{device_state, health};
 ghost use Rattle.embed.specs.Accounts.{IsKeptFrom};
 
 use accounts::Accounts;
 use anyhow::bail;
 use connection::Connection;
-use spooled::{
-    Catalog, Clock, Config, End, ReadSource, RowView, Sink, Source, Tables, ValueRef, WriteSink,
-    run_spooled,
+use desk::Desk;
+use leader::{
+    Catalog, Clock, Config, End, Gate, OutOfMemory, Point, ReadSource, Sink, Source, Tables, Watch,
+    WriteSink, Xid, run,
 };
-use std::alloc::{AllocError, Global};
+use shown::line_of;
+use std::alloc::Global;
+use std::sync::Wait;
+use std::thread::Threads;
 
 /// A catalog of one table: accounts, with a unique key over their email.
 const CATALOG: &str = r#"
@@ -48,8 +59,8 @@ type = "text"
 "#;
 
 const CONFIG: Config = Config {
-    workers: 0,
-    ring: 1,
+    workers: 1,
+    ring: 64,
     spool: 1 << 30,
 };
 
@@ -67,30 +78,29 @@ impl Clock for NoClock {
     }
 }
 
+/// The worker of a transaction is held nowhere.
+#[derive(Drop)]
+struct OpenGate;
+
+impl Gate for OpenGate {
+    fn pass(&mut self, _xid: Xid, _at: Point) {}
+}
+
 fn main(rt: HostRuntime) -> anyhow::Result<()> {
     let alloc = rt.alloc();
     let words: Vec<String> = std::env::args(&rt)?.collect(alloc)?;
     let catalog = Catalog::read(alloc, CATALOG)?;
+    let desk = Desk::new(&rt, alloc, 3);
     let tables = match words.get(1) {
         Some(address) => {
             let connection = Connection::open(&rt, address.as_str())?;
-            keep(
-                alloc,
-                &catalog,
-                &CONFIG,
-                connection.source(),
-                connection.sink(),
-            )?
+            let (source, sink) = (connection.source(), connection.sink());
+            keep(&rt, alloc, &catalog, &CONFIG, source, sink, desk)?
         }
         None => {
-            let updates = WriteSink::new(Vec::new(alloc));
-            keep(
-                alloc,
-                &catalog,
-                &CONFIG,
-                ReadSource::new(rt.reader()),
-                updates,
-            )?
+            let source = ReadSource::new(rt.reader());
+            let sink = WriteSink::new(Vec::new(alloc));
+            keep(&rt, alloc, &catalog, &CONFIG, source, sink, desk)?
         }
     };
     match Accounts::new(tables) {
@@ -100,24 +110,40 @@ fn main(rt: HostRuntime) -> anyhow::Result<()> {
 }
 
 /// The tables that the commits of a stream leave; or why it did not end well, with what to do about it.
-fn keep<R: Source + Drop, W: Sink + Drop>(
+/// A streamed transaction is applied while it comes, and the desk is asked meanwhile.
+fn keep<T: Threads + Wait + Sync, R: Source + Drop, W: Sink + Drop, D: Watch + Drop + Send>(
+    rt: &T,
     alloc: Global,
     catalog: &Catalog,
     config: &Config,
     reader: R,
     writer: W,
+    desk: D,
 ) -> Result<Tables, End>
-    ensures { IfOk result (λ tables. IsKeptFrom catalog.now config.now
+    ensures { IfOk result (λ tables. IsKeptFrom (min config.now.workers 1) 1 catalog.now config.now
         (device_state (R.remaining reader) (W.contents writer) None (R.reads_left reader)
         (health (R.failures reader) (R.failed_last reader)) (health (W.failures writer) (W.failed_last writer)))
         tables.rows) }
 {
     let start = Tables::empty(alloc, catalog)?;
-    let outcome = run_spooled(alloc, reader, writer, catalog, start, config, NoClock);
+    let gates = only(alloc, OpenGate)?;
+    let desks = only(alloc, desk)?;
+    let outcome = run(
+        rt, alloc, reader, writer, catalog, start, config, gates, desks, NoClock,
+    );
     match outcome.end {
         End::Clean => Ok(outcome.tables),
         end => Err(end),
     }
+}
+
+/// A list of one.
+fn only<T: Drop>(alloc: Global, item: T) -> Result<Vec<T>, OutOfMemory>
+    ensures { IfOk result (λ items. length items.items ≡ 1) }
+{
+    let mut items = Vec::new(alloc);
+    items.push(item)?;
+    Ok(items)
 }
 
 /// Looks an account up by its number and by its email, and then walks all of them.
@@ -130,25 +156,4 @@ fn show(rt: &impl Print, alloc: Global, accounts: &Accounts) -> anyhow::Result<(
         println!(rt; "{}", line_of(alloc, Some(row))?)?;
     }
     Ok(())
-}
-
-/// A row's values, divided by a comma.
-fn line_of(alloc: Global, row: Option<RowView<'_>>) -> Result<String, AllocError> {
-    let mut line = String::new(alloc);
-    let Some(row) = row else {
-        line.push_str("none")?;
-        return Ok(line);
-    };
-    for number in 0..row.len() {
-        if number > 0 {
-            line.push_str(", ")?;
-        }
-        match row.column(number) {
-            None => line.push_str("null")?,
-            Some(ValueRef::Int(value)) => write!(line, "{value}")?,
-            Some(ValueRef::Text(text)) => write!(line, "'{text}'")?,
-            Some(ValueRef::Bool(truth)) => write!(line, "{truth}")?,
-        }
-    }
-    Ok(line)
 }
