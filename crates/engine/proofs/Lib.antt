@@ -1,1 +1,5 @@
 mod Stands
+mod TableRows
+mod MergedLaws
+mod MergeSteps
+mod Standing

@@ -43,3 +43,4 @@ pub mod SharedLaws
 pub mod Shut
 pub mod ShutLaws
 pub mod NamedLaws
+pub mod Merged

@@ -23,7 +23,9 @@
 // what it does there is what it would do on its transaction's own view.
 //
 // What is committed at a place is read by the holds (`stood`): nobody else can alter it while it is
-// held. Who waits for whom is read by the live tables and the holds (`waits`), in place.
+// held. So the committed rows of a table are the live ones, but at the places that are held what is
+// committed there: two lists in key order, merged (`committed_rows`, `merging`). Who waits for whom is
+// read by the live tables and the holds (`waits`), in place.
 //
 //   store               `Store`: each call with its ticket or line
 //   shared              `SharedStore`: a store under a lock
@@ -32,6 +34,8 @@
 //   answers, entry      what calls answer; a committed transaction as the journal has it
 //   live, transaction   `Live`, and what it keeps of an open transaction
 //   cells, stood, waits who is in the way of a change; what stood at a cell; who waits for whom
+//   committed_rows      the committed rows of a table; `merging` them from two lists
+//   rows_after          those after entries of the journal
 //   laws, laws_of_reads the laws
 //
 //   specs/Engine, EngineCode      a store as its callers see it; what its type keeps
@@ -56,6 +60,7 @@
 //   specs/MarksLaws     what was held at each savepoint
 //   specs/MarkedHolds   a rollback of holds
 //   specs/Stood         what lies beside the cells that are held
+//   specs/Merged        two lists of rows in the order of their keys, merged
 //   specs/Waits         who waits for whom, by the live tables and the holds
 //   specs/Journal       the rows after entries of the journal
 //   specs/LawsOfReads   the laws of these as statements, which `laws_of_reads` promises
@@ -75,11 +80,13 @@
 // and records, on `keyholds` for the cells that are held, and on `tokens`.
 mod answers;
 mod cells;
+mod committed_rows;
 mod entry;
 mod events;
 pub mod laws;
 pub mod laws_of_reads;
 mod live;
+mod merging;
 mod rows_after;
 mod shared;
 mod shut;

@@ -8,6 +8,7 @@ ghost use Rattle.model.specs.declared.item.Item.TheVariants.{Touch, BackTo};
 ghost use Rattle.tokens.specs.Half.{Begins};
 ghost use Rattle.tokens.specs.Lists.{open_list};
 ghost use Rattle.model.specs.Effect.{serial};
+ghost use Rattle.model.specs.TableRows.{rows_of_table};
 ghost use Rattle.world.specs.World.{World, starting, entry_of, journal, changes_in};
 ghost use Rattle.world.specs.Steps.{Opens, Acts, Touches, GoesBack, Commits, Aborts, StopsHeld, ReadsLive, ReadsCommitted, ReadsAfter, TellsJournal, Closes, Watches, Looks, Reaches, Fault};
 ghost use Rattle.engine.specs.declared.answers.EngineFault.TheVariants.{OutOfMemory as NoMemory};
@@ -255,6 +256,15 @@ impl<N: StoreNames> SharedStore<N> {
         ensures fault { IfErr result (λ fault. fault ≡ NoMemory) }
     {
         self.store.committed(table, key)
+    }
+
+    /// The committed rows of a table, in key order, as copies, as by `Store::committed_rows`.
+    pub fn committed_rows(&self, alloc: Global, table: TableId) -> Result<Vec<Row>, EngineFault>
+        requires { table < length N.schema }
+        ensures reads { IfOk result (λ rows. rows.items ≡ rows_of_table self.now.world.committed table) }
+        ensures fault { IfErr result (λ fault. fault ≡ NoMemory) }
+    {
+        self.store.committed_rows(alloc, table)
     }
 
     /// The rows of a table after the first so many commits, in key order, as copies.

@@ -8,6 +8,7 @@ ghost use Rattle.model.specs.Survivors.{before_savepoint, survivors, changes_of}
 ghost use Rattle.tokens.specs.Half.{Begins};
 ghost use Rattle.tokens.specs.Lists.{open_list, with_list};
 ghost use Rattle.model.specs.Effect.{serial};
+ghost use Rattle.model.specs.TableRows.{rows_of_table};
 ghost use Rattle.world.specs.World.{Opened, World, starting, entry_of, journal, work, changes_in};
 ghost use Rattle.world.specs.Steps.{Opens, Acts, Touches, GoesBack, Commits, Aborts, StopsHeld, ReadsLive, ReadsCommitted, ReadsAfter, TellsJournal, Closes, Watches, Looks, Fault};
 ghost use Rattle.model.specs.declared.item.Item.TheVariants.{Touch, BackTo};
@@ -286,6 +287,20 @@ impl Store {
         match self.live.committed(table, key) {
             None => Ok(None),
             Some(row) => Ok(Some(row.to_row()?)),
+        }
+    }
+
+    /// The committed rows of a table, in key order, as copies. It costs one walk of the table and what
+    /// open transactions hold; only where one of these emptied the table are the rows made anew of those
+    /// at the start, by all commits.
+    pub fn committed_rows(&self, alloc: Global, table: TableId) -> Result<Vec<Row>, EngineFault>
+        requires { table < length self.now.schema }
+        ensures reads { IfOk result (λ rows. rows.items ≡ rows_of_table self.now.world.committed table) }
+        ensures fault { IfErr result (λ fault. fault ≡ NoMemory) }
+    {
+        match self.live.committed_rows(alloc, table)? {
+            Some(rows) => Ok(rows),
+            None => Ok(rows_after(alloc, &self.start, self.journal.as_slice(), table)?),
         }
     }
 

@@ -16,7 +16,7 @@ use Rattle.keyholds.proofs.Overlaps.{contains_at, at_contains, contains_next, ov
 use Rattle.keyholds.proofs.Ties.{same_value}
 use Rattle.keyholds.proofs.Taking.{held_first, front_of_hold, front_of_holds}
 
-head_or_rest : {X : Type 0} (y : X) (ys : List X) (x : X) → Contains (y ∷ ys) x → (y ≡ x) ⊎ Contains ys x
+pub head_or_rest : {X : Type 0} (y : X) (ys : List X) (x : X) → Contains (y ∷ ys) x → (y ≡ x) ⊎ Contains ys x
 head_or_rest {X} y ys x has = by has.0 (at_contains (y ∷ ys) x has)
   where
     by : (i : ℕ) → slice_get (y ∷ ys) i ≡ Some x → (y ≡ x) ⊎ Contains ys x

@@ -9,3 +9,4 @@ mod Seen
 mod Answering
 mod Taking
 pub mod HoldsLaws
+mod Keys

@@ -3,12 +3,17 @@
 --     lists_seen      the lists that aren't empty
 --     SameLists, SetsList      no list changes; one is another, and no other changes
 --     HasRoom      a transaction has a list with room for one more
-use Rattle.std.specs.Prelude.{◌≡◌, ◌≢◌, ℕ, ◌<◌, List, [], ◌∷◌, Option, Some, None, Vec, vec_len, vec_capacity, map}
+--     AddsKeys      the keys of a table's places among cells come to others
+use Rattle.std.specs.Prelude.{◌≡◌, ◌≢◌, ◌↔◌, ◌⊎◌, ℕ, ◌<◌, List, [], ◌∷◌, Option, Some, None, Vec, vec_len, vec_capacity, map}
+use Rattle.std.specs.List.{Contains}
 use Rattle.std.specs.Ordering.{nat_cmp}
 use Rattle.std.specs.BTreeMap as tree
 use Rattle.std.specs.BTreeMap.{BTreeMap}
 use Rattle.std.specs.FinMap as finite
 use Rattle.std.specs.FinMap.{FinMap}
+use Rattle.model.specs.declared.key.Key.{Key}
+use Rattle.model.specs.declared.cell.Cell.{Cell}
+use Rattle.model.specs.declared.cell.Cell.TheVariants.{Row}
 
 module _ {X : Type 0} where
   -- a list at a key, or no entry where it is empty
@@ -46,3 +51,7 @@ module _ {X Z : Type 0} where
     pub list : Vec X Z
     pub at : tree.get nat_cmp lists xid ≡ Some list
     pub room : vec_len list < vec_capacity list
+
+-- the keys of the places of a table that are among these cells come to others
+abbrev pub AddsKeys : ℕ → List Cell → List Key → List Key → Type 0
+AddsKeys table cells old new = (key : Key) → Contains new key ↔ (Contains old key ⊎ Contains cells (Row table key))

@@ -2,17 +2,19 @@
 ghost use Rattle.std.specs.Prelude.{◌≡◌, ◌≢◌, ℕ, ◌<◌, ◌↔◌, List, ◌++◌, ◌∷◌, [], take, length, ◌≤◌, None, OnOk, OnErr, IfOk, IfSome, IfNone, IsNone, All, Contains};
 ghost use Rattle.std.specs.Map.{keys_of};
 ghost use Rattle.model.specs.declared.cell.Cell.{Cell as AnyCell};
+ghost use Rattle.model.specs.declared.cell.Cell.TheVariants.{Row};
+ghost use Rattle.model.specs.declared.key.Key.{Key as AnyKey};
 ghost use Rattle.keyholds.specs.Holds.{holds_of, cells_held, with_hold, with_holds, HasNoEmptyList, IsFree, IsHeldBy, IsFirstHeldBy, AreApart, StoodAt};
 ghost use Rattle.model.specs.Cells.{table_of, overlaps};
 ghost use Rattle.std.specs.List.{list_any};
 ghost use Rattle.keyholds.specs.Counts.{count_in};
 ghost use Rattle.keyholds.specs.Addresses.{address_at, AreAddresses, with_cells, AddsAddress, SameAddresses};
-ghost use Rattle.keyholds.specs.Lists.{listed, SameLists, SetsList, HasRoom};
+ghost use Rattle.keyholds.specs.Lists.{listed, SameLists, SetsList, HasRoom, AddsKeys};
 
 use crate::Xid;
 use crate::addresses::{Address, Addresses};
 use crate::sought::SoughtCell;
-use model::{Cell, OutOfMemory};
+use model::{Cell, Key, OutOfMemory, TableId};
 use std::alloc::Global;
 use std::collections::BTreeMap;
 use std::marker::Model;
@@ -127,6 +129,19 @@ impl<S: Drop> Holds<S> {
         Some(stood)
     }
 
+    /// The keys of the places of a table that are held, whoever holds them: one walk of all that is
+    /// held.
+    pub fn keys_held(&self, table: TableId) -> Result<Vec<Key>, OutOfMemory>
+        ensures all { IfOk result (λ keys. (xid : ℕ) (key : AnyKey) → Contains (cells_held self.now xid) (Row table key) → Contains keys.items key) }
+        ensures held { IfOk result (λ keys. All (λ key. (xid : ℕ) × Contains (cells_held self.now xid) (Row table key)) keys.items) }
+    {
+        let mut keys = Vec::new(self.alloc);
+        for (_, list) in &self.lists {
+            push_keys(&mut keys, list.as_slice(), table)?;
+        }
+        Ok(keys)
+    }
+
     /// Holds these cells too, each with what stood there; one that the transaction holds already
     /// stays as it is. Refused for memory, nothing changes.
     ///
@@ -216,6 +231,24 @@ impl<S: Drop> Holds<S> {
         }
         release_from(&mut list, &mut self.addresses, xid, 0);
     }
+}
+
+// The keys of the places of a table among these cells come behind the others.
+fn push_keys<S: Drop>(
+    keys: &mut Vec<Key>,
+    list: &[(Cell, S)],
+    table: TableId,
+) -> Result<(), OutOfMemory>
+    ensures { OnOk result (AddsKeys table (keys_of list.now) keys.old.items keys.new.items) }
+{
+    for (cell, _) in list {
+        if let Cell::Row(its, key) = cell {
+            if *its == table {
+                keys.push(key.copy()?)?;
+            }
+        }
+    }
+    Ok(())
 }
 
 // One cell more for a transaction, which isn't held yet. Refused for memory, nothing changes.

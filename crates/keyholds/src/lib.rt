@@ -18,7 +18,8 @@
 // in as a whole. A second map counts the cells that each transaction holds in each table: who stands
 // before and who behind the asker there. Where nobody else holds a cell of a table, that map alone
 // answers. To let go takes a look-up for each cell that goes, and none where nobody else holds
-// anything. Room is made when a cell is taken: no other call takes memory.
+// anything. Room is made when a cell is taken: no other call takes memory but `keys_held`, which makes
+// a list of the keys at which places of a table are held.
 //
 //   counts      how many cells each transaction holds in each table
 //   hashed      cells with their hashes

@@ -92,9 +92,9 @@ impl<'a, N: StoreNames> Reader<'a, N> {
         Ok(row)
     }
 
-    /// The committed rows of a table in key order, as copies. The changes of all commits are made
-    /// anew on a copy of the start tables, under the store's lock: it costs what the commits did, and
-    /// the memory of all tables.
+    /// The committed rows of a table in key order, as copies. It costs one walk of the table and what
+    /// open transactions hold, under the store's lock; only while one of these has emptied the table, all
+    /// commits are made anew, as by `rows_at`.
     pub fn rows<R: Wait>(
         &mut self,
         rt: &R,
@@ -108,8 +108,7 @@ impl<'a, N: StoreNames> Reader<'a, N> {
     {
         let mut store = self.store.lock(rt);
         check_table(table, store.table_count())?;
-        let commits = store.journal().len();
-        let Ok(rows) = store.rows_after(alloc, table, commits) else {
+        let Ok(rows) = store.committed_rows(alloc, table) else {
             return Err(ReadFault::OutOfMemory);
         };
         store.look(&mut self.seen);
@@ -117,7 +116,9 @@ impl<'a, N: StoreNames> Reader<'a, N> {
     }
 
     /// The rows of a table after the commits up to the one that ends at this position, in key order, as
-    /// copies; at position 0 those before the first commit. It costs what `rows` does, for these commits.
+    /// copies; at position 0 those before the first commit. The changes of these commits are made anew on
+    /// a copy of the start tables, under the store's lock: it costs what they did, and the memory of all
+    /// tables.
     pub fn rows_at<R: Wait>(
         &mut self,
         rt: &R,

@@ -206,6 +206,18 @@ pub(super) fn rows_of(alloc: Global, t: &Tables, table: TableId) -> Result<Strin
     Ok(out)
 }
 
+/// These rows, as `rows_of` has them.
+pub(super) fn rows_text(alloc: Global, rows: &[Row]) -> Result<String, OutOfMemory> {
+    let mut out = String::new(alloc);
+    for row in rows {
+        if !out.is_empty() {
+            out.push(' ')?;
+        }
+        write_row(&mut out, &RowView::of_row(row))?;
+    }
+    Ok(out)
+}
+
 fn write_row(out: &mut String, row: &RowView<'_>) -> Result<(), OutOfMemory> {
     for column in 0..row.len() {
         if column > 0 {

@@ -22,12 +22,13 @@ enum Step {
     Touch(Xid, Xid),
     Live(TableId, Field),
     Committed(TableId, Field),
+    CommittedRows(TableId),
     RowsAfter(TableId, usize),
 }
 
 /// One call after another, with two transactions open over two accounts, of which one is committed
 /// then: rows that come, change, move, go and are not there, one that waits, and an emptied table.
-fn steps() -> [Step; 20] {
+fn steps() -> [Step; 21] {
     [
         Step::Act(701, 701, put("4", "d", "n")),
         Step::Open(702),
@@ -47,6 +48,7 @@ fn steps() -> [Step; 20] {
         Step::Act(701, 722, set(4, ["-", "g", "v"])),
         Step::Act(703, 703, wipe()),
         Step::Committed(ACCOUNTS, Field::Int(2)),
+        Step::CommittedRows(ACCOUNTS),
         Step::Live(ACCOUNTS, Field::Int(4)),
         Step::RowsAfter(ACCOUNTS, 0),
     ]
@@ -73,6 +75,9 @@ fn make(
         Step::Committed(table, id) => {
             let key = key(alloc, *id)?;
             scene.committed(rt, *table, &key)?;
+        }
+        Step::CommittedRows(table) => {
+            scene.committed_rows(rt, alloc, *table)?;
         }
         Step::RowsAfter(table, entries) => {
             scene.rows_after(rt, alloc, *table, *entries)?;
@@ -110,8 +115,8 @@ fn stepped(rt: &impl Abort, alloc: Global, count: usize) -> Result<Scene, Engine
     Ok(scene)
 }
 
-/// What a store reads: each row that is live or committed, those after each number of commits, and the
-/// journal.
+/// What a store reads: each row that is live or committed, those of each table that are committed and
+/// those after each number of commits, and the journal.
 fn reads(rt: &impl Abort, alloc: Global, scene: &Scene) -> Result<String, EngineFault> {
     let mut out = String::new(alloc);
     for number in 1..10 {
@@ -119,6 +124,10 @@ fn reads(rt: &impl Abort, alloc: Global, scene: &Scene) -> Result<String, Engine
         let live = scene.live(rt, ACCOUNTS, &key)?;
         let committed = scene.committed(rt, ACCOUNTS, &key)?;
         write!(out, "{number}: {live:?} {committed:?}\n")?;
+    }
+    for table in 0..TABLES {
+        let rows = scene.committed_rows(rt, alloc, table)?;
+        write!(out, "{table}: {rows:?}\n")?;
     }
     for entries in 0..=scene.store.journal().len() {
         for table in 0..TABLES {

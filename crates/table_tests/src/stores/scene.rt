@@ -8,7 +8,7 @@ ghost use Rattle.tokens.specs.Lists.{OpenList};
 ghost use Rattle.engine.specs.declared.events.Event.{Event};
 ghost use Rattle.engine.specs.Events.{last_end};
 
-use super::calls::{ACCOUNTS, Call, TABLES, change, empty_tables, put, rows_of};
+use super::calls::{ACCOUNTS, Call, TABLES, change, empty_tables, put, rows_of, rows_text};
 use engine::{Acted, EngineFault, Entry, Line, NotSettled, Stop, Store, Ticket};
 use indexes::Tables;
 use model::{Change, CommitInfo, Key, Lsn, OutOfMemory, Row, TableId, Xid};
@@ -217,6 +217,28 @@ impl Scene {
     ) -> Result<Option<Row>, EngineFault> {
         assert!(rt; table < TABLES);
         self.store.committed(table, key)
+    }
+
+    pub(super) fn committed_rows(
+        &self,
+        rt: &impl Abort,
+        alloc: Global,
+        table: TableId,
+    ) -> Result<Vec<Row>, EngineFault> {
+        assert!(rt; table < TABLES);
+        self.store.committed_rows(alloc, table)
+    }
+
+    /// The accounts that are committed are these.
+    pub(super) fn has_committed(
+        &self,
+        rt: &impl Abort,
+        alloc: Global,
+        accounts: &str,
+    ) -> Result<(), Fail> {
+        let rows = self.committed_rows(rt, alloc, ACCOUNTS)?;
+        assert_eq!(rt; rows_text(alloc, rows.as_slice())?.as_str(), accounts);
+        Ok(())
     }
 
     pub(super) fn rows_after(

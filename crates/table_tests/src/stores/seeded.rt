@@ -405,8 +405,28 @@ fn compare(
             );
             assert!(rt; is_committed, "committed at {id:?} of table {table}");
         }
+        let Ok(rows) = scene.committed_rows(rt, alloc, table) else {
+            return Err(OutOfMemory);
+        };
+        let committed = model.committed.as_slice();
+        let are_committed = are_stored(committed, table, ids, rows.as_slice());
+        assert!(rt; are_committed, "committed rows of table {table}");
     }
     Ok(())
+}
+
+/// Whether these rows were read of a table, in key order.
+fn are_stored(stored: &[Stored], table: TableId, ids: &[Field], rows: &[Row]) -> bool {
+    let mut read = rows.iter();
+    for id in ids {
+        if let Some(stored) = row_at(stored, table, *id) {
+            let row = read.next().map(RowView::of_row);
+            if !row.is_some_and(|row| is_row(&stored.row, &row)) {
+                return false;
+            }
+        }
+    }
+    read.next().is_none()
 }
 
 /// Whether this was read at a place.
@@ -431,15 +451,8 @@ fn compare_after(
             let Ok(answer) = scene.rows_after(rt, alloc, table, entries) else {
                 return Err(OutOfMemory);
             };
-            let mut read = answer.iter();
-            for id in ids {
-                if let Some(stored) = row_at(rows.as_slice(), table, *id) {
-                    let row = read.next().map(RowView::of_row);
-                    let is_next = row.is_some_and(|row| is_row(&stored.row, &row));
-                    assert!(rt; is_next, "{id:?} of table {table} after {entries}");
-                }
-            }
-            assert!(rt; read.next().is_none(), "table {table} after {entries}");
+            let are_these = are_stored(rows.as_slice(), table, ids, answer.as_slice());
+            assert!(rt; are_these, "table {table} after {entries}");
         }
     }
     Ok(())

@@ -147,6 +147,42 @@ fn a_table_that_was_emptied_is_held_whole(rt: HostRuntime) -> Result<(), Fail> {
     scene.ends_with(&rt, alloc, "1|a|n 2|b|n", 0)
 }
 
+// A table is read as it was committed, whatever open transactions put, moved, removed or looked up in it,
+// and while an open truncate has its rows.
+#[test]
+fn a_table_is_read_as_it_was_committed(rt: HostRuntime) -> Result<(), Fail> {
+    let alloc = rt.alloc();
+    let mut scene = Scene::worked(&rt, alloc, &[700, 900])?;
+    let missing = set(7, ["-", "-", "v"]);
+    scene.has_committed(&rt, alloc, "1|a|n 2|b|n")?;
+    for (xid, call) in [
+        (700, put("0", "z", "n")),
+        (900, remove(2)),
+        (700, set(1, ["5", "e", "-"])),
+        (900, put("3", "c", "n")),
+        (900, put("9", "i", "n")),
+    ] {
+        assert_eq!(rt; scene.act(&rt, alloc, xid, xid, &call), Ok(Acted::Done));
+        scene.has_committed(&rt, alloc, "1|a|n 2|b|n")?;
+    }
+    assert_eq!(rt;
+        scene.act(&rt, alloc, 700, 700, &missing),
+        Ok(Acted::Skipped)
+    );
+    scene.commit(&rt, 900);
+    scene.has_committed(&rt, alloc, "1|a|n 3|c|n 9|i|n")?;
+    scene.commit(&rt, 700);
+    scene.has_committed(&rt, alloc, "0|z|n 3|c|n 5|e|n 9|i|n")?;
+    scene.open(alloc, 901)?;
+    for call in [wipe(), put("4", "d", "n")] {
+        assert_eq!(rt; scene.act(&rt, alloc, 901, 901, &call), Ok(Acted::Done));
+        scene.has_committed(&rt, alloc, "0|z|n 3|c|n 5|e|n 9|i|n")?;
+    }
+    scene.commit(&rt, 901);
+    scene.has_committed(&rt, alloc, "4|d|n")?;
+    scene.ends_with(&rt, alloc, "4|d|n", 3)
+}
+
 // A touch sets its subtransaction's savepoint, so a rollback to it drops what the transaction did since.
 // Then the savepoint is gone, and a second rollback drops nothing. Here each call comes once at least.
 #[test]
