@@ -8,13 +8,14 @@
 // the catalog, the run, the output. `execute` is what each command runs on what it opened: `apply` and
 // `follow` with workers that apply streamed transactions while they come, `replay` without threads. This
 // file opens files and connections, and prints. With `--verbose` or `--progress` the stream passes a
-// `Trace` on its way to the run: the
-// run and its report are the same, and what is said beside them goes to standard error.
+// `Trace` on its way to the run: the run and its report are the same, and what is said beside them goes to
+// standard error.
 #![tactic(auto)]
 
 mod account;
 mod execute;
 mod options;
+mod output;
 mod progress;
 mod stream;
 mod system;
@@ -27,10 +28,11 @@ use execute::{Ended, execute_heard, execute_over};
 use frames::{ReadSource, Source, WriteSink};
 use leader::Devices;
 use options::{Input, Options};
+use output::{Failure, print, say_failure};
 use progress::Progress;
 use std::fs::File;
 use std::io;
-use std::io::{BufReader, Write};
+use std::io::BufReader;
 use std::process::ExitCode;
 use std::sync::Wait;
 use std::thread::Threads;
@@ -58,7 +60,10 @@ fn run<T: Threads + Wait + Sync>(
 ) -> io::Result<u8> {
     let catalog = match std::fs::read(rt, options.catalog) {
         Ok(catalog) => catalog,
-        Err(error) => return cannot_open(rt, options, options.catalog, &error),
+        Err(error) => {
+            let failure = Failure::Open(options.catalog);
+            return say_failure(rt, options.verbose, failure, &error);
+        }
     };
     let catalog = catalog.as_slice();
     match options.input {
@@ -67,11 +72,11 @@ fn run<T: Threads + Wait + Sync>(
                 let stream = Stream::File(stream);
                 run_stream(rt, threads, options, catalog, stream, Updates::Nowhere)
             }
-            Err(error) => cannot_open(rt, options, path, &error),
+            Err(error) => say_failure(rt, options.verbose, Failure::Open(path), &error),
         },
         Input::Connection(address) => match connect(rt, address) {
             Ok((stream, updates)) => run_stream(rt, threads, options, catalog, stream, updates),
-            Err(error) => cannot_connect(rt, options, address, &error),
+            Err(error) => say_failure(rt, options.verbose, Failure::Connect(address), &error),
         },
     }
 }
@@ -109,7 +114,7 @@ fn run_stream<T: Threads + Wait + Sync>(
         &mut devices,
         &mut out,
     );
-    print(rt, options, out.as_slice(), ended)
+    print(rt, options.verbose, &mut rt.stdout(), out.as_slice(), ended)
 }
 
 /// `run_stream` of a stream that is watched, with lines on standard error behind the report.
@@ -139,7 +144,7 @@ fn run_watched<T: Threads + Wait + Sync>(
         &mut out,
     );
     drop(devices);
-    let status = print(rt, options, out.as_slice(), ended)?;
+    let status = print(rt, options.verbose, &mut rt.stdout(), out.as_slice(), ended)?;
     progress.say(&trace);
     if options.verbose {
         if status >= 2 {
@@ -150,49 +155,4 @@ fn run_watched<T: Threads + Wait + Sync>(
         eprint!(rt; "{text}")?;
     }
     Ok(status)
-}
-
-fn cannot_open(
-    rt: &HostRuntime,
-    options: &Options<'_>,
-    path: &str,
-    error: &io::Error,
-) -> io::Result<u8> {
-    eprintln!(rt; "pgapply: cannot open {path}")?;
-    say_why(rt, options, error)?;
-    Ok(1)
-}
-
-fn cannot_connect(
-    rt: &HostRuntime,
-    options: &Options<'_>,
-    address: &str,
-    error: &io::Error,
-) -> io::Result<u8> {
-    eprintln!(rt; "pgapply: cannot connect {address}")?;
-    say_why(rt, options, error)?;
-    Ok(1)
-}
-
-/// Says the system's reason, where `--verbose` asks for it.
-fn say_why(rt: &HostRuntime, options: &Options<'_>, error: &io::Error) -> io::Result<()> {
-    if options.verbose {
-        eprintln!(rt; "pgapply: {error}")?;
-    }
-    Ok(())
-}
-
-/// Writes the report, and the line for standard error.
-fn print(rt: &HostRuntime, options: &Options<'_>, out: &[u8], ended: Ended) -> io::Result<u8> {
-    let mut stdout = rt.stdout();
-    if let Err(error) = stdout.write_all(out).and_then(|_| stdout.flush()) {
-        eprintln!(rt; "pgapply: cannot write")?;
-        say_why(rt, options, &error)?;
-        return Ok(1);
-    }
-    if !ended.line.is_empty() {
-        let line = ended.line;
-        eprintln!(rt; "{line}")?;
-    }
-    Ok(ended.status)
 }

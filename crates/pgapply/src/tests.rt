@@ -5,6 +5,7 @@ mod cases;
 mod command_line;
 mod devices;
 mod follow;
+mod output;
 mod progress;
 
 use crate::execute::{Ended, execute};

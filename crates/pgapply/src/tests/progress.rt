@@ -13,18 +13,23 @@ use trace::{Trace, Watcher};
 
 /// Has a clock that a test moves, and keeps what is said on standard error.
 #[derive(Drop)]
-struct Host {
+pub(super) struct Host {
     millis: Cell<u64>,
     said: RefCell<String>,
 }
 
 impl Host {
     /// It begins a day after the clock's start.
-    fn new(alloc: Global) -> Host {
+    pub(super) fn new(alloc: Global) -> Host {
         Host {
             millis: Cell::new(86_400_000),
             said: RefCell::new(String::new(alloc)),
         }
+    }
+
+    /// What was said.
+    pub(super) fn into_said(self) -> String {
+        self.said.into_inner()
     }
 
     fn wait(&self, millis: u64) {
@@ -71,8 +76,7 @@ fn said(alloc: Global, wanted: bool, millis: u64) -> Result<String, Fail> {
     }
     progress.say(&trace);
     drop(progress);
-    let Host { said, .. } = host;
-    Ok(said.into_inner())
+    Ok(host.into_said())
 }
 
 #[test]
