@@ -15,7 +15,7 @@ use std::collections::BTreeMap;
 impl Live {
     /// The committed rows of a table in key order, as copies: one walk of the live rows, and of the
     /// places that are held, where what is committed lies beside them. None where a transaction holds
-    /// the table as a whole: then they lie in an inverse, which is no list in key order.
+    /// the table as a whole: then they lie in an inverse of its own, which answers by key alone.
     pub(crate) fn committed_rows(
         &self,
         alloc: Global,

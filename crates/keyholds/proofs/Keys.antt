@@ -19,11 +19,11 @@ use Rattle.keyholds.proofs.HoldsLaws.{head_or_rest}
 
 -- ---- cell by cell
 
-no_cells : (table : ℕ) (key : Key) → Contains {X = Cell} [] (Row table key) → ⊥
-no_cells table key has = omega (arith, has.1)
+none_there : {X : Type 0} (x : X) → Contains [] x → ⊥
+none_there x has = omega (arith, has.1)
 
 pub no_keys : (table : ℕ) (keys : List Key) → AddsKeys table [] keys keys
-no_keys table keys key = (λ has. inl has, λ either. elim either [ inl has ↦ has | inr cell ↦ absurd (no_cells table key cell) ])
+no_keys table keys key = (λ has. inl has, λ either. elim either [ inl has ↦ has | inr cell ↦ absurd (none_there (Row table key) cell) ])
 
 same_key : (table : ℕ) (cell : Cell) (k key : Key) → cell ≡ Row table k → cell ≡ Row table key → k ≡ key
 same_key table cell k key is its = let rows : Row table k ≡ Row table key = sym is ∙ its in cc
@@ -69,9 +69,6 @@ pub record AreGathered {S Z : Type 0} (table : ℕ) (cells : ℕ → List Cell) 
   pub all : (xid : ℕ) (key : Key) → Contains (cells xid) (Row table key)
       → Contains keys key ⊎ ((list : Vec (Cell × S) Z) × Contains left (xid, list) × Contains (keys_of list.items) (Row table key))
   pub held : (key : Key) → Contains keys key → (xid : ℕ) × Contains (cells xid) (Row table key)
-
-none_there : {X : Type 0} (x : X) → Contains [] x → ⊥
-none_there x has = omega (arith, has.1)
 
 module _ {S Z : Type 0} (table : ℕ) (lists : BTreeMap ℕ (Vec (Cell × S) Z)) (holds : FinMap nat_cmp (List (Cell × S))) (seen : lists_seen lists ≡ holds) where
   -- what a transaction holds is its list
