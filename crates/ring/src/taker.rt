@@ -5,10 +5,9 @@ ghost use Rattle.ring.specs.Ends.{Looked, Acknowledged, Heard, Waited};
 use crate::protocol::{Ack, DOOM, Find, HEAD, Hear, RingSeat, RingTable, TAIL};
 use crossbeam_utils::sync::Parker;
 use std::alloc::Global;
-use std::hint;
 use std::marker::Model;
-use std::mem;
 use std::sync::{Arc, Wait};
+use std::{hint, mem};
 
 // How often a taker looks before it sleeps: for some microseconds, which is what waking it would cost
 // its sender at the next item.

@@ -17,8 +17,8 @@ kept n v definitions config rows given left o gate desk none run clean = record 
   left = left;
   outcome = o;
   run = subst (λ (k : ℕ). RunsBy (min config.workers k) 1 definitions config finite.empty given left o) gate
-  (subst (λ (k : ℕ). RunsBy (min config.workers n) k definitions config finite.empty given left o) desk
-  (subst (λ (r : Rows). RunsBy (min config.workers n) v definitions config r given left o) none run));
+      (subst (λ (k : ℕ). RunsBy (min config.workers n) k definitions config finite.empty given left o) desk
+      (subst (λ (r : Rows). RunsBy (min config.workers n) v definitions config r given left o) none run));
   clean = clean;
   same = refl;
 }
