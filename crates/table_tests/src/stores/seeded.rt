@@ -417,16 +417,19 @@ fn compare(
 
 /// Whether these rows were read of a table, in key order.
 fn are_stored(stored: &[Stored], table: TableId, ids: &[Field], rows: &[Row]) -> bool {
-    let mut read = rows.iter();
+    let mut count = 0;
     for id in ids {
         if let Some(stored) = row_at(stored, table, *id) {
-            let row = read.next().map(RowView::of_row);
-            if !row.is_some_and(|row| is_row(&stored.row, &row)) {
+            let Some(row) = rows.get(count) else {
+                return false;
+            };
+            if !is_row(&stored.row, &RowView::of_row(row)) {
                 return false;
             }
+            count += 1;
         }
     }
-    read.next().is_none()
+    count == rows.len()
 }
 
 /// Whether this was read at a place.
