@@ -191,16 +191,17 @@ fn where_no_server_is(rt: HostRuntime) -> Result<(), Fail> {
     Ok(())
 }
 
-/// Says this to who connects, and hears until that side closes.
+/// Welcomes who connects, says this, and hears until that side closes.
 fn tell(alloc: Global, listener: &UnixListener, said: &[u8]) -> io::Result<Vec<u8>> {
     let (mut peer, _) = listener.accept()?;
+    peer.write_all(WELCOME)?;
     peer.write_all(said)?;
     let mut heard = Vec::new(alloc);
     peer.read_to_end(&mut heard)?;
     Ok(heard)
 }
 
-/// A capture to this file from a server that says this, and what that server hears.
+/// A capture to this file from a server that says this: the fault, and whether it was asked for anything.
 fn captured<'a, R>(
     alloc: Global,
     rt: &'a R,
@@ -208,16 +209,36 @@ fn captured<'a, R>(
     file: &'a str,
     listener: &'a UnixListener,
     said: &'a [u8],
-) -> (io::Result<Vec<u8>>, Result<(), Fault>)
+) -> Result<(String, bool), Fail>
 where
     R: Threads + Net<Stream = TcpStream> + Clock + RandomSource + Files<File = File> + Eprint,
 {
-    thread::join(
+    let (heard, answer) = thread::join(
         rt,
         move || tell(alloc, listener, said),
         move || capture(alloc, rt, asked, Destination::File(file), NO_BOUNDS),
-    )
+    );
+    let was_asked = heard?.iter().any(|byte| *byte == b'Q');
+    Ok((name_of(alloc, answer)?, was_asked))
 }
+
+/// What a server says to one capture after another, the fault, whether the server was asked for a stream,
+/// and how long the file then is. One that is there is refused before anything is asked for.
+const CAPTURES: [(&[u8], &str, bool, Option<u64>); 3] = [
+    (
+        b"E\0\0\0\x19SERROR\0C42704\0Mgone\0\0",
+        "Server",
+        true,
+        None,
+    ),
+    (
+        b"W\0\0\0\x07\0\0\0c\0\0\0\x04C\0\0\0\x05\0",
+        "none",
+        true,
+        Some(5),
+    ),
+    (b"", "CannotWrite", false, Some(5)),
+];
 
 #[test]
 fn a_capture_makes_its_file(rt: HostRuntime) -> Result<(), Fail> {
@@ -237,28 +258,13 @@ fn a_capture_makes_its_file(rt: HostRuntime) -> Result<(), Fail> {
         publication: "p",
         slot: SLOT,
     };
-    let mut refusal = Vec::from_slice(alloc, WELCOME)?;
-    say(&mut refusal, b'E', REFUSALS[0])?;
-    let mut stream = Vec::from_slice(alloc, WELCOME)?;
-    stream.extend_from_slice(opening(&rt)?.as_slice())?;
-    stream.extend_from_slice(b"c\0\0\0\x04")?;
-    // A stream that can't be started leaves no file, and a file that is there is refused before a slot is
-    // asked for.
-    let turns = [
-        (refusal, "Server", false),
-        (stream.clone()?, "none", true),
-        (Vec::from_slice(alloc, WELCOME)?, "CannotWrite", true),
-    ];
-    for (said, want, stays) in &turns {
-        let (heard, answer) = captured(alloc, &rt, &asked, file, &listener, said.as_slice());
-        assert_eq!(rt; name_of(alloc, answer)?.as_str(), *want);
-        let asked_for = heard?.iter().any(|byte| *byte == b'Q');
-        assert_eq!(rt; asked_for, *want != "CannotWrite");
-        assert_eq!(rt; fs::exists(&rt, file)?, *stays);
+    for (said, want, asks, length) in &CAPTURES {
+        let (name, was_asked) = captured(alloc, &rt, &asked, file, &listener, *said)?;
+        assert_eq!(rt; name.as_str(), *want);
+        assert_eq!(rt; was_asked, *asks, "{want}");
+        let found = fs::metadata(&rt, file).ok().map(|it| it.len());
+        assert_eq!(rt; found, *length, "{want}");
     }
-    let mut kept = Vec::new(alloc);
-    File::open(&rt, file)?.read_to_end(&mut kept)?;
-    assert_eq!(rt; Some(kept.as_slice()), stream.as_slice().get(23..));
     fs::remove_file(&rt, file)?;
     fs::remove_file(&rt, socket.as_str())?;
     Ok(())
