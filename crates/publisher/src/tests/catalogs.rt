@@ -1,8 +1,9 @@
 // The catalog of what a server says of a publication, and constants as `pg_get_expr` prints them.
-use super::script::{Behind, Script, say};
+use super::script::{Behind, Script, name_of, say};
 use publication::catalog::{Answers, ask, print};
 use publication::columns::{DefaultValue, Kind, read_default};
 use server::connection::Connection;
+use server::fault::Fault;
 use std::alloc::Global;
 use std::test::Fail;
 
@@ -179,6 +180,20 @@ name = "a\u007F"
 type = "int"
 "#;
 
+/// What is made of a scripted server's answers.
+fn asked(alloc: Global, input: &[u8]) -> Result<Result<Answers, Fault>, Fail> {
+    let mut sent = Vec::new(alloc);
+    let line = Script {
+        input,
+        piece: 100,
+        behind: Behind::Close,
+        sent: &mut sent,
+        clock: 0,
+    };
+    let mut connection = Connection::new(alloc, line, 5000)?;
+    Ok(ask(&mut connection, "it's"))
+}
+
 /// What a scripted server says of the publication.
 fn answers(alloc: Global) -> Result<Answers, Fail> {
     let mut input = Vec::new(alloc);
@@ -187,16 +202,27 @@ fn answers(alloc: Global) -> Result<Answers, Fail> {
     answer(&mut input, &TABLES)?;
     answer(&mut input, &COLUMNS)?;
     answer(&mut input, &KEYS)?;
-    let mut sent = Vec::new(alloc);
-    let line = Script {
-        input: input.as_slice(),
-        piece: 100,
-        behind: Behind::Close,
-        sent: &mut sent,
-        clock: 0,
-    };
-    let mut connection = Connection::new(alloc, line, 5000)?;
-    Ok(ask(&mut connection, "it's")?)
+    Ok(asked(alloc, input.as_slice())??)
+}
+
+/// A server's version, how many publications have the name, and the fault where it then closes.
+const REFUSED: [(&str, &str, &str); 3] = [
+    ("139999", "1", "OldServer"),
+    ("140000", "0", "NoPublication"),
+    ("140000", "1", "Closed"),
+];
+
+#[test]
+fn an_old_server_and_a_publication_that_is_not_there(rt: HostRuntime) -> Result<(), Fail> {
+    let alloc = rt.alloc();
+    for (version, count, want) in &REFUSED {
+        let mut input = Vec::new(alloc);
+        answer(&mut input, &[&[*version]])?;
+        answer(&mut input, &[&[*count]])?;
+        let refused = asked(alloc, input.as_slice())?;
+        assert_eq!(rt; name_of(alloc, refused)?.as_str(), *want, "{version}");
+    }
+    Ok(())
 }
 
 #[test]
