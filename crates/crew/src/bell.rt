@@ -12,7 +12,7 @@ pub struct Bell {
 }
 
 // How often a bell was rung, and whether somebody may wait for it. To wake nobody costs a call of the
-// system all the same, and a worker rings behind each item.
+// system all the same, and a worker that keeps up rings behind each item.
 #[derive(Drop)]
 struct Rope {
     rung: u64,
