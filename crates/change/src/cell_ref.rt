@@ -13,7 +13,7 @@ use std::cmp::Ordering;
 use std::collections::btree_map::Comparable;
 
 /// The values of a key, read in place.
-#[derive(Clone, Copy)]
+#[derive(Clone, Copy, Debug)]
 pub enum KeyRef<'a> {
     /// A key's own.
     Key(&'a Key),
@@ -22,7 +22,7 @@ pub enum KeyRef<'a> {
 }
 
 /// A cell, read in place: what a search among kept cells can be asked for without memory.
-#[derive(Clone, Copy)]
+#[derive(Clone, Copy, Debug)]
 pub enum CellRef<'a> {
     /// The row at a primary key.
     Row(TableId, KeyRef<'a>),

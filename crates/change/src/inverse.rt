@@ -12,7 +12,7 @@ use model::{Key, Row, TableId};
 use rows::RowView;
 
 /// What takes a change back: what stood where it altered the tables.
-#[derive(Drop)]
+#[derive(Debug, Drop)]
 pub enum Inverse {
     /// A row was put at this key.
     Take {
@@ -39,7 +39,7 @@ pub enum Inverse {
 }
 
 /// A table that was emptied, and what it held.
-#[derive(Drop)]
+#[derive(Debug, Drop)]
 pub struct Wiped {
     pub table: TableId,
     pub contents: Contents,

@@ -19,7 +19,7 @@ use std::alloc::{AllocError, Global};
 use thiserror::Error;
 
 /// What came of a change that was not refused.
-#[derive(Drop)]
+#[derive(Debug, Drop)]
 pub enum Applied {
     /// The tables were changed, and this takes it back.
     Done(Inverse),

@@ -21,7 +21,7 @@ use std::cmp::Ordering;
 use std::slice;
 
 /// A row, and a patch of it. It is read as the row that the patch leaves, and nothing is copied.
-#[derive(Clone, Copy)]
+#[derive(Clone, Copy, Debug)]
 pub struct PatchedRow<'a> {
     row: &'a RowView<'a>,
     patch: &'a [ColumnPatch],

@@ -5,7 +5,7 @@ use std::io;
 use std::net::{Net, TcpStream};
 
 /// A connection to whoever sends a stream. It is closed where it is dropped, unless its ends were taken.
-#[derive(Drop)]
+#[derive(Debug, Drop)]
 pub struct Connection {
     stream: TcpStream,
 }

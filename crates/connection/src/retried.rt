@@ -12,7 +12,7 @@ const TRIES: u32 = 1_000_000;
 
 /// A reader or a writer over one whose calls a signal may interrupt: they are tried again. One that is
 /// interrupted a million times in a row has timed out.
-#[derive(Drop)]
+#[derive(Debug, Drop)]
 pub struct Retried<S> {
     stream: S,
 }

@@ -5,7 +5,7 @@ use std::sync::{Condvar, Mutex, Wait};
 ///
 /// Who waits notes how often it was rung, looks at everything that it waits for, and only then waits
 /// for one more: a ring that comes while it looks isn't lost.
-#[derive(Drop)]
+#[derive(Debug, Drop)]
 pub struct Bell {
     rope: Mutex<Rope>,
     changed: Condvar,
@@ -13,7 +13,7 @@ pub struct Bell {
 
 // How often a bell was rung, and whether somebody may wait for it. To wake nobody costs a call of the
 // system all the same, and a worker that keeps up rings behind each item.
-#[derive(Drop)]
+#[derive(Debug, Drop)]
 struct Rope {
     rung: u64,
     is_awaited: bool,

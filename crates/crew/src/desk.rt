@@ -8,7 +8,7 @@ use std::alloc::Global;
 use std::sync::{Condvar, Mutex, Wait};
 
 /// Where a leader and its worker hand a job to one another.
-#[derive(Drop)]
+#[derive(Debug, Drop)]
 pub struct Desk<J> {
     place: Mutex<Place<J>>,
     changed: Condvar,

@@ -6,7 +6,7 @@ ghost use Rattle.crew.specs.declared.place.Slot.TheVariants.{Empty, Given, Worki
 use std::mem;
 
 /// Where the job of a desk is.
-#[derive(Drop)]
+#[derive(Debug, Drop)]
 pub enum Slot<J> {
     /// There is none.
     Empty,
@@ -20,7 +20,7 @@ pub enum Slot<J> {
 
 /// A desk's job, and whether the desk is closed. It may close while its worker has the job, so the one
 /// stands beside the other.
-#[derive(Drop)]
+#[derive(Debug, Drop)]
 pub struct Place<J> {
     pub slot: Slot<J>,
     pub closed: bool,

@@ -74,7 +74,7 @@ impl Changes {
 
 /// The changes of an entry, in order. It takes no memory. A clause sees the list of those that are
 /// left.
-#[derive(Drop)]
+#[derive(Debug, Drop)]
 pub struct ChangesIter<'a> {
     items: &'a [Item],
 }

@@ -3,7 +3,7 @@ use model::{Change, CommitInfo, Item, Xid};
 use std::collections::LinkedList;
 
 /// What happened to an open transaction.
-#[derive(Drop)]
+#[derive(Debug, Drop)]
 pub enum Event {
     /// It has done this item, a rollback too.
     Done(Item),
@@ -12,7 +12,7 @@ pub enum Event {
 }
 
 /// What happened to the store's transactions.
-#[derive(Drop)]
+#[derive(Debug, Drop)]
 pub enum LineEvent {
     /// This one was opened.
     Opened(Xid),

@@ -37,7 +37,7 @@ use std::alloc::Global;
 use std::collections::BTreeMap;
 
 /// What stopped a store, with the change that clashed.
-#[derive(Drop)]
+#[derive(Debug, Drop)]
 pub(crate) enum Stopped {
     Clash {
         xid: Xid,
@@ -53,7 +53,7 @@ pub(crate) enum Stopped {
 /// The live tables, what each open transaction did in them and holds, and what stopped them.
 ///
 /// Each call is said in the words of every world that they stand for.
-#[derive(Drop)]
+#[derive(Debug, Drop)]
 pub(crate) struct Live {
     pub(crate) tables: Tables,
     pub(crate) holds: Holds<Stood>,

@@ -63,7 +63,7 @@ impl StoreNames for Brand {
 /// A store under a lock. Who takes the lock knows of it what its type keeps: which tickets and which
 /// line are its own, its tables' keys and start rows, and that calls lead from these to its world
 /// (`IsShared`). So each call asks of its arguments alone what `Store` asks of both.
-#[derive(Drop)]
+#[derive(Debug, Drop)]
 pub struct SharedStore<N: StoreNames> {
     store: Store,
     of: PhantomData<N>,

@@ -28,7 +28,7 @@ pub enum Stood {
 }
 
 /// Where the committed row at a place is found.
-#[derive(Clone, Copy)]
+#[derive(Clone, Copy, Debug)]
 pub enum CommittedRow<'a> {
     /// Beside the place.
     Beside(&'a Option<Row>),

@@ -43,7 +43,7 @@ const MOST_OPEN: usize = 4096;
 ///
 /// A clause sees the world that it stands for (`world`, specs/World): the committed rows, what each open
 /// transaction has done, and what stopped it. Each call is a step of that world.
-#[derive(Drop)]
+#[derive(Debug, Drop)]
 pub struct Store {
     pub(crate) live: Live,
     pub(crate) start: Tables,

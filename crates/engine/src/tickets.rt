@@ -8,6 +8,7 @@ use tokens::{Seen as SeenList, Slip, Token};
 
 /// The one token of an open transaction. A clause sees the name of its store's tickets, the
 /// transaction's number, and the list of what happened to it.
+#[derive(Debug)]
 pub struct Ticket {
     pub(crate) slip: Slip<Event>,
 }
@@ -46,6 +47,7 @@ impl Ticket {
 
 /// The one token of a store's commits. A clause sees its name, and the list of what happened to all
 /// transactions: which were opened, committed with which items, and aborted.
+#[derive(Debug)]
 pub struct Line {
     pub(crate) token: Token<LineEvent>,
 }
@@ -77,6 +79,7 @@ impl Line {
 
 /// What was seen of a store's line: a beginning of what it is now. It has no bytes. A clause sees the
 /// line's name, and the list of what was seen.
+#[derive(Debug)]
 pub struct Seen {
     pub(crate) list: SeenList<LineEvent>,
 }

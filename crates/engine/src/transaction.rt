@@ -17,7 +17,7 @@ use std::alloc::Global;
 /// An open transaction: what it has done and how that is taken back, the change that it waits with or
 /// that clashed, with the subtransaction that made it, and how many items it has done, rollbacks
 /// among them. The count stays at the greatest number once it is there.
-#[derive(Drop)]
+#[derive(Debug, Drop)]
 pub(crate) struct OpenTransaction {
     pub(crate) record: TxRecord,
     pub(crate) wants: Option<(Xid, Change)>,

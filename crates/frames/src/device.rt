@@ -56,7 +56,7 @@ pub trait Sink {
 }
 
 /// A source over a reader. It counts its reads down from `u64::MAX`, and then fails.
-#[derive(Drop)]
+#[derive(Debug, Drop)]
 pub struct ReadSource<R> {
     reader: R,
     reads_left: u64,
@@ -106,7 +106,7 @@ impl<R: Read> Source for ReadSource<R> {
 
 /// A sink over a writer. It counts its writes down from `u64::MAX`, and then fails; a write that takes nothing fails
 /// too.
-#[derive(Drop)]
+#[derive(Debug, Drop)]
 pub struct WriteSink<W> {
     writer: W,
     writes_left: u64,

@@ -20,7 +20,7 @@ const READ_SIZE: usize = 64 * 1024;
 
 /// Reads the frames of a replication stream, in whatever pieces its bytes come, and keeps their items until they are
 /// handed out.
-#[derive(Drop)]
+#[derive(Debug, Drop)]
 pub struct Frames {
     // The bytes of a frame that isn't whole.
     unread: BytesMut,
@@ -29,7 +29,7 @@ pub struct Frames {
     state: State,
 }
 
-#[derive(Clone, Copy)]
+#[derive(Clone, Copy, Debug)]
 enum State {
     Reading,
     Done,

@@ -44,7 +44,7 @@ impl Model for Table {
 }
 
 /// A table's whole content, moved out of it. A clause sees it as a table by itself.
-#[derive(Drop)]
+#[derive(Debug, Drop)]
 pub struct Contents {
     table: Table,
 }

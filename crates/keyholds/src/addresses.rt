@@ -26,7 +26,7 @@ pub(crate) struct Address {
 }
 
 /// The address of each cell that is held, and how many each transaction holds in each table.
-#[derive(Drop)]
+#[derive(Debug, Drop)]
 pub(crate) struct Addresses {
     pub(crate) addresses: HashMap<HashedCell, Address>,
     pub(crate) counts: Counts,

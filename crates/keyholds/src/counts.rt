@@ -10,7 +10,7 @@ use std::collections::BTreeMap;
 use std::ops::Bound;
 
 /// The counts that aren't 0. A transaction with no cell in a table has no entry for it.
-#[derive(Drop)]
+#[derive(Debug, Drop)]
 pub(crate) struct Counts {
     pub(crate) counts: BTreeMap<(TableId, Xid), usize>,
     ghost counted: { (key : ℕ × ℕ) → get pair_cmp counts key ≢ Some 0 },

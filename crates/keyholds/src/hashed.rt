@@ -13,7 +13,7 @@ use std::hash::{Hash, Hasher};
 use std::marker::Model;
 
 /// A cell that is kept, with its hash. A clause sees the cell.
-#[derive(Drop)]
+#[derive(Debug, Drop)]
 pub(crate) struct HashedCell {
     hash: u64,
     cell: Cell,

@@ -24,7 +24,7 @@ use std::marker::Model;
 /// A clause sees it as a finite map from a transaction to the list of its cells, in the order in
 /// which they were first held; one that holds nothing has no entry. No two transactions hold cells
 /// that overlap. A cell is looked up by its hash.
-#[derive(Drop)]
+#[derive(Debug, Drop)]
 pub struct Holds<S> {
     lists: BTreeMap<Xid, Vec<(Cell, S)>>,
     addresses: Addresses,

@@ -45,7 +45,7 @@ impl SoughtCell for Cell {
 }
 
 /// The row at a primary key that somebody else has.
-#[derive(Clone, Copy)]
+#[derive(Clone, Copy, Debug)]
 pub struct SoughtRow<'a> {
     /// Its table.
     pub table: TableId,

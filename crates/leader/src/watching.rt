@@ -40,7 +40,7 @@ impl<V: Drop> Audience<V> {
 }
 
 /// Nobody watches: of a run without watchers.
-#[derive(Drop)]
+#[derive(Debug, Drop)]
 pub struct NoWatch;
 
 impl Watch for NoWatch {

@@ -7,6 +7,7 @@ use crate::protocol::{Compare, InOrder, Load, Met, Publish, Seen, View};
 use crossbeam_utils::atomic::seq_cell::{Pass, RuledSeqCell};
 use model::OutOfMemory;
 use std::alloc::Global;
+use std::fmt;
 use std::marker::Model;
 use std::sync::Wait;
 
@@ -14,6 +15,12 @@ use std::sync::Wait;
 #[derive(Drop)]
 pub struct Origin {
     cell: RuledSeqCell<Position, View, InOrder, 2>,
+}
+
+impl fmt::Debug for Origin {
+    fn fmt<W: fmt::Write>(&self, f: &mut fmt::Formatter<W>) -> fmt::Result {
+        f.debug_struct("Origin").finish_non_exhaustive()
+    }
 }
 
 impl Model for Origin {
@@ -28,6 +35,12 @@ impl Model for Origin {
 #[derive(Drop)]
 pub struct Publisher {
     pass: Pass<Position, View>,
+}
+
+impl fmt::Debug for Publisher {
+    fn fmt<W: fmt::Write>(&self, f: &mut fmt::Formatter<W>) -> fmt::Result {
+        f.debug_struct("Publisher").finish_non_exhaustive()
+    }
 }
 
 impl Model for Publisher {
@@ -47,6 +60,12 @@ impl Model for Publisher {
 #[derive(Drop)]
 pub struct Loader {
     pass: Pass<Position, View>,
+}
+
+impl fmt::Debug for Loader {
+    fn fmt<W: fmt::Write>(&self, f: &mut fmt::Formatter<W>) -> fmt::Result {
+        f.debug_struct("Loader").finish_non_exhaustive()
+    }
 }
 
 impl Model for Loader {

@@ -11,7 +11,7 @@ use server::quoting::literal;
 use std::alloc::Global;
 
 /// A catalog, and what it leaves out.
-#[derive(Drop)]
+#[derive(Debug, Drop)]
 pub struct Printed {
     pub toml: String,
     /// A line for each table, column, key or default that isn't kept, with the reason.
@@ -19,7 +19,7 @@ pub struct Printed {
 }
 
 /// What the server says of a publication.
-#[derive(Drop)]
+#[derive(Debug, Drop)]
 pub struct Answers {
     pub tables: Vec<Row>,
     pub columns: Vec<Row>,

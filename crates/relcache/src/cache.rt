@@ -19,7 +19,7 @@ use std::sync::Arc;
 /// What was last said of each OID, in the order in which the OIDs first came.
 ///
 /// A clause sees the list of these.
-#[derive(Drop)]
+#[derive(Debug, Drop)]
 pub struct RelCache {
     alloc: Global,
     relations: IndexMap<Oid, Published>,

@@ -7,6 +7,7 @@ use crate::sender::Sender;
 use crate::taker::Taker;
 use crossbeam_utils::sync::{Parker, Unparker};
 use std::alloc::Global;
+use std::fmt;
 use std::marker::Model;
 use std::sync::Arc;
 
@@ -23,6 +24,12 @@ pub struct Ends<T> {
     head: u64,
     acked: u64,
     item: Option<T>,
+}
+
+impl<T> fmt::Debug for Ends<T> {
+    fn fmt<W: fmt::Write>(&self, f: &mut fmt::Formatter<W>) -> fmt::Result {
+        f.debug_struct("Ends").finish_non_exhaustive()
+    }
 }
 
 impl<T> Model for Ends<T> {

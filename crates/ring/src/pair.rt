@@ -11,6 +11,7 @@ use std::alloc::Global;
 use std::sync::Arc;
 
 /// Makes rings.
+#[derive(Debug)]
 pub struct Ring;
 
 impl Ring {

@@ -5,6 +5,8 @@ ghost use Rattle.ring.specs.Ends.{SentThrough, HasNoRoom};
 use crate::protocol::{Count, DOOM, Doom, HEAD, Put, RingSeat, RingTable, Seek, TAIL};
 use crossbeam_utils::sync::Unparker;
 use std::alloc::Global;
+use std::error::Error;
+use std::fmt;
 use std::marker::Model;
 use std::sync::Arc;
 
@@ -15,6 +17,14 @@ const MOST: u64 = 1 << 63;
 #[derive(Debug, PartialEq, Eq, Drop)]
 pub struct Full<T>(pub T);
 
+impl<T: fmt::Debug + Drop> Error for Full<T> {}
+
+impl<T> fmt::Display for Full<T> {
+    fn fmt<W: fmt::Write>(&self, f: &mut fmt::Formatter<W>) -> fmt::Result {
+        write!(f, "the ring is full")
+    }
+}
+
 /// The end that sends. There is one to a ring.
 #[derive(Drop)]
 pub struct Sender<T> {
@@ -24,6 +34,12 @@ pub struct Sender<T> {
     pub(crate) slots: u64,
     pub(crate) base: u64,
     pub(crate) tail: u64,
+}
+
+impl<T> fmt::Debug for Sender<T> {
+    fn fmt<W: fmt::Write>(&self, f: &mut fmt::Formatter<W>) -> fmt::Result {
+        f.debug_struct("Sender").finish_non_exhaustive()
+    }
 }
 
 impl<T> Model for Sender<T> {

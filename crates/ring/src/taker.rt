@@ -7,7 +7,7 @@ use crossbeam_utils::sync::Parker;
 use std::alloc::Global;
 use std::marker::Model;
 use std::sync::{Arc, Wait};
-use std::{hint, mem};
+use std::{fmt, hint, mem};
 
 // How often a taker looks before it sleeps: for some microseconds, which is what waking it would cost
 // its sender at the next item.
@@ -22,6 +22,12 @@ pub struct Taker<T> {
     pub(crate) slots: u64,
     pub(crate) head: u64,
     pub(crate) item: Option<T>,
+}
+
+impl<T> fmt::Debug for Taker<T> {
+    fn fmt<W: fmt::Write>(&self, f: &mut fmt::Formatter<W>) -> fmt::Result {
+        f.debug_struct("Taker").finish_non_exhaustive()
+    }
 }
 
 impl<T> Model for Taker<T> {

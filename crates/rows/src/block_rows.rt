@@ -24,7 +24,7 @@ use std::marker::Model;
 use std::mem;
 
 /// A place for a row, with its key. It keeps its number while it is there, filled or empty.
-#[derive(Drop)]
+#[derive(Debug, Drop)]
 pub(crate) struct BlockSlot {
     key: Key,
     row: Option<Block>,
@@ -35,7 +35,7 @@ pub(crate) struct BlockSlot {
 /// Beside the slots lie the keys in key order, so that `walk` needs no memory. Whatever the hasher,
 /// the answers are the same; one with a fixed seed, as the default, is not for keys that somebody
 /// else chooses.
-#[derive(Drop)]
+#[derive(Debug, Drop)]
 pub struct BlockRows<H: BuildHasher = BuildHasherDefault<FoldHasher>> {
     // The number of each key's slot, by the key's hash, and in key order.
     numbers: HashMap<HashedKey, usize, H>,

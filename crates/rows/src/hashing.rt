@@ -10,7 +10,7 @@ use std::hash::{Hash, Hasher};
 use std::marker::Model;
 
 /// A key by which a table of hashes keeps something. A clause sees the key.
-#[derive(Drop)]
+#[derive(Debug, Drop)]
 pub(crate) struct HashedKey {
     key: Key,
 }

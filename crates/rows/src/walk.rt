@@ -16,20 +16,20 @@ use std::marker::Model;
 
 /// The rows of a store, in key order. It takes no memory. A clause sees the list of the rows that
 /// are left.
-#[derive(Drop)]
+#[derive(Debug, Drop)]
 pub struct Walk<'a> {
     left: Left<'a>,
 }
 
 // The slots that are left, or their numbers.
-#[derive(Drop)]
+#[derive(Debug, Drop)]
 pub(crate) enum Left<'a> {
     Slots(Values<'a, Key, Slot>),
     Numbers(Numbers<'a>),
 }
 
 // The numbers that are left, and the slots that have them.
-#[derive(Drop)]
+#[derive(Debug, Drop)]
 pub(crate) struct Numbers<'a> {
     numbers: Values<'a, Key, usize>,
     slots: &'a Slab<BlockSlot>,

@@ -29,7 +29,7 @@ struct CutPoint {
 
 /// What an open transaction has done that no rollback has dropped: its items, the marks of its
 /// subtransactions, and the inverses of its changes.
-#[derive(Drop)]
+#[derive(Debug, Drop)]
 pub struct TxRecord {
     top: Xid,
     survivors: Vec<Item>,

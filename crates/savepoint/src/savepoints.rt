@@ -12,7 +12,7 @@ use std::marker::Model;
 ///
 /// A clause sees the list of them. To find one takes a look-up among them, and a cut the work of
 /// the savepoints that it drops.
-#[derive(Drop)]
+#[derive(Debug, Drop)]
 pub struct Savepoints<M> {
     marks: Vec<(Xid, M)>,
     indexes: BTreeMap<Xid, usize>,

@@ -8,6 +8,7 @@ use crate::wire::{Fields, Message};
 use base64::engine::general_purpose::STANDARD;
 use md5::{Digest, Md5};
 use std::alloc::Global;
+use std::fmt;
 
 const MECHANISM: &str = "SCRAM-SHA-256";
 
@@ -19,6 +20,17 @@ pub struct Login<'a> {
     pub password: Option<&'a str>,
     /// Whether the connection takes replication commands.
     pub replication: bool,
+}
+
+/// Without the password.
+impl<'a> fmt::Debug for Login<'a> {
+    fn fmt<W: fmt::Write>(&self, f: &mut fmt::Formatter<W>) -> fmt::Result {
+        f.debug_struct("Login")
+            .field("user", &self.user)
+            .field("database", &self.database)
+            .field("replication", &self.replication)
+            .finish_non_exhaustive()
+    }
 }
 
 /// Text forms of values that don't change with the server's settings, as PostgreSQL's subscriber asks.

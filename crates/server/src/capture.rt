@@ -11,7 +11,7 @@ use std::random::RandomSource;
 use std::rt::Clock;
 
 /// Where a capture is to go.
-#[derive(Drop)]
+#[derive(Debug, Drop)]
 pub enum Destination<'a> {
     /// A file that isn't there yet.
     File(&'a str),
@@ -51,7 +51,7 @@ pub fn capture<H: Net<Stream = TcpStream> + Clock + RandomSource + Files<File = 
 }
 
 /// Where the frames go.
-#[derive(Drop)]
+#[derive(Debug, Drop)]
 pub enum Target {
     /// A file that has so many bytes of whole frames.
     File(File, u64),
@@ -59,7 +59,7 @@ pub enum Target {
 }
 
 /// Keeps the frames.
-#[derive(Drop)]
+#[derive(Debug, Drop)]
 pub struct Keeper {
     alloc: Global,
     target: Target,

@@ -7,6 +7,7 @@ use crate::report::read_report;
 use crate::wire;
 use crate::wire::Message;
 use std::alloc::Global;
+use std::fmt;
 
 /// How many bytes are read at once.
 const CHUNK: usize = 256 * 1024;
@@ -33,6 +34,15 @@ pub struct Connection<L: Line> {
     end: usize,
     ghost ordered: { start ≤ end },
     ghost within: { end ≤ vec_len bytes },
+}
+
+/// Without the bytes that came.
+impl<L: Line> fmt::Debug for Connection<L> {
+    fn fmt<W: fmt::Write>(&self, f: &mut fmt::Formatter<W>) -> fmt::Result {
+        f.debug_struct("Connection")
+            .field("limit", &self.limit)
+            .finish_non_exhaustive()
+    }
 }
 
 impl<L: Line + Drop> Connection<L> {

@@ -4,12 +4,12 @@ use crate::connection::Connection;
 use crate::fault::Fault;
 use crate::line::{Socket, SocketLine};
 use std::alloc::Global;
-use std::io;
 use std::net::{Net, TcpStream, ToSocketAddrs};
 use std::os::unix::net::UnixStream;
 use std::random::RandomSource;
 use std::rt::Clock;
 use std::time::Duration;
+use std::{fmt, io};
 
 /// How long a read waits, so that limits and status updates are looked at: milliseconds.
 const TICK: u64 = 100;
@@ -25,6 +25,19 @@ pub struct Server {
     pub password: Option<String>,
     /// How many milliseconds the server may be silent.
     pub limit: u64,
+}
+
+/// Without the password.
+impl fmt::Debug for Server {
+    fn fmt<W: fmt::Write>(&self, f: &mut fmt::Formatter<W>) -> fmt::Result {
+        f.debug_struct("Server")
+            .field("host", &self.host)
+            .field("port", &self.port)
+            .field("user", &self.user)
+            .field("database", &self.database)
+            .field("limit", &self.limit)
+            .finish_non_exhaustive()
+    }
 }
 
 impl Server {

@@ -33,7 +33,7 @@ pub trait Line {
 }
 
 /// A stream socket.
-#[derive(Drop)]
+#[derive(Debug, Drop)]
 pub enum Socket {
     Tcp(TcpStream),
     Unix(UnixStream),
@@ -72,7 +72,7 @@ impl Socket {
 }
 
 /// A socket with the system's clock.
-#[derive(Drop)]
+#[derive(Debug, Drop)]
 pub struct SocketLine<'a, H: Clock> {
     socket: Socket,
     host: &'a H,

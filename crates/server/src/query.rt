@@ -7,7 +7,7 @@ use crate::wire::Fields;
 use std::alloc::Global;
 
 /// A row of an answer.
-#[derive(Drop)]
+#[derive(Debug, Drop)]
 pub struct Row {
     values: Vec<Option<String>>,
 }

@@ -3,6 +3,7 @@ use crate::fault::{Fault, Nonsense};
 use base64::engine::general_purpose::STANDARD;
 use sha2::{Digest, Sha256};
 use std::alloc::Global;
+use std::fmt;
 
 /// How many rounds a server may ask for: a thousand times its default would take minutes.
 const MOST_ROUNDS: u32 = 1_000_000;
@@ -57,11 +58,25 @@ pub struct Exchange {
     first_bare: String,
 }
 
+/// Without what a password is proved by.
+impl fmt::Debug for Exchange {
+    fn fmt<W: fmt::Write>(&self, f: &mut fmt::Formatter<W>) -> fmt::Result {
+        f.debug_struct("Exchange").finish_non_exhaustive()
+    }
+}
+
 /// The last message of the client, and the signature that the server has to answer.
 #[derive(Drop)]
 pub struct Proof {
     pub message: String,
     signature: [u8; 32],
+}
+
+/// Without what a password is proved by.
+impl fmt::Debug for Proof {
+    fn fmt<W: fmt::Write>(&self, f: &mut fmt::Formatter<W>) -> fmt::Result {
+        f.debug_struct("Proof").finish_non_exhaustive()
+    }
 }
 
 /// What the server's first message says.

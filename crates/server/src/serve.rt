@@ -84,7 +84,7 @@ const STATUS: [u8; 6] = [b'd', 0, 0, 0, 38, b'r'];
 const STATUS_LENGTH: usize = 39;
 
 /// What a follower told.
-#[derive(Drop)]
+#[derive(Debug, Drop)]
 pub struct Told {
     /// The beginning of a frame that isn't whole.
     part: Vec<u8>,
@@ -174,7 +174,7 @@ fn push_update(frame: &[u8], flushed: u64, updates: &mut Vec<u8>) -> Result<(), 
 }
 
 /// A follower that is connected.
-#[derive(Drop)]
+#[derive(Debug, Drop)]
 pub struct Follower {
     alloc: Global,
     stream: TcpStream,

@@ -10,7 +10,7 @@ use crate::{query, wire};
 use std::alloc::Global;
 
 /// A replication slot.
-#[derive(Clone, Copy)]
+#[derive(Clone, Copy, Debug)]
 pub struct Slot<'a> {
     pub name: &'a str,
     /// Whether it is made first.
@@ -18,7 +18,7 @@ pub struct Slot<'a> {
 }
 
 /// A stream to ask for: of which server, which publication, through which slot.
-#[derive(Clone, Copy)]
+#[derive(Clone, Copy, Debug)]
 pub struct Subscription<'a> {
     pub server: &'a Server,
     pub publication: &'a str,

@@ -39,7 +39,7 @@ pub fn first_length(bytes: &[u8]) -> Result<Option<usize>, Nonsense>
 }
 
 /// A message: its tag, and its content behind the length.
-#[derive(Drop)]
+#[derive(Debug, Drop)]
 pub struct Message {
     pub tag: u8,
     pub body: Vec<u8>,
@@ -93,7 +93,7 @@ pub fn query(alloc: Global, sql: &str) -> Result<Vec<u8>, Fault> {
 }
 
 /// The fields of a message, taken from its front.
-#[derive(Clone, Copy)]
+#[derive(Clone, Copy, Debug)]
 pub struct Fields<'a> {
     rest: &'a [u8],
 }

@@ -10,7 +10,7 @@ use std::sync::Arc;
 /// The relations that were learnt, with the mapping of each that a change has used since.
 ///
 /// A relation is mapped once, at its first use, so that a row takes no look-up by name.
-#[derive(Drop)]
+#[derive(Debug, Drop)]
 pub struct KnownRelations {
     alloc: Global,
     learnt: RelCache,

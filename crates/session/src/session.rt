@@ -17,7 +17,7 @@ use savepoint::{CommitInfo, Item, Lsn, Xid};
 use std::alloc::Global;
 
 /// What the messages of a stream have left open, learnt and committed.
-#[derive(Drop)]
+#[derive(Debug, Drop)]
 pub struct Session {
     alloc: Global,
     phase: Phase,

@@ -10,7 +10,7 @@ use std::marker::Model;
 
 /// The items of a spooled transaction that no rollback has dropped, each with the length of its
 /// payload in bytes. A clause sees the list of these pairs.
-#[derive(Drop)]
+#[derive(Debug, Drop)]
 pub struct Spool {
     items: Vec<Item>,
     sizes: Vec<u64>,

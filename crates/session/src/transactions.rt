@@ -10,7 +10,7 @@ use std::collections::BTreeMap;
 pub const MOST_OPEN: usize = 4096;
 
 /// Where the items of an open transaction go.
-#[derive(Drop)]
+#[derive(Debug, Drop)]
 pub enum OpenTransaction {
     /// It is between Begin and Commit, and its items are applied as they come.
     Direct,
@@ -72,7 +72,7 @@ impl OpenTransaction {
 }
 
 /// The open transactions, and how much of the limits they use.
-#[derive(Drop)]
+#[derive(Debug, Drop)]
 pub struct Transactions {
     alloc: Global,
     ways: BTreeMap<Xid, OpenTransaction>,

@@ -18,7 +18,7 @@ use std::sync::{Mutex, Wait};
 ///
 /// A clause sees what it knows (`Sight`): the tables' keys and start rows, what it has seen of the
 /// store's line, and the commits that it has seen published.
-#[derive(Drop)]
+#[derive(Debug, Drop)]
 pub struct Reader<'a, N: StoreNames> {
     store: &'a Mutex<SharedStore<N>>,
     seen: Seen,

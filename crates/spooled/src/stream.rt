@@ -23,7 +23,7 @@ use std::marker::Model;
 ///
 /// A clause sees what the devices tell: the bytes still to be read and those sent, the times given,
 /// how often reader and writer failed, and whether the last call on them did.
-#[derive(Drop)]
+#[derive(Debug, Drop)]
 pub struct Devices<R: Source, W: Sink, C: Clock> {
     reader: R,
     writer: W,

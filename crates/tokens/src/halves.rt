@@ -8,7 +8,7 @@ use model::OutOfMemory;
 use std::alloc::Global;
 use std::collections::LinkedList;
 use std::marker::{Brand, Model, PhantomData};
-use std::mem;
+use std::{fmt, mem};
 
 // What a seat knows. No value of it is made.
 struct View<X> {
@@ -31,6 +31,12 @@ impl<X> TableRule<(), View<X>, ()> for OneList {
 pub struct Kept<X> {
     table: Table<(), View<X>, (), OneList, Global>,
     seat: Seat<(), View<X>>,
+}
+
+impl<X> fmt::Debug for Kept<X> {
+    fn fmt<W: fmt::Write>(&self, f: &mut fmt::Formatter<W>) -> fmt::Result {
+        f.debug_struct("Kept").finish_non_exhaustive()
+    }
 }
 
 impl<X> Model for Kept<X> {
@@ -57,6 +63,12 @@ pub struct Token<X> {
     badge: Badge<View<X>>,
 }
 
+impl<X> fmt::Debug for Token<X> {
+    fn fmt<W: fmt::Write>(&self, f: &mut fmt::Formatter<W>) -> fmt::Result {
+        f.debug_struct("Token").finish_non_exhaustive()
+    }
+}
+
 impl<X> Model for Token<X> {
     ghost use Rattle.std.specs.Prelude.{◌≡◌, [], ◌∷◌};
     ghost use Rattle.tokens.specs.Half.{Half, half};
@@ -79,6 +91,12 @@ impl<X> Drop for Token<X> {
 /// What was seen of the list: a beginning of what it is now. It has no bytes.
 pub struct Seen<X> {
     badge: Badge<View<X>>,
+}
+
+impl<X> fmt::Debug for Seen<X> {
+    fn fmt<W: fmt::Write>(&self, f: &mut fmt::Formatter<W>) -> fmt::Result {
+        f.debug_struct("Seen").finish_non_exhaustive()
+    }
 }
 
 impl<X> Model for Seen<X> {

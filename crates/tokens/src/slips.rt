@@ -9,7 +9,7 @@ use model::OutOfMemory;
 use std::alloc::Global;
 use std::collections::LinkedList;
 use std::marker::{Brand, Model, PhantomData};
-use std::mem;
+use std::{fmt, mem};
 
 // Each open number's list, for proofs alone.
 struct Lists<X> {
@@ -50,6 +50,12 @@ pub struct Book<X> {
     seat: Seat<(), Row<X>>,
 }
 
+impl<X> fmt::Debug for Book<X> {
+    fn fmt<W: fmt::Write>(&self, f: &mut fmt::Formatter<W>) -> fmt::Result {
+        f.debug_struct("Book").finish_non_exhaustive()
+    }
+}
+
 impl<X> Model for Book<X> {
     ghost use Rattle.tokens.specs.Lists.{OpenLists, open_lists, open_lists_code};
     ghost use Rattle.tokens.specs.ManyLists.{IsBook, lists_in};
@@ -75,6 +81,12 @@ impl<X> Drop for Book<X> {
 pub struct Slip<X> {
     number: u32,
     badge: Badge<Row<X>>,
+}
+
+impl<X> fmt::Debug for Slip<X> {
+    fn fmt<W: fmt::Write>(&self, f: &mut fmt::Formatter<W>) -> fmt::Result {
+        f.debug_struct("Slip").finish_non_exhaustive()
+    }
 }
 
 impl<X> Model for Slip<X> {

@@ -11,7 +11,7 @@ pub trait Watcher {
 }
 
 /// A source whose bytes pass a trace.
-#[derive(Drop)]
+#[derive(Debug, Drop)]
 pub struct Watched<'a, R: Source, V: Watcher> {
     source: R,
     trace: &'a mut Trace,

@@ -15,7 +15,7 @@ use std::marker::Model;
 
 /// What takes back a transaction's changes, oldest first. A clause sees the list of them, and how
 /// many more there is room for.
-#[derive(Drop)]
+#[derive(Debug, Drop)]
 pub struct UndoLog {
     inverses: Vec<Inverse>,
 }

@@ -8,7 +8,7 @@ use model::Item;
 use std::marker::{Model, PhantomData};
 
 /// An item whose change, if it is one, names tables of the store alone. A clause sees the item.
-#[derive(Drop)]
+#[derive(Debug, Drop)]
 pub struct WorkItem<N: StoreNames> {
     item: Item,
     of: PhantomData<N>,

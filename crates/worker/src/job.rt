@@ -22,7 +22,7 @@ use std::sync::{Condvar, Mutex, Wait};
 /// What the transaction has done are the items that were acknowledged, and a change of it that waits
 /// or clashed is the first item after them (`IsInStep`). So whoever brings the two ends of the ring
 /// together knows which items are done and which are left.
-#[derive(Drop)]
+#[derive(Debug, Drop)]
 pub struct Job<N: StoreNames, L: LaneNames> {
     ticket: Ticket,
     taker: Taker<WorkItem<N>>,

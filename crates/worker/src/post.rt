@@ -43,7 +43,7 @@ impl PostNames for Brand {
 }
 
 /// What the leader did with a lane. Proofs alone know the list of it.
-#[derive(Drop)]
+#[derive(Debug, Drop)]
 pub enum PostEvent {
     /// A transaction begins, of which nothing was given yet.
     Begun,
@@ -66,7 +66,7 @@ pub enum Collected {
 /// It lies under a lock, since the worker sends on from it too. What the leader knows of it then is
 /// what its `Token` lists: the items given since the transaction began are those sent and those that
 /// are late, in this order.
-#[derive(Drop)]
+#[derive(Debug, Drop)]
 pub struct Post<N: StoreNames, L: PostNames> {
     lane: usize,
     // There is none only while it is collected.
