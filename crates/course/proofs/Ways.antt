@@ -23,7 +23,7 @@ use Rattle.frames.specs.declared.item.CopyItem.TheVariants.{Wal, Keepalive, Done
 use Rattle.session.specs.declared.phase.Phase.{Phase}
 use Rattle.session.specs.declared.phase.Phase.TheVariants.{Outside, Begun, Block}
 use Rattle.session.specs.Sized.{SizedItems}
-use Rattle.session.specs.State.{Way, Direct, Worker, Spooled, Open, OpenTransactions, Committed, State, Setting, in_block, worker_count}
+use Rattle.session.specs.State.{Way, Direct, Worker, Spooled, Open, OpenTransactions, Committed, State, Setting, setting, in_block, worker_count}
 use Rattle.session.specs.Table.{room_fault, new_open, opens, next_way, goes_on, streams, gives, has_room, is_open, touches, changes, closes, commits as commits_line, commits_begun, aborts_open, aborts, subtransaction_named, step}
 use Rattle.spooled.specs.Commits.{transaction, commits}
 use Rattle.spooled.specs.Progress.{Update, Progress, Handles, Leads, start_progress, due_updates, commits_from}
@@ -117,20 +117,16 @@ alike_at h a b s t alike e f = subst (λ u. Alike h u t) e (subst (λ u. Alike h
 abbrev state_of : Phase → Relations → ℕ → OpenTransactions → List Committed → State
 state_of p relations position m past = record { phase = p; transactions = m; relations = relations; position = position; past = past }
 
--- a setting of these parts
-abbrev setting_of : List Definition → ℕ → ℕ → Setting
-setting_of catalog workers spool = record { workers = workers; spool = spool; catalog = catalog }
-
 no_worker : (b : Bool) → b ≡ false → (if b then Worker else Spooled) ≢ Worker
 no_worker true e = cc
 no_worker false e = λ works. cc
 
 module _ (catalog : List Definition) (some none some_bytes bytes : ℕ) (relations : Relations) (position : ℕ) (m n : OpenTransactions) (past other_past : List Committed) (same : SameItems m n) (was : map without_way other_past ≡ map without_way past) (ways : none ≡ 0 → NoneWorks n) where
   abbrev g : Setting
-  g = setting_of catalog some some_bytes
+  g = setting some some_bytes catalog
 
   abbrev h : Setting
-  h = setting_of catalog none bytes
+  h = setting none bytes catalog
 
   abbrev one : Phase → Relations → State
   one p r = state_of p r position m past

@@ -44,7 +44,7 @@ use Rattle.leader.specs.Lanes.{Laned, IsHome, AreCounted}
 use Rattle.leader.specs.Standing.{own_by, goes_by}
 use Rattle.leader.specs.Threads.{Led, HasCommitted, IsLeadAt, AreLeft, MayEndBy, HasLedTo}
 use Rattle.leader.specs.Ending.{holds_in, KeepsGiven, HasFinished, AreInHand, AreGiven}
-use Rattle.leader.specs.WithWorkers.{setting, WasSent, Leaves, IsShutSo, IsRunByWorkers, RunsBy}
+use Rattle.leader.specs.WithWorkers.{WasSent, Leaves, IsShutSo, IsRunByWorkers, RunsBy}
 use Rattle.leader.proofs.Held.{is_world_of, is_cause}
 use Rattle.leader.proofs.InHand.{in_hand, are_given}
 use Rattle.leader.proofs.Serving.{all_held}

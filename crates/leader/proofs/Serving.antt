@@ -8,6 +8,7 @@ use Rattle.std.proofs.lemmas.List.{map-append}
 use Rattle.model.specs.declared.item.Item.{Item}
 use Rattle.model.specs.declared.item.Item.TheVariants.{Change}
 use Rattle.model.specs.declared.item.CommitInfo.{CommitInfo}
+use Rattle.model.specs.SurvivorLaws.{items_of_survivors}
 use Rattle.frames.specs.declared.item.CopyItem.{CopyItem}
 use Rattle.world.specs.World.{Opened, Past}
 use Rattle.engine.specs.declared.events.LineEvent.{LineEvent}
@@ -17,7 +18,7 @@ use Rattle.session.specs.Sized.{item_of}
 use Rattle.session.specs.State.{Way, Direct, Worker, Spooled, Open, Committed, State, Setting}
 use Rattle.session.specs.Table.{new_open}
 use Rattle.session.specs.Told.{IsOpening, IsGiving, IsCommitting, IsAborting, items_handed_out}
-use Rattle.spooled.proofs.States.{get-inserted, get-other, get-left, get-gone, map-sized_survivors}
+use Rattle.spooled.proofs.States.{get-inserted, get-other, get-left, get-gone}
 use Rattle.course.specs.Runs.{CommitsNext}
 use Rattle.course.specs.Threads.{work_of, done_by_commit}
 use Rattle.leader.specs.Lanes.{Given, IsDoing}
@@ -308,7 +309,7 @@ spooled_commit s t c old new handed agreed way hands commits (inr (inr is)) =
           ap commits_in (ap line_of e) ∙ more_commits (old.line ++ WasOpened c.xid ∷ []) c.xid handed c.info
           ∙ ap (λ (ps : List Past). ps ++ record { xid = c.xid; items = handed; info = c.info } ∷ []) (unopened old.line c.xid)
           ∙ ap (λ (i : List Item). commits_in old.line ++ record { xid = c.xid; items = i; info = c.info } ∷ [])
-          (hands ∙ ap (λ (w : Way). items_handed_out c.xid w c.items) way ∙ map-sized_survivors c.xid c.items ∙ ap (λ (w : Way). work_of c.xid w c.items) (sym way));
+          (hands ∙ ap (λ (w : Way). items_handed_out c.xid w c.items) way ∙ items_of_survivors item_of c.xid c.items ∙ ap (λ (w : Way). work_of c.xid w c.items) (sym way));
       tables = ap (λ (st : Standing). st.tables) e;
     }
 
@@ -430,7 +431,7 @@ tried_held g s rest old new c handed agreed present hands next tried =
     (ap (own_of c.xid) (ap begun_of e) ∙ own_here c.xid tried.done)
     (ap (λ l. is_open_in l c.xid) (ap line_of e) ∙ opened_here old.line c.xid) (
       (λ worker. let x : Spooled ≡ Worker = sym was.0 ∙ worker in absurd cc),
-      subst (IsDoing tried.done) (hands ∙ ap (λ (w : Way). items_handed_out c.xid w c.items) was.0 ∙ map-sized_survivors c.xid c.items ∙ ap (λ (w : Way). work_of c.xid w c.items) (sym was.0)) tried.doing,
+      subst (IsDoing tried.done) (hands ∙ ap (λ (w : Way). items_handed_out c.xid w c.items) was.0 ∙ items_of_survivors item_of c.xid c.items ∙ ap (λ (w : Way). work_of c.xid w c.items) (sym was.0)) tried.doing,
       λ spooled. next,
     )
     (λ q ne. (

@@ -1,5 +1,4 @@
 -- What a run with workers leaves, as a function of the bytes that it read.
---     setting      its setting
 --     WasSent      the status updates that went out
 --     Leaves      a leader has ended a run, and what it left
 --     IsShutSo      what is left of a store
@@ -17,7 +16,7 @@ use Rattle.engine.specs.declared.events.LineEvent.{LineEvent}
 use Rattle.engine.specs.Engine.{entry_in}
 use Rattle.engine.specs.Events.{commits_in}
 use Rattle.engine.specs.Journal.{rows_after}
-use Rattle.session.specs.State.{Setting}
+use Rattle.session.specs.State.{Setting, setting}
 use Rattle.spooled.specs.declared.end.End.{End}
 use Rattle.spooled.specs.declared.end.End.TheVariants.{Clean}
 use Rattle.spooled.specs.declared.outcome.Config.{Config}
@@ -27,14 +26,10 @@ use Rattle.spooled.specs.Cause.{schema_of, AreAllSent, LastIsCut}
 use Rattle.spooled.specs.Devices.{DeviceState}
 use Rattle.spooled.specs.Handler.{IsRunOver}
 use Rattle.spooled.specs.Progress.{Progress}
-use Rattle.spooled.specs.Run.{IsRun, spooling}
+use Rattle.spooled.specs.Run.{IsRun}
 use Rattle.course.specs.Threads.{IsWorldOf}
 use Rattle.course.specs.ThreadedRun.{IsThreadedCause, IsThreadedRun}
 use Rattle.leader.specs.Threads.{Led, IsLeadAt, HasLedTo}
-
--- the setting of a run with so many workers
-abbrev pub setting : ℕ → ℕ → List Definition → Setting
-setting count bytes tables = record { workers = count; spool = bytes; catalog = tables }
 
 -- The status updates went out: all of them, or all but a part of the last.
 abbrev pub WasSent : Setting → DeviceState → DeviceState → List CopyItem → Progress → List ℤ → Type 0
@@ -76,6 +71,6 @@ pub record IsRunByWorkers (g : Setting) (rows : Rows) (old new : DeviceState) (o
 
 -- A run by so many workers, beside so many watchers; without any of both it is the run without threads.
 abbrev pub RunsBy : ℕ → ℕ → List Definition → Config → Rows → DeviceState → DeviceState → Outcome → Type 0
-RunsBy zero zero catalog config rows old new o = IsRun (spooling catalog config) rows old new o
+RunsBy zero zero catalog config rows old new o = IsRun (setting zero config.spool catalog) rows old new o
 RunsBy zero (suc v) catalog config rows old new o = IsRunByWorkers (setting zero config.spool catalog) rows old new o
 RunsBy (suc n) v catalog config rows old new o = IsRunByWorkers (setting (suc n) config.spool catalog) rows old new o

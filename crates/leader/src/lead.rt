@@ -3,7 +3,7 @@ ghost use Rattle.std.specs.Prelude.{◌≡◌, ◌<◌, ◌⊎◌, [], None, max
 ghost use Rattle.engine.specs.Events.{last_end};
 ghost use Rattle.model.specs.Rows.{Rows};
 ghost use Rattle.session.specs.Answers.{IsOfTables};
-ghost use Rattle.session.specs.State.{Setting};
+ghost use Rattle.session.specs.State.{Setting, setting};
 ghost use Rattle.spooled.specs.Progress.{Progress, start_progress};
 
 use crate::transactions::{Left, Transactions};
@@ -63,7 +63,7 @@ impl<'a, N: StoreNames, L: PostNames, R: Wait, G: Gate + Drop> Lead<'a, N, L, R,
         requires line { transactions.line ≡ [] }
         requires lanes { All (λ goes. goes ≡ None) transactions.lanes }
         requires begun { transactions.begun ≡ None }
-        ensures { (rows : Rows) → IsLeadAt (record { workers = workers; spool = spool; catalog = catalog.now }) rows (led result.stream result.transactions) start_progress }
+        ensures { (rows : Rows) → IsLeadAt (setting workers spool catalog.now) rows (led result.stream result.transactions) start_progress }
     {
         let stream = Stream {
             alloc,

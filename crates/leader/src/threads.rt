@@ -2,17 +2,17 @@
 ghost use Rattle.std.specs.Prelude.{◌≡◌, ◌<◌, ℕ, All, [], length, map, min, slice_index_or};
 ghost use Rattle.model.specs.Rows.{Rows, keys_of, IsValid};
 ghost use Rattle.world.specs.World.{starting};
-ghost use Rattle.session.specs.State.{Setting};
+ghost use Rattle.session.specs.State.{Setting, setting};
 ghost use Rattle.spooled.specs.Progress.{start_progress};
 ghost use Rattle.spooled.specs.Devices.{DeviceState, device_state, health};
 ghost use Rattle.spooled.specs.Handler.{IsRunOver};
-ghost use Rattle.spooled.specs.Run.{IsRun, spooling};
+ghost use Rattle.spooled.specs.Run.{IsRun};
 ghost use Rattle.spooled.specs.declared.end.End.TheVariants.{OutOfMemory as NoMemory};
 ghost use Rattle.leader.specs.Lanes.{IsFree};
 ghost use Rattle.leader.specs.Parts.{IsFresh, ring_of, post_of};
 ghost use Rattle.tokens.specs.Half.{no_name};
 ghost use Rattle.leader.specs.Threads.{led, IsLeadAt, IsLeadAtStart, HasLedTo};
-ghost use Rattle.leader.specs.WithWorkers.{setting, Leaves, IsRunByWorkers, RunsBy, IsShutSo};
+ghost use Rattle.leader.specs.WithWorkers.{Leaves, IsRunByWorkers, RunsBy, IsShutSo};
 
 use crate::chief::{Leading, beside};
 use crate::ending::finish;
@@ -368,7 +368,8 @@ where
     ghost use Rattle.std.specs.Prelude.{◌≡◌, [], All, map};
     ghost use Rattle.model.specs.Rows.{keys_of, IsValid};
     ghost use Rattle.leader.specs.Lanes.{IsFree};
-    ghost use Rattle.leader.specs.WithWorkers.{setting, Leaves};
+    ghost use Rattle.leader.specs.WithWorkers.{Leaves};
+    ghost use Rattle.session.specs.State.{setting};
 
     type Left = (&'a mut Devices<S, W, C>, End, Line, Lsn);
 

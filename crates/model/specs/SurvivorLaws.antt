@@ -1,11 +1,13 @@
 -- What one more item does to a transaction's work.
+--     survivors_by_with, items_of_survivors      survivors with one more; their items are those that survive
 --     survivors_with, changes_of_both      the survivors of items with one more; the changes among two lists
 --     work_with_change, work_with_touch      a change is its last; what changes no row leaves it
 --     work_before      a rollback leaves a beginning of it
 --     rollback_cuts, top_cuts_nothing      which one, and that to the top transaction it is all of it
-use Rattle.std.specs.Prelude.{◌≡◌, ◌≢◌, ℕ, ◌==◌, Bool, true, false, cond, List, [], ◌∷◌, ◌++◌, not, if◌then◌else◌, refl}
+use Rattle.std.specs.Prelude.{◌≡◌, ◌≢◌, ℕ, ◌==◌, Bool, true, false, cond, List, [], ◌∷◌, ◌++◌, map, not, if◌then◌else◌, refl}
 use Rattle.std.proofs.Common.{inl, inr, sym, ◌∙◌, ap, subst, append-nil, eq-eqb}
 use Rattle.std.proofs.lemmas.Bool.{cases_Bool}
+use Rattle.std.proofs.lemmas.List.{map-append}
 use Rattle.std.proofs.lemmas.List.Sums.{take_while-cons}
 use Rattle.model.specs.TakenLaws.{number_is}
 use Rattle.model.specs.declared.change.Change as change_type
@@ -13,16 +15,63 @@ use Rattle.model.specs.declared.item.Item.{Item}
 use Rattle.model.specs.declared.item.Item.TheVariants.{Change, Touch, BackTo, Last}
 use Rattle.model.specs.Cut.{IsCut}
 use Rattle.model.specs.OverlapLaws.{neither}
-use Rattle.model.specs.Survivors.{is_of, before_savepoint, after_item, surviving, survivors, changes_of}
+use Rattle.model.specs.Survivors.{is_of, before_savepoint_by, left_by, surviving_by, survivors_by, before_savepoint, after_item, surviving, survivors, changes_of}
 
-surviving_with : (top : ℕ) (kept items : List Item) (item : Item)
-    → surviving top kept (items ++ item ∷ []) ≡ after_item top (surviving top kept items) item
-surviving_with top kept [] item = refl
-surviving_with top kept (first ∷ items) item = surviving_with top (after_item top kept first) items item
+-- ---- elements that have an item each
+
+surviving_by_with : {A : Type 0} (item : A → Item) (top : ℕ) (kept more : List A) (a : A)
+    → surviving_by item top kept (more ++ a ∷ []) ≡ left_by item top (surviving_by item top kept more) a (item a)
+surviving_by_with item top kept [] a = refl
+surviving_by_with item top kept (first ∷ more) a =
+    surviving_by_with item top (left_by item top kept first (item first)) more a
+
+pub survivors_by_with : {A : Type 0} (item : A → Item) (top : ℕ) (list : List A) (a : A)
+    → survivors_by item top (list ++ a ∷ []) ≡ left_by item top (survivors_by item top list) a (item a)
+survivors_by_with item top = surviving_by_with item top []
+
+pub items_before : {A : Type 0} (item : A → Item) (sub : ℕ) (list : List A)
+    → map item (before_savepoint_by item sub list) ≡ before_savepoint sub (map item list)
+items_before item sub [] = refl
+items_before {A} item sub (a ∷ list) =
+    ap (map item) (take_while-cons (λ (b : A). not (is_of sub (item b))) a list)
+    ∙ by_cases (items_before item sub list) (not (is_of sub (item a)))
+    ∙ sym (take_while-cons (λ i. not (is_of sub i)) (item a) (map item list))
+  where
+    by_cases : map item (before_savepoint_by item sub list) ≡ before_savepoint sub (map item list) → (b : Bool)
+        → map item (cond b (a ∷ before_savepoint_by item sub list) [])
+            ≡ cond b (item a ∷ before_savepoint sub (map item list)) []
+    by_cases rest true = ap (λ is. item a ∷ is) rest
+    by_cases rest false = refl
+
+items_left : {A : Type 0} (item : A → Item) (top : ℕ) (kept : List A) (a : A) (i : Item) → item a ≡ i
+    → map item (left_by item top kept a i) ≡ after_item top (map item kept) i
+items_left item top kept a (Change sub c) is = map-append item kept (a ∷ []) ∙ ap (λ i. map item kept ++ i ∷ []) is
+items_left item top kept a (Touch sub) is = map-append item kept (a ∷ []) ∙ ap (λ i. map item kept ++ i ∷ []) is
+items_left item top kept a (BackTo sub) is = by_cases (sub == top) refl
+  where
+    by_cases : (b : Bool) → (sub == top) ≡ b
+        → map item (left_by item top kept a (BackTo sub)) ≡ after_item top (map item kept) (BackTo sub)
+    by_cases true e = rw e
+    by_cases false e = rw e (items_before item sub kept)
+items_left item top kept a Last is = refl
+
+items_surviving : {A : Type 0} (item : A → Item) (top : ℕ) (kept list : List A)
+    → map item (surviving_by item top kept list) ≡ surviving top (map item kept) (map item list)
+items_surviving item top kept [] = refl
+items_surviving item top kept (a ∷ list) =
+    items_surviving item top (left_by item top kept a (item a)) list
+    ∙ ap (λ is. surviving top is (map item list)) (items_left item top kept a (item a) refl)
+
+-- the items of what survives are the items that survive
+pub items_of_survivors : {A : Type 0} (item : A → Item) (top : ℕ) (list : List A)
+    → map item (survivors_by item top list) ≡ survivors top (map item list)
+items_of_survivors item top list = items_surviving item top [] list
+
+-- ---- items alone
 
 pub survivors_with : (top : ℕ) (items : List Item) (item : Item)
     → survivors top (items ++ item ∷ []) ≡ after_item top (survivors top items) item
-survivors_with top = surviving_with top []
+survivors_with top = survivors_by_with (λ i. i) top
 
 pub changes_of_both : (items more : List Item) → changes_of (items ++ more) ≡ changes_of items ++ changes_of more
 changes_of_both [] more = refl

@@ -174,13 +174,7 @@ before_mark-savepoints sub items = before_mark-with_marks_of sub [] items refl
 
 -- a cut leaves the items that stand before the savepoint
 pub before_first-before_savepoint : {M : Type 0} (sub : ℕ) (items : List (Item × M)) → map (λ i. i.0) (before_first sub items) ≡ before_savepoint sub (map (λ i. i.0) items)
-before_first-before_savepoint sub [] = refl
-before_first-before_savepoint {M} sub (i ∷ items) =
-    let rest = take_while-cons (λ (j : Item). not (is_of sub j)) i.0 (map (λ (i : Item × M). i.0) items) in
-    ⊎_elim
-    (λ named. ap (map (λ (i : Item × M). i.0)) (before_first-named sub i items named) ∙ sym (rest ∙ rw named))
-    (λ other. ap (map (λ (i : Item × M). i.0)) (before_first-other sub i items other) ∙ ap (λ is. i.0 ∷ is) (before_first-before_savepoint sub items) ∙ sym (rest ∙ rw other))
-    (cases_Bool (is_of sub i.0))
+before_first-before_savepoint {M} sub items = items_before (λ (i : Item × M). i.0) sub items
 
 -- Each mark tells how many items stand before it, from n on.
 abbrev pub IsNumbered : {M : Type 0} → (M → ℕ) → ℕ → List (Item × M) → Type 0

@@ -4,7 +4,7 @@ use Rattle.std.specs.Prelude.{◌≡◌, ℕ, ◌==◌, List, [], ◌∷◌, ◌
 use Rattle.std.specs.Map.{lookup}
 use Rattle.model.specs.declared.item.Item.{Item}
 use Rattle.model.specs.declared.item.Item.TheVariants.{Change, Touch, BackTo, Last}
-use Rattle.model.specs.Survivors.{is_of}
+use Rattle.model.specs.Survivors.{before_savepoint_by}
 use Rattle.std.specs.Ordering.{nat_cmp}
 use Rattle.std.specs.BTreeMap.{BTreeMap, get}
 
@@ -42,7 +42,7 @@ savepoints items = with_marks_of [] items
 
 -- the items before the subtransaction's savepoint, each still beside its mark
 abbrev pub before_first : {M : Type 0} → ℕ → List (Item × M) → List (Item × M)
-before_first {M} sub items = take_while (λ (i : Item × M). not (is_of sub i.0)) items
+before_first {M} sub items = before_savepoint_by (λ (i : Item × M). i.0) sub items
 
 -- The map has just the index of each subtransaction's mark.
 pub record HasIndexes {M : Type 0} (indexes : BTreeMap ℕ ℕ) (marks : List (ℕ × M)) : Type 0 where

@@ -9,17 +9,18 @@ use Rattle.std.proofs.lemmas.Bool.{cases_Bool, cases_eq, ne_eqb, leb-true}
 use Rattle.std.proofs.lemmas.List.{map-append}
 use Rattle.std.proofs.lemmas.Bool.Decides.{nat_tests}
 use Rattle.session.specs.declared.transactions.OpenTransaction.{OpenTransaction}
-use Rattle.session.specs.State.{Way, Direct, Worker, Spooled, Open, OpenTransactions, Setting, has_worker, sized_survivors, sized_after_item, worker_count, spool_bytes, spool_bytes_of}
-use Rattle.session.specs.State as state
+use Rattle.session.specs.State.{Way, Direct, Worker, Spooled, Open, OpenTransactions, Setting, has_worker, sized_survivors, worker_count, spool_bytes, spool_bytes_of}
 use Rattle.session.specs.declared.transactions.Transactions.{Transactions}
 use Rattle.session.specs.declared.fault.SessionFault.{SessionFault}
 use Rattle.session.specs.declared.fault.SessionFault.TheVariants.{AlreadyOpen, SpoolFull}
 use Rattle.session.specs.declared.fault.Refused.{Refused}
 use Rattle.session.specs.declared.fault.Refused.TheVariants.{Session}
 use Rattle.session.specs.declared.transactions.OpenTransaction.TheVariants as kept_parts
-use Rattle.session.specs.Sized.{SizedItems, size_of, bytes_of}
+use Rattle.session.specs.Sized.{SizedItems, item_of, size_of, bytes_of}
 use Rattle.model.specs.declared.item.Item.{Item}
 use Rattle.model.specs.declared.item.Item.TheVariants.{Change, Touch, BackTo, Last}
+use Rattle.model.specs.Survivors.{left_by}
+use Rattle.model.specs.SurvivorLaws.{survivors_by_with}
 use Rattle.savepoint.specs.Savepoints.{before_first}
 use Rattle.session.proofs.Spools.{sum-push, take-front}
 use Rattle.session.specs.Table.{new_open, room_fault, has_room}
@@ -113,15 +114,15 @@ pub Keeps-insert : (g : Setting) (old new : Transactions) (m : OpenTransactions)
     → Updates nat_cmp old.ways new.ways xid (Some (kept_part xid [] way)) → btree_map_len new.ways ≡ btree_map_len old.ways + 1
     → new.workers ≡ old.workers → new.working ≡ cond (has_worker way) 1 0 + old.working → new.spool ≡ old.spool → new.spooled ≡ old.spooled → spool_bytes_of xid [] way ≡ 0
     → Keeps g new (map.insert m xid (new_open way))
-Keeps-insert g old new m xid way sized_survivors none step more workers working_is spool spooled_is empty = record {
-  ways = WaysAre-insert old.ways new.ways m xid (new_open way) sized_survivors.ways step;
-  count = more ∙ ap (λ n. n + 1) sized_survivors.count ∙ sym (len-insert_absent m xid (new_open way) none);
-  workers = workers ∙ sized_survivors.workers;
-  working = working_is ∙ ap (λ n. cond (has_worker way) 1 0 + n) sized_survivors.working ∙ sym (worker_count-insert m xid (new_open way) none);
-  room = spool ∙ sized_survivors.room;
-  spooled = let sums = spool_bytes-insert m xid (new_open way) none in omega (arith, sums, empty, spooled_is, sized_survivors.spooled);
-  fits = omega (arith, spooled_is, sized_survivors.fits);
-  limit = omega (arith, spool, sized_survivors.limit);
+Keeps-insert g old new m xid way kept none step more workers working_is spool spooled_is empty = record {
+  ways = WaysAre-insert old.ways new.ways m xid (new_open way) kept.ways step;
+  count = more ∙ ap (λ n. n + 1) kept.count ∙ sym (len-insert_absent m xid (new_open way) none);
+  workers = workers ∙ kept.workers;
+  working = working_is ∙ ap (λ n. cond (has_worker way) 1 0 + n) kept.working ∙ sym (worker_count-insert m xid (new_open way) none);
+  room = spool ∙ kept.room;
+  spooled = let sums = spool_bytes-insert m xid (new_open way) none in omega (arith, sums, empty, spooled_is, kept.spooled);
+  fits = omega (arith, spooled_is, kept.fits);
+  limit = omega (arith, spool, kept.limit);
 }
 
 -- what is kept once a transaction is closed
@@ -129,36 +130,32 @@ pub Keeps-remove : (g : Setting) (old new : Transactions) (m : OpenTransactions)
     → Updates nat_cmp old.ways new.ways xid None → btree_map_len new.ways + 1 ≡ btree_map_len old.ways
     → new.workers ≡ old.workers → new.working ≡ old.working - cond (has_worker o.way) 1 0 → new.spool ≡ old.spool → new.spooled ≡ old.spooled - spool_bytes_of xid o.items o.way
     → Keeps g new (map.remove m xid)
-Keeps-remove g old new m xid o sized_survivors some step less workers working_is spool spooled_is = record {
-  ways = WaysAre-remove old.ways new.ways m xid sized_survivors.ways step;
-  count = let one = len-remove_present m xid o some in omega (arith, one, less, sized_survivors.count);
-  workers = workers ∙ sized_survivors.workers;
-  working = let sums = worker_count-remove m xid o some in omega (arith, sums, working_is, sized_survivors.working);
-  room = spool ∙ sized_survivors.room;
-  spooled = let sums = spool_bytes-remove m xid o some in omega (arith, sums, spooled_is, sized_survivors.spooled);
-  fits = omega (arith, spooled_is, sized_survivors.fits);
-  limit = omega (arith, spool, sized_survivors.limit);
+Keeps-remove g old new m xid o kept some step less workers working_is spool spooled_is = record {
+  ways = WaysAre-remove old.ways new.ways m xid kept.ways step;
+  count = let one = len-remove_present m xid o some in omega (arith, one, less, kept.count);
+  workers = workers ∙ kept.workers;
+  working = let sums = worker_count-remove m xid o some in omega (arith, sums, working_is, kept.working);
+  room = spool ∙ kept.room;
+  spooled = let sums = spool_bytes-remove m xid o some in omega (arith, sums, spooled_is, kept.spooled);
+  fits = omega (arith, spooled_is, kept.fits);
+  limit = omega (arith, spool, kept.limit);
 }
 
 -- ---- an item more
 
-keeping-append : (top : ℕ) (survivors items : SizedItems) (item : Item) (size : ℕ) → state.sized_surviving top survivors (items ++ (item, size) ∷ []) ≡ sized_after_item top (state.sized_surviving top survivors items) item size
-keeping-append top survivors [] item size = refl
-keeping-append top survivors (i ∷ items) item size = keeping-append top (sized_after_item top survivors i.0 i.1) items item size
-
 -- what survives once an item has come is what it leaves of those that survived
-pub sized_survivors-append : (top : ℕ) (items : SizedItems) (item : Item) (size : ℕ) → sized_survivors top (items ++ (item, size) ∷ []) ≡ sized_after_item top (sized_survivors top items) item size
-sized_survivors-append top items item size = keeping-append top [] items item size
+pub sized_survivors-append : (top : ℕ) (items : SizedItems) (item : Item) (size : ℕ) → sized_survivors top (items ++ (item, size) ∷ []) ≡ left_by item_of top (sized_survivors top items) (item, size) item
+sized_survivors-append top items item size = survivors_by_with item_of top items (item, size)
 
-pub sized_after_item-survives : (top : ℕ) (survivors : SizedItems) (item : Item) (size : ℕ) → Survives item → sized_after_item top survivors item size ≡ survivors ++ (item, size) ∷ []
-sized_after_item-survives top survivors (Change sub c) size is = refl
-sized_after_item-survives top survivors (Touch sub) size is = refl
-sized_after_item-survives top survivors (BackTo sub) size is = absurd is
-sized_after_item-survives top survivors Last size is = absurd is
+left_by-survives : (top : ℕ) (kept : SizedItems) (item : Item) (size : ℕ) → Survives item → left_by item_of top kept (item, size) item ≡ kept ++ (item, size) ∷ []
+left_by-survives top kept (Change sub c) size is = refl
+left_by-survives top kept (Touch sub) size is = refl
+left_by-survives top kept (BackTo sub) size is = absurd is
+left_by-survives top kept Last size is = absurd is
 
 -- what survives of a transaction once it got an item that drops none
 pub sized_survivors-taken : (top : ℕ) (items : SizedItems) (item : Item) (size : ℕ) → Survives item → sized_survivors top (items ++ (item, size) ∷ []) ≡ sized_survivors top items ++ (item, size) ∷ []
-sized_survivors-taken top items item size is = sized_survivors-append top items item size ∙ sized_after_item-survives top (sized_survivors top items) item size is
+sized_survivors-taken top items item size is = sized_survivors-append top items item size ∙ left_by-survives top (sized_survivors top items) item size is
 
 pub sized_survivors-rolled_back : (top : ℕ) (items : SizedItems) (sub : ℕ) → sub ≢ top → sized_survivors top (items ++ (BackTo sub, 0) ∷ []) ≡ before_first sub (sized_survivors top items)
 sized_survivors-rolled_back top items sub apart = sized_survivors-append top items (BackTo sub) 0 ∙ rw (ne_eqb sub top apart)
@@ -178,32 +175,32 @@ pub Keeps-change : (g : Setting) (old new : Transactions) (m : OpenTransactions)
     → new.workers ≡ old.workers → new.working ≡ old.working → new.spool ≡ old.spool
     → new.spooled + spool_bytes_of xid o.items o.way ≡ old.spooled + spool_bytes_of xid p.items p.way → new.spooled < 2 ^ 64
     → Keeps g new (map.insert m xid p)
-Keeps-change g old new m xid o p sized_survivors some way step same workers working_is spool spooled_is fits = record {
-  ways = WaysAre-insert old.ways new.ways m xid p sized_survivors.ways step;
-  count = same ∙ sized_survivors.count ∙ sym (len-insert_present m xid o p some);
-  workers = workers ∙ sized_survivors.workers;
+Keeps-change g old new m xid o p kept some way step same workers working_is spool spooled_is fits = record {
+  ways = WaysAre-insert old.ways new.ways m xid p kept.ways step;
+  count = same ∙ kept.count ∙ sym (len-insert_present m xid o p some);
+  workers = workers ∙ kept.workers;
   working =
       let less = worker_count-remove m xid o some in
       let more : worker_count (map.insert m xid p) ≡ cond (has_worker p.way) 1 0 + worker_count (map.remove m xid) = total-insert (λ (t : ℕ × Open). cond (has_worker t.1.way) 1 0) m xid p in
       let one : cond {A = ℕ} (has_worker p.way) 1 0 ≡ cond (has_worker o.way) 1 0 = ap (λ w. cond {A = ℕ} (has_worker w) 1 0) way in
-      omega (arith, less, more, one, working_is, sized_survivors.working);
-  room = spool ∙ sized_survivors.room;
+      omega (arith, less, more, one, working_is, kept.working);
+  room = spool ∙ kept.room;
   spooled =
       let less = spool_bytes-remove m xid o some in
       let more : spool_bytes (map.insert m xid p) ≡ spool_bytes_of xid p.items p.way + spool_bytes (map.remove m xid) = total-insert (λ (t : ℕ × Open). spool_bytes_of t.0 t.1.items t.1.way) m xid p in
-      omega (arith, less, more, spooled_is, sized_survivors.spooled);
+      omega (arith, less, more, spooled_is, kept.spooled);
   fits = fits;
-  limit = omega (arith, spool, sized_survivors.limit);
+  limit = omega (arith, spool, kept.limit);
 }
 
 -- ---- what is kept of one transaction, as it gets and drops items
 
 pub kept_value : (g : Setting) (v : Transactions) (m : OpenTransactions) (xid : ℕ) (o : Open) → Keeps g v m → map.get m xid ≡ Some o → get nat_cmp v.ways xid ≡ Some (kept_part xid o.items o.way)
-kept_value g v m xid o sized_survivors some = sized_survivors.ways xid ∙ ap (option_map (λ (p : Open). kept_part xid p.items p.way)) some
+kept_value g v m xid o kept some = kept.ways xid ∙ ap (option_map (λ (p : Open). kept_part xid p.items p.way)) some
 
 -- what was found of an open transaction is what is kept of it
 pub found_is : (g : Setting) (v : Transactions) (m : OpenTransactions) (xid : ℕ) (o : Open) (k : OpenTransaction) → Keeps g v m → map.get m xid ≡ Some o → Some k ≡ get nat_cmp v.ways xid → k ≡ kept_part xid o.items o.way
-found_is g v m xid o k sized_survivors some found = let same : Some k ≡ Some (kept_part xid o.items o.way) = found ∙ kept_value g v m xid o sized_survivors some in cc
+found_is g v m xid o k kept some found = let same : Some k ≡ Some (kept_part xid o.items o.way) = found ∙ kept_value g v m xid o kept some in cc
 
 pub keeping_more : (xid : ℕ) (items : SizedItems) (item : Item) (size : ℕ) (way : Way) → Survives item → kept_more (kept_part xid items way) item size ≡ kept_part xid (items ++ (item, size) ∷ []) way
 keeping_more xid items item size Direct is = refl
@@ -300,9 +297,9 @@ pub Keeps-written : (g : Setting) (old new : Transactions) (m : OpenTransactions
     → new.workers ≡ old.workers → new.working ≡ old.working → new.spool ≡ old.spool
     → new.spooled + spool_bytes_of xid o.items o.way ≡ old.spooled + spool_bytes_of xid p.items p.way → new.spooled < 2 ^ 64
     → Keeps g new (map.insert m xid p)
-Keeps-written g old new m xid o p k sized_survivors some way written is workers working_is spool spooled_is fits =
-    let there : IsSome (get nat_cmp old.ways xid) = ap is_some (kept_value g old m xid o sized_survivors some) in
-    Keeps-change g old new m xid o p sized_survivors some way (subst (λ (v : OpenTransaction). Updates nat_cmp old.ways new.ways xid (Some v)) is (written.3 there)) written.2 workers working_is spool spooled_is fits
+Keeps-written g old new m xid o p k kept some way written is workers working_is spool spooled_is fits =
+    let there : IsSome (get nat_cmp old.ways xid) = ap is_some (kept_value g old m xid o kept some) in
+    Keeps-change g old new m xid o p kept some way (subst (λ (v : OpenTransaction). Updates nat_cmp old.ways new.ways xid (Some v)) is (written.3 there)) written.2 workers working_is spool spooled_is fits
 
 -- what is kept once a transaction is again what it was
 pub Keeps-undone : (g : Setting) (old new : Transactions) (m : OpenTransactions) (xid : ℕ) (o p : Open) (k : OpenTransaction) → Keeps g old (map.insert m xid p) → map.get m xid ≡ Some o → o.way ≡ p.way
@@ -310,9 +307,9 @@ pub Keeps-undone : (g : Setting) (old new : Transactions) (m : OpenTransactions)
     → new.workers ≡ old.workers → new.working ≡ old.working → new.spool ≡ old.spool
     → new.spooled + spool_bytes_of xid p.items p.way ≡ old.spooled + spool_bytes_of xid o.items o.way → new.spooled < 2 ^ 64
     → Keeps g new m
-Keeps-undone g old new m xid o p k sized_survivors some way written is workers working_is spool spooled_is fits =
+Keeps-undone g old new m xid o p k kept some way written is workers working_is spool spooled_is fits =
     let back : map.insert (map.insert m xid p) xid o ≡ m = insert-insert m xid p o ∙ insert_same m xid o some in
-    subst (λ (n : OpenTransactions). Keeps g new n) back (Keeps-written g old new (map.insert m xid p) xid p o k sized_survivors (get-insert_same m xid p) way written is workers working_is spool spooled_is fits)
+    subst (λ (n : OpenTransactions). Keeps g new n) back (Keeps-written g old new (map.insert m xid p) xid p o k kept (get-insert_same m xid p) way written is workers working_is spool spooled_is fits)
 
 -- ---- no transaction
 
@@ -327,12 +324,12 @@ entries-empty = no_entries _ (sym (map.len-entries _) ∙ map.len-empty nat_cmp 
 
 -- a fault that became a refusal
 pub IsOpened-refused : (g : Setting) (v : Transactions) (m : OpenTransactions) (xid : ℕ) (result : Result (Unit {0}) Refused) (why : SessionFault) → Keeps g v m → room_fault m xid ≡ Some why → IsErrAnd result (λ e. e ≡ Session why) → IsOpened g v m xid result
-IsOpened-refused g v m xid (Ok u) why sized_survivors fault is = absurd is
-IsOpened-refused g v m xid (Err e) why sized_survivors fault is = (sized_survivors, λ other. (why, fault, is))
+IsOpened-refused g v m xid (Ok u) why kept fault is = absurd is
+IsOpened-refused g v m xid (Err e) why kept fault is = (kept, λ other. (why, fault, is))
 
 pub IsStreamed-refused : (g : Setting) (v : Transactions) (m : OpenTransactions) (xid : ℕ) (result : Result Bool Refused) (why : SessionFault) → Keeps g v m → room_fault m xid ≡ Some why → IsErrAnd result (λ e. e ≡ Session why) → IsStreamed g v m xid result
-IsStreamed-refused g v m xid (Ok u) why sized_survivors fault is = absurd is
-IsStreamed-refused g v m xid (Err e) why sized_survivors fault is = (sized_survivors, λ other. (why, fault, is))
+IsStreamed-refused g v m xid (Ok u) why kept fault is = absurd is
+IsStreamed-refused g v m xid (Err e) why kept fault is = (kept, λ other. (why, fault, is))
 
 -- ---- what is kept of one transaction
 

@@ -2,20 +2,18 @@
 --     Way, Open      how an open transaction's items go, and what it has done
 --     Committed      what a commit made final
 --     State, start      what all messages so far have left; what there is before the first
---     Setting      what a session is given: workers, room for spools, the catalog
-use Rattle.std.specs.Prelude.{◌≡◌, ◌≢◌, ℕ, ◌==◌, Bool, true, false, List, [], ◌∷◌, ◌++◌, Option, Some, None, count_by, sum_by, IsSomeAnd, if◌then◌else◌}
+--     Setting, setting      what a session is given: workers, room for spools, the catalog; that of these
+use Rattle.std.specs.Prelude.{◌≡◌, ◌≢◌, ℕ, Bool, true, false, List, [], Option, Some, None, count_by, sum_by, IsSomeAnd}
 use Rattle.std.specs.Ordering.{nat_cmp}
 use Rattle.std.specs.FinMap as map
 use Rattle.std.specs.FinMap.{FinMap}
 use Rattle.model.specs.Definition.{Definition}
-use Rattle.model.specs.declared.item.Item.{Item}
-use Rattle.model.specs.declared.item.Item.TheVariants.{Change, Touch, BackTo, Last}
 use Rattle.model.specs.declared.item.CommitInfo.{CommitInfo}
-use Rattle.savepoint.specs.Savepoints.{before_first}
+use Rattle.model.specs.Survivors.{survivors_by}
 use Rattle.relcache.specs.Published.{Relations}
 use Rattle.session.specs.declared.phase.Phase.{Phase}
 use Rattle.session.specs.declared.phase.Phase.TheVariants.{Outside, Begun, Block}
-use Rattle.session.specs.Sized.{SizedItems, bytes_of}
+use Rattle.session.specs.Sized.{SizedItems, item_of, bytes_of}
 
 -- Where the items of an open transaction go: applied as they come, to its worker, or kept until it commits.
 pub data Way : Type 0 where
@@ -60,6 +58,10 @@ pub record Setting : Type 0 where
   pub spool : ℕ
   pub catalog : List Definition
 
+-- the setting of so many workers, so many bytes of spools, and these tables
+abbrev pub setting : ℕ → ℕ → List Definition → Setting
+setting workers spool catalog = record { workers = workers; spool = spool; catalog = catalog }
+
 -- a message is read as one in a block of a streamed transaction
 abbrev pub in_block : Phase → Bool
 in_block Outside = false
@@ -68,21 +70,9 @@ in_block (Block xid) = true
 
 -- ---- what survives
 
--- what is left of items once this one has come; a rollback to the top transaction cuts nothing
-abbrev pub sized_after_item : ℕ → SizedItems → Item → ℕ → SizedItems
-sized_after_item top sized_survivors (Change sub c) size = sized_survivors ++ (Change sub c, size) ∷ []
-sized_after_item top sized_survivors (Touch sub) size = sized_survivors ++ (Touch sub, size) ∷ []
-sized_after_item top sized_survivors (BackTo sub) size = if sub == top then sized_survivors else before_first sub sized_survivors
-sized_after_item top sized_survivors Last size = sized_survivors
-
--- what is left of kept items once these have come after them, each still with its length
-abbrev pub sized_surviving : ℕ → SizedItems → SizedItems → SizedItems
-sized_surviving top sized_survivors [] = sized_survivors
-sized_surviving top sized_survivors (i ∷ items) = sized_surviving top (sized_after_item top sized_survivors i.0 i.1) items
-
 -- the items of a transaction that survive its rollbacks, each still with its length
 abbrev pub sized_survivors : ℕ → SizedItems → SizedItems
-sized_survivors top items = sized_surviving top [] items
+sized_survivors top items = survivors_by item_of top items
 
 -- ---- what the limits count
 

@@ -14,15 +14,15 @@ use Rattle.model.specs.declared.change.Change as change_type
 use Rattle.model.specs.declared.item.Item.{Item}
 use Rattle.model.specs.declared.item.Item.TheVariants.{Change, Touch, BackTo, Last}
 use Rattle.model.specs.declared.item.CommitInfo.{CommitInfo}
-use Rattle.savepoint.specs.Savepoints.{before_first}
-use Rattle.model.specs.Survivors.{changes_of}
+use Rattle.model.specs.Survivors.{changes_of, before_savepoint, after_item, surviving}
+use Rattle.model.specs.SurvivorLaws.{items_of_survivors}
 use Rattle.messages.specs.declared.message.Message.{Message}
 use Rattle.session.specs.declared.session.Session as session_type
 use Rattle.session.specs.declared.step.Step.{Step}
 use Rattle.session.specs.declared.step.Step.TheVariants as steps
 use Rattle.session.specs.Answers.{IsOfTables}
 use Rattle.session.specs.Sized.{SizedItems, item_of}
-use Rattle.session.specs.State.{Way, Direct, Worker, Spooled, Open, Committed, State, Setting, sized_survivors, sized_surviving, sized_after_item}
+use Rattle.session.specs.State.{Way, Direct, Worker, Spooled, Open, Committed, State, Setting, sized_survivors}
 use Rattle.session.specs.Lawful.{Admits}
 use Rattle.session.specs.Table.{new_open}
 use Rattle.session.specs.Told.{Told, Nothing, Opens, Gives, Commits, Aborts, Tells, items_handed_out}
@@ -35,7 +35,7 @@ use Rattle.spooled.specs.Progress.{Progress, commits_from, due_updates}
 use Rattle.spooled.specs.Cause.{schema_of}
 use Rattle.spooled.specs.Applier.{AreServed, HasCommits, IsAt, HasTaken}
 use Rattle.spooled.proofs.Working.{with_changes, rows_with, IsClear-append}
-use Rattle.spooled.proofs.States.{map-sized_survivors, last_end-push, changes_in-append, map-before_first, AreServed-insert, AreServed-remove}
+use Rattle.spooled.proofs.States.{last_end-push, changes_in-append, AreServed-insert, AreServed-remove}
 use Rattle.spooled.proofs.Begun.{IsSane, direct_begun, begun_stays, begun_opened, begun_beside, begun_given, begun_without, begun_outside, unbegun}
 
 -- the rows now are those of all that was done
@@ -242,31 +242,29 @@ changes_handed : (s : State) (xid : ℕ) (way : Way) (items : SizedItems) → (w
 changes_handed s xid Direct items unserved here elsewhere = sym (here refl) ∙ sym (append-nil (begun_changes s))
 changes_handed s xid Worker items unserved here elsewhere = absurd (unserved refl)
 changes_handed s xid Spooled items unserved here elsewhere =
-    ap changes_of (sym (map-sized_survivors xid items)) ∙ ap (λ ds. ds ++ changes_of (map item_of (sized_survivors xid items))) (sym (elsewhere (λ e. cc)))
+    ap changes_of (sym (items_of_survivors item_of xid items)) ∙ ap (λ ds. ds ++ changes_of (map item_of (sized_survivors xid items))) (sym (elsewhere (λ e. cc)))
 
 -- the items that survive are among all
-All-before_first : (P : Item → Type 0) (sub : ℕ) (items : SizedItems) → All P (map item_of items) → All P (map item_of (before_first sub items))
-All-before_first P sub items all = subst (All P) (sym (map-before_first sub items)) (All-take P _ (map item_of items) all)
-
-All-sized_after_item : (P : Item → Type 0) (top : ℕ) (survived : SizedItems) (item : Item) (size : ℕ) → All P (map item_of survived) → P item → All P (map item_of (sized_after_item top survived item size))
-All-sized_after_item P top survived (Change sub c) size all here = subst (All P) (sym (map-append item_of survived ((Change sub c, size) ∷ []))) (All-append P (map item_of survived) (Change sub c ∷ []) all (All-cons P (Change sub c) [] here (All-nil P)))
-All-sized_after_item P top survived (Touch sub) size all here = subst (All P) (sym (map-append item_of survived ((Touch sub, size) ∷ []))) (All-append P (map item_of survived) (Touch sub ∷ []) all (All-cons P (Touch sub) [] here (All-nil P)))
-All-sized_after_item P top survived (BackTo sub) size all here = by_cases (sub == top)
+All-left : (P : Item → Type 0) (top : ℕ) (kept : List Item) (item : Item) → All P kept → P item → All P (after_item top kept item)
+All-left P top kept (Change sub c) all here = All-append P kept (Change sub c ∷ []) all (All-cons P (Change sub c) [] here (All-nil P))
+All-left P top kept (Touch sub) all here = All-append P kept (Touch sub ∷ []) all (All-cons P (Touch sub) [] here (All-nil P))
+All-left P top kept (BackTo sub) all here = by_cases (sub == top)
   where
-    by_cases : (b : Bool) → All P (map item_of (if b then survived else before_first sub survived))
+    by_cases : (b : Bool) → All P (if b then kept else before_savepoint sub kept)
     by_cases true = all
-    by_cases false = All-before_first P sub survived all
-All-sized_after_item P top survived Last size all here = all
+    by_cases false = All-take P _ kept all
+All-left P top kept Last all here = all
 
-All-sized_surviving : (P : Item → Type 0) (top : ℕ) (survived items : SizedItems) → All P (map item_of survived) → All P (map item_of items) → All P (map item_of (sized_surviving top survived items))
-All-sized_surviving P top survived [] all more = all
-All-sized_surviving P top survived (i ∷ items) all more =
-    All-sized_surviving P top (sized_after_item top survived i.0 i.1) items (All-sized_after_item P top survived i.0 i.1 all (All-head P i.0 (map item_of items) more)) (All-tail P i.0 (map item_of items) more)
+All-surviving : (P : Item → Type 0) (top : ℕ) (kept items : List Item) → All P kept → All P items → All P (surviving top kept items)
+All-surviving P top kept [] all more = all
+All-surviving P top kept (i ∷ items) all more =
+    All-surviving P top (after_item top kept i) items (All-left P top kept i all (All-head P i items more)) (All-tail P i items more)
 
 pub handed_named : (P : Item → Type 0) (xid : ℕ) (way : Way) (items : SizedItems) → All P (map item_of items) → All P (items_handed_out xid way items)
 handed_named P xid Direct items all = All-nil P
 handed_named P xid Worker items all = All-nil P
-handed_named P xid Spooled items all = All-sized_surviving P xid [] items (All-nil P) all
+handed_named P xid Spooled items all =
+    subst (All P) (sym (items_of_survivors item_of xid items)) (All-surviving P xid [] (map item_of items) (All-nil P) all)
 
 pub committed_by : (g : Setting) (s t : State) (told : Told) (xid commit end : ℕ) (items : Vec Item Global) → IsSane s → IsSane t → AreServed (length g.catalog) s.transactions → Tells s t told → Says told (steps.Commit xid (record { commit = commit; end = end }) items)
     → IsCommitted g s t xid commit end items.items

@@ -83,13 +83,6 @@ rows_kept schema new_schema rows new_rows base new_base cs new_cs c s b e done m
 
 -- ---- items in turn
 
-pub changes_of-append : (items more : List Item) → changes_of (items ++ more) ≡ changes_of items ++ changes_of more
-changes_of-append [] more = refl
-changes_of-append (ItemChange sub c ∷ items) more = ap (λ (cs : List Change). c ∷ cs) (changes_of-append items more)
-changes_of-append (Touch sub ∷ items) more = changes_of-append items more
-changes_of-append (BackTo sub ∷ items) more = changes_of-append items more
-changes_of-append (Last ∷ items) more = changes_of-append items more
-
 -- with these changes more
 abbrev pub with_changes : OpenWork → List Change → OpenWork
 with_changes w cs = record { schema = w.schema; base = w.base; changes = w.changes ++ cs }
@@ -102,12 +95,12 @@ pub item_applied : (w v u : OpenWork) (items : List Item) (item : Item) → v �
 item_applied w v u items item first second =
     second
     ∙ ap (λ (x : OpenWork). with_changes x (changes_of (item ∷ []))) first
-    ∙ ap (λ (cs : List Change). record { schema = w.schema; base = w.base; changes = cs }) (append_assoc w.changes (changes_of items) (changes_of (item ∷ [])) ∙ ap (λ (cs : List Change). w.changes ++ cs) (sym (changes_of-append items (item ∷ []))))
+    ∙ ap (λ (cs : List Change). record { schema = w.schema; base = w.base; changes = cs }) (append_assoc w.changes (changes_of items) (changes_of (item ∷ [])) ∙ ap (λ (cs : List Change). w.changes ++ cs) (sym (changes_of_both items (item ∷ []))))
 
 pub item_clear : (w v : OpenWork) (items : List Item) (item : Item) → v ≡ with_changes w (changes_of items) → IsClear w.schema (rows_now w) (changes_of items) → IsClear v.schema (rows_now v) (changes_of (item ∷ [])) → IsClear w.schema (rows_now w) (changes_of (items ++ item ∷ []))
 item_clear w v items item first clear here =
     let there : IsClear w.schema (rows_now (with_changes w (changes_of items))) (changes_of (item ∷ [])) = subst (λ (x : OpenWork). IsClear x.schema (rows_now x) (changes_of (item ∷ []))) first here in
-    subst (IsClear w.schema (rows_now w)) (sym (changes_of-append items (item ∷ [])))
+    subst (IsClear w.schema (rows_now w)) (sym (changes_of_both items (item ∷ [])))
     (IsClear-append w.schema (rows_now w) (changes_of items) (changes_of (item ∷ [])) clear
     (subst (λ (at : Rows). IsClear w.schema at (changes_of (item ∷ []))) (rows_with w (changes_of items)) there))
 
@@ -117,7 +110,7 @@ item_refused w v items more item clash first clear here =
     let there : ClashesIn w.schema (rows_now (with_changes w (changes_of items))) (changes_of (item ∷ [])) clash = subst (λ (x : OpenWork). ClashesIn x.schema (rows_now x) (changes_of (item ∷ [])) clash) first here in
     let at_rows : ClashesIn w.schema (serial w.schema (rows_now w) (changes_of items)) (changes_of (item ∷ [])) clash = subst (λ (at : Rows). ClashesIn w.schema at (changes_of (item ∷ [])) clash) (rows_with w (changes_of items)) there in
     subst (λ (cs : List Change). ClashesIn w.schema (rows_now w) cs clash)
-    (ap (λ (cs : List Change). changes_of items ++ cs) (sym (changes_of-append (item ∷ []) more)) ∙ sym (changes_of-append items (item ∷ more)))
+    (ap (λ (cs : List Change). changes_of items ++ cs) (sym (changes_of_both (item ∷ []) more)) ∙ sym (changes_of_both items (item ∷ more)))
     (ClashesIn-behind w.schema (rows_now w) (changes_of items) (changes_of (item ∷ []) ++ changes_of more) clash clear
     (ClashesIn-before w.schema (serial w.schema (rows_now w) (changes_of items)) (changes_of (item ∷ [])) (changes_of more) clash at_rows))
 
@@ -135,4 +128,4 @@ taken_front s (x ∷ xs) t y = y.1.0 ∙ ap (λ ys. x ∷ ys) (taken_front y.0 x
 
 -- a change more is kept, behind room that was made
 pub change_kept : (old room new : List Item) (sub : ℕ) (c : Change) → room ≡ old → new ≡ room ++ ItemChange sub c ∷ [] → changes_of new ≡ changes_of old ++ c ∷ []
-change_kept old room new sub c made pushed = ap changes_of (pushed ∙ ap (λ (items : List Item). items ++ ItemChange sub c ∷ []) made) ∙ changes_of-append old (ItemChange sub c ∷ [])
+change_kept old room new sub c made pushed = ap changes_of (pushed ∙ ap (λ (items : List Item). items ++ ItemChange sub c ∷ []) made) ∙ changes_of_both old (ItemChange sub c ∷ [])

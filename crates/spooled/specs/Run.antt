@@ -1,5 +1,4 @@
 -- What a run leaves, as a function of the bytes that it read.
---     spooling      the setting of a run without workers
 --     IsRun      a run: the items up to the first cause of an end, the commits among them, and nothing else
 use Rattle.std.specs.Prelude.{◌≡◌, ℕ, List, ◌++◌, length, map, ℤ}
 use Rattle.std.specs.Io.KnownBytes.{Consumes}
@@ -7,19 +6,13 @@ use Rattle.model.specs.Rows.{Rows}
 use Rattle.model.specs.Effect.{serial}
 use Rattle.frames.specs.declared.item.CopyItem.{CopyItem}
 use Rattle.frames.specs.Stream.{copy_items}
-use Rattle.catalog.specs.Definition.{Definition}
 use Rattle.session.specs.State.{Setting}
-use Rattle.spooled.specs.declared.outcome.Config.{Config}
 use Rattle.spooled.specs.declared.outcome.Outcome.{Outcome}
 use Rattle.spooled.specs.Commits.{transaction_of, commits, committed_changes, last_end}
 use Rattle.spooled.specs.Cause.{schema_of, IsCause}
 use Rattle.spooled.specs.Clock.{Ticks}
 use Rattle.spooled.specs.Devices.{DeviceState}
 use Rattle.spooled.specs.Progress.{Progress, start_progress, Leads}
-
--- the setting of a run without workers, in which each streamed transaction is spooled
-abbrev pub spooling : List Definition → Config → Setting
-spooling catalog config = record { workers = 0; spool = config.spool; catalog = catalog }
 
 -- A run from these rows, over the bytes that the reader gave: `handled` are the items of the bytes up to the first cause
 -- of an end, each lawful after those before it, and what is left are the commits among them, applied in their order.

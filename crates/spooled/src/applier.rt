@@ -1,7 +1,7 @@
 // What the items of a stream do, one after another.
 ghost use Rattle.std.specs.Prelude.{◌≡◌, max, [], ◌∷◌, ◌++◌, map, OnOk, OnErr};
 ghost use Rattle.model.specs.Rows.{Rows, keys_of};
-ghost use Rattle.session.specs.State.{Setting};
+ghost use Rattle.session.specs.State.{Setting, setting};
 ghost use Rattle.spooled.specs.Work.{rows_now};
 ghost use Rattle.spooled.specs.Commits.{transaction_of};
 ghost use Rattle.spooled.specs.Progress.{Progress, start_progress};
@@ -39,7 +39,7 @@ impl<'a> Applier<'a> {
     /// Before the first item: these tables, which are those of the catalog, and spools for so many bytes.
     pub fn new(alloc: Global, catalog: &'a Catalog, start: Tables, spool: u64) -> Applier<'a>
         requires { start.schema ≡ map keys_of catalog.now }
-        ensures { IsAt (record { workers = 0; spool = spool; catalog = catalog.now }) start.rows result start_progress }
+        ensures { IsAt (setting 0 spool catalog.now) start.rows result start_progress }
     {
         Applier {
             alloc,

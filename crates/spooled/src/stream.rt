@@ -3,11 +3,11 @@ ghost use Rattle.std.specs.Prelude.{◌≡◌, ◌≢◌, ℕ, true, false, List
 ghost use Rattle.model.specs.Rows.{Rows, keys_of};
 ghost use Rattle.frames.specs.declared.item.CopyItem.{CopyItem as Item};
 ghost use Rattle.frames.specs.Reads.{HasRead};
-ghost use Rattle.session.specs.State.{Setting};
+ghost use Rattle.session.specs.State.{Setting, setting};
 ghost use Rattle.spooled.specs.Progress.{start_progress};
 ghost use Rattle.spooled.specs.Handler.{IsUnderWay, HasCome, Answers, HandlesKept, IsRunOver, end_of};
 ghost use Rattle.spooled.specs.Devices.{DeviceState, device_state, health};
-ghost use Rattle.spooled.specs.Run.{IsRun, spooling};
+ghost use Rattle.spooled.specs.Run.{IsRun};
 
 use crate::applier::Applier;
 use crate::end::End;
@@ -68,7 +68,7 @@ pub fn run_spooled<R: Source + Drop, W: Sink + Drop, C: Clock + Drop>(
     clock: C,
 ) -> Outcome
     requires { start.schema ≡ map keys_of catalog.now }
-    ensures { (after : DeviceState) × IsRun (spooling catalog.now config.now) start.rows
+    ensures { (after : DeviceState) × IsRun (setting 0 config.now.spool catalog.now) start.rows
         (device_state (R.remaining reader) (W.contents writer) (C.told clock) (R.reads_left reader)
         (health (R.failures reader) (R.failed_last reader)) (health (W.failures writer) (W.failed_last writer)))
         after result }
@@ -86,7 +86,7 @@ pub fn run_over<R: Source, W: Sink, C: Clock>(
     config: &Config,
 ) -> Outcome
     requires { start.schema ≡ map keys_of catalog.now }
-    ensures { IsRun (spooling catalog.now config.now) start.rows devices.old devices.new result }
+    ensures { IsRun (setting 0 config.now.spool catalog.now) start.rows devices.old devices.new result }
 {
     let mut applier = Applier::new(alloc, catalog, start, config.spool);
     let end = match read_all(alloc, devices, &mut applier) {

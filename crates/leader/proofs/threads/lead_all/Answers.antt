@@ -8,7 +8,7 @@ use Rattle.leader.specs.Lanes.{AreCounted}
 use Rattle.leader.specs.Standing.{Standing, own_by, goes_by}
 use Rattle.leader.specs.Threads.{led}
 use Rattle.leader.specs.Ending.{holds_in, HasFinished}
-use Rattle.leader.specs.WithWorkers.{setting}
+use Rattle.session.specs.State.{setting}
 use Rattle.leader.proofs.Leaving.{has_left}
 use Rattle.leader.proofs.threads.lead_all.Goals as goal
 

@@ -1,5 +1,6 @@
 use Rattle.std.proofs.Common.{length}
-use Rattle.leader.specs.WithWorkers.{setting, Leaves}
+use Rattle.session.specs.State.{setting}
+use Rattle.leader.specs.WithWorkers.{Leaves}
 use Rattle.leader.proofs.Leaving.{left_run}
 use Rattle.leader.proofs.threads.run_places.Goals as goal
 

@@ -1,5 +1,5 @@
 use Rattle.std.proofs.Common.{length}
-use Rattle.leader.specs.WithWorkers.{setting}
+use Rattle.session.specs.State.{setting}
 use Rattle.leader.proofs.Leaving.{none_run}
 use Rattle.leader.proofs.threads.run_store.Goals as goal
 

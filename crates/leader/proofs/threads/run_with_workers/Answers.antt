@@ -1,7 +1,7 @@
 use Rattle.std.proofs.Common.{◌≡◌, ◌+◌, ◌<◌, [], length, min, refl, ap, ◌∙◌, arith}
 use Rattle.std.proofs.lemmas.Grind.{common_steps}
 use Rattle.std.proofs.lemmas.List.{length-take}
-use Rattle.leader.specs.WithWorkers.{setting}
+use Rattle.session.specs.State.{setting}
 use Rattle.leader.proofs.Leaving.{none_run, runs_by}
 use Rattle.leader.proofs.threads.run_with_workers.Goals as goal
 use Rattle.leader.proofs.threads.run_with_workers.Goals.{else-is_empty-via-then-is_empty+else-is_empty-2, else-is_empty-via-else-is_empty}
