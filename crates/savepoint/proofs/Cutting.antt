@@ -9,6 +9,7 @@ use Rattle.std.proofs.lemmas.Grind.{common_steps}
 use Rattle.model.specs.declared.item.Item.{Item}
 use Rattle.model.specs.declared.item.Item.TheVariants.{Change, Touch, BackTo, Last}
 use Rattle.model.specs.Survivors.{is_of, before_savepoint}
+use Rattle.model.specs.SurvivorLaws.{items_before}
 use Rattle.savepoint.specs.Savepoints.{mark_at, before_mark, with_mark, with_mark_of, with_marks_of, savepoints, before_first}
 
 pub none_from : {A : Type 0} (o : Option A) → is_some o ≡ false → o ≡ None

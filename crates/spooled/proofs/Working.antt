@@ -15,8 +15,9 @@ use Rattle.change.specs.declared.outcome.Clash.{Clash}
 use Rattle.undo.specs.Undo.{content_back, CanUndo, AreKnownAll}
 use Rattle.undo.specs.UndoLaws.{rows_undone, content_undone_last, schema_undone}
 use Rattle.model.specs.declared.item.Item.{Item}
-use Rattle.model.specs.declared.item.Item.TheVariants.{Change as ItemChange, Touch, BackTo, Last}
+use Rattle.model.specs.declared.item.Item.TheVariants.{Change as ItemChange}
 use Rattle.model.specs.Survivors.{changes_of}
+use Rattle.model.specs.SurvivorLaws.{changes_of_both}
 use Rattle.spooled.specs.Work.{OpenWork, rows_now, IsClear, ClashesAs, ClashesIn}
 
 -- putting the inverse of a change back gives the rows before it
