@@ -2,7 +2,8 @@
 --     Parted      both ends of a ring, and both halves of the list of what is given to it
 --     ring_of, post_of      which ring and which list they are
 --     IsFresh      nothing was given yet
-use Rattle.std.specs.Prelude.{◌≡◌, []}
+--     HasSlots      the ring has so many slots
+use Rattle.std.specs.Prelude.{◌≡◌, ℕ, []}
 use Rattle.atomic_table.specs.Seated.{TableId}
 use Rattle.model.specs.declared.item.Item.{Item}
 use Rattle.tokens.specs.Half.{Name, Half}
@@ -32,3 +33,7 @@ pub record IsFresh (p : Parted) : Type 0 where
   pub given : p.kept.list ≡ []
   pub told : p.token.list ≡ []
   pub name : p.token.name ≡ p.kept.name
+
+-- The ring has so many slots.
+abbrev pub HasSlots : ℕ → Parted → Type 0
+HasSlots slots p = p.sending.ring.slots ≡ slots

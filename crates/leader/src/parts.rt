@@ -1,7 +1,7 @@
 // What the lanes of a run are made of.
-ghost use Rattle.std.specs.Prelude.{◌≡◌, ◌<◌, ◌≤◌, ℕ, All, IfOk, OnOk, length, slice_index_or, map};
+ghost use Rattle.std.specs.Prelude.{◌≡◌, ◌<◌, ◌≤◌, ℕ, All, IfOk, OnOk, length, max, min, slice_index_or, map};
 ghost use Rattle.leader.specs.Lanes.{IsFree};
-ghost use Rattle.leader.specs.Parts.{IsFresh, ring_of, post_of};
+ghost use Rattle.leader.specs.Parts.{IsFresh, HasSlots, ring_of, post_of};
 ghost use Rattle.tokens.specs.Half.{no_name};
 
 use crate::lanes::Lane;
@@ -39,10 +39,12 @@ pub fn make_parts<N: StoreNames>(
     slots: usize,
 ) -> Result<Vec<Parts<N>>, OutOfMemory>
     ensures fresh { IfOk result (λ made. All IsFresh made.items) }
+    ensures slots { IfOk result (λ made. All (HasSlots (max 1 (min slots 1024))) made.items) }
 {
+    let slots = slots.clamp(1, 1024);
     let mut made = Vec::new(alloc);
     for _ in 0..count {
-        made.push(new_parts(alloc, slots.clamp(1, 1024))?)?;
+        made.push(new_parts(alloc, slots)?)?;
     }
     Ok(made)
 }
@@ -50,7 +52,8 @@ pub fn make_parts<N: StoreNames>(
 // The parts of a lane.
 fn new_parts<N: StoreNames>(alloc: Global, slots: usize) -> Result<Parts<N>, OutOfMemory>
     requires { (1 ≤ slots) × (slots ≤ 1024) }
-    ensures { IfOk result IsFresh }
+    ensures fresh { IfOk result IsFresh }
+    ensures slots { IfOk result (HasSlots slots) }
 {
     let (sender, taker) = Ring::new(alloc, slots)?;
     let (kept, token) = pair(alloc)?;

@@ -471,7 +471,8 @@ where
     C: Clock,
     G: Gate + Drop,
     requires { IsLeadAtStart (led lead.old.stream lead.old.transactions) }
-    ensures { (g : Setting) (rows : Rows) → IsLeadAt g rows (led lead.old.stream lead.old.transactions) start_progress
+    ensures unread { has_all ≡ false → (result ≡ NoMemory) × (devices.new ≡ devices.old) }
+    ensures over { (g : Setting) (rows : Rows) → IsLeadAt g rows (led lead.old.stream lead.old.transactions) start_progress
         → IsRunOver g (IsLeadAt g rows) (HasLedTo g rows) devices.old devices.new (led lead.new.stream lead.new.transactions) result }
 {
     if !has_all {

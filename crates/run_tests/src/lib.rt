@@ -17,6 +17,7 @@
 //   devices     reads and writes that fail
 //   memory      memory that is refused
 //   watchers    those who watch a run
+//   texts       what a caller prints
 #[cfg(test)]
 mod devices;
 #[cfg(test)]
@@ -33,6 +34,8 @@ mod schedules;
 mod streams;
 #[cfg(test)]
 mod stress;
+#[cfg(test)]
+mod texts;
 #[cfg(test)]
 mod watchers;
 #[cfg(test)]

@@ -12,40 +12,108 @@ use std::rt::Clock as Host;
 use std::sync::Wait;
 use std::thread::Threads;
 
-// What is reported after so many commits of the row that a rollback lets go, but for the end.
-const AFTER: [&str; 4] = [
-    "table public.accounts 0\nposition 0/0\n",
-    "table public.accounts 2\n1|a|n\n2|b|n\nposition 0/140\n",
+// A row of the worked ones, by its number there; what is reported after so many of its commits, but for
+// the end; and how it ends.
+struct Refused {
+    row: usize,
+    after: &'static [&'static str],
+    end: End,
+}
+
+const EMPTY: &str = "table public.accounts 0\nposition 0/0\n";
+
+const BEGUN: &str = "table public.accounts 2\n1|a|n\n2|b|n\nposition 0/140\n";
+
+const CLASH: End = End::Unique { table: 0, key: 1 };
+
+// Nulls, rollbacks that cut much and nothing, a key that moves, and two clashes.
+const REFUSED: [Refused; 6] = [
+    Refused {
+        row: 1,
+        after: &[
+            EMPTY,
+            "table public.accounts 3\n1|a|n\n2|b|\\N\n3|\\N|\nposition 0/120\n",
+        ],
+        end: End::Clean,
+    },
+    Refused {
+        row: 2,
+        after: &[EMPTY, "table public.accounts 1\n1|a|n\nposition 0/220\n"],
+        end: End::Clean,
+    },
+    Refused {
+        row: 5,
+        after: AFTER,
+        end: End::Clean,
+    },
+    Refused {
+        row: 6,
+        after: &[
+            EMPTY,
+            BEGUN,
+            "table public.accounts 4\n1|a|n\n2|b|n\n3|\\N|n\n4|\\N|n\nposition 0/220\n",
+        ],
+        end: CLASH,
+    },
+    Refused {
+        row: 7,
+        after: &[
+            EMPTY,
+            BEGUN,
+            "table public.accounts 2\n2|b|n\n9|a|n\nposition 0/220\n",
+        ],
+        end: End::Clean,
+    },
+    Refused {
+        row: 8,
+        after: &[
+            EMPTY,
+            BEGUN,
+            "table public.accounts 2\n1|a|n\n2|b|n\nposition 0/220\n",
+        ],
+        end: CLASH,
+    },
+];
+
+// Of the row that a rollback lets go, and of the beginning that it shares with the run below.
+const AFTER: &[&str] = &[
+    EMPTY,
+    BEGUN,
     "table public.accounts 2\n1|a|w\n2|b|n\nposition 0/220\n",
     "table public.accounts 3\n1|a|w\n2|b|n\n3|c|n\nposition 0/320\n",
 ];
 
-// What is left is that of the commits. A run ends so, or for want of memory, or with so many commits
-// having read all: where the worker was refused what its first item needs, it holds nothing. Memory that
-// is refused to the sink, which keeps what it is given, ends a run as a device does that fails.
-fn is_exact(rt: &impl Abort, ran: &Ran, all: usize, end: End) {
-    let Some(after) = AFTER.get(ran.commits().len()) else {
+// What is left is that of the commits. A run ends so, or for want of memory, or with all commits having
+// read all: where the worker was refused what its first item needs, it holds nothing. Memory that is
+// refused to the sink, which keeps what it is given, ends a run as a device does that fails.
+fn is_exact(rt: &impl Abort, ran: &Ran, after: &[&str], end: End) {
+    let commits = ran.commits().len();
+    let Some(report) = after.get(commits) else {
         panic!(rt; "a commit too many")
     };
-    assert!(rt; ran.report.as_slice().starts_with(after.as_bytes()));
+    assert!(rt; ran.report.as_slice().starts_with(report.as_bytes()));
     match ran.outcome.end {
         End::OutOfMemory | End::Frame(_) => {}
-        End::Clean => assert!(rt; ran.commits().len() == all),
+        End::Clean => assert!(rt; commits + 1 == after.len()),
         other => assert!(rt; other == end),
     }
 }
 
 #[test]
-fn a_run_by_workers_where_memory_is_refused(rt: HostRuntime) {
-    let Some(row) = ROWS.get(5) else { return };
-    let Ok(stream) = Stream::of(rt.alloc(), row.parts) else {
-        return;
-    };
-    let plan = Plan::new(stream.bytes());
-    let Ok(ran) = run_by(&rt, rt.alloc(), &plan, &config_of(2, 1), 1) else {
-        return;
-    };
-    is_exact(&rt, &ran, 3, End::Clean);
+fn runs_by_workers_where_memory_is_refused(rt: HostRuntime) {
+    for refused in &REFUSED {
+        let Some(row) = ROWS.get(refused.row) else {
+            panic!(&rt; "no such row")
+        };
+        let Ok(stream) = Stream::of(rt.alloc(), row.parts) else {
+            return;
+        };
+        let plan = Plan::new(stream.bytes());
+        let Ok(ran) = run_by(&rt, rt.alloc(), &plan, &config_of(2, 1), 1) else {
+            return;
+        };
+        is_exact(&rt, &ran, refused.after, refused.end);
+    }
 }
 
 // The worker of 700 holds the row that 900 needs, and has more to do.
@@ -85,5 +153,5 @@ fn a_holder_to_which_memory_is_refused(rt: HostRuntime) {
         xid: 900,
         holder: 700,
     };
-    is_exact(&rt, &ran, 2, held);
+    is_exact(&rt, &ran, &AFTER[..3], held);
 }

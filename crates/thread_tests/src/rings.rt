@@ -15,6 +15,11 @@ fn a_ring_of_one_slot(rt: HostRuntime) -> Result<(), Fail> {
     let (mut sender, mut taker) = Ring::new::<u64>(rt.alloc(), 1)?;
     assert_eq!(rt; sender.try_send(5), Ok(()));
     assert_eq!(rt; sender.try_send(6), Err(Full(6)));
+    let said = format!(in rt.alloc(); "{}: {:?} by {sender:?} to {taker:?}", Full(6), Full(6))?;
+    assert_eq!(rt;
+        said.as_str(),
+        "the ring is full: Full(6) by Sender { .. } to Taker { .. }"
+    );
     assert_eq!(rt; taker.take(), Some(&5));
     assert_eq!(rt; taker.take(), Some(&5));
     taker.ack();

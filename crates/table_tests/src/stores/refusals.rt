@@ -2,7 +2,7 @@
 use super::calls::{ACCOUNTS, Call, put, remove, set, wipe};
 use super::scene::Scene;
 use change::Clash;
-use engine::{Acted, EngineFault, Stop};
+use engine::{Acted, EngineFault, NotSettled, Stop};
 use model::Xid;
 use std::alloc::Global;
 use std::process::Abort;
@@ -193,4 +193,31 @@ fn a_stopped_store_rolls_back_and_ends_what_is_open(rt: HostRuntime) -> Result<(
     assert_eq!(rt; scene.open(alloc, 900), Err(EngineFault::Stopped));
     scene.abort(&rt, 701);
     scene.ends_with(&rt, alloc, "1|a|n 2|b|n 3|c|n", 1)
+}
+
+#[test]
+fn each_refusal_says_why(rt: HostRuntime) -> Result<(), Fail> {
+    let faults = format!(in rt.alloc();
+        "{}; {}; {}; {}; {}",
+        EngineFault::AlreadyOpen,
+        EngineFault::TooManyOpen,
+        EngineFault::Clash(SAME_EMAIL),
+        EngineFault::Stopped,
+        EngineFault::OutOfMemory
+    )?;
+    assert_eq!(rt;
+        faults.as_str(),
+        "a transaction of that number is open; 4096 transactions are open, and no more can be; the change clashes, and the store is stopped: a row of table 0 agrees with another in key 1 (0 is the primary key, and the first table); the store is stopped: what is open can be rolled back, committed and aborted; the system had no memory for it"
+    );
+    let stops = format!(in rt.alloc();
+        "{}; {}; {}",
+        Stop::Clash(700, NULL_KEY),
+        Stop::Held(900, 700),
+        NotSettled
+    )?;
+    assert_eq!(rt;
+        stops.as_str(),
+        "a change of transaction 700 clashed: a row of table 0 has a null in its primary key (0 is the first table); transaction 900 waits for a row or key that transaction 700 holds, and nothing can come that lets it go; more can come that lets the waiting change go"
+    );
+    Ok(())
 }
