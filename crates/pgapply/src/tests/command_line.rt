@@ -91,7 +91,7 @@ struct Refused {
     text: &'static str,
 }
 
-static REFUSED: [Refused; 6] = [
+static REFUSED: [Refused; 10] = [
     Refused {
         words: &["pgapply", "--version"],
         is_fault: false,
@@ -129,9 +129,99 @@ static REFUSED: [Refused; 6] = [
         text: "error: unexpected argument '--stream' found\n\nUsage: pgapply follow --config <F> --connect <A>\n\nFor more information, try '--help'.\n",
     },
     Refused {
+        words: &["pgapply"],
+        is_fault: true,
+        text: "error: 'pgapply' requires a subcommand but one was not provided\n  [subcommands: apply, follow, replay, help]\n\nUsage: pgapply <COMMAND>\n\nFor more information, try '--help'.\n",
+    },
+    Refused {
+        words: &["pgapply", "--help"],
+        is_fault: false,
+        text: "\
+Applies a PostgreSQL logical replication stream to tables, and prints them
+
+Usage: pgapply <COMMAND>
+
+Commands:
+  apply   Apply a stream from a file, streamed transactions while they come
+  follow  Apply a stream from a connection, and tell its sender how far it was applied
+  replay  Apply a stream from a file, each streamed transaction at its commit
+  help    Print this message or the help of the given subcommand(s)
+
+Options:
+  -h, --help     Print help
+  -V, --version  Print version
+
+Rows, position and end are printed to standard output. Exit statuses:
+  0  the stream was applied to its end
+  1  usage, a bad catalog, a file or connection that can't be opened, or output that can't be written
+  2  the stream is broken, or the connection's device failed
+  3  a conflict: a row breaks a key
+  4  memory was refused
+",
+    },
+    Refused {
+        words: &["pgapply", "apply", "--help"],
+        is_fault: false,
+        text: "\
+Apply a stream from a file, streamed transactions while they come
+
+Usage: pgapply apply [OPTIONS] --config <F> --stream <F>
+
+Options:
+      --config <F>   The catalog: a TOML file that defines the tables
+      --stream <F>   The stream: the CopyData bytes of a replication connection
+      --spool <N>    Bytes of messages of streamed transactions that wait for their commits [default: 1073741824]
+      --verbose      Say on standard error why and where a command ended; slower, since the stream is read frame by frame
+      --progress     Say on standard error each second how far the stream was read, and at the end
+      --workers <N>  Threads that apply streamed transactions, 0 to 16 [default: 2]
+      --ring <N>     Items that wait for one of these threads, 1 to 1024 [default: 64]
+  -h, --help         Print help
+
+Example:
+  pgapply apply --config accounts.toml --stream accounts.stream
+",
+    },
+    Refused {
+        words: &["pgapply", "follow", "--help"],
+        is_fault: false,
+        text: "\
+Apply a stream from a connection, and tell its sender how far it was applied
+
+Usage: pgapply follow [OPTIONS] --config <F> --connect <A>
+
+Options:
+      --config <F>   The catalog: a TOML file that defines the tables
+      --connect <A>  The address: HOST:PORT of whoever sends the CopyData bytes of a replication connection
+      --spool <N>    Bytes of messages of streamed transactions that wait for their commits [default: 1073741824]
+      --verbose      Say on standard error why and where a command ended; slower, since the stream is read frame by frame
+      --progress     Say on standard error each second how far the stream was read, and at the end
+      --workers <N>  Threads that apply streamed transactions, 0 to 16 [default: 2]
+      --ring <N>     Items that wait for one of these threads, 1 to 1024 [default: 64]
+  -h, --help         Print help
+
+Example:
+  pgapply follow --config accounts.toml --connect localhost:5500
+",
+    },
+    Refused {
         words: &["pgapply", "replay", "--help"],
         is_fault: false,
-        text: "Apply a stream from a file, each streamed transaction at its commit\n\nUsage: pgapply replay [OPTIONS] --config <F> --stream <F>\n\nOptions:\n      --config <F>  The catalog: a TOML file that defines the tables\n      --stream <F>  The stream: the CopyData bytes of a replication connection\n      --spool <N>   Bytes of messages of streamed transactions that wait for their commits [default: 1073741824]\n      --verbose     Say on standard error why and where a command ended; slower, since the stream is read frame by frame\n      --progress    Say on standard error each second how far the stream was read, and at the end\n  -h, --help        Print help\n\nExample:\n  pgapply replay --config accounts.toml --stream accounts.stream\n",
+        text: "\
+Apply a stream from a file, each streamed transaction at its commit
+
+Usage: pgapply replay [OPTIONS] --config <F> --stream <F>
+
+Options:
+      --config <F>  The catalog: a TOML file that defines the tables
+      --stream <F>  The stream: the CopyData bytes of a replication connection
+      --spool <N>   Bytes of messages of streamed transactions that wait for their commits [default: 1073741824]
+      --verbose     Say on standard error why and where a command ended; slower, since the stream is read frame by frame
+      --progress    Say on standard error each second how far the stream was read, and at the end
+  -h, --help        Print help
+
+Example:
+  pgapply replay --config accounts.toml --stream accounts.stream
+",
     },
 ];
 
