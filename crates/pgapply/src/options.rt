@@ -41,6 +41,17 @@ const REPLAY_EXAMPLE: &str =
 /// The options that are numbers.
 const NUMBERS: [&str; 3] = ["workers", "ring", "spool"];
 
+/// The help and the parser of a number, both by its limits. It is a macro since a help has to live as long
+/// as the words of the command line, so that no `format!` here can make it.
+macro_rules! limited {
+    ($help:literal, $least:literal to $most:literal) => {
+        (
+            concat!($help, ", ", $least, " to ", $most),
+            ValueParser::unsigned($least, $most),
+        )
+    };
+}
+
 const STATUSES: &str = "\
 Rows, position and end are printed to standard output. Exit statuses:
   0  the stream was applied to its end
@@ -82,8 +93,10 @@ fn reading<'a>(alloc: Global, name: &'a str, input: Arg<'a>) -> Result<Command<'
         .arg(number(
             alloc,
             "spool",
-            "Bytes of messages of streamed transactions that wait for their commits",
-            ValueParser::unsigned(0, u64::MAX),
+            (
+                "Bytes of messages of streamed transactions that wait for their commits",
+                ValueParser::unsigned(0, u64::MAX),
+            ),
             "1073741824",
         ))?
         .arg(flag(
@@ -104,15 +117,13 @@ fn with_workers<'a>(alloc: Global, command: Command<'a>) -> Result<Command<'a>, 
         .arg(number(
             alloc,
             "workers",
-            "Threads that apply streamed transactions, 0 to 16",
-            ValueParser::unsigned(0, 16),
+            limited!("Threads that apply streamed transactions", 0 to 16),
             "2",
         ))?
         .arg(number(
             alloc,
             "ring",
-            "Items that wait for one of these threads, 1 to 1024",
-            ValueParser::unsigned(1, 1024),
+            limited!("Items that wait for one of these threads", 1 to 1024),
             "64",
         ))
 }
@@ -155,8 +166,7 @@ fn flag<'a>(alloc: Global, name: &'a str, help: &'a str) -> Arg<'a> {
 fn number<'a>(
     alloc: Global,
     name: &'a str,
-    help: &'a str,
-    limits: ValueParser<'a>,
+    (help, limits): (&'a str, ValueParser<'a>),
     default: &'a str,
 ) -> Arg<'a> {
     Arg::new(alloc, name)
