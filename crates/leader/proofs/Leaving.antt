@@ -25,7 +25,7 @@ use Rattle.engine.specs.Engine.{entry_in}
 use Rattle.engine.specs.Events.{commits_in}
 use Rattle.engine.specs.Journal.{rows_after}
 use Rattle.engine.specs.JournalLaws.{entries_are_serial}
-use Rattle.session.specs.State.{State, Setting, start}
+use Rattle.session.specs.State.{State, Setting, setting, start}
 use Rattle.spooled.specs.declared.end.End.{End}
 use Rattle.spooled.specs.declared.end.End.TheVariants as ends
 use Rattle.spooled.specs.declared.outcome.Config.{Config}

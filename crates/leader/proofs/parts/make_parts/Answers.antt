@@ -1,6 +1,14 @@
-use Rattle.leader.specs.Parts.{IsFresh}
+use Rattle.leader.specs.Parts.{IsFresh, HasSlots}
 use Rattle.leader.proofs.Making.{one_more}
 use Rattle.leader.proofs.parts.make_parts.Goals as goal
 
 pub loop-preserved : goal.loop-preserved
-loop-preserved g c = one_more IsFresh c.loop.made.items c.push.new.self.items c.in_ok-new_parts.field-0 c.in_ok-push.ensures.items c.loop.invariant c.in_ok-new_parts.ensures
+loop-preserved g c =
+    let made = c.loop.made.items in
+    let more = c.push.new.self.items in
+    let part = c.in_ok-new_parts.field-0 in
+    let pushed = c.in_ok-push.ensures.items in
+    let new = c.in_ok-new_parts.ensures in (
+      one_more IsFresh made more part pushed c.loop.invariant.0 new.fresh,
+      one_more (HasSlots c.clamp-slots.result) made more part pushed c.loop.invariant.1 new.slots,
+    )

@@ -1,7 +1,7 @@
 use Rattle.std.specs.Prelude.{All}
-use Rattle.leader.specs.Parts.{IsFresh}
+use Rattle.leader.specs.Parts.{IsFresh, HasSlots}
 use Rattle.leader.proofs.parts.make_parts.Given as goal
 
--- the parts so far are fresh
+-- the parts so far are fresh, and their rings have so many slots
 abbrev pub invariant-loop : goal.invariant-loop
-invariant-loop g l = All IsFresh l.made.items
+invariant-loop g l = All IsFresh l.made.items × All (HasSlots l.slots) l.made.items

@@ -29,7 +29,7 @@ returns-clause-ends g c =
     let left = c.into_left-left.result.0 in
     let left_so = c.into_left-left.ensures in
     let end = c.finish-end in
-    has_left s start c.args.devices.now read.new.devices l read.result end.result (read.ensures s start (c.new-lead.ensures start))
+    has_left s start c.args.devices.now read.new.devices l read.result end.result (read.ensures.over s start (c.new-lead.ensures start))
     (subst (λ (keys : Schema). IsValid keys start) c.requires.keys c.requires.valid) left.begun left.lanes.items c.deref.result.now
     left_so.begun left_so.lanes left_so.home end.ensures.keeps (subst (AreCounted read.new.lead.transactions.lanes) (sym c.deref.ensures.value) left_so.given)
     (subst (λ (keys : Schema). HasFinished keys start read.new.lead.transactions.line (option_map own_by left.begun ∷ map holds_in left.lanes.items) c.deref.result.now read.result end.result) c.requires.keys

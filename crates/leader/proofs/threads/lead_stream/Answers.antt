@@ -6,21 +6,21 @@ use Rattle.leader.specs.Threads.{led, IsLeadAt, HasLedTo}
 use Rattle.leader.proofs.Leaving.{over_led, nothing_read}
 use Rattle.leader.proofs.threads.lead_stream.Goals as goal
 
-pub returns-then-not-has_all : goal.returns-then-not-has_all
-returns-then-not-has_all g c = λ s rows at.
+pub returns-then-not-has_all-clause-over : goal.returns-then-not-has_all-clause-over
+returns-then-not-has_all-clause-over g c = λ s rows at.
     nothing_read s rows c.args.devices.now (led c.args.lead.now.stream c.args.lead.now.transactions) at
 
 pub read_all-requires : goal.read_all-requires
 read_all-requires g c = (c.requires.0, c.requires.1, [], start_progress, refl, c.requires.2)
 
-pub returns-in-Ok : goal.returns-in-Ok
-returns-in-Ok g c = λ s rows at.
+pub returns-in-Ok-clause-over : goal.returns-in-Ok-clause-over
+returns-in-Ok-clause-over g c = λ s rows at.
     let of = λ (l : Lead g.row.N.Denot g.row.L.Denot g.row.R.Denot g.row.G.Denot). led l.stream l.transactions in
     subst (IsRunOver s (IsLeadAt s rows) (HasLedTo s rows) c.args.devices.now c.read_all.new.devices (of c.read_all.new.handler)) (ap end_of c.in-Ok.is)
     (over_led of s rows c.args.devices.now c.read_all.new.devices c.read_all.new.handler (end_of c.read_all.result) (c.read_all.ensures s rows at))
 
-pub returns-in-Err : goal.returns-in-Err
-returns-in-Err g c = λ s rows at.
+pub returns-in-Err-clause-over : goal.returns-in-Err-clause-over
+returns-in-Err-clause-over g c = λ s rows at.
     let of = λ (l : Lead g.row.N.Denot g.row.L.Denot g.row.R.Denot g.row.G.Denot). led l.stream l.transactions in
     subst (IsRunOver s (IsLeadAt s rows) (HasLedTo s rows) c.args.devices.now c.read_all.new.devices (of c.read_all.new.handler)) (ap end_of c.in-Err.is)
     (over_led of s rows c.args.devices.now c.read_all.new.devices c.read_all.new.handler (end_of c.read_all.result) (c.read_all.ensures s rows at))
