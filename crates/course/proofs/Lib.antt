@@ -6,6 +6,8 @@ mod Ways
 mod Clear
 pub mod Threading
 mod Unthreaded
+mod FirstCause
+mod NoWorkers
 mod Closing
 mod Noted
 pub mod Books

@@ -1,6 +1,6 @@
 -- The world that a run is.
 use Rattle.std.proofs.Common.{◌≡◌, ℕ, true, false, List, [], ◌∷◌, ◌++◌, length, Option, Some, None, refl, sym, ap, subst, ◌∙◌, append-nil, arith, inl, inr}
-use Rattle.std.specs.Prelude.{map, ℤ, nat_lt}
+use Rattle.std.specs.Prelude.{map, ℤ, nat_lt, ◌⊎◌}
 use Rattle.messages.specs.declared.message.Message.{Message}
 use Rattle.std.proofs.lemmas.Bool.{le-ltb}
 use Rattle.model.specs.declared.change.Change as change_type
@@ -71,7 +71,7 @@ tells_of g rows old new o run m w alone is reached = record {
   running = ap (λ (v : World). v.stopped) is;
 }
 
-none_is : (p : Opened) → None ≡ Some p → ⊥
+pub none_is : (p : Opened) → None ≡ Some p → ⊥
 none_is p e = cc
 
 none_open : IsAtMostOne none
@@ -87,7 +87,7 @@ in_one xid items x o there =
 one_open : (xid : ℕ) (items : List Item) → IsAtMostOne (one xid items)
 one_open xid items x y o p first second = in_one xid items x o first ∙ sym (in_one xid items y p second)
 
-begun_open : (b : Option (ℕ × List Item)) → IsAtMostOne (open_ones b)
+pub begun_open : (b : Option (ℕ × List Item)) → IsAtMostOne (open_ones b)
 begun_open None = none_open
 begun_open (Some b) = one_open b.0 (survivors b.0 b.1)
 
@@ -106,6 +106,13 @@ module _ (g : Setting) (rows : Rows) (old new : DeviceState) (handled : List Cop
   clear_at (ends.NullKey table) cause e = cc
   clear_at (ends.HeldKey xid holder) cause e = elim cause [ inl next ↦ next.0.clear | inr last ↦ absurd last.why ]
   clear_at ends.OutOfMemory cause e = elim cause [ inl well ↦ well.clear | inr cut ↦ cut.clear ]
+
+  -- no change clashed, or one that the last item brought
+  pub clear_or_last : (end : End) → IsCause g rows old new handled p times bytes rest end
+      → HasNotClashed g rows old new handled p times ⊎ LastClashed g rows old new handled p times end
+  clear_or_last (ends.Unique table key) cause = elim cause [ inl next ↦ inl next.0.clear | inr last ↦ inr last ]
+  clear_or_last (ends.NullKey table) cause = elim cause [ inl next ↦ inl next.0.clear | inr last ↦ inr last ]
+  clear_or_last end cause = inl (clear_at end cause refl)
 
 pub run_reached : (g : Setting) (rows : Rows) (old new : DeviceState) (o : Outcome) (run : IsRun g rows old new o)
     → conflict o.end ≡ None

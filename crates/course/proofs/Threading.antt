@@ -152,7 +152,7 @@ module _ (g : Setting) (s : State) (payload : List ℕ) where
         subst (λ (d : Committed). finite.get s.transactions d.xid ≡ Some (record { way = d.way; items = d.items })) same tells.present,
       )
 
-  commits_open : (xid : ℕ) → IsSane s → (by : IsCommitOf g s payload xid)
+  pub commits_open : (xid : ℕ) → IsSane s → (by : IsCommitOf g s payload xid)
       → (begun s ≡ if_direct by.committed.xid by.committed.way by.committed.items)
       × (finite.get s.transactions by.committed.xid ≡ Some (record { way = by.committed.way; items = by.committed.items }))
   commits_open xid sane by =

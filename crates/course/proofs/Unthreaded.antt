@@ -73,6 +73,13 @@ one_progress g p q r (item ∷ items) is there =
     one_progress g is.0 q r items is.2
     (subst (λ (u : Progress). Leads g u items r) (sym (one_handled g p is.0 there.0 item is.1 there.1)) there.2)
 
+-- what a beginning of items led to, the others lead on from
+pub leads_on : (g : Setting) (p q r : Progress) (xs ys : List CopyItem) → Leads g p xs r → Leads g p (xs ++ ys) q
+    → Leads g r ys q
+leads_on g p q r xs ys first all =
+    let parts = split_leads g p q xs ys all in
+    subst (λ (u : Progress). Leads g u ys q) (one_progress g p parts.0 r xs parts.1 first) parts.2
+
 -- ---- commits
 
 -- a step commits none, or none is begun behind it; and it takes no commit away
@@ -139,7 +146,7 @@ module _ (schema : Schema) (rows : Rows) (g : Setting) where
 -- ---- what a message that is admitted is not
 
 module _ (g : Setting) (s t : State) (payload : List ℕ) (m : Message) (admits : Admits g s payload m t) where
-  not_refused : (refused : Refused) → TableRefuses g s payload refused → ⊥
+  pub not_refused : (refused : Refused) → TableRefuses g s payload refused → ⊥
   not_refused refused is = apart (step g s (length payload) m) t refused admits.stepped (subst (λ (n : Message). step g s (length payload) n ≡ Err refused) same is.2)
     where
       same : is.0 ≡ m
@@ -167,7 +174,7 @@ module _ (h : Setting) (rows : Rows) (s q : Progress) (rest : List CopyItem) (sa
       ]
 
   -- the next message, which commits a transaction, clashed
-  next_clash : (cause : ClashCause) → NextClashes h rows s.state rest (clash_of cause) → ⊥
+  pub next_clash : (cause : ClashCause) → NextClashes h rows s.state rest (clash_of cause) → ⊥
   next_clash cause = by_next rest more
     where
       by_next : (rest : List CopyItem) → Leads h s rest q → NextClashes h rows s.state rest (clash_of cause) → ⊥
@@ -251,9 +258,8 @@ module _ (g h : Setting) (rows : Rows) (old new before after : DeviceState) (o p
 
   later : Leads h alone.progress alone.rest q
   later =
-      let parts = split_leads h start_progress q alone.handled alone.rest (subst (λ is. Leads h start_progress is q) (sym items) room) in
-      subst (λ (r : Progress). Leads h r alone.rest q)
-      (one_progress h start_progress parts.0 alone.progress alone.handled parts.1 alone.lawful) parts.2
+      leads_on h start_progress q alone.progress alone.handled alone.rest alone.lawful
+      (subst (λ is. Leads h start_progress is q) (sym items) room)
 
   alike : Alike h run.progress.state q.state
   alike = (led g h start_progress start_progress run.progress q run.handled catalog (start_alike h) run.lawful room).state

@@ -370,7 +370,7 @@ more_updates b c s t seen other updates before same e f u =
     ap (λ us. us ++ due_updates c t other) u ∙ ap (λ (d : Bool). updates ++ due_updates d t other) same
     ∙ ap (λ us. updates ++ us) (same_due b s t seen other e f)
 
-handled : (g h : Setting) (p q u v : Progress) (item : CopyItem) → h.catalog ≡ g.catalog → AreAlike h p q
+pub handled : (g h : Setting) (p q u v : Progress) (item : CopyItem) → h.catalog ≡ g.catalog → AreAlike h p q
     → Handles g p item u → Handles h q item v → AreAlike h u v
 handled g h p q u v (Wal first last payload) catalog are is there =
     let message : there.0 ≡ is.0 =

@@ -5,6 +5,7 @@ ghost use Rattle.course.specs.Laws.{RunIsReached, ConflictStopsWorld};
 ghost use Rattle.course.specs.Laws.{ThreadedIsSerial, OpenLeavesNothing, WorkersAlterNothing};
 ghost use Rattle.course.specs.Laws.{CleanIsWithoutThreads, CleanWhereThereIsRoom};
 ghost use Rattle.course.specs.Laws.{OneIsOpenWithoutWorkers};
+ghost use Rattle.course.specs.Laws.{RunIsWithoutWorkers, EndsAtFirstCause};
 ghost use Rattle.course.specs.Laws.{EachMomentIsInStep, InStepIsWorld};
 ghost use Rattle.course.specs.Laws.{NotedClashIsConflict, HeldIsStuck};
 
@@ -67,6 +68,16 @@ pub fn clean_where_there_is_room()
 /// Without workers one transaction is open at most, and none waits for another.
 pub fn one_is_open_without_workers()
     ensures { OneIsOpenWithoutWorkers }
+{}
+
+/// A run without threads is a run with no workers that handled the same items.
+pub fn run_is_without_workers()
+    ensures { RunIsWithoutWorkers }
+{}
+
+/// It ends at its first cause: the stream gives none at what a shorter beginning of the items led to.
+pub fn ends_at_first_cause()
+    ensures { EndsAtFirstCause }
 {}
 
 /// Whatever a leader and its workers do, in whatever order: at each moment all transactions are in
