@@ -39,7 +39,7 @@ items_before {A} item sub (a ∷ list) =
   where
     by_cases : map item (before_savepoint_by item sub list) ≡ before_savepoint sub (map item list) → (b : Bool)
         → map item (cond b (a ∷ before_savepoint_by item sub list) [])
-            ≡ cond b (item a ∷ before_savepoint sub (map item list)) []
+        ≡ cond b (item a ∷ before_savepoint sub (map item list)) []
     by_cases rest true = ap (λ is. item a ∷ is) rest
     by_cases rest false = refl
 
