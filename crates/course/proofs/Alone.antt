@@ -40,7 +40,7 @@ plain_with : (items : List Item) (i : Item) → ArePlain items → IsPlain i →
 plain_with [] i are is = (is, tt)
 plain_with (j ∷ items) i are is = (are.0, plain_with items i are.1 is)
 
-plain_front : (items rest : List Item) → ArePlain (items ++ rest) → ArePlain items
+pub plain_front : (items rest : List Item) → ArePlain (items ++ rest) → ArePlain items
 plain_front [] rest are = tt
 plain_front (i ∷ items) rest are = (are.0, plain_front items rest are.1)
 
@@ -62,7 +62,7 @@ plain_surviving top kept (i ∷ items) are = plain_surviving top (after_item top
 pub plain_survivors : (top : ℕ) (items : List Item) → ArePlain (survivors top items)
 plain_survivors top items = plain_surviving top [] items tt
 
-all_survive : (top : ℕ) (kept items : List Item) → ArePlain items → surviving top kept items ≡ kept ++ items
+pub all_survive : (top : ℕ) (kept items : List Item) → ArePlain items → surviving top kept items ≡ kept ++ items
 all_survive top kept [] are = sym (append-nil kept)
 all_survive top kept (Change sub c ∷ items) are =
     all_survive top (kept ++ Change sub c ∷ []) items are.1 ∙ append_assoc kept (Change sub c ∷ []) items

@@ -1,4 +1,4 @@
--- No change of a commit clashes, each on the rows that those before it leave.
+-- No change of a commit clashes, nor of an open transaction, each on the rows that those before it leave.
 use Rattle.std.proofs.Common.{◌≡◌, ℕ, List, [], ◌∷◌, ◌++◌, Some, sym, subst, append-nil}
 use Rattle.std.specs.Prelude.{Ok, Err, None}
 use Rattle.std.proofs.Math.Logic.{∥∥₁_elim}
@@ -77,6 +77,14 @@ module _ (schema : Schema) where
   accepted_clear : (rows : Rows) (cs : List change_type.Change) → AreAccepted schema rows cs → IsClear schema rows cs
   accepted_clear rows [] are = tt
   accepted_clear rows (c ∷ cs) are = (are.0, accepted_clear (effect schema rows c) cs are.1)
+
+  -- nor does one that an open transaction has done
+  pub open_clear : (rows : Rows) (w : World) → IsValid schema rows → ∥ Reaches schema (starting rows) w ∥₁
+      → (xid : ℕ) (o : Opened) → get w.opened xid ≡ Some o → IsClear schema w.committed (work xid o)
+  open_clear rows w valid reached xid o at =
+      accepted_clear w.committed (work xid o)
+      (∥∥₁_elim reached (accepted_prop w.committed (work xid o)) (λ (is : Reaches schema (starting rows) w).
+      (fine_reached schema rows valid w is).accepted xid o at))
 
   pub commits_clear : (rows : Rows) (w : World) → IsValid schema rows → ∥ Reaches schema (starting rows) w ∥₁
       → IsClear schema rows (changes_in w.line)

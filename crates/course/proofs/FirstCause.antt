@@ -2,7 +2,8 @@
 use Rattle.std.proofs.Common.{◌≡◌, ◌≢◌, ℕ, Bool, List, [], ◌∷◌, ◌++◌, refl, sym, ap, subst, ◌∙◌, inl, inr}
 use Rattle.std.specs.Prelude.{◌⊎◌}
 use Rattle.model.specs.Rows.{Rows, Schema}
-use Rattle.model.specs.Effect.{ClashCause, NullKey, Unique}
+use Rattle.model.specs.declared.change.Change as change_type
+use Rattle.model.specs.Effect.{ClashCause, NullKey, Unique, Clashes, effect}
 use Rattle.change.specs.declared.outcome.Clash.{Clash}
 use Rattle.messages.proofs.Formats.{Spells-one}
 use Rattle.messages.specs.declared.fault.MsgFault.{MsgFault}
@@ -18,7 +19,7 @@ use Rattle.session.specs.Lawful.{Admits, Refuses}
 use Rattle.spooled.specs.declared.end.End.{End}
 use Rattle.spooled.specs.declared.end.End.TheVariants as ends
 use Rattle.spooled.specs.declared.outcome.Outcome.{Outcome}
-use Rattle.spooled.specs.Cause.{schema_of, RefusesNext, NextClashes, HasNotClashed, LastClashed}
+use Rattle.spooled.specs.Cause.{schema_of, RefusesNext, NextClashes, IsLastCause, HasNotClashed, LastClashed}
 use Rattle.spooled.specs.Commits.{committed_changes, begun_changes, all_changes}
 use Rattle.spooled.specs.Devices.{DeviceState}
 use Rattle.spooled.specs.Progress.{Progress, Handles, Leads, start_progress}
@@ -26,13 +27,53 @@ use Rattle.spooled.specs.Run.{IsRun}
 use Rattle.spooled.specs.Work.{IsClear, ClashesIn}
 use Rattle.world.specs.World.{starting}
 use Rattle.course.specs.Begun.{IsSane, begun}
-use Rattle.course.specs.FirstCause.{IsStreamCause}
-use Rattle.course.proofs.Alone.{clear_front, first_in_clear}
+use Rattle.course.specs.FirstCause.{IsStreamCause, IsAtFirstCause}
+use Rattle.course.proofs.Alone.{clear_front, ClashesFirst, first_in_clear}
 use Rattle.course.proofs.Reaching.{done as done_by, all_done, led_more}
 use Rattle.course.proofs.Running.{clash_of, first_in, clear_or_last}
 use Rattle.course.proofs.Telling.{sane_start}
 use Rattle.course.proofs.Threading.{sane_items}
 use Rattle.course.proofs.Unthreaded.{leads_on, not_refused, next_clash}
+
+-- ---- a clash of the transaction that was begun
+
+-- the end by this clash
+abbrev pub end_by : ClashCause → End
+end_by (Unique table key) = ends.Unique table key
+end_by (NullKey table) = ends.NullKey table
+
+one_clash : (a b : ClashCause) → Clashes a ≡ Clashes b → a ≡ b
+one_clash a b e = cc
+
+-- one cause is the first
+one_first : (schema : Schema) (rows : Rows) (cs : List change_type.Change) (a b : ClashCause)
+    → ClashesFirst schema rows cs a → ClashesFirst schema rows cs b → a ≡ b
+one_first schema rows [] a b first second = absurd first
+one_first schema rows (c ∷ cs) a b first second =
+    elim first [
+      | inl here ↦
+          elim second [ inl too ↦ one_clash a b (sym here ∙ too) | inr later ↦ absurd (later.0 a here) ]
+      | inr later ↦
+          elim second [
+            | inl here ↦ absurd (later.0 b here)
+            | inr too ↦ one_first schema (effect schema rows c) cs a b later.1 too.1
+          ]
+    ]
+
+last_clash : (g : Setting) (rows : Rows) (s : State) (end : End) → IsLastCause g rows s end
+    → (cause : ClashCause) × (end ≡ end_by cause) × ClashesFirst (schema_of g) rows (all_changes s) cause
+last_clash g rows s (ends.Unique table key) is =
+    (Unique table key, refl, first_in (schema_of g) rows (all_changes s) (Unique table key) is)
+last_clash g rows s (ends.NullKey table) is =
+    (NullKey table, refl, first_in (schema_of g) rows (all_changes s) (NullKey table) is)
+last_clash g rows s end is = absurd is
+
+one_last : (g : Setting) (rows : Rows) (s : State) (a b : End) → IsLastCause g rows s a → IsLastCause g rows s b
+    → a ≡ b
+one_last g rows s a b first second =
+    let x = last_clash g rows s a first in
+    let y = last_clash g rows s b second in
+    x.1 ∙ ap end_by (one_first (schema_of g) rows (all_changes s) x.0 y.0 x.2 y.2) ∙ sym y.1
 
 -- ---- a payload that spells a message has no fault
 
@@ -119,6 +160,20 @@ clear_earlier schema rows g q p items sane is clear =
 
 -- ---- a run
 
+module _ (g : Setting) (rows : Rows) (old new : DeviceState) (o : Outcome) (run : IsRun g rows old new o) where
+  clash : HasNotClashed g rows old new run.handled run.progress run.times
+      ⊎ LastClashed g rows old new run.handled run.progress run.times o.end
+  clash = clear_or_last g rows old new run.handled run.progress run.times run.bytes run.rest o.end run.cause
+
+  by_clash : (end : End) → IsLastCause g rows run.progress.state end → o.end ≡ end
+  by_clash end is =
+      elim clash [
+        | inl all ↦
+            let last = last_clash g rows run.progress.state end is in
+            absurd (first_in_clear (schema_of g) rows (all_changes run.progress.state) last.0 all last.2)
+        | inr last ↦ one_last g rows run.progress.state o.end end last.why is
+      ]
+
 module _ (g : Setting) (rows : Rows) (old new : DeviceState) (o : Outcome) (run : IsRun g rows old new o)
     (before after : List CopyItem) (item : CopyItem) (q : Progress)
     (split : run.handled ≡ before ++ item ∷ after) (lawful : Leads g start_progress before q) where
@@ -130,14 +185,10 @@ module _ (g : Setting) (rows : Rows) (old new : DeviceState) (o : Outcome) (run 
       leads_on g start_progress run.progress q before (item ∷ after) lawful
       (subst (λ items. Leads g start_progress items run.progress) split run.lawful)
 
-  clash : HasNotClashed g rows old new run.handled run.progress run.times
-      ⊎ LastClashed g rows old new run.handled run.progress run.times o.end
-  clash = clear_or_last g rows old new run.handled run.progress run.times run.bytes run.rest o.end run.cause
-
   -- what was committed at the end of the run is clear
   committed : IsClear (schema_of g) rows (committed_changes run.progress.state)
   committed =
-      elim clash [
+      elim (clash g rows old new o run) [
         | inl all ↦
             clear_front (schema_of g) rows (committed_changes run.progress.state) (begun_changes run.progress.state) all
         | inr last ↦ last.committed
@@ -146,7 +197,7 @@ module _ (g : Setting) (rows : Rows) (old new : DeviceState) (o : Outcome) (run 
   -- all that was done by these items is clear
   clear : IsClear (schema_of g) rows (all_changes q.state)
   clear =
-      elim clash [
+      elim (clash g rows old new o run) [
         | inl all ↦ clear_earlier (schema_of g) rows g q run.progress (item ∷ after) sane later all
         | inr is ↦
             let more = all_but_last before item after is.last.before is.last.item (sym split ∙ is.last.split) in
@@ -172,7 +223,7 @@ module _ (g : Setting) (rows : Rows) (old new : DeviceState) (o : Outcome) (run 
             (first_in (schema_of g) rows (all_changes q.state) cause last)
       ]
 
-  pub no_cause_before : (end : End) → IsStreamCause g rows q.state (item ∷ after ++ run.rest) end → ⊥
+  no_cause_before : (end : End) → IsStreamCause g rows q.state (item ∷ after ++ run.rest) end → ⊥
   no_cause_before (ends.Msg fault) is =
       elim is [ inl next ↦ none_refused (refusals.Msg fault) (λ e. cc) next | inr last ↦ last ]
   no_cause_before (ends.Session fault) is =
@@ -183,3 +234,11 @@ module _ (g : Setting) (rows : Rows) (old new : DeviceState) (o : Outcome) (run 
   no_cause_before (ends.NullKey table) is = none_clashes (NullKey table) is
   no_cause_before ends.OutOfMemory is = is
   no_cause_before end is = elim is [ inl next ↦ next | inr last ↦ last ]
+
+pub at_first_cause : (g : Setting) (rows : Rows) (old new : DeviceState) (o : Outcome) (run : IsRun g rows old new o)
+    → IsAtFirstCause g rows run.handled run.rest run.progress.state o.end
+at_first_cause g rows old new o run = record {
+  none_before = λ before after item q end split lawful is.
+      no_cause_before g rows old new o run before after item q split lawful end is;
+  by_clash = by_clash g rows old new o run;
+}

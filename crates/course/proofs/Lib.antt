@@ -8,6 +8,7 @@ pub mod Threading
 mod Unthreaded
 mod FirstCause
 mod NoWorkers
+mod WithoutThreads
 mod Closing
 mod Noted
 pub mod Books

@@ -45,21 +45,21 @@ use Rattle.course.proofs.Ways.{NoneWorks, AreAlike, handled, start_alike}
 -- ---- the work of each transaction is what survives
 
 -- all of its work survives
-abbrev Survives : ℕ → Way → SizedItems → Type 0
+abbrev pub Survives : ℕ → Way → SizedItems → Type 0
 Survives xid way items = work_of xid way items ≡ survivors xid (map item_of items)
 
 -- so it is with each of these
-abbrev AllSurvive : OpenTransactions → Type 0
+abbrev pub AllSurvive : OpenTransactions → Type 0
 AllSurvive m = (xid : ℕ) (o : Open) → get m xid ≡ Some o → Survives xid o.way o.items
 
 -- so it is with each of these commits: for each all was done that survived, and nothing else
-abbrev ArePlain : List Committed → Type 0
+abbrev pub ArePlain : List Committed → Type 0
 ArePlain past = map done_by_commit past ≡ map past_of past
 
 -- So it is with each transaction that is open in the state, and with each of its commits.
-record IsPlain (s : State) : Type 0 where
-  opened : AllSurvive s.transactions
-  past : ArePlain s.past
+pub record IsPlain (s : State) : Type 0 where
+  pub opened : AllSurvive s.transactions
+  pub past : ArePlain s.past
 
 put_in : (m : OpenTransactions) (xid : ℕ) (o : Open) → AllSurvive m → Survives xid o.way o.items
     → AllSurvive (finite.insert m xid o)
@@ -159,6 +159,10 @@ plain_items g zero p q (item ∷ items) sane alike plain is =
 
 plain_start : IsPlain start
 plain_start = record { opened = λ xid o at. absurd (not_there o (sym (get-empty nat_cmp xid) ∙ at)); past = refl }
+
+pub led_plain : (g : Setting) → g.workers ≡ 0 → (p : Progress) (items : List CopyItem) → Leads g start_progress items p
+    → IsPlain p.state
+led_plain g zero p items = plain_items g zero start_progress p items sane_start (start_alike g) plain_start
 
 -- ---- the transaction that is open in the world
 
@@ -351,7 +355,7 @@ module _ (g : Setting) (rows : Rows) (old new : DeviceState) (o : Outcome) (run 
   sane = sane_items g start_progress run.progress run.handled sane_start run.lawful
 
   plain : IsPlain s
-  plain = plain_items g zero start_progress run.progress run.handled sane_start (start_alike g) plain_start run.lawful
+  plain = led_plain g zero run.progress run.handled run.lawful
 
   -- a run with workers that handled the same items
   abbrev IsSame : Type 0

@@ -41,7 +41,7 @@ use Rattle.course.proofs.Ways.{Alike, led, start_alike, same_transactions}
 
 -- ---- what items lead to
 
-split_leads : (g : Setting) (p q : Progress) (xs ys : List CopyItem) → Leads g p (xs ++ ys) q
+pub split_leads : (g : Setting) (p q : Progress) (xs ys : List CopyItem) → Leads g p (xs ++ ys) q
     → (r : Progress) × Leads g p xs r × Leads g r ys q
 split_leads g p q [] ys is = (p, refl, is)
 split_leads g p q (x ∷ xs) ys is =
@@ -83,7 +83,7 @@ leads_on g p q r xs ys first all =
 -- ---- commits
 
 -- a step commits none, or none is begun behind it; and it takes no commit away
-told_past : (s t : State) (what : Told) → Tells s t what → Moves s t what
+pub told_past : (s t : State) (what : Told) → Tells s t what → Moves s t what
     → ((t.past ≡ s.past) ⊎ (begun t ≡ None)) × ((more : List Committed) × (t.past ≡ s.past ++ more))
 told_past s t Nothing tells moves = (inl tells.past, ([], tells.past ∙ sym (append-nil s.past)))
 told_past s t (Opens xid way) tells moves = (inl tells.past, ([], tells.past ∙ sym (append-nil s.past)))

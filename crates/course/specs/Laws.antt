@@ -1,6 +1,6 @@
 -- The laws of a run in the words of a world, each as one statement. `src/laws.rt` names them, so
 -- that the check proves them.
-use Rattle.std.specs.Prelude.{◌≡◌, ◌≢◌, ℕ, List, [], ◌∷◌, ◌++◌, Option, Some, None, Ok, map, ◌⊎◌}
+use Rattle.std.specs.Prelude.{◌≡◌, ◌≢◌, ℕ, List, [], Option, Some, None, Ok, map, ◌⊎◌}
 use Rattle.std.specs.FinMap.{get}
 use Rattle.model.specs.Effect.{ClashCause, serial}
 use Rattle.model.specs.Rows.{Rows, IsValid}
@@ -18,7 +18,6 @@ use Rattle.spooled.specs.Devices.{DeviceState}
 use Rattle.spooled.specs.Progress.{Progress, Leads, start_progress}
 use Rattle.spooled.specs.Run.{IsRun}
 use Rattle.spooled.specs.Work.{IsClear}
-use Rattle.spooled.specs.declared.end.End.{End}
 use Rattle.spooled.specs.declared.end.End.TheVariants as ends
 use Rattle.spooled.specs.declared.outcome.Outcome.{Outcome}
 use Rattle.world.specs.Steps.{Reaches, Closes, IsStuck}
@@ -30,7 +29,7 @@ use Rattle.course.specs.Runs.{CommitsNext, Leaves, IsAtMostOne, TellsRun, IsTurn
 use Rattle.course.specs.Threads.{IsWorldOf, AreBytes}
 use Rattle.course.specs.Turns.{Moment, start_moment, IsInStep, Turns}
 use Rattle.course.specs.ThreadedRun.{HasConflict, IsStuckBy, IsThreadedRun}
-use Rattle.course.specs.FirstCause.{IsStreamCause}
+use Rattle.course.specs.FirstCause.{IsAtFirstCause}
 
 -- each message that the session table admits tells one thing
 abbrev pub EachMessageTells : Type 0
@@ -137,8 +136,7 @@ OneIsOpenWithoutWorkers =
     (run : IsThreadedRun g rows old new o) → g.workers ≡ 0
     → IsAtMostOne run.world.opened × ((xid holder : ℕ) → o.end ≢ ends.HeldKey xid holder)
 
--- ---- a run without threads: one with no workers, in which the stream gives no cause at a shorter
--- beginning of the items
+-- ---- a run without threads: one with no workers that ends at its first cause
 
 -- it is a run with no workers that handled the same items
 abbrev pub RunIsWithoutWorkers : Type 0
@@ -147,13 +145,20 @@ RunIsWithoutWorkers =
     → g.workers ≡ 0
     → (same : IsThreadedRun g rows old new o) × (same.handled ≡ run.handled)
 
--- it ends at its first cause: the stream gives none at what a shorter beginning of the items led to
+-- it ends at its first cause
 abbrev pub EndsAtFirstCause : Type 0
 EndsAtFirstCause =
     (g : Setting) (rows : Rows) (old new : DeviceState) (o : Outcome) (run : IsRun g rows old new o)
-    (before after : List CopyItem) (item : CopyItem) (q : Progress) (end : End)
-    → run.handled ≡ before ++ item ∷ after → Leads g start_progress before q
-    → ¬ (IsStreamCause g rows q.state (item ∷ after ++ run.rest) end)
+    → IsAtFirstCause g rows run.handled run.rest run.progress.state o.end
+
+-- and a run with no workers that ends at its first cause is a run without threads that handled the
+-- same items
+abbrev pub FirstCauseIsWithoutThreads : Type 0
+FirstCauseIsWithoutThreads =
+    (g : Setting) (rows : Rows) (old new : DeviceState) (o : Outcome)
+    (run : IsThreadedRun g rows old new o) → IsValid (schema_of g) rows → g.workers ≡ 0
+    → IsAtFirstCause g rows run.handled run.rest run.progress.state o.end
+    → (alone : IsRun g rows old new o) × (alone.handled ≡ run.handled)
 
 -- ---- a leader and its workers
 

@@ -5,7 +5,7 @@ ghost use Rattle.course.specs.Laws.{RunIsReached, ConflictStopsWorld};
 ghost use Rattle.course.specs.Laws.{ThreadedIsSerial, OpenLeavesNothing, WorkersAlterNothing};
 ghost use Rattle.course.specs.Laws.{CleanIsWithoutThreads, CleanWhereThereIsRoom};
 ghost use Rattle.course.specs.Laws.{OneIsOpenWithoutWorkers};
-ghost use Rattle.course.specs.Laws.{RunIsWithoutWorkers, EndsAtFirstCause};
+ghost use Rattle.course.specs.Laws.{RunIsWithoutWorkers, EndsAtFirstCause, FirstCauseIsWithoutThreads};
 ghost use Rattle.course.specs.Laws.{EachMomentIsInStep, InStepIsWorld};
 ghost use Rattle.course.specs.Laws.{NotedClashIsConflict, HeldIsStuck};
 
@@ -75,9 +75,16 @@ pub fn run_is_without_workers()
     ensures { RunIsWithoutWorkers }
 {}
 
-/// It ends at its first cause: the stream gives none at what a shorter beginning of the items led to.
+/// It ends at its first cause: the stream gives none at what a shorter beginning of the items led to,
+/// and where a change of the transaction that was begun has clashed, it ends by that.
 pub fn ends_at_first_cause()
     ensures { EndsAtFirstCause }
+{}
+
+/// And a run with no workers that ends at its first cause is a run without threads, which handled
+/// the same items.
+pub fn first_cause_is_without_threads()
+    ensures { FirstCauseIsWithoutThreads }
 {}
 
 /// Whatever a leader and its workers do, in whatever order: at each moment all transactions are in

@@ -17,10 +17,11 @@
 // done. So what such a run may do is said by a world alone: any that calls reach, with the commits
 // of the state, and a cause of the end at it. Its promise (`IsThreadedRun`) shares items, what they
 // lead to and status updates with the run without threads, and its laws say what they have in
-// common. The run without threads is one with no workers, in which the stream gives no cause at a
-// shorter beginning of the items. What a leader keeps of its transactions, so that it can show all
-// this at its end, stands here too, with a lemma for each thing that it or a worker does
-// (`proofs/Steps`, `proofs/Books`).
+// common. The run without threads is just one with no workers that ends at its first cause: the
+// stream gives none at a shorter beginning of the items, and where a change of the transaction that
+// was begun has clashed, the run ends by that. What a leader keeps of its transactions, so that it
+// can show all this at its end, stands here too, with a lemma for each thing that it or a worker
+// does (`proofs/Steps`, `proofs/Books`).
 //
 //   specs/Begun         the transaction that was begun, and what each message does to it
 //   specs/Course        the world that a state is
