@@ -30,6 +30,7 @@ use Rattle.spooled.specs.Devices.{DeviceState}
 use Rattle.spooled.specs.Progress.{Progress, Handles, Leads, start_progress, commits_from}
 use Rattle.spooled.specs.Run.{IsRun}
 use Rattle.spooled.specs.Work.{HasNoClash, IsClear, ClashesIn, ClashesAs}
+use Rattle.spooled.proofs.Working.{IsClear-append}
 use Rattle.world.specs.World.{Opened, World, starting, changes_in, work, own_rows}
 use Rattle.course.specs.Begun.{IsSane, open_items, begun_in, begun}
 use Rattle.course.specs.Course.{past_of}
@@ -96,12 +97,6 @@ clear_or_clash schema rows (c ∷ cs) =
           ]
       | inr is ↦ inr (is.0, clash_here schema rows c cs is.0 is.1)
     ]
-
-clear_both : (schema : Schema) (rows : Rows) (cs ds : List change_type.Change) → IsClear schema rows cs
-    → IsClear schema (serial schema rows cs) ds → IsClear schema rows (cs ++ ds)
-clear_both schema rows [] ds first second = second
-clear_both schema rows (c ∷ cs) ds first second =
-    (first.0, clear_both schema (effect schema rows c) cs ds first.1 second)
 
 -- the clash of a transaction that was begun is a cause of the stream
 last_cause : (g : Setting) (rows : Rows) (s : State) (cause : ClashCause)
@@ -237,7 +232,7 @@ module _ (g : Setting) (rows : Rows) (s : State) (rest : List CopyItem) (w : Wor
 
     clear_before : IsClear schema rows before
     clear_before =
-        clear_both schema rows past (work xid transaction)
+        IsClear-append schema rows past (work xid transaction)
         (subst (λ l. IsClear schema rows (changes_in l)) line (commits_clear schema rows w valid is_world.reached))
         (subst (λ r. IsClear schema r (work xid transaction)) committed
         (open_clear schema rows w valid is_world.reached xid transaction present))

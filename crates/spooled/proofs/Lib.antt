@@ -1,4 +1,4 @@
-mod Working
+pub mod Working
 pub mod States
 mod Begun
 pub mod Taking
