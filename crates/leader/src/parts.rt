@@ -40,6 +40,7 @@ pub fn make_parts<N: StoreNames>(
 ) -> Result<Vec<Parts<N>>, OutOfMemory>
     ensures fresh { IfOk result (λ made. All IsFresh made.items) }
     ensures slots { IfOk result (λ made. All (HasSlots (max 1 (min slots 1024))) made.items) }
+    ensures count { IfOk result (λ made. length made.items ≡ count) }
 {
     let slots = slots.clamp(1, 1024);
     let mut made = Vec::new(alloc);

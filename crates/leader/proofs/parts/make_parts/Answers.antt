@@ -1,3 +1,4 @@
+use Rattle.std.proofs.Common.{◌∷◌, [], length, ap, arith, length-append}
 use Rattle.leader.specs.Parts.{IsFresh, HasSlots}
 use Rattle.leader.proofs.Making.{one_more}
 use Rattle.leader.proofs.parts.make_parts.Goals as goal
@@ -8,7 +9,10 @@ loop-preserved g c =
     let more = c.push.new.self.items in
     let part = c.in_ok-new_parts.field-0 in
     let pushed = c.in_ok-push.ensures.items in
-    let new = c.in_ok-new_parts.ensures in (
+    let new = c.in_ok-new_parts.ensures in
+    let longer = ap length pushed in
+    let one = length-append made (part ∷ []) in (
       one_more IsFresh made more part pushed c.loop.invariant.0 new.fresh,
       one_more (HasSlots c.clamp-slots.result) made more part pushed c.loop.invariant.1 new.slots,
+      omega (arith, longer, one, c.loop.invariant.2),
     )
