@@ -5,44 +5,34 @@
 //     pgapply replay --config F --stream F [--spool N] [--verbose] [--progress]
 //
 // Faults are found in this order: the command line, the catalog file, the stream file or the connection,
-// the catalog, the run, the output. `execute` is what each command runs on what it opened: `apply` and
+// the catalog, the run, the output. `command` has what each command runs on what it opened: `apply` and
 // `follow` with workers that apply streamed transactions while they come, `replay` without threads. This
 // file opens files and connections, and prints. With `--verbose` or `--progress` the stream passes a
 // `Trace` on its way to the run: the run and its report are the same, and what is said beside them goes to
 // standard error.
 #![tactic(auto)]
 
-mod account;
-mod execute;
-mod options;
-mod output;
-mod progress;
-mod stream;
-mod system;
-#[cfg(test)]
-mod tests;
-
-use account::Account;
+use command::account::Account;
+use command::execute::{execute_heard, execute_over};
+use command::options::{Input, Options, parse};
+use command::output::{Failure, print, say_failure};
+use command::progress::Progress;
+use command::stream::{Stream, Updates};
+use command::system::SystemClock;
 use connection::Connection;
-use execute::{Ended, execute_heard, execute_over};
-use frames::{ReadSource, Source, WriteSink};
+use frames::{ReadSource, WriteSink};
 use leader::Devices;
-use options::{Input, Options};
-use output::{Failure, print, say_failure};
-use progress::Progress;
 use std::fs::File;
 use std::io;
 use std::io::BufReader;
 use std::process::ExitCode;
 use std::sync::Wait;
 use std::thread::Threads;
-use stream::{Stream, Updates};
-use system::SystemClock;
 use trace::{Trace, Watched};
 
 fn main(rt: HostRuntime) -> anyhow::Result<ExitCode> {
     let words: Vec<String> = std::env::args(&rt)?.collect(rt.alloc())?;
-    match options::parse(rt.alloc(), words.as_slice()) {
+    match parse(rt.alloc(), words.as_slice()) {
         Ok(options) => Ok(ExitCode::from(run(&rt, &rt, &options)?)),
         Err(error) => {
             error.print(&rt)?;

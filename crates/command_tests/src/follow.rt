@@ -1,8 +1,8 @@
 // A stream that comes over a connection, and the status updates that go back: a sender listens on a
 // socket of this machine, in a thread of its own.
-use super::devices::{KEEPALIVE, ONE_INSERT};
-use super::{CATALOG, CONFIG, Stopped, framed};
-use crate::execute::{Ended, execute};
+use crate::devices::{KEEPALIVE, ONE_INSERT};
+use crate::runs::{CATALOG, CONFIG, Stopped, framed};
+use command::execute::{Ended, execute};
 use connection::Connection;
 use leader::Config;
 use std::alloc::Global;

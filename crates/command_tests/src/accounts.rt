@@ -1,9 +1,9 @@
 // What `--verbose` says of a command that did not end well.
-use super::{CATALOG, CONFIG, Stopped, framed};
-use crate::account::Account;
-use crate::execute::{Hearer, execute_heard};
-use crate::stream::Updates;
+use crate::runs::{CATALOG, CONFIG, Stopped, framed};
 use catalog::{Catalog, CatalogFault};
+use command::account::Account;
+use command::execute::{Hearer, execute_heard};
+use command::stream::Updates;
 use frames::{ReadSource, WriteSink};
 use indexes::Tables;
 use leader::{Config, Devices, End, Outcome};

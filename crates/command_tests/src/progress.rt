@@ -1,7 +1,7 @@
 // What `--progress` says, by a clock of the test's own.
-use super::devices::ONE_INSERT;
-use super::framed;
-use crate::progress::Progress;
+use crate::devices::ONE_INSERT;
+use crate::runs::framed;
+use command::progress::Progress;
 use std::alloc::Global;
 use std::cell::{Cell, RefCell};
 use std::fmt::{Display, Write};

@@ -3,7 +3,7 @@ ghost use Rattle.std.specs.Prelude.{◌≡◌, ◌≢◌, map, length, IfOk, IfE
 ghost use Rattle.catalog.specs.declared.fault.CatalogFault.TheVariants as faults;
 ghost use Rattle.model.specs.Rows.{keys_of};
 ghost use Rattle.spooled.specs.Devices.{DeviceState, device_state, health};
-ghost use Rattle.pgapply.specs.Ending.{Says, IsCatalog, IsFault, Executes, Tells, workers_of, end_status, fault_status, fault_line};
+ghost use Rattle.command.specs.Ending.{Says, IsCatalog, IsFault, Executes, Tells, workers_of, end_status, fault_status, fault_line};
 
 use catalog::{Catalog, CatalogFault};
 use frames::{Sink, Source};

@@ -1,15 +1,5 @@
-// What the program prints of whole streams. The expected texts come from outside: worked by hand from
-// the rules, before the program was. And what it reads of a command line.
-mod accounts;
-mod cases;
-mod command_line;
-mod devices;
-mod follow;
-mod output;
-mod progress;
-
-use crate::execute::{Ended, execute};
-use cases::CASES;
+// Commands of these tests: their catalog, their devices, and what they print.
+use command::execute::{Ended, execute};
 use frames::{Failed, Sink, Source};
 use leader::{Clock, Config};
 use std::alloc::Global;
@@ -17,10 +7,10 @@ use std::sync::Wait;
 use std::test::Fail;
 use std::thread::Threads;
 
-const CATALOG: &str =
+pub const CATALOG: &str =
     "[[table]]\nnamespace = \"public\"\nname = \"accounts\"\nprimary = [\"id\"]\nunique = [[\"email\"]]\n[[table.column]]\nname = \"id\"\ntype = \"int\"\n[[table.column]]\nname = \"email\"\ntype = \"text\"\n[[table.column]]\nname = \"note\"\ntype = \"text\"\ndefault = \"x\"\n";
 
-const CONFIG: Config = Config {
+pub const CONFIG: Config = Config {
     workers: 0,
     ring: 64,
     spool: 1 << 30,
@@ -28,12 +18,12 @@ const CONFIG: Config = Config {
 
 /// Gives a stream in pieces of one length, and fails at one read.
 #[derive(Drop)]
-struct Pieces<'a> {
-    bytes: &'a [u8],
-    size: usize,
-    reads_before_failure: u64,
-    failures: u64,
-    failed_last: bool,
+pub struct Pieces<'a> {
+    pub bytes: &'a [u8],
+    pub size: usize,
+    pub reads_before_failure: u64,
+    pub failures: u64,
+    pub failed_last: bool,
 }
 
 impl Source for Pieces<'_> {
@@ -64,10 +54,10 @@ impl Source for Pieces<'_> {
 
 /// Keeps what it is given.
 #[derive(Drop)]
-struct Kept<'a> {
-    bytes: &'a mut Vec<u8>,
-    failures: u64,
-    failed_last: bool,
+pub struct Kept<'a> {
+    pub bytes: &'a mut Vec<u8>,
+    pub failures: u64,
+    pub failed_last: bool,
 }
 
 impl Sink for Kept<'_> {
@@ -89,8 +79,9 @@ impl Sink for Kept<'_> {
     }
 }
 
+/// A clock that stands still.
 #[derive(Drop)]
-struct Stopped(i64);
+pub struct Stopped(pub i64);
 
 impl Clock for Stopped {
     ghost use Rattle.std.specs.Prelude.{None};
@@ -103,7 +94,7 @@ impl Clock for Stopped {
 }
 
 /// The payloads, each in an XLogData frame whose positions and clock are 0.
-fn framed(alloc: Global, payloads: &[&str]) -> Result<Vec<u8>, Fail> {
+pub fn framed(alloc: Global, payloads: &[&str]) -> Result<Vec<u8>, Fail> {
     let mut stream = Vec::new(alloc);
     for payload in payloads {
         let bytes = hex::decode(alloc, *payload)?;
@@ -113,7 +104,7 @@ fn framed(alloc: Global, payloads: &[&str]) -> Result<Vec<u8>, Fail> {
 }
 
 /// Appends an XLogData frame with the payload.
-fn push_frame(stream: &mut Vec<u8>, payload: &[u8]) -> Result<(), Fail> {
+pub fn push_frame(stream: &mut Vec<u8>, payload: &[u8]) -> Result<(), Fail> {
     let length = u32::try_from(payload.len().saturating_add(29))
         .ok()
         .ok_or("a payload's length")?;
@@ -127,7 +118,7 @@ fn push_frame(stream: &mut Vec<u8>, payload: &[u8]) -> Result<(), Fail> {
 
 /// What is printed of a stream that comes in pieces of this length, and what is written back. Without
 /// workers each streamed transaction is spooled.
-fn printed<R: Threads + Wait + Sync>(
+pub fn printed<R: Threads + Wait + Sync>(
     rt: &R,
     alloc: Global,
     stream: &[u8],
@@ -160,28 +151,4 @@ fn printed<R: Threads + Wait + Sync>(
         &mut out,
     );
     (ended, out, written)
-}
-
-#[test]
-fn streams_end_in_their_reports(rt: HostRuntime) -> Result<(), Fail> {
-    for case in &CASES {
-        let stream = framed(rt.alloc(), case.payloads)?;
-        for workers in 0..if case.without_workers { 1 } else { 4 } {
-            let config = Config {
-                workers,
-                spool: case.spool,
-                ..CONFIG
-            };
-            let (ended, out, _) = printed(&rt, rt.alloc(), stream.as_slice(), usize::MAX, &config);
-            assert_eq!(rt;
-                out.as_slice(),
-                case.report.as_bytes(),
-                "{} by {workers}",
-                case.name
-            );
-            assert_eq!(rt; ended.status, case.status, "{} by {workers}", case.name);
-            assert_eq!(rt; ended.line, "", "{} by {workers}", case.name);
-        }
-    }
-    Ok(())
 }

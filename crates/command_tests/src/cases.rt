@@ -3,15 +3,19 @@
 // In the comments: `B` Begin, `R` the relation, `I` `U` `D` `T` changes, `C` Commit, `S` `E` a block of a streamed
 // transaction, `c` Stream Commit, `A` Stream Abort; `P` commits the rows 1 and 2 at 0/140.
 
+use crate::runs::{CONFIG, framed, printed};
+use leader::Config;
+use std::test::Fail;
+
 /// A stream and its report.
-pub struct Case {
-    pub name: &'static str,
-    pub payloads: &'static [&'static str],
-    pub spool: u64,
+struct Case {
+    name: &'static str,
+    payloads: &'static [&'static str],
+    spool: u64,
     /// Workers, or their schedule, may make it another one.
-    pub without_workers: bool,
-    pub report: &'static str,
-    pub status: u8,
+    without_workers: bool,
+    report: &'static str,
+    status: u8,
 }
 
 const SPOOL: u64 = 1 << 30;
@@ -20,7 +24,7 @@ const SPOOL: u64 = 1 << 30;
 const ACCOUNTS: &str =
     "52000040017075626c6963006163636f756e7473006400030169640000000017ffffffff00656d61696c0000000019ffffffff006e6f74650000000019ffffffff";
 
-pub static CASES: [Case; 28] = [
+static CASES: [Case; 28] = [
     // B(900,0/100) R I(1,a,n) I(2,b,NULL) I(3,NULL,) C(0/100,0/120)
     Case {
         name: "nulls and empty texts",
@@ -519,3 +523,27 @@ pub static CASES: [Case; 28] = [
         status: 0,
     },
 ];
+
+#[test]
+fn streams_end_in_their_reports(rt: HostRuntime) -> Result<(), Fail> {
+    for case in &CASES {
+        let stream = framed(rt.alloc(), case.payloads)?;
+        for workers in 0..if case.without_workers { 1 } else { 4 } {
+            let config = Config {
+                workers,
+                spool: case.spool,
+                ..CONFIG
+            };
+            let (ended, out, _) = printed(&rt, rt.alloc(), stream.as_slice(), usize::MAX, &config);
+            assert_eq!(rt;
+                out.as_slice(),
+                case.report.as_bytes(),
+                "{} by {workers}",
+                case.name
+            );
+            assert_eq!(rt; ended.status, case.status, "{} by {workers}", case.name);
+            assert_eq!(rt; ended.line, "", "{} by {workers}", case.name);
+        }
+    }
+    Ok(())
+}

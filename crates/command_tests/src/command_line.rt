@@ -1,6 +1,6 @@
 // What a command line asks for: the limits of its numbers, and what stands where none was given.
-use crate::options;
-use crate::options::Input;
+use command::options;
+use command::options::Input;
 use leader::Config;
 use std::alloc::Global;
 use std::test::Fail;

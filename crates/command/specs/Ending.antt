@@ -12,7 +12,7 @@ use Rattle.spooled.specs.declared.outcome.Outcome.{Outcome}
 use Rattle.spooled.specs.Devices.{DeviceState}
 use Rattle.spooled.specs.Report.{report_text}
 use Rattle.leader.specs.WithWorkers.{RunsBy}
-use Rattle.pgapply.specs.declared.execute.Ended.{Ended}
+use Rattle.command.specs.declared.execute.Ended.{Ended}
 
 -- ---- what is said
 

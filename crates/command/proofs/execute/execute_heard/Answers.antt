@@ -6,9 +6,9 @@ use Rattle.spooled.specs.declared.outcome.Config.{Config}
 use Rattle.spooled.specs.declared.outcome.Outcome.{Outcome}
 use Rattle.spooled.specs.Devices.{DeviceState}
 use Rattle.leader.specs.WithWorkers.{RunsBy}
-use Rattle.pgapply.specs.Ending.{HasRun, workers_of}
-use Rattle.pgapply.proofs.execute.execute_heard.Goals as goal
-use Rattle.pgapply.proofs.execute.execute_heard.Goals.{then-spooled, else-spooled}
+use Rattle.command.specs.Ending.{HasRun, workers_of}
+use Rattle.command.proofs.execute.execute_heard.Goals as goal
+use Rattle.command.proofs.execute.execute_heard.Goals.{then-spooled, else-spooled}
 
 -- a run by as many workers from the same rows, over the same devices, that nobody watched
 same_run : (n m v : ℕ) (catalog : List Definition) (config : Config) (rows first : Rows) (old new left : DeviceState) (o outcome : Outcome) → m ≡ n → v ≡ 0 → rows ≡ first → left ≡ new → outcome ≡ o

@@ -1,6 +1,6 @@
 // How streams come: in pieces, cut short, from a source or to a sink that fails; and catalogs that are refused.
-use super::{CATALOG, CONFIG, Kept, Pieces, Stopped, framed, printed, push_frame};
-use crate::execute::{Ended, execute};
+use crate::runs::{CATALOG, CONFIG, Kept, Pieces, Stopped, framed, printed, push_frame};
+use command::execute::{Ended, execute};
 use std::alloc::Global;
 use std::fmt::Write;
 use std::sync::Wait;

@@ -1,7 +1,7 @@
 // What a command says where it can't go on, and what it writes at its end.
-use super::progress::Host;
-use crate::execute::Ended;
-use crate::output::{Failure, print, say_failure};
+use crate::progress::Host;
+use command::execute::Ended;
+use command::output::{Failure, print, say_failure};
 use std::io;
 use std::test::Fail;
 
