@@ -9,12 +9,15 @@ use trace::Trace;
 #[derive(Drop)]
 pub struct Account {
     text: String,
+    /// Whether a run has ended. Without one there is no place in the stream to tell.
+    has_run: bool,
 }
 
 impl Account {
     pub fn new(alloc: Global) -> Account {
         Account {
             text: String::new(alloc),
+            has_run: false,
         }
     }
 
@@ -23,8 +26,12 @@ impl Account {
         self.text.as_str()
     }
 
-    /// Adds where the run stood when it ended, of a trace that stopped at each frame.
+    /// Adds where the run stood when it ended, of a trace that stopped at each frame; nothing where no
+    /// run began.
     pub fn add_place(&mut self, trace: &Trace) -> Result<(), AllocError> {
+        if !self.has_run {
+            return Ok(());
+        }
         let counts = trace.counts();
         let place = trace.place();
         let bytes = counts.bytes;
@@ -99,11 +106,15 @@ impl Account {
 }
 
 impl Hearer for Account {
+    // The line of a catalog that was refused for memory says so already.
     fn hear_refusal(&mut self, fault: CatalogFault) {
-        let _added = write!(self.text, "pgapply: {fault}\n");
+        if fault != CatalogFault::OutOfMemory {
+            let _added = write!(self.text, "pgapply: {fault}\n");
+        }
     }
 
     fn hear_end(&mut self, catalog: &Catalog, outcome: &Outcome) {
+        self.has_run = true;
         let _added = self.add_end(catalog, outcome.end);
     }
 }

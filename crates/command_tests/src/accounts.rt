@@ -9,12 +9,9 @@ use indexes::Tables;
 use leader::{Config, Devices, End, Outcome};
 use std::alloc::Global;
 use std::io::Cursor;
-use std::rt::Clock as Host;
 use std::sync::Wait;
 use std::test::Fail;
-use std::thread;
 use std::thread::Threads;
-use std::time::Duration;
 use trace::{Trace, Watched, Watcher};
 
 /// Says nothing.
@@ -25,31 +22,19 @@ impl Watcher for Quiet {
     fn look(&mut self, _trace: &Trace) {}
 }
 
-/// Says nothing, and lets workers go on at each read.
-#[derive(Drop)]
-struct Slow<'a, H: Host> {
-    host: &'a H,
-}
-
-impl<H: Host> Watcher for Slow<'_, H> {
-    fn look(&mut self, _trace: &Trace) {
-        thread::sleep(self.host, Duration::from_millis(1));
-    }
-}
-
 /// What is said of a run of this stream. Without workers each streamed transaction is spooled.
-fn said<R: Threads + Wait + Sync, V: Watcher>(
+fn said<R: Threads + Wait + Sync>(
     rt: &R,
     alloc: Global,
     stream: Vec<u8>,
     workers: usize,
-    watcher: &mut V,
 ) -> Result<Account, Fail> {
     let mut out = Vec::new(alloc);
     let mut trace = Trace::new(alloc);
+    let mut quiet = Quiet;
     let mut account = Account::new(alloc);
     let source = ReadSource::new(Cursor::new(stream));
-    let watched = Watched::new(source, &mut trace, watcher, true);
+    let watched = Watched::new(source, &mut trace, &mut quiet, true);
     let mut devices = Devices::new(watched, WriteSink::new(Updates::Nowhere), Stopped(5));
     let config = Config { workers, ..CONFIG };
     let ended = execute_heard(
@@ -256,59 +241,68 @@ fn why_and_where_a_run_ended(rt: HostRuntime) -> Result<(), Fail> {
             let mut stream = framed(alloc, case.payloads)?;
             let rest = hex::decode(alloc, case.rest)?;
             stream.extend_from_slice(rest.as_slice())?;
-            let account = said(&rt, alloc, stream, workers, &mut Quiet)?;
+            let account = said(&rt, alloc, stream, workers)?;
             assert_eq!(rt; account.text(), case.said, "{} by {workers}", case.name);
         }
     }
     Ok(())
 }
 
-/// S(700,1), the relation, 700:U(7,g,v), E, B(900,0/100) and I(7,g,n).
-const HELD: [&str; 6] = [
-    START,
-    RELATION_IN_BLOCK,
-    "55000002bc000040014e0003740000000137740000000167740000000176",
-    STOP,
-    BEGIN,
-    "49000040014e000374000000013774000000016774000000016e",
-];
-
-const SAID_OF_HELD: &str =
-    "pgapply: transaction 900 needs a row or a unique value that transaction 700 holds: the tables are no true copy of the publisher's: compare them at the position, or begin again with empty tables\n\
-    pgapply: 333 bytes were read, whole frames 6; the last frame begins at byte 277, at 0/0 of the publisher's log\n\
-    pgapply: it is Insert, of transaction 900, of relation 16385 (public.accounts)\n";
-
-// Where the worker comes too late, the run ends well and is tried again.
-#[test]
-fn a_row_that_a_worker_holds(rt: HostRuntime) -> Result<(), Fail> {
-    for _ in 0..100 {
-        let stream = framed(rt.alloc(), &HELD)?;
-        let account = said(&rt, rt.alloc(), stream, 1, &mut Slow { host: &rt })?;
-        if !account.text().is_empty() {
-            assert_eq!(rt; account.text(), SAID_OF_HELD);
-            return Ok(());
-        }
-    }
-    Err("a worker that always comes too late".into())
+/// What is said where a catalog is refused.
+fn said_of_refusal(alloc: Global, fault: CatalogFault) -> Account {
+    let mut account = Account::new(alloc);
+    account.hear_refusal(fault);
+    account
 }
 
-// A catalog is refused before its stream is read, and no stream has memory refused.
-#[test]
-fn ends_that_no_stream_brings_about(rt: HostRuntime) -> Result<(), Fail> {
-    let alloc = rt.alloc();
-    let mut refused = Account::new(alloc);
-    refused.hear_refusal(CatalogFault::NoPrimaryKey);
-    assert_eq!(rt; refused.text(), "pgapply: a table has no primary key\n");
+/// What is said of a run from empty tables that ended so.
+fn said_of_end(alloc: Global, end: End) -> Result<Account, Fail> {
     let catalog = Catalog::read(alloc, CATALOG)?;
     let outcome = Outcome {
         tables: Tables::empty(alloc, &catalog)?,
         journal: Vec::new(alloc),
         position: 0,
-        end: End::OutOfMemory,
+        end,
     };
-    let mut ended = Account::new(alloc);
-    ended.hear_end(&catalog, &outcome);
-    let want = "pgapply: memory was refused: give the process more, or the spool less\n";
-    assert_eq!(rt; ended.text(), want);
+    let mut account = Account::new(alloc);
+    account.hear_end(&catalog, &outcome);
+    Ok(account)
+}
+
+// A catalog is refused before its stream is read: there is no place in it to tell.
+#[test]
+fn catalogs_that_are_refused(rt: HostRuntime) -> Result<(), Fail> {
+    for (fault, said) in [
+        (
+            CatalogFault::NoPrimaryKey,
+            "pgapply: a table has no primary key\n",
+        ),
+        (CatalogFault::OutOfMemory, ""),
+    ] {
+        let mut account = said_of_refusal(rt.alloc(), fault);
+        account.add_place(&Trace::new(rt.alloc()))?;
+        assert_eq!(rt; account.text(), said);
+    }
+    Ok(())
+}
+
+// Which of two transactions holds a row is the schedule's choice, and no stream has memory refused.
+#[test]
+fn ends_that_no_stream_alone_brings_about(rt: HostRuntime) -> Result<(), Fail> {
+    for (end, said) in [
+        (
+            End::HeldKey {
+                xid: 900,
+                holder: 700,
+            },
+            "pgapply: transaction 900 needs a row or a unique value that transaction 700 holds: the tables are no true copy of the publisher's: compare them at the position, or begin again with empty tables\n",
+        ),
+        (
+            End::OutOfMemory,
+            "pgapply: memory was refused: give the process more, or the spool less\n",
+        ),
+    ] {
+        assert_eq!(rt; said_of_end(rt.alloc(), end)?.text(), said);
+    }
     Ok(())
 }
