@@ -7,3 +7,4 @@ pub mod Altered
 pub mod Footprint
 pub mod Reading
 pub mod KeptRow
+pub mod Between

@@ -107,7 +107,7 @@ impl<'a> CellRef<'a> {
 }
 
 impl<'a> Comparable<Cell> for CellRef<'a> {
-    ghost use Rattle.indexes.specs.Hashed.{le_lt_trans};
+    ghost use Rattle.change.specs.Between.{le_lt_trans};
     ghost use Rattle.model.specs.CellOrder.{cell_cmp, cell_cmp_total};
     ghost use Rattle.change.specs.Reading.{cell_read};
 

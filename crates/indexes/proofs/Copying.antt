@@ -1,18 +1,39 @@
 -- Indexes that were copied, and a table over them.
-use Rattle.std.specs.Prelude.{◌≡◌, ℕ, suc, ◌<◌, List, [], ◌∷◌, ◌++◌, length, map, Option, refl, slice_index_or, IsSome}
+use Rattle.std.specs.Prelude.{◌≡◌, ℕ, suc, ◌<◌, List, [], ◌∷◌, ◌++◌, length, map, Option, Some, None, refl, slice_index_or, IsSome}
 use Rattle.std.proofs.Common.{zero, sym, ◌∙◌, ap, subst, arith}
+use Rattle.std.specs.List.{AllZip}
 use Rattle.std.specs.Map.{lookup, keys_of}
-use Rattle.std.specs.BTreeMap.{is_at}
 use Rattle.std.specs.FinMap as finite
+use Rattle.std.specs.Ordering.{eq_by_cmp}
 use Rattle.model.specs.declared.key.Key.{Key}
+use Rattle.model.specs.Key.{key_cmp}
 use Rattle.rows.specs.Kept.{Kept}
 use Rattle.indexes.specs.declared.unique.Unique.{Unique}
-use Rattle.indexes.specs.Hashed.{hashed_cmp}
 use Rattle.indexes.specs.Unique as step
 use Rattle.indexes.specs.Unique.{plain, number_in, EachStep}
 use Rattle.indexes.specs.Table.{Spot, TableContent}
 use Rattle.indexes.specs.Indexed.{IsIndexed, columns_of, entry_spots, room_of}
 use Rattle.indexes.proofs.Tabling.{indexed_kept}
+
+-- a list of clones is the list, where each clone is what it was made of
+pub clones_are : {X : Type 0} (R : X → X → Type 0) → ((x y : X) → R x y → y ≡ x) → (xs ys : List X) → AllZip R xs ys → ys ≡ xs
+clones_are R same [] [] all = refl
+clones_are R same [] (y ∷ ys) all = absurd all
+clones_are R same (x ∷ xs) [] all = absurd all
+clones_are R same (x ∷ xs) (y ∷ ys) all = ap (λ z. z ∷ ys) (same x y all.0) ∙ ap (λ zs. x ∷ zs) (clones_are R same xs ys all.1)
+
+-- an entry is its clone, if values and number are
+pub entry_is : (C : Key → Key → Type 0) (D : Option ℕ → Option ℕ → Type 0) → ((x y : Key) → C x y → y ≡ x) → ((m n : Option ℕ) → D m n → n ≡ m)
+    → (p q : Key × Option ℕ) → C p.0 q.0 × D p.1 q.1 → q ≡ p
+entry_is C D keys numbers p q is = ap (λ k. (k, q.1)) (keys p.0 q.0 is.0) ∙ ap (λ n. (p.0, n)) (numbers p.1 q.1 is.1)
+
+-- a number or none is its clone, if each number is
+pub number_is : (D : Option ℕ → Option ℕ → Type 0) → ((n : ℕ) → ¬ D None (Some n)) → ((m : ℕ) → ¬ D (Some m) None) → ((m n : ℕ) → D (Some m) (Some n) → n ≡ m)
+    → (m n : Option ℕ) → D m n → n ≡ m
+number_is D came went same None None is = refl
+number_is D came went same None (Some n) is = absurd (came n is)
+number_is D came went same (Some m) None is = absurd (went m is)
+number_is D came went same (Some m) (Some n) is = ap Some (same m n is)
 
 first_plain : (u v : Unique) (us vs : List Unique) → map plain (v ∷ vs) ≡ map plain (u ∷ us) → plain v ≡ plain u
 first_plain u v us vs e = cc
@@ -41,8 +62,8 @@ copied_steps us vs e = record {
       record {
         columns = ap (λ (p : List ℕ × List (Key × Option ℕ)). p.0) same;
         entries = record {
-          numbers = λ values. ap (λ es. number_in (lookup (is_at (hashed_cmp values)) es)) entries;
-          entries = λ values some. subst (λ (es : List (Key × Option ℕ)). IsSome (lookup (is_at (hashed_cmp values)) es)) (sym entries) some;
+          numbers = λ values. ap (λ es. number_in (lookup (eq_by_cmp key_cmp values) es)) entries;
+          entries = λ values some. subst (λ (es : List (Key × Option ℕ)). IsSome (lookup (eq_by_cmp key_cmp values) es)) (sym entries) some;
         };
       };
 }

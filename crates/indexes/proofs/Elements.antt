@@ -3,11 +3,9 @@ use Rattle.std.specs.Prelude.{◌≡◌, ℕ, suc, ◌<◌, true, false, cond, L
 use Rattle.std.proofs.Common.{zero, sym, ◌∙◌, ap, inl, inr, arith}
 use Rattle.std.specs.List.{Contains}
 use Rattle.std.specs.Map.{lookup}
-use Rattle.std.specs.BTreeMap.{is_at}
 use Rattle.std.specs.Ordering.{eq_by_cmp}
-use Rattle.std.specs.Cmp.{IsTotalOrder, eq_by_cmp_equiv}
-use Rattle.std.specs.declared.cmp.Ordering.{Ordering}
-use Rattle.std.specs.FinMap.{FinMap, IsAntisymmetric, find, get, keys, entries, get-entries}
+use Rattle.std.specs.Cmp.{eq_by_cmp_equiv}
+use Rattle.std.specs.FinMap.{FinMap, find, get, keys, entries, get-entries}
 use Rattle.std.proofs.lemmas.Map.Views.{tells_apart}
 use Rattle.model.specs.declared.key.Key.{Key}
 use Rattle.model.specs.Key.{key_cmp, key_cmp_total}
@@ -56,46 +54,46 @@ module _ {X Y : Type 0} (f : X → Y) where
   elem_of_map (x ∷ xs) y (inl e) = (x, inl refl, e)
   elem_of_map (x ∷ xs) y (inr h) = let r = elem_of_map xs y h in (r.0, inr r.1, r.2)
 
--- two keys are one, or an order that tells keys apart tells them so
-pub one_or_other : {cmp : Key → Key → Ordering} → IsAntisymmetric cmp → (key other : Key) → (key ≡ other) ⊎ (eq_by_cmp cmp key other ≡ false)
-one_or_other {cmp = cmp} exact key other =
-    elim (eq_by_cmp cmp key other) as (λ b. eq_by_cmp cmp key other ≡ b → (key ≡ other) ⊎ (eq_by_cmp cmp key other ≡ false)) [
-      | true ↦ λ e. inl (tells_apart exact key other e)
+-- two keys are one, or their order tells them apart
+pub one_or_other : (key other : Key) → (key ≡ other) ⊎ (eq_by_cmp key_cmp key other ≡ false)
+one_or_other key other =
+    elim (eq_by_cmp key_cmp key other) as (λ b. eq_by_cmp key_cmp key other ≡ b → (key ≡ other) ⊎ (eq_by_cmp key_cmp key other ≡ false)) [
+      | true ↦ λ e. inl (tells_apart key_cmp_exact key other e)
       | false ↦ λ e. inr e
     ] refl
 
-at_itself : {cmp : Key → Key → Ordering} → IsTotalOrder cmp → (key other : Key) → other ≡ key → eq_by_cmp cmp key other ≡ true
-at_itself {cmp = cmp} total key other e = ap (eq_by_cmp cmp key) e ∙ (eq_by_cmp_equiv total).refl key
+at_itself : (key other : Key) → other ≡ key → eq_by_cmp key_cmp key other ≡ true
+at_itself key other e = ap (eq_by_cmp key_cmp key) e ∙ (eq_by_cmp_equiv key_cmp_total).refl key
 
--- the keys of entries are those that a look-up finds, by an order that tells keys apart
-module _ {X : Type 0} {cmp : Key → Key → Ordering} (total : IsTotalOrder cmp) (exact : IsAntisymmetric cmp) where
-  pub found_key : (es : List (Key × X)) (q : Key) (x : X) → lookup (is_at (cmp q)) es ≡ Some x → Elem (map (λ e. e.0) es) q
+-- the keys of entries are those that a look-up finds
+module _ {X : Type 0} where
+  pub found_key : (es : List (Key × X)) (q : Key) (x : X) → lookup (eq_by_cmp key_cmp q) es ≡ Some x → Elem (map (λ e. e.0) es) q
   found_key [] q x e = absurd cc
   found_key (f ∷ es) q x e =
-      elim (one_or_other exact q f.0) [
+      elim (one_or_other q f.0) [
         | inl same ↦ inl (sym same)
-        | inr apart ↦ inr (found_key es q x (ap (λ b. cond b (Some f.1) (lookup (is_at (cmp q)) es)) (sym apart) ∙ e))
+        | inr apart ↦ inr (found_key es q x (ap (λ b. cond b (Some f.1) (lookup (eq_by_cmp key_cmp q) es)) (sym apart) ∙ e))
       ]
 
-  pub key_found : (es : List (Key × X)) (q : Key) → Elem (map (λ e. e.0) es) q → (x : X) × (lookup (is_at (cmp q)) es ≡ Some x)
+  pub key_found : (es : List (Key × X)) (q : Key) → Elem (map (λ e. e.0) es) q → (x : X) × (lookup (eq_by_cmp key_cmp q) es ≡ Some x)
   key_found [] q h = absurd h
-  key_found (f ∷ es) q (inl e) = (f.1, ap (λ b. cond b (Some f.1) (lookup (is_at (cmp q)) es)) (at_itself total q f.0 e))
+  key_found (f ∷ es) q (inl e) = (f.1, ap (λ b. cond b (Some f.1) (lookup (eq_by_cmp key_cmp q) es)) (at_itself q f.0 e))
   key_found (f ∷ es) q (inr h) =
-      elim (one_or_other exact q f.0) [
-        | inl same ↦ (f.1, ap (λ b. cond b (Some f.1) (lookup (is_at (cmp q)) es)) (at_itself total q f.0 (sym same)))
-        | inr apart ↦ let r = key_found es q h in (r.0, ap (λ b. cond b (Some f.1) (lookup (is_at (cmp q)) es)) apart ∙ r.1)
+      elim (one_or_other q f.0) [
+        | inl same ↦ (f.1, ap (λ b. cond b (Some f.1) (lookup (eq_by_cmp key_cmp q) es)) (at_itself q f.0 (sym same)))
+        | inr apart ↦ let r = key_found es q h in (r.0, ap (λ b. cond b (Some f.1) (lookup (eq_by_cmp key_cmp q) es)) apart ∙ r.1)
       ]
 
 module _ {X : Type 0} where
-  found_is : (es : List (Key × X)) (q : Key) → find key_cmp q es ≡ lookup (is_at (key_cmp q)) es
+  found_is : (es : List (Key × X)) (q : Key) → find key_cmp q es ≡ lookup (eq_by_cmp key_cmp q) es
   found_is [] q = refl
   found_is (e ∷ es) q = ap (cond (eq_by_cmp key_cmp q e.0) (Some e.1)) (found_is es q)
 
   pub elem_keys : (m : FinMap key_cmp X) (q : Key) (x : X) → get m q ≡ Some x → Elem (keys m) q
-  elem_keys m q x e = found_key key_cmp_total key_cmp_exact (entries m) q x (sym (found_is (entries m) q) ∙ sym (get-entries m q) ∙ e)
+  elem_keys m q x e = found_key (entries m) q x (sym (found_is (entries m) q) ∙ sym (get-entries m q) ∙ e)
 
   pub get_elem : (m : FinMap key_cmp X) (q : Key) → Elem (keys m) q → (x : X) × (get m q ≡ Some x)
-  get_elem m q h = let r = key_found key_cmp_total key_cmp_exact (entries m) q h in (r.0, get-entries m q ∙ found_is (entries m) q ∙ r.1)
+  get_elem m q h = let r = key_found (entries m) q h in (r.0, get-entries m q ∙ found_is (entries m) q ∙ r.1)
 
 pub some_of : {X : Type 0} (o : Option X) → IsSome o → (x : X) × (o ≡ Some x)
 some_of None e = absurd cc

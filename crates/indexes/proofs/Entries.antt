@@ -6,7 +6,6 @@ use Rattle.model.specs.declared.key.Key.{Key}
 use Rattle.model.specs.declared.row.Row.{Row}
 use Rattle.model.specs.Rows.{value_at, values_in, with_first}
 use Rattle.indexes.specs.Columns.{present, before_key}
-use Rattle.indexes.specs.Hashed.{hashed_cmp_exact}
 use Rattle.indexes.proofs.Elements.{one_or_other}
 use Rattle.indexes.proofs.Indexing.{has_or_not}
 use Rattle.indexes.specs.Unique.{Entries, entry_at, held, held_by, number_in, with_number, SameApart, KeepsEntries, SetsEntry, PutsEntry, SettlesEntry}
@@ -38,11 +37,11 @@ held_by_none columns row entries none = ap (held_by entries) (none_of_false (val
 pub entry_added : (old new : Entries) (values : Key) → entry_at old values ≡ None → entry_at new values ≡ Some None
     → SameApart values old new → KeepsEntries old new
 entry_added old new values absent here beside = record {
-  numbers = λ other. elim (one_or_other hashed_cmp_exact values other) [
+  numbers = λ other. elim (one_or_other values other) [
     | inl same ↦ subst (λ (v : Key). held new v ≡ held old v) same (ap number_in here ∙ ap number_in (sym absent))
     | inr apart ↦ ap number_in (beside other apart)
   ];
-  entries = λ other some. elim (one_or_other hashed_cmp_exact values other) [
+  entries = λ other some. elim (one_or_other values other) [
     | inl same ↦ subst (λ (v : Key). IsSome (entry_at new v)) same (ap is_some here)
     | inr apart ↦ ap is_some (beside other apart) ∙ some
   ];
@@ -53,11 +52,11 @@ pub number_put : (columns : List ℕ) (row : Row) (number : ℕ) (old new : Entr
     → entry_at new has ≡ Some (Some number) → SameApart has old new → PutsEntry columns row number old new
 number_put columns row number old new has is here beside = record {
   here = λ values e. let same : has ≡ values = cc in ap number_in (subst (λ (v : Key). entry_at new v ≡ Some (Some number)) same here);
-  beside = λ values differs. elim (one_or_other hashed_cmp_exact has values) [
+  beside = λ values differs. elim (one_or_other has values) [
     | inl same ↦ absurd (differs (is ∙ ap Some same))
     | inr apart ↦ ap number_in (beside values apart)
   ];
-  entries = λ values some. elim (one_or_other hashed_cmp_exact has values) [
+  entries = λ values some. elim (one_or_other has values) [
     | inl same ↦ subst (λ (v : Key). IsSome (entry_at new v)) same (ap is_some here)
     | inr apart ↦ ap is_some (beside values apart) ∙ some
   ];
@@ -81,7 +80,7 @@ pub set_at_present : (columns : List ℕ) (row : Row) (number : Option ℕ) (old
     → SetsEntry columns row number old new
 set_at_present columns row number old new has is here beside = record {
   here = λ values e. subst (λ (v : Key). entry_at new v ≡ with_number number (entry_at old v)) (present_is columns row values e) here;
-  beside = λ values differs. elim (one_or_other hashed_cmp_exact (present columns row) values) [
+  beside = λ values differs. elim (one_or_other (present columns row) values) [
     | inl same ↦ absurd (differs (is ∙ ap Some (sym (present_is columns row has is) ∙ same)))
     | inr apart ↦ beside values apart
   ];
@@ -97,7 +96,7 @@ settled_at_present columns row old new has is gone numbers fewer beside = record
   gone = λ values e. subst (λ (v : Key). held old v ≡ None → entry_at new v ≡ None) (present_is columns row values e) gone;
   numbers = numbers;
   fewer = fewer;
-  beside = λ values differs. elim (one_or_other hashed_cmp_exact (present columns row) values) [
+  beside = λ values differs. elim (one_or_other (present columns row) values) [
     | inl same ↦ absurd (differs (is ∙ ap Some (sym (present_is columns row has is) ∙ same)))
     | inr apart ↦ beside values apart
   ];
@@ -115,7 +114,7 @@ nothing_settled columns row entries none = record {
 -- an entry that had no number went
 pub entry_dropped : (old new : Entries) (values : Key) → held old values ≡ None → entry_at new values ≡ None
     → SameApart values old new → (other : Key) → held new other ≡ held old other
-entry_dropped old new values none gone beside other = elim (one_or_other hashed_cmp_exact values other) [
+entry_dropped old new values none gone beside other = elim (one_or_other values other) [
   | inl same ↦ subst (λ (v : Key). held new v ≡ held old v) same (ap number_in gone ∙ sym none)
   | inr apart ↦ ap number_in (beside other apart)
 ]
@@ -123,7 +122,7 @@ entry_dropped old new values none gone beside other = elim (one_or_other hashed_
 -- and no entry came
 pub none_came : (old new : Entries) (values : Key) → entry_at new values ≡ None → SameApart values old new
     → (other : Key) → IsSome (entry_at new other) → IsSome (entry_at old other)
-none_came old new values gone beside other some = elim (one_or_other hashed_cmp_exact values other) [
+none_came old new values gone beside other some = elim (one_or_other values other) [
   | inl same ↦ absurd (let none : entry_at new other ≡ None = subst (λ (v : Key). entry_at new v ≡ None) same gone in let no = ap is_some none in cc)
   | inr apart ↦ ap is_some (sym (beside other apart)) ∙ some
 ]

@@ -1,7 +1,7 @@
 -- Which spots a table's room has, and which a row fills.
 use Rattle.std.specs.Prelude.{◌≡◌, ℕ, suc, ◌+◌, ◌<◌, List, [], ◌∷◌, length, map, Option, Some, None, refl, ◌⊎◌, slice_get, slice_index_or, IsSome, is_some}
 use Rattle.std.proofs.Common.{zero, sym, ◌∙◌, ap, subst, inl, inr, arith}
-use Rattle.std.specs.BTreeMap as tree
+use Rattle.std.specs.HashMap as hash
 use Rattle.std.specs.List.{Contains}
 use Rattle.std.specs.FinMap as finite
 use Rattle.model.specs.declared.key.Key.{Key}
@@ -9,7 +9,6 @@ use Rattle.model.specs.declared.row.Row.{Row}
 use Rattle.model.specs.Rows.{TableKeys, values_in}
 use Rattle.rows.specs.Kept.{Kept}
 use Rattle.indexes.specs.declared.unique.Unique.{Unique}
-use Rattle.indexes.specs.Hashed.{hashed_cmp_total, hashed_cmp_exact}
 use Rattle.indexes.specs.Unique.{entry_at}
 use Rattle.indexes.specs.Table.{Spot, spot, unique_spots, spots_of}
 use Rattle.indexes.specs.Indexed.{entry_spots, room_of, columns_of}
@@ -90,11 +89,11 @@ elem_entry_spots n [] i m d values l some is = absurd (omega arith)
 elem_entry_spots n (u ∷ us) zero m d values l some is =
     let entry = some_of (entry_at u.entries values) some in
     let number_is : n ≡ m = omega arith in
-    elem_left (map (λ v. (n, v)) (tree.keys u.entries)) _ (m, values)
-    (subst (λ (k : ℕ). Elem {X = Spot} (map (λ v. (n, v)) (tree.keys u.entries)) (k, values)) number_is
-    (elem_map (λ (v : Key). (n, v)) (tree.keys u.entries) values (found_key hashed_cmp_total hashed_cmp_exact u.entries.entries values entry.0 entry.1)))
+    elem_left (map (λ v. (n, v)) (hash.keys u.entries)) _ (m, values)
+    (subst (λ (k : ℕ). Elem {X = Spot} (map (λ v. (n, v)) (hash.keys u.entries)) (k, values)) number_is
+    (elem_map (λ (v : Key). (n, v)) (hash.keys u.entries) values (found_key u.entries.entries values entry.0 entry.1)))
 elem_entry_spots n (u ∷ us) (suc i) m d values l some is =
-    elem_right (map (λ v. (n, v)) (tree.keys u.entries)) _ (m, values) (elem_entry_spots (suc n) us i m d values (omega arith) some (omega arith))
+    elem_right (map (λ v. (n, v)) (hash.keys u.entries)) _ (m, values) (elem_entry_spots (suc n) us i m d values (omega arith) some (omega arith))
 
 -- the index that has an entry for a spot
 pub record HasEntryAt (n : ℕ) (us : List Unique) (s : Spot) : Type 0 where
@@ -106,10 +105,10 @@ pub record HasEntryAt (n : ℕ) (us : List Unique) (s : Spot) : Type 0 where
 entry_spots_elem : (n : ℕ) (us : List Unique) (s : Spot) → Elem (entry_spots n us) s → HasEntryAt n us s
 entry_spots_elem n [] s h = absurd h
 entry_spots_elem n (u ∷ us) s h =
-    elim (elem_either (map (λ v. (n, v)) (tree.keys u.entries)) _ s h) [
+    elim (elem_either (map (λ v. (n, v)) (hash.keys u.entries)) _ s h) [
       | inl here ↦
-          let p = elem_of_map (λ (v : Key). (n, v)) (tree.keys u.entries) s here in
-          let e = key_found hashed_cmp_total hashed_cmp_exact u.entries.entries p.0 p.1 in
+          let p = elem_of_map (λ (v : Key). (n, v)) (hash.keys u.entries) s here in
+          let e = key_found u.entries.entries p.0 p.1 in
           record {
             i = 0;
             number = sym (ap (λ (t : Spot). t.0) p.2) ∙ omega arith;

@@ -1,5 +1,5 @@
 -- A step at each index of a table, one more of them done.
-use Rattle.std.specs.Prelude.{◌≡◌, ◌≢◌, ℕ, ◌+◌, ◌<◌, ◌≤◌, List, Option, Some, None, length, refl, ◌⊎◌, slice_index_or, slice_set, take, drop, ◌++◌, Result, Ok, Err, OnErr}
+use Rattle.std.specs.Prelude.{◌≡◌, ◌≢◌, ℕ, ◌+◌, ◌<◌, ◌≤◌, List, Option, Some, None, length, refl, ◌⊎◌, slice_index_or, slice_set, take, drop, ◌++◌, Result, Ok, Err, OnErr, is_err, true}
 use Rattle.std.proofs.Common.{sym, ◌∙◌, ap, subst, inl, inr, arith}
 use Rattle.std.specs.Global.{Vec}
 use Rattle.std.proofs.lemmas.List.{get_or-set_same, get_or-set_other, take_at}
@@ -113,6 +113,11 @@ taken_away row u v w free may sets =
 pub on_any_err : {T E : Type 0} (r : Result T E) (P : Type 0) → P → OnErr r P
 on_any_err (Ok x) P p = tt
 on_any_err (Err e) P p = p
+
+-- what holds of a refusal holds where there is one
+pub of_err : {T E P : Type 0} (r : Result T E) → is_err r ≡ true → OnErr r P → P
+of_err (Ok x) e p = absurd cc
+of_err (Err y) e p = p
 
 -- what was put is taken away again
 pub all_taken_away : (row : Row) (us vs ws : List Unique) → EachIsFree row us → EachStep (MayPut row) us vs → EachStep (Sets row None) vs ws → EachStep KeepsSlots us ws

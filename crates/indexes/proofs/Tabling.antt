@@ -2,18 +2,17 @@
 use Rattle.std.specs.Prelude.{◌≡◌, ◌≢◌, ℕ, suc, ◌<◌, List, [], ◌∷◌, length, Option, Some, None, refl, ◌⊎◌, slice_get, slice_index_or, IsSome, is_some, IfSome, IfNone, ◌≤◌, ◌-◌, unwrap_or, Bool, true, false, if◌then◌else◌}
 use Rattle.std.proofs.Common.{zero, sym, ◌∙◌, ap, subst, inl, inr, arith, true≢false}
 use Rattle.std.specs.Map.{lookup}
-use Rattle.std.specs.BTreeMap.{is_at}
 use Rattle.std.specs.List.{Contains, AllByRecursion}
 use Rattle.std.specs.FinMap.{FinMap, get, insert, remove, empty, get-empty}
 use Rattle.std.specs.Borrow.{Bor}
 use Rattle.model.specs.Key.{key_cmp}
+use Rattle.std.specs.Ordering.{eq_by_cmp}
 use Rattle.model.specs.declared.key.Key.{Key}
 use Rattle.model.specs.declared.row.Row.{Row}
 use Rattle.model.specs.Rows.{TableKeys, values_in}
 use Rattle.rows.specs.Kept.{Kept, KeepsSlots, IsNumbered}
 use Rattle.rows.specs.KeyLaws.{one_or_apart, get_inserted, get_beside_insert, get_removed, get_beside_remove, same_at_and_beside}
 use Rattle.indexes.specs.declared.unique.Unique.{Unique}
-use Rattle.indexes.specs.Hashed.{hashed_cmp}
 use Rattle.indexes.specs.Unique as step
 use Rattle.indexes.specs.Unique.{Entries, entry_at, held, held_by, with_number, number_in, HasEntry, SetsEntry, Sets, Puts, EachStep, EachHasSlot, EachAgrees}
 use Rattle.indexes.specs.Table.{Spot, spots_of, KeepsSpots, NoClash, HasValues, IsTwin, IsSound}
@@ -333,7 +332,7 @@ none_at (u ∷ us) all zero d l = all.0
 none_at (u ∷ us) all (suc k) d l = none_at us all.1 k d (omega arith)
 
 held_none : (u : Unique) → step.HasNone u → (values : Key) → held u.entries values ≡ None
-held_none u none values = ap (λ es. number_in (lookup (is_at (hashed_cmp values)) es)) none
+held_none u none values = ap (λ es. number_in (lookup (eq_by_cmp key_cmp values) es)) none
 
 pub indexed_empty : (primary : List ℕ) (us : List Unique) → AllByRecursion step.HasNone us → IsIndexed primary (record { rows = empty; slots = empty }) us
 indexed_empty primary us all =

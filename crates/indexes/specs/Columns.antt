@@ -1,4 +1,4 @@
--- The values that a row has in some columns, nulls left out: what a map by keys is asked for.
+-- The values that a row has in some columns, nulls left out: what an index is asked for.
 use Rattle.std.specs.Prelude.{ℕ, List, [], ◌∷◌, ◌++◌, Option, Some, None}
 use Rattle.model.specs.declared.value.Value.{Value}
 use Rattle.model.specs.declared.key.Key.{Key}

@@ -2,7 +2,7 @@
 use Rattle.std.specs.Prelude.{◌≡◌, ℕ, suc, List, [], ◌∷◌, ◌++◌, Some, map}
 use Rattle.std.specs.List.{All}
 use Rattle.std.specs.FinMap as finite
-use Rattle.std.specs.BTreeMap as tree
+use Rattle.std.specs.HashMap as hash
 use Rattle.model.specs.declared.key.Key.{Key}
 use Rattle.model.specs.declared.row.Row.{Row as Record}
 use Rattle.model.specs.Rows.{values_in}
@@ -42,7 +42,7 @@ pub record IsIndexed (primary : List ℕ) (kept : Kept) (uniques : List Unique) 
 -- the values that have an entry, of the unique keys numbered from `number`
 abbrev pub entry_spots : ℕ → List Unique → List Spot
 entry_spots number [] = []
-entry_spots number (u ∷ us) = map (λ values. (number, values)) (tree.keys u.entries) ++ entry_spots (suc number) us
+entry_spots number (u ∷ us) = map (λ values. (number, values)) (hash.keys u.entries) ++ entry_spots (suc number) us
 
 -- a table's room: the keys that have a slot, and for each unique key the values that have an entry
 abbrev pub room_of : Kept → List Unique → List Spot

@@ -1,5 +1,4 @@
 pub mod Columns
-pub mod Hashed
 pub mod Unique
 pub mod Table
 pub mod Content

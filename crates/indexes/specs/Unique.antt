@@ -4,17 +4,18 @@
 --     Sets, Puts, Settles      the number at the row's values is set; it comes there; their entry is dropped if it has none
 use Rattle.std.specs.Prelude.{◌≡◌, ◌≢◌, ℕ, ◌<◌, false, List, [], length, Option, Some, None, IsSome, slice_index_or, map}
 use Rattle.std.specs.Ordering.{eq_by_cmp}
-use Rattle.std.specs.BTreeMap as tree
-use Rattle.std.specs.BTreeMap.{BTreeMap}
+use Rattle.std.specs.HashMap as hash
+use Rattle.std.specs.HashMap.{HashMap}
 use Rattle.model.specs.declared.key.Key.{Key}
 use Rattle.model.specs.declared.row.Row.{Row}
+use Rattle.model.specs.Key.{key_cmp}
 use Rattle.model.specs.Rows.{values_in}
+use Rattle.indexes.specs.declared.seed.Seed.{Seed}
 use Rattle.indexes.specs.declared.unique.Unique.{Unique}
-use Rattle.indexes.specs.Hashed.{hashed_cmp}
 
 -- an index: from values of a unique key to the number of the row's slot, none where the row went
 abbrev pub Entries : Type 0
-Entries = BTreeMap Key (Option ℕ)
+Entries = HashMap Key (Option ℕ) Seed
 
 -- the number in an entry, if there is an entry and it has one
 abbrev pub number_in : Option (Option ℕ) → Option ℕ
@@ -23,7 +24,7 @@ number_in (Some number) = number
 
 -- the entry for some values, if there is one
 abbrev pub entry_at : Entries → Key → Option (Option ℕ)
-entry_at entries values = tree.get hashed_cmp entries values
+entry_at entries values = hash.get (eq_by_cmp key_cmp) entries values
 
 -- the number at some values, if there is an entry with one
 abbrev pub held : Entries → Key → Option ℕ
@@ -41,7 +42,7 @@ with_number number (Some before) = Some number
 
 -- the entries for other values are as they were
 abbrev pub SameApart : Key → Entries → Entries → Type 0
-SameApart values old new = (other : Key) → eq_by_cmp hashed_cmp values other ≡ false → entry_at new other ≡ entry_at old other
+SameApart values old new = (other : Key) → eq_by_cmp key_cmp values other ≡ false → entry_at new other ≡ entry_at old other
 
 -- no number changes, and no entry goes
 pub record KeepsEntries (old new : Entries) : Type 0 where

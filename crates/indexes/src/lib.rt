@@ -6,9 +6,9 @@
 // table's keys. The type keeps it valid: each row stands at its own key, which holds no null, and
 // no two rows of a table have the same values in a unique key, nulls aside.
 //
-// Inside, each table is a store of rows and one ordered map for each unique key, from its values
+// Inside, each table is a store of rows and one map of hashes for each unique key, from its values
 // to the number of the row's slot. So a unique value is looked up, and never searched for, and an
-// entry is written without memory. A slot and an entry outlive their row, empty, until `settle`:
+// entry is written without memory. What the hashes begin with is a seed that a caller may choose. A slot and an entry outlive their row, empty, until `settle`:
 // the tables have `room` for what was there, and each change has a restoring form that needs room
 // alone, takes no memory and succeeds. `wipe` moves a table's whole content out, and `unwipe`
 // moves it back; no row is copied.
@@ -16,13 +16,16 @@
 //   tables     `Tables`, all of a catalog
 //   table      `Table`, one of them
 //   unique     the index of a unique key
-//   hashed     values in the order of an index: by their hash first
+//   sought     what an index is asked for: values as they lie in a row
+//   seed       what the hashes of indexes begin with
 //   columns    a row's values in the columns of a key
 mod columns;
-mod hashed;
+pub mod seed;
+mod sought;
 pub mod table;
 pub mod tables;
 mod unique;
 
+pub use seed::Seed;
 pub use table::{Contents, Table};
 pub use tables::Tables;

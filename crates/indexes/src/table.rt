@@ -8,6 +8,7 @@ ghost use Rattle.model.specs.declared.key.Key.{Key as AnyKey};
 ghost use Rattle.indexes.specs.Table.{Spot, IsSound, IsOfSettled, IsFilled, HasValues, IsTwin, KeepsValues, NoClash, KeepsSpots, spots_of, unique_at};
 
 use crate::columns::values_of;
+use crate::seed::Seed;
 use crate::unique::{
     Unique, agree_in_each, copy_each, copy_numbers, put_each, reserve_each, set_each, settle_each,
 };
@@ -24,6 +25,7 @@ pub struct Table {
     primary: Vec<usize>,
     uniques: Vec<Unique>,
     rows: OrderedRows,
+    seed: Seed,
     alloc: Global,
 }
 
@@ -72,18 +74,22 @@ impl Contents {
 }
 
 impl Table {
-    /// The empty table of a definition.
-    pub fn of_definition(alloc: Global, definition: &TableDef) -> Result<Table, OutOfMemory>
+    /// The empty table of a definition, whose indexes hash from a seed.
+    pub fn of_definition(
+        alloc: Global,
+        definition: &TableDef,
+        seed: Seed,
+    ) -> Result<Table, OutOfMemory>
         ensures keys { IfOk result (λ table. table.keys ≡ keys_of definition.now) }
         ensures empty { IfOk result (λ table. table.rows ≡ finite.empty) }
         ensures sound { IfOk result IsSound }
     {
         let mut uniques = Vec::new(alloc);
         for columns in definition.uniques() {
-            uniques.push(Unique::new(alloc, columns.numbers())?)?;
+            uniques.push(Unique::new(alloc, columns.numbers(), seed)?)?;
         }
         let primary = copy_numbers(alloc, definition.primary().numbers())?;
-        Ok(Table::empty(alloc, primary, uniques))
+        Ok(Table::empty(alloc, primary, uniques, seed))
     }
 
     /// An equal table.
@@ -94,6 +100,7 @@ impl Table {
             primary: copy_numbers(self.alloc, self.primary.as_slice())?,
             uniques: copy_each(self.alloc, self.uniques.as_slice())?,
             rows: self.rows.copy()?,
+            seed: self.seed,
             alloc: self.alloc,
         })
     }
@@ -107,13 +114,13 @@ impl Table {
         let alloc = self.alloc;
         let mut uniques = Vec::new(alloc);
         for unique in &self.uniques {
-            uniques.push(Unique::new(alloc, unique.columns.as_slice())?)?;
+            uniques.push(Unique::new(alloc, unique.columns.as_slice(), self.seed)?)?;
         }
         let primary = copy_numbers(alloc, self.primary.as_slice())?;
-        Ok(Table::empty(alloc, primary, uniques))
+        Ok(Table::empty(alloc, primary, uniques, self.seed))
     }
 
-    fn empty(alloc: Global, primary: Vec<usize>, uniques: Vec<Unique>) -> Table
+    fn empty(alloc: Global, primary: Vec<usize>, uniques: Vec<Unique>, seed: Seed) -> Table
         requires { AllByRecursion HasNone uniques.items }
         ensures keys { result.keys ≡ record { primary = primary.items; uniques = columns_of uniques.items } }
         ensures empty { result.rows ≡ finite.empty }
@@ -123,6 +130,7 @@ impl Table {
             primary,
             uniques,
             rows: OrderedRows::new(alloc),
+            seed,
             alloc,
         }
     }

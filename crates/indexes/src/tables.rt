@@ -13,6 +13,7 @@ ghost use Rattle.model.specs.Effect.{first_taken, are_taken_unless_null};
 ghost use Rattle.indexes.specs.Table.{cells_in};
 ghost use Rattle.indexes.specs.Content.{Keeps, HasRoom, unique_columns, IsTable, SameElsewhere, SameRoomElsewhere};
 
+use crate::seed::Seed;
 use crate::table::{Contents, Table};
 use catalog::Catalog;
 use model::{Key, OutOfMemory, Row, TableDef};
@@ -44,22 +45,34 @@ impl Model for Tables {
 }
 
 impl Tables {
-    /// The tables of a catalog, all empty.
+    /// The tables of a catalog, all empty. Their indexes hash from the fixed seed.
     pub fn empty(alloc: Global, catalog: &Catalog) -> Result<Tables, OutOfMemory>
         ensures schema { IfOk result (λ tables. tables.schema ≡ map keys_of catalog.now) }
         ensures rows { IfOk result (λ tables. tables.rows ≡ finite.empty) }
     {
-        Tables::of_definitions(alloc, catalog.tables())
+        Tables::with_seed(alloc, catalog.tables(), Seed::fixed())
     }
 
-    /// Empty tables of these definitions.
+    /// Empty tables of these definitions. Their indexes hash from the fixed seed.
     pub fn of_definitions(alloc: Global, definitions: &[TableDef]) -> Result<Tables, OutOfMemory>
+        ensures schema { IfOk result (λ tables. tables.schema ≡ map keys_of definitions.now) }
+        ensures empty { IfOk result (λ tables. tables.rows ≡ finite.empty) }
+    {
+        Tables::with_seed(alloc, definitions, Seed::fixed())
+    }
+
+    /// Empty tables of these definitions, whose indexes hash from a seed.
+    pub fn with_seed(
+        alloc: Global,
+        definitions: &[TableDef],
+        seed: Seed,
+    ) -> Result<Tables, OutOfMemory>
         ensures schema { IfOk result (λ tables. tables.schema ≡ map keys_of definitions.now) }
         ensures empty { IfOk result (λ tables. tables.rows ≡ finite.empty) }
     {
         let mut tables = Vec::new(alloc);
         for definition in definitions {
-            tables.push(Table::of_definition(alloc, definition)?)?;
+            tables.push(Table::of_definition(alloc, definition, seed)?)?;
         }
         Ok(Tables { tables })
     }

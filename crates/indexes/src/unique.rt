@@ -4,32 +4,34 @@ ghost use Rattle.std.specs.Ordering.{eq_by_cmp};
 ghost use Rattle.model.specs.declared.key.Key.{Key as AnyKey};
 ghost use Rattle.model.specs.Rows.{values_in};
 ghost use Rattle.indexes.specs.Columns.{present};
-ghost use Rattle.indexes.specs.Hashed.{hashed_cmp};
+ghost use Rattle.model.specs.Key.{key_cmp};
 ghost use Rattle.indexes.specs.Unique.{plain, HasNone, held, held_by, entry_at, with_number, SameApart, KeepsEntries, HasEntry, SetsEntry, PutsEntry, SettlesEntry, KeepsSlots, HasSlot, Sets, Puts, MayPut, Settles, EachStep, EachHasSlot, EachAgrees, EachIsFree};
 
 use crate::columns::{agree, has_values, values_of};
-use crate::hashed::{Hashed, Sought, SoughtKey};
+use crate::seed::Seed;
+use crate::sought::Sought;
 use model::{Key, OutOfMemory, Row};
+use rows::hashing::{HashedKey, SoughtKey};
 use std::alloc::Global;
-use std::collections::BTreeMap;
+use std::collections::HashMap;
 
 // A unique key's columns, and from its values to the number of the slot that the row with these
 // values lies in. An entry whose row went stays, with no number, until it is settled.
 #[derive(Debug, Drop)]
 pub(crate) struct Unique {
     pub(crate) columns: Vec<usize>,
-    pub(crate) entries: BTreeMap<Hashed, Option<usize>>,
+    pub(crate) entries: HashMap<HashedKey, Option<usize>, Seed>,
 }
 
 impl Unique {
     // The index of a unique key over these columns, with no entries.
-    pub(crate) fn new(alloc: Global, columns: &[usize]) -> Result<Unique, OutOfMemory>
+    pub(crate) fn new(alloc: Global, columns: &[usize], seed: Seed) -> Result<Unique, OutOfMemory>
         ensures columns { IfOk result (λ unique. unique.columns.items ≡ columns.now) }
         ensures none { IfOk result HasNone }
     {
         Ok(Unique {
             columns: copy_numbers(alloc, columns)?,
-            entries: BTreeMap::new(alloc),
+            entries: HashMap::with_hasher(alloc, seed),
         })
     }
 
@@ -231,7 +233,7 @@ fn settle_all(uniques: &mut [Unique], row: &Row)
 
 fn find_row(
     columns: &[usize],
-    entries: &BTreeMap<Hashed, Option<usize>>,
+    entries: &HashMap<HashedKey, Option<usize>, Seed>,
     row: &Row,
 ) -> Option<usize>
     ensures { result ≡ held_by entries.now (values_in columns.now row.now) }
@@ -248,7 +250,7 @@ fn find_row(
 fn reserve_entry(
     alloc: Global,
     columns: &[usize],
-    entries: &mut BTreeMap<Hashed, Option<usize>>,
+    entries: &mut HashMap<HashedKey, Option<usize>, Seed>,
     row: &Row,
 ) -> Result<(), OutOfMemory>
     ensures kept { KeepsEntries entries.old entries.new }
@@ -264,19 +266,22 @@ fn reserve_entry(
 }
 
 // An entry with no number, for values that have none.
-fn add_entry(entries: &mut BTreeMap<Hashed, Option<usize>>, values: Key) -> Result<(), OutOfMemory>
+fn add_entry(
+    entries: &mut HashMap<HashedKey, Option<usize>, Seed>,
+    values: Key,
+) -> Result<(), OutOfMemory>
     requires { entry_at entries.old values ≡ None }
     ensures kept { KeepsEntries entries.old entries.new }
     ensures ok { OnOk result (IsSome (entry_at entries.new values)) }
 {
-    entries.insert(Hashed::of(values), None)?;
+    entries.insert(HashedKey::of(values), None)?;
     Ok(())
 }
 
 fn put_entry(
     alloc: Global,
     columns: &[usize],
-    entries: &mut BTreeMap<Hashed, Option<usize>>,
+    entries: &mut HashMap<HashedKey, Option<usize>, Seed>,
     row: &Row,
     number: usize,
 ) -> Result<(), OutOfMemory>
@@ -284,14 +289,14 @@ fn put_entry(
     ensures err { OnErr result (KeepsEntries entries.old entries.new) }
 {
     if let Some(values) = values_of(alloc, columns, row)? {
-        entries.insert(Hashed::of(values), Some(number))?;
+        entries.insert(HashedKey::of(values), Some(number))?;
     }
     Ok(())
 }
 
 fn set_entry(
     columns: &[usize],
-    entries: &mut BTreeMap<Hashed, Option<usize>>,
+    entries: &mut HashMap<HashedKey, Option<usize>, Seed>,
     row: &Row,
     number: Option<usize>,
 )
@@ -304,7 +309,7 @@ fn set_entry(
 
 // Writes a number, or none, at some values, if there is an entry for them.
 fn write_entry(
-    entries: &mut BTreeMap<Hashed, Option<usize>>,
+    entries: &mut HashMap<HashedKey, Option<usize>, Seed>,
     values: Sought<'_>,
     number: Option<usize>,
 )
@@ -316,7 +321,7 @@ fn write_entry(
     }
 }
 
-fn settle_entry(columns: &[usize], entries: &mut BTreeMap<Hashed, Option<usize>>, row: &Row)
+fn settle_entry(columns: &[usize], entries: &mut HashMap<HashedKey, Option<usize>, Seed>, row: &Row)
     ensures { SettlesEntry columns.now row.now entries.old entries.new }
 {
     if has_values(columns, row) {
@@ -325,7 +330,7 @@ fn settle_entry(columns: &[usize], entries: &mut BTreeMap<Hashed, Option<usize>>
 }
 
 // Drops the entry for some values if it has no number.
-fn drop_entry(entries: &mut BTreeMap<Hashed, Option<usize>>, values: Sought<'_>)
+fn drop_entry(entries: &mut HashMap<HashedKey, Option<usize>, Seed>, values: Sought<'_>)
     ensures gone { held entries.old (present values.entry.columns.now values.entry.row.now) ≡ None → entry_at entries.new (present values.entry.columns.now values.entry.row.now) ≡ None }
     ensures numbers { (other : AnyKey) → held entries.new other ≡ held entries.old other }
     ensures fewer { (other : AnyKey) → IsSome (entry_at entries.new other) → IsSome (entry_at entries.old other) }

@@ -11,7 +11,7 @@ use std::marker::Model;
 
 /// A key by which a table of hashes keeps something. A clause sees the key.
 #[derive(Debug, Drop)]
-pub(crate) struct HashedKey {
+pub struct HashedKey {
     key: Key,
 }
 
@@ -28,10 +28,18 @@ impl Model for HashedKey {
 }
 
 impl HashedKey {
-    pub(crate) fn of(key: Key) -> HashedKey
+    /// This key.
+    pub fn of(key: Key) -> HashedKey
         ensures { result ≡ key }
     {
         HashedKey { key }
+    }
+
+    /// The key.
+    pub fn key(&self) -> &Key
+        ensures { result.now ≡ self.now }
+    {
+        &self.key
     }
 }
 
@@ -80,12 +88,14 @@ impl Hash for HashedKey {
 
 /// A key that is looked for.
 #[derive(Clone, Copy)]
-pub(crate) struct SoughtKey<'a> {
-    key: &'a Key,
+pub struct SoughtKey<'a> {
+    /// The key.
+    pub key: &'a Key,
 }
 
 impl<'a> SoughtKey<'a> {
-    pub(crate) fn of(key: &'a Key) -> SoughtKey<'a>
+    /// This key.
+    pub fn of(key: &'a Key) -> SoughtKey<'a>
         ensures { result.key.now ≡ key.now }
     {
         SoughtKey { key }
@@ -160,7 +170,8 @@ fn hash_values<S: Hasher>(values: &[Value], state: &mut S)
     }
 }
 
-fn hash_value<S: Hasher>(value: &Value, state: &mut S)
+/// Feeds a value to a hasher.
+pub fn hash_value<S: Hasher>(value: &Value, state: &mut S)
     ensures { state.new ≡ fold S.write state.old (value_writes value.now) }
 {
     match value {

@@ -16,12 +16,12 @@
 //   block_rows `BlockRows`, the second form: blocks in slots that are found by a hash of the key,
 //              beside the keys in key order; tables don't use it yet
 //   block      `Block`: a row as one block of texts, and a cut for each column
-//   hashing    keys as a table of hashes sees them
+//   hashing    keys as a table of hashes sees them, here and in the layers above
 //   view       a row as it is read: column by column
 //   walk       `Walk`: the rows one after another
 pub mod block;
 pub mod block_rows;
-mod hashing;
+pub mod hashing;
 pub mod ordered;
 pub mod store;
 pub mod view;

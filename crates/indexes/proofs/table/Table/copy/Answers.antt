@@ -3,7 +3,7 @@ use Rattle.indexes.specs.Unique.{plain}
 use Rattle.indexes.proofs.Copying.{indexed_copied, seen_copied}
 use Rattle.indexes.proofs.table.Table.copy.Goals as goal
 
-same_uniques : (c : goal.After-result-2-1) → map plain c.in_ok-copy_each.field-0.items ≡ map plain c.self.inside.uniques.items
+same_uniques : (c : goal.After-result-3-1) → map plain c.in_ok-copy_each.field-0.items ≡ map plain c.self.inside.uniques.items
 same_uniques c = c.in_ok-copy_each.ensures ∙ ap (map plain) c.as_slice-2.ensures.value
 
 pub invariant_of-result : goal.invariant_of-result
