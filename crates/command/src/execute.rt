@@ -1,5 +1,6 @@
 // What each command runs on what it opened.
 ghost use Rattle.std.specs.Prelude.{◌≡◌, ◌≢◌, map, length, IfOk, IfErr};
+ghost use Rattle.std.specs.FinMap as finite;
 ghost use Rattle.catalog.specs.declared.fault.CatalogFault.TheVariants as faults;
 ghost use Rattle.model.specs.Rows.{keys_of};
 ghost use Rattle.spooled.specs.Devices.{DeviceState, device_state, health};
@@ -7,13 +8,14 @@ ghost use Rattle.command.specs.Ending.{Says, IsCatalog, IsFault, Executes, Tells
 
 use catalog::{Catalog, CatalogFault};
 use frames::{Sink, Source};
-use indexes::Tables;
+use indexes::{Seed, Tables};
 use leader::{
     Clock, Config, Devices, End, Gate, NoWatch, OutOfMemory, Outcome, Point, Xid, report, run_over,
     run_with_workers,
 };
 use std::alloc::Global;
 use std::mem::ManuallyDrop;
+use std::random::RandomSource;
 use std::sync::Wait;
 use std::thread::Threads;
 
@@ -48,7 +50,7 @@ pub fn execute<H, R, W, C>(
     out: &mut Vec<u8>,
 ) -> Ended
 where
-    H: Threads + Wait + Sync,
+    H: Threads + Wait + RandomSource + Sync,
     R: Source + Drop,
     W: Sink + Drop,
     C: Clock + Drop,
@@ -72,7 +74,7 @@ pub fn execute_over<H, R, W, C>(
     out: &mut Vec<u8>,
 ) -> Ended
 where
-    H: Threads + Wait + Sync,
+    H: Threads + Wait + RandomSource + Sync,
     R: Source,
     W: Sink,
     C: Clock,
@@ -121,7 +123,7 @@ pub fn execute_heard<H, R, W, C, L>(
     out: &mut Vec<u8>,
 ) -> Ended
 where
-    H: Threads + Wait + Sync,
+    H: Threads + Wait + RandomSource + Sync,
     R: Source,
     W: Sink,
     C: Clock,
@@ -135,7 +137,7 @@ where
             return refused(fault);
         }
     };
-    let Ok(start) = Tables::empty(alloc, &catalog) else {
+    let Ok(start) = empty_tables(rt, alloc, &catalog) else {
         return OUT_OF_MEMORY;
     };
     let Ok(gates) = open_gates(alloc, config.workers) else {
@@ -152,6 +154,23 @@ where
     // The process ends with its report: the memory goes back as a whole, not row by row.
     let _outcome = ManuallyDrop::new(outcome);
     ended
+}
+
+/// The tables of a catalog, all empty. A publisher's users choose the values, so nobody is to foretell the
+/// hashes; where the system has no random numbers they are the fixed ones.
+fn empty_tables(
+    rt: &impl RandomSource,
+    alloc: Global,
+    catalog: &Catalog,
+) -> Result<Tables, OutOfMemory>
+    ensures schema { IfOk result (λ tables. tables.schema ≡ map keys_of catalog.now) }
+    ensures rows { IfOk result (λ tables. tables.rows ≡ finite.empty) }
+{
+    let seed = match Seed::random(rt) {
+        Ok(seed) => seed,
+        Err(_) => Seed::fixed(),
+    };
+    Tables::with_seed(alloc, catalog.tables(), seed)
 }
 
 /// A gate at which no worker waits.

@@ -9,6 +9,7 @@ use indexes::Tables;
 use leader::{Config, Devices, End, Outcome};
 use std::alloc::Global;
 use std::io::Cursor;
+use std::random::RandomSource;
 use std::sync::Wait;
 use std::test::Fail;
 use std::thread::Threads;
@@ -23,7 +24,7 @@ impl Watcher for Quiet {
 }
 
 /// What is said of a run of this stream. Without workers each streamed transaction is spooled.
-fn said<R: Threads + Wait + Sync>(
+fn said<R: Threads + Wait + RandomSource + Sync>(
     rt: &R,
     alloc: Global,
     stream: Vec<u8>,

@@ -3,6 +3,7 @@ use crate::runs::{CATALOG, CONFIG, Kept, Pieces, Stopped, framed, printed, push_
 use command::execute::{Ended, execute};
 use std::alloc::Global;
 use std::fmt::Write;
+use std::random::RandomSource;
 use std::sync::Wait;
 use std::test::Fail;
 use std::thread::Threads;
@@ -262,7 +263,7 @@ impl frames::Sink for Broken {
 }
 
 /// What is printed of a stream by devices that fail: the source at this read.
-fn printed_by<R: Threads + Wait + Sync>(
+fn printed_by<R: Threads + Wait + RandomSource + Sync>(
     rt: &R,
     alloc: Global,
     stream: &[u8],

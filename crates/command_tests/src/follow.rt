@@ -8,6 +8,7 @@ use leader::Config;
 use std::alloc::Global;
 use std::io::{Read, Write};
 use std::net::{Shutdown, TcpListener, TcpStream};
+use std::random::RandomSource;
 use std::sync::Wait;
 use std::test::Fail;
 use std::thread;
@@ -63,7 +64,7 @@ fn pair(rt: &HostRuntime) -> Result<(Connection, TcpStream), Fail> {
 }
 
 /// What a follower prints of a stream, and what its sender hears.
-fn followed<T: Threads + Wait + Sync>(
+fn followed<T: Threads + Wait + RandomSource + Sync>(
     threads: &T,
     alloc: Global,
     (connection, peer): (Connection, TcpStream),
@@ -83,7 +84,7 @@ fn followed<T: Threads + Wait + Sync>(
 }
 
 /// What `follow` runs by two workers, with the clock at 5.
-fn follow<T: Threads + Wait + Sync>(
+fn follow<T: Threads + Wait + RandomSource + Sync>(
     threads: &T,
     alloc: Global,
     connection: &Connection,

@@ -3,6 +3,7 @@ use command::execute::{Ended, execute};
 use frames::{Failed, Sink, Source};
 use leader::{Clock, Config};
 use std::alloc::Global;
+use std::random::RandomSource;
 use std::sync::Wait;
 use std::test::Fail;
 use std::thread::Threads;
@@ -118,7 +119,7 @@ pub fn push_frame(stream: &mut Vec<u8>, payload: &[u8]) -> Result<(), Fail> {
 
 /// What is printed of a stream that comes in pieces of this length, and what is written back. Without
 /// workers each streamed transaction is spooled.
-pub fn printed<R: Threads + Wait + Sync>(
+pub fn printed<R: Threads + Wait + RandomSource + Sync>(
     rt: &R,
     alloc: Global,
     stream: &[u8],

@@ -60,8 +60,8 @@ pub use snapshot::{ReadFault, Reader, Watch};
 pub use spooled::{
     ByteStr, Catalog, CatalogFault, Change, Changes, ChangesIter, Clock, Config, Devices, End,
     Entry, Failed, FrameFault, Key, KeyValues, Lsn, MsgFault, OutOfMemory, Outcome, ReadSource,
-    RelFault, Row, RowView, SessionFault, Sink, Source, TableDef, TableId, Tables, Value, ValueRef,
-    Walk, WriteSink, Xid, report, run_over, run_spooled,
+    RelFault, Row, RowView, Seed, SessionFault, Sink, Source, TableDef, TableId, Tables, Value,
+    ValueRef, Walk, WriteSink, Xid, report, run_over, run_spooled,
 };
 pub use threads::{run, run_with_workers};
 pub use watching::NoWatch;

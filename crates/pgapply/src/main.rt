@@ -26,6 +26,7 @@ use std::fs::File;
 use std::io;
 use std::io::BufReader;
 use std::process::ExitCode;
+use std::random::RandomSource;
 use std::sync::Wait;
 use std::thread::Threads;
 use trace::{Trace, Watched};
@@ -43,7 +44,7 @@ fn main(rt: HostRuntime) -> anyhow::Result<ExitCode> {
 
 /// Runs a command and prints what it says. It answers the exit status. Workers are started by `threads`,
 /// which is the runtime too.
-fn run<T: Threads + Wait + Sync>(
+fn run<T: Threads + Wait + RandomSource + Sync>(
     rt: &HostRuntime,
     threads: &T,
     options: &Options<'_>,
@@ -78,7 +79,7 @@ fn connect(rt: &HostRuntime, address: &str) -> io::Result<(Stream, Updates)> {
 }
 
 /// `run` of a stream that is open, and its status updates.
-fn run_stream<T: Threads + Wait + Sync>(
+fn run_stream<T: Threads + Wait + RandomSource + Sync>(
     rt: &HostRuntime,
     threads: &T,
     options: &Options<'_>,
@@ -108,7 +109,7 @@ fn run_stream<T: Threads + Wait + Sync>(
 }
 
 /// `run_stream` of a stream that is watched, with lines on standard error behind the report.
-fn run_watched<T: Threads + Wait + Sync>(
+fn run_watched<T: Threads + Wait + RandomSource + Sync>(
     rt: &HostRuntime,
     threads: &T,
     options: &Options<'_>,

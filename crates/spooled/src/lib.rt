@@ -48,7 +48,7 @@ pub use end::End;
 pub use engine::{Changes, ChangesIter, Entry};
 pub use frames::{Failed, FrameFault, Lsn, ReadSource, Sink, Source, WriteSink};
 pub use handler::Handler;
-pub use indexes::Tables;
+pub use indexes::{Seed, Tables};
 pub use messages::MsgFault;
 pub use model::{Change, Key, KeyValues, OutOfMemory, Row, TableId, Value};
 pub use outcome::{Clock, Config, Outcome};

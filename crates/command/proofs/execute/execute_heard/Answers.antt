@@ -24,12 +24,12 @@ pub returns : goal.returns
 returns g c =
     let config = c.args.config.now in
     let run : RunsBy (workers_of c.args.spooled config) 0 c.in-Ok.catalog config finite.empty c.args.devices.now c.if-spooled.devices c.if-spooled.outcome = elim c.if-spooled.branch [
-      | then-spooled w ↦ same_run 0 (workers_of c.args.spooled config) 0 c.in-Ok.catalog config c.in-Ok-empty.start.rows finite.empty c.args.devices.now w.run_over-outcome.new.devices c.if-spooled.devices w.run_over-outcome.result c.if-spooled.outcome
-          (ap (λ b. workers_of b config) w.if-spooled.true) refl c.in-Ok-empty.ensures.rows w.devices-is w.outcome-is w.run_over-outcome.ensures
+      | then-spooled w ↦ same_run 0 (workers_of c.args.spooled config) 0 c.in-Ok.catalog config c.in-Ok-empty_tables.start.rows finite.empty c.args.devices.now w.run_over-outcome.new.devices c.if-spooled.devices w.run_over-outcome.result c.if-spooled.outcome
+          (ap (λ b. workers_of b config) w.if-spooled.true) refl c.in-Ok-empty_tables.ensures.rows w.devices-is w.outcome-is w.run_over-outcome.ensures
       | else-spooled w ↦
           let count : config.workers ≡ min config.workers (length c.in-Ok-open_gates.gates.items) = omega (arith, c.in-Ok-open_gates.ensures) in
-          same_run (min config.workers (length c.in-Ok-open_gates.gates.items)) (workers_of c.args.spooled config) (length w.new-watchers.result.items) c.in-Ok.catalog config c.in-Ok-empty.start.rows finite.empty c.args.devices.now w.run_with_workers-outcome.new.devices c.if-spooled.devices w.run_with_workers-outcome.result c.if-spooled.outcome
-          (ap (λ b. workers_of b config) w.if-spooled.false ∙ count) (ap length w.new-watchers.ensures.items) c.in-Ok-empty.ensures.rows w.devices-is w.outcome-is w.run_with_workers-outcome.ensures
+          same_run (min config.workers (length c.in-Ok-open_gates.gates.items)) (workers_of c.args.spooled config) (length w.new-watchers.result.items) c.in-Ok.catalog config c.in-Ok-empty_tables.start.rows finite.empty c.args.devices.now w.run_with_workers-outcome.new.devices c.if-spooled.devices w.run_with_workers-outcome.result c.if-spooled.outcome
+          (ap (λ b. workers_of b config) w.if-spooled.false ∙ count) (ap length w.new-watchers.ensures.items) c.in-Ok-empty_tables.ensures.rows w.devices-is w.outcome-is w.run_with_workers-outcome.ensures
     ] in
     let ran : HasRun (workers_of c.args.spooled config) c.args.catalog.now config c.args.devices.now c.if-spooled.devices = record {
       definitions = c.in-Ok.catalog;
