@@ -1,4 +1,5 @@
 // What `--verbose` says of a command that did not end well.
+use crate::asserts::assert_same;
 use crate::runs::{CATALOG, CONFIG, Stopped, framed};
 use catalog::{Catalog, CatalogFault};
 use command::account::Account;
@@ -243,7 +244,7 @@ fn why_and_where_a_run_ended(rt: HostRuntime) -> Result<(), Fail> {
             let rest = hex::decode(alloc, case.rest)?;
             stream.extend_from_slice(rest.as_slice())?;
             let account = said(&rt, alloc, stream, workers)?;
-            assert_eq!(rt; account.text(), case.said, "{} by {workers}", case.name);
+            assert_same(&rt, account.text(), case.said, case.name);
         }
     }
     Ok(())
@@ -282,7 +283,7 @@ fn catalogs_that_are_refused(rt: HostRuntime) -> Result<(), Fail> {
     ] {
         let mut account = said_of_refusal(rt.alloc(), fault);
         account.add_place(&Trace::new(rt.alloc()))?;
-        assert_eq!(rt; account.text(), said);
+        assert_same(&rt, account.text(), said, "account");
     }
     Ok(())
 }
@@ -303,7 +304,8 @@ fn ends_that_no_stream_alone_brings_about(rt: HostRuntime) -> Result<(), Fail> {
             "pgapply: memory was refused: give the process more, or the spool less\n",
         ),
     ] {
-        assert_eq!(rt; said_of_end(rt.alloc(), end)?.text(), said);
+        let account = said_of_end(rt.alloc(), end)?;
+        assert_same(&rt, account.text(), said, "account");
     }
     Ok(())
 }

@@ -3,6 +3,7 @@
 // In the comments: `B` Begin, `R` the relation, `I` `U` `D` `T` changes, `C` Commit, `S` `E` a block of a streamed
 // transaction, `c` Stream Commit, `A` Stream Abort; `P` commits the rows 1 and 2 at 0/140.
 
+use crate::asserts::assert_same;
 use crate::runs::{CONFIG, framed, printed};
 use leader::Config;
 use std::test::Fail;
@@ -535,14 +536,9 @@ fn streams_end_in_their_reports(rt: HostRuntime) -> Result<(), Fail> {
                 ..CONFIG
             };
             let (ended, out, _) = printed(&rt, rt.alloc(), stream.as_slice(), usize::MAX, &config);
-            assert_eq!(rt;
-                out.as_slice(),
-                case.report.as_bytes(),
-                "{} by {workers}",
-                case.name
-            );
-            assert_eq!(rt; ended.status, case.status, "{} by {workers}", case.name);
-            assert_eq!(rt; ended.line, "", "{} by {workers}", case.name);
+            assert_same(&rt, out.as_slice(), case.report.as_bytes(), case.name);
+            assert_same(&rt, ended.status, case.status, case.name);
+            assert_same(&rt, ended.line, "", case.name);
         }
     }
     Ok(())

@@ -1,4 +1,5 @@
 // What a command line asks for: the limits of its numbers, and what stands where none was given.
+use crate::asserts::{assert_holds, assert_same};
 use command::options;
 use command::options::Input;
 use leader::Config;
@@ -54,7 +55,7 @@ fn numbers_within_their_limits(rt: HostRuntime) -> Result<(), Fail> {
             Ok(asked) => Some(number_of(*option, &asked.config)),
             Err(_) => None,
         };
-        assert_eq!(rt; read, *want, "{option} {text}");
+        assert_same(&rt, read, *want, text);
     }
     Ok(())
 }
@@ -73,13 +74,18 @@ fn numbers_that_are_not_given(rt: HostRuntime) -> Result<(), Fail> {
         let asked = options::parse(rt.alloc(), words.as_slice())
             .ok()
             .ok_or("a command line that is refused")?;
-        assert_eq!(rt; asked.spooled, spooled);
-        assert_eq!(rt; asked.catalog, "c");
-        assert_eq!(rt; asked.input, input);
-        assert_eq!(rt; asked.config.workers, if spooled { 0 } else { 2 });
-        assert_eq!(rt; asked.config.ring, if spooled { 1 } else { 64 });
-        assert_eq!(rt; asked.config.spool, 1_073_741_824);
-        assert!(rt; !asked.verbose && !asked.progress);
+        assert_same(&rt, asked.spooled, spooled, "spooled");
+        assert_same(&rt, asked.catalog, "c", "catalog");
+        assert_same(&rt, asked.input, input, "input");
+        assert_same(
+            &rt,
+            asked.config.workers,
+            if spooled { 0 } else { 2 },
+            "workers",
+        );
+        assert_same(&rt, asked.config.ring, if spooled { 1 } else { 64 }, "ring");
+        assert_same(&rt, asked.config.spool, 1_073_741_824, "spool");
+        assert_holds(&rt, !asked.verbose && !asked.progress, "what is said");
     }
     Ok(())
 }
@@ -232,8 +238,9 @@ fn usage_help_and_version(rt: HostRuntime) -> Result<(), Fail> {
         let Err(error) = options::parse(rt.alloc(), words.as_slice()) else {
             return Err("a command line that is taken".into());
         };
-        assert_eq!(rt; format!(in rt.alloc(); "{error}")?.as_str(), case.text);
-        assert_eq!(rt; error.use_stderr(), case.is_fault);
+        let text = format!(in rt.alloc(); "{error}")?;
+        assert_same(&rt, text.as_str(), case.text, "text");
+        assert_same(&rt, error.use_stderr(), case.is_fault, case.text);
     }
     Ok(())
 }

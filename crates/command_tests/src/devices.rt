@@ -1,4 +1,5 @@
 // How streams come: in pieces, cut short, from a source or to a sink that fails; and catalogs that are refused.
+use crate::asserts::{assert_holds, assert_same};
 use crate::runs::{CATALOG, CONFIG, Kept, Pieces, Stopped, framed, printed, push_frame};
 use command::execute::{Ended, execute};
 use std::alloc::Global;
@@ -46,11 +47,11 @@ const STREAMED_FRAMES: &str =
 #[test]
 fn pieces_of_each_length(rt: HostRuntime) -> Result<(), Fail> {
     let stream = framed(rt.alloc(), &ONE_INSERT)?;
-    assert_eq!(rt; stream.len(), 258);
+    assert_same(&rt, stream.len(), 258, "stream");
     for size in 1..=stream.len() {
         let (ended, out, _) = printed(&rt, rt.alloc(), stream.as_slice(), size, &CONFIG);
-        assert_eq!(rt; out.as_slice(), REPORT.as_bytes(), "pieces of {size}");
-        assert_eq!(rt; ended.status, 0);
+        assert_same(&rt, out.as_slice(), REPORT.as_bytes(), size);
+        assert_same(&rt, ended.status, 0, "status");
     }
     Ok(())
 }
@@ -61,12 +62,12 @@ fn updates_after_a_commit_and_a_keepalive(rt: HostRuntime) -> Result<(), Fail> {
     let keepalive = hex::decode(rt.alloc(), KEEPALIVE)?;
     stream.extend_from_slice(keepalive.as_slice())?;
     let (ended, out, written) = printed(&rt, rt.alloc(), stream.as_slice(), usize::MAX, &CONFIG);
-    assert_eq!(rt; out.as_slice(), REPORT.as_bytes());
-    assert_eq!(rt; ended.status, 0);
+    assert_same(&rt, out.as_slice(), REPORT.as_bytes(), "out");
+    assert_same(&rt, ended.status, 0, "status");
     let mut updates = hex::decode(rt.alloc(), UPDATE)?;
     let reply = hex::decode(rt.alloc(), REPLY)?;
     updates.extend_from_slice(reply.as_slice())?;
-    assert_eq!(rt; written.as_slice(), updates.as_slice());
+    assert_same(&rt, written.as_slice(), updates.as_slice(), "written");
     Ok(())
 }
 
@@ -86,11 +87,11 @@ fn a_keepalive_inside_of_a_block(rt: HostRuntime) -> Result<(), Fail> {
     stream.extend_from_slice(rest.as_slice())?;
     let (_, out, written) = printed(&rt, rt.alloc(), stream.as_slice(), usize::MAX, &CONFIG);
     let want = "table public.accounts 1\n1|a|n\nposition 0/220\nend 0 Clean\n";
-    assert_eq!(rt; out.as_slice(), want.as_bytes());
+    assert_same(&rt, out.as_slice(), want.as_bytes(), "out");
     let mut updates = hex::decode(rt.alloc(), REPLY_IN_BLOCK)?;
     let update = hex::decode(rt.alloc(), UPDATE_AT_220)?;
     updates.extend_from_slice(update.as_slice())?;
-    assert_eq!(rt; written.as_slice(), updates.as_slice());
+    assert_same(&rt, written.as_slice(), updates.as_slice(), "written");
     Ok(())
 }
 
@@ -103,9 +104,9 @@ fn a_keepalive_behind_a_clash_is_not_answered(rt: HostRuntime) -> Result<(), Fai
     stream.extend_from_slice(keepalive.as_slice())?;
     let (ended, out, written) = printed(&rt, rt.alloc(), stream.as_slice(), usize::MAX, &CONFIG);
     let want = "table public.accounts 0\nposition 0/0\nend 5 Unique public.accounts 0\n";
-    assert_eq!(rt; out.as_slice(), want.as_bytes());
-    assert_eq!(rt; ended.status, 3);
-    assert_eq!(rt; written.len(), 0);
+    assert_same(&rt, out.as_slice(), want.as_bytes(), "out");
+    assert_same(&rt, ended.status, 3, "status");
+    assert_same(&rt, written.len(), 0, "written");
     Ok(())
 }
 
@@ -124,9 +125,9 @@ fn work_that_is_open_at_copy_done_is_undone(rt: HostRuntime) -> Result<(), Fail>
             &CONFIG,
         );
         let want = "table public.accounts 0\nposition 0/0\nend 0 Clean\n";
-        assert_eq!(rt; out.as_slice(), want.as_bytes());
-        assert_eq!(rt; ended.status, 0);
-        assert_eq!(rt; written.len(), 0);
+        assert_same(&rt, out.as_slice(), want.as_bytes(), "out");
+        assert_same(&rt, ended.status, 0, "status");
+        assert_same(&rt, written.len(), 0, "written");
     }
     Ok(())
 }
@@ -176,8 +177,8 @@ fn a_thousand_items_of_two_streamed_transactions(rt: HostRuntime) -> Result<(), 
     }
     want.push_str("position 0/320\nend 0 Clean\n")?;
     let (ended, out, _) = printed(&rt, rt.alloc(), stream.as_slice(), 4096, &CONFIG);
-    assert_eq!(rt; out.as_slice(), want.as_bytes());
-    assert_eq!(rt; ended.status, 0);
+    assert_same(&rt, out.as_slice(), want.as_bytes(), "out");
+    assert_same(&rt, ended.status, 0, "status");
     Ok(())
 }
 
@@ -194,7 +195,7 @@ fn positions_that_fall(rt: HostRuntime) -> Result<(), Fail> {
     }
     let (_, _, written) = printed(&rt, rt.alloc(), stream.as_slice(), usize::MAX, &CONFIG);
     let update = hex::decode(rt.alloc(), UPDATE_AT_500)?;
-    assert_eq!(rt; written.as_slice(), update.as_slice());
+    assert_same(&rt, written.as_slice(), update.as_slice(), "written");
     Ok(())
 }
 
@@ -228,14 +229,16 @@ fn a_streamed_transaction_cut_at_each_byte(rt: HostRuntime) -> Result<(), Fail> 
         } else {
             "table public.accounts 0\nposition 0/0\nend 1 Frame Truncated\n"
         };
-        assert_eq!(rt; out.as_slice(), want.as_bytes(), "cut at {cut}");
-        assert_eq!(rt;
+        assert_same(&rt, out.as_slice(), want.as_bytes(), cut);
+        assert_same(
+            &rt,
             ended.status,
             if is_edge(stream.as_slice(), cut) {
                 0
             } else {
                 2
-            }
+            },
+            "status",
         );
     }
     Ok(())
@@ -298,15 +301,15 @@ fn devices_that_fail(rt: HostRuntime) -> Result<(), Fail> {
         let mut out = Vec::new(rt.alloc());
         let ended = printed_by(&rt, rt.alloc(), stream.as_slice(), read, &mut out);
         let want = "table public.accounts 0\nposition 0/0\nend 1 Frame Device\n";
-        assert_eq!(rt; out.as_slice(), want.as_bytes(), "read {read}");
-        assert_eq!(rt; ended.status, 2);
+        assert_same(&rt, out.as_slice(), want.as_bytes(), read);
+        assert_same(&rt, ended.status, 2, "status");
     }
     // The commit stands where its update can't be sent.
     let mut out = Vec::new(rt.alloc());
     let ended = printed_by(&rt, rt.alloc(), stream.as_slice(), u64::MAX, &mut out);
     let want = "table public.accounts 1\n1|a|n\nposition 0/120\nend 1 Frame Device\n";
-    assert_eq!(rt; out.as_slice(), want.as_bytes());
-    assert_eq!(rt; ended.status, 2);
+    assert_same(&rt, out.as_slice(), want.as_bytes(), "out");
+    assert_same(&rt, ended.status, 2, "status");
     Ok(())
 }
 
@@ -367,9 +370,9 @@ fn catalogs_that_are_refused(rt: HostRuntime) -> Result<(), Fail> {
             Stopped(5),
             &mut out,
         );
-        assert_eq!(rt; ended.line, *line);
-        assert_eq!(rt; ended.status, 1);
-        assert_eq!(rt; out.len(), 0);
+        assert_same(&rt, ended.line, *line, "line");
+        assert_same(&rt, ended.status, 1, "status");
+        assert_same(&rt, out.len(), 0, "out");
     }
     Ok(())
 }
@@ -384,25 +387,29 @@ fn a_run_where_memory_is_refused(rt: HostRuntime) {
     match ended.status {
         0 => {
             let want = "table public.accounts 1\n1|a|n\nposition 0/220\nend 0 Clean\n";
-            assert_eq!(rt; out.as_slice(), want.as_bytes());
+            assert_same(&rt, out.as_slice(), want.as_bytes(), "out");
         }
         // Refused to the sink, which keeps the bytes that it is given: the device failed after the commit.
         2 => {
             let want = "table public.accounts 1\n1|a|n\nposition 0/220\nend 1 Frame Device\n";
-            assert_eq!(rt; out.as_slice(), want.as_bytes());
-            assert_eq!(rt; ended.line, "");
+            assert_same(&rt, out.as_slice(), want.as_bytes(), "out");
+            assert_same(&rt, ended.line, "", "line");
         }
         // The catalog was read, and memory refused in the run, before or after its commit.
         4 if !out.is_empty() => {
             let none = "table public.accounts 0\nposition 0/0\nend 8 OutOfMemory\n";
             let one = "table public.accounts 1\n1|a|n\nposition 0/220\nend 8 OutOfMemory\n";
-            assert_eq!(rt; ended.line, "");
-            assert!(rt; out.as_slice() == none.as_bytes() || out.as_slice() == one.as_bytes());
+            assert_same(&rt, ended.line, "", "line");
+            assert_holds(
+                &rt,
+                out.as_slice() == none.as_bytes() || out.as_slice() == one.as_bytes(),
+                "out",
+            );
         }
         _ => {
-            assert_eq!(rt; ended.status, 4);
-            assert_eq!(rt; ended.line, "pgapply: out of memory");
-            assert_eq!(rt; out.len(), 0);
+            assert_same(&rt, ended.status, 4, "status");
+            assert_same(&rt, ended.line, "pgapply: out of memory", "line");
+            assert_same(&rt, out.len(), 0, "out");
         }
     }
 }

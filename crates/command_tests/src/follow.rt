@@ -1,5 +1,6 @@
 // A stream that comes over a connection, and the status updates that go back: a sender listens on a
 // socket of this machine, in a thread of its own.
+use crate::asserts::{assert_holds, assert_same};
 use crate::devices::{KEEPALIVE, ONE_INSERT};
 use crate::runs::{CATALOG, CONFIG, Stopped, framed};
 use command::execute::{Ended, execute};
@@ -118,10 +119,10 @@ fn updates_go_back_over_the_connection(rt: HostRuntime) -> Result<(), Fail> {
     for manner in [Manner::Whole, Manner::Bytewise] {
         let (ended, out, heard) = followed(&rt, rt.alloc(), pair(&rt)?, stream.as_slice(), manner);
         let want = "table public.accounts 2\n1|a|n\n2|b|n\nposition 0/140\nend 0 Clean\n";
-        assert_eq!(rt; out.as_slice(), want.as_bytes());
-        assert_eq!(rt; ended.status, 0);
+        assert_same(&rt, out.as_slice(), want.as_bytes(), "out");
+        assert_same(&rt, ended.status, 0, "status");
         let heard = heard.ok_or("a sender whose connection broke")?;
-        assert_eq!(rt; heard.as_slice(), updates.as_slice());
+        assert_same(&rt, heard.as_slice(), updates.as_slice(), "heard");
     }
     Ok(())
 }
@@ -143,8 +144,13 @@ fn a_sender_that_closes_within_a_frame(rt: HostRuntime) -> Result<(), Fail> {
         let want = format!(in rt.alloc();
             "table public.accounts 2\n1|a|n\n2|b|n\nposition 0/140\nend {end}\n"
         )?;
-        assert_eq!(rt; out.as_slice(), want.as_bytes());
-        assert_eq!(rt; heard.ok_or("a sender whose connection broke")?.len(), 39);
+        assert_same(&rt, out.as_slice(), want.as_bytes(), "out");
+        assert_same(
+            &rt,
+            heard.ok_or("a sender whose connection broke")?.len(),
+            39,
+            "heard",
+        );
     }
     Ok(())
 }
@@ -168,9 +174,9 @@ fn a_connection_that_breaks(rt: HostRuntime) -> Result<(), Fail> {
             sent
         },
     );
-    assert!(rt; sent);
+    assert_holds(&rt, sent, "sent");
     let want = "table public.accounts 2\n1|a|n\n2|b|n\nposition 0/140\nend 1 Frame Device\n";
-    assert_eq!(rt; out.as_slice(), want.as_bytes());
-    assert_eq!(rt; ended.status, 2);
+    assert_same(&rt, out.as_slice(), want.as_bytes(), "out");
+    assert_same(&rt, ended.status, 2, "status");
     Ok(())
 }

@@ -6,6 +6,7 @@
 // of `--verbose` or of `--progress`. The expected texts come from outside: worked by hand from the rules,
 // before the program was.
 //
+//   asserts        assertions that are proved once
 //   runs           a command over a stream that a test gives: its devices, and what it prints
 //   cases          streams and their reports
 //   devices        streams in pieces, cut, and over devices that fail
@@ -16,6 +17,8 @@
 //   command_line   options, their limits, and help
 #[cfg(test)]
 mod accounts;
+#[cfg(test)]
+mod asserts;
 #[cfg(test)]
 mod cases;
 #[cfg(test)]

@@ -1,4 +1,5 @@
 // What a command says where it can't go on, and what it writes at its end.
+use crate::asserts::assert_same;
 use crate::progress::Host;
 use command::execute::Ended;
 use command::output::{Failure, print, say_failure};
@@ -27,8 +28,10 @@ fn what_a_command_cannot_do(rt: HostRuntime) -> Result<(), Fail> {
     for (failure, verbose, want) in &cases {
         let host = Host::new(rt.alloc());
         let error = io::Error::from(io::ErrorKind::NotFound);
-        assert_eq!(rt; say_failure(&host, *verbose, *failure, &error)?, 1);
-        assert_eq!(rt; host.into_said().as_str(), *want);
+        let status = say_failure(&host, *verbose, *failure, &error)?;
+        assert_same(&rt, status, 1, *want);
+        let said = host.into_said();
+        assert_same(&rt, said.as_str(), *want, "said");
     }
     Ok(())
 }
@@ -43,9 +46,11 @@ fn a_report_that_cannot_be_written(rt: HostRuntime) -> Result<(), Fail> {
     for (size, status, want) in [(4, 3, ""), (3, 1, "pgapply: cannot write\n")] {
         let host = Host::new(rt.alloc());
         let mut stdout: &mut [u8] = &mut room[..size];
-        assert_eq!(rt; print(&host, false, &mut stdout, b"rows", ended)?, status);
-        assert_eq!(rt; host.into_said().as_str(), want);
+        let found = print(&host, false, &mut stdout, b"rows", ended)?;
+        assert_same(&rt, found, status, "status");
+        let said = host.into_said();
+        assert_same(&rt, said.as_str(), want, "said");
     }
-    assert_eq!(rt; room, *b"rows");
+    assert_same(&rt, room, *b"rows", "room");
     Ok(())
 }

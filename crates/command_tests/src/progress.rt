@@ -1,4 +1,5 @@
 // What `--progress` says, by a clock of the test's own.
+use crate::asserts::assert_same;
 use crate::devices::ONE_INSERT;
 use crate::runs::framed;
 use command::progress::Progress;
@@ -108,8 +109,8 @@ fn how_far_a_stream_was_read(rt: HostRuntime) -> Result<(), Fail> {
     ];
     for (millis, want) in &cases {
         let said = said(rt.alloc(), true, *millis)?;
-        assert_eq!(rt; said.as_str(), *want, "{millis}");
+        assert_same(&rt, said.as_str(), *want, millis);
     }
-    assert_eq!(rt; said(rt.alloc(), false, 500)?.as_str(), "");
+    assert_same(&rt, said(rt.alloc(), false, 500)?.as_str(), "", "said");
     Ok(())
 }
