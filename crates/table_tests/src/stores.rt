@@ -2,10 +2,10 @@
 // refused, and many calls of up to eight transactions, each compared with a model that has no live
 // tables and no holds.
 mod by_hand;
-mod calls;
 mod memory;
 mod refusals;
 mod scene;
+mod script;
 mod seeded;
 mod shut;
 mod worked;
