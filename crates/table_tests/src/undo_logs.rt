@@ -4,7 +4,7 @@ ghost use Rattle.model.specs.Named.{NamesTables};
 ghost use Rattle.undo.specs.Undo.{CanUndo};
 
 use crate::calls::Call::{Put, Remove, Set, Wipe};
-use crate::calls::{Call, Word, are_there, change, empty_tables, key, rows_of};
+use crate::calls::{Call, Word, are_there, change, empty_tables, key};
 use change::{Applied, Change, Clash, apply};
 use indexes::Tables;
 use model::{Key, OutOfMemory, TableId};
@@ -93,7 +93,12 @@ fn filled(rt: &impl Abort, alloc: Global) -> Result<Tables, Clash> {
 
 /// All rows, and what each look-up of a text in the unique key finds.
 fn shown(rt: &impl Abort, alloc: Global, t: &Tables) -> Result<String, OutOfMemory> {
-    let mut out = rows_of(rt, alloc, t, ACCOUNTS)?;
+    assert!(rt; ACCOUNTS < t.len());
+    let mut out = String::new(alloc);
+    for row in t.walk(ACCOUNTS) {
+        let row = row.to_row()?;
+        write!(out, "{row:?}\n")?;
+    }
     for text in ["a", "b", "c"] {
         show_holder(rt, alloc, t, text, &mut out)?;
     }
@@ -111,7 +116,7 @@ fn show_holder(
     assert!(rt; 1 <= t.unique_count(ACCOUNTS));
     let values = key(alloc, text)?;
     let found = t.find_unique(ACCOUNTS, 1, &values);
-    write!(out, "\n{text}: {found:?}")?;
+    write!(out, "{text}: {found:?}\n")?;
     Ok(())
 }
 

@@ -40,7 +40,7 @@ fn a_number_that_is_open_does_not_open_again(rt: HostRuntime) -> Result<(), Fail
     play(&rt, rt.alloc(), &[700], &OPENED_AGAIN)
 }
 
-// Each has room for its entry: none of them is refused one.
+// With the numbers below 4096 open.
 const FULL: [Step; 7] = [
     OpensNot(5000, EngineFault::TooManyOpen),
     OpensNot(4095, EngineFault::AlreadyOpen),
@@ -70,6 +70,7 @@ fn no_more_than_4096_are_open(rt: HostRuntime) -> Result<(), Fail> {
     let mut scene = Scene::worked(&rt, alloc, &[])?;
     open_all(alloc, &mut scene, 0, 4096)?;
     play_on(&rt, alloc, &mut scene, &FULL)?;
+    // Each has room for its entry: none of them is refused one.
     commit_all(&rt, &mut scene, 1, 4096);
     scene.ends_with(&rt, alloc, "1|a|n 2|b|n 3|c|n", 4095)
 }
