@@ -1,32 +1,31 @@
 // The cells of changes, as they are told and as they are found in place.
 
-use crate::changes::{Call, NO_UNIQUE, ONE_UNIQUE, TWO_UNIQUES, are_there, change, filled, key};
-use bytes::ByteStr;
+use self::Told::{Row, Uniq, Whole};
+use crate::calls::Call::{Put, Remove, Set, Wipe};
+use crate::calls::{Call, Word, are_there, change, key};
+use crate::changes::{NO_UNIQUE, ONE_UNIQUE, TWO_UNIQUES, filled};
 use change::footprint::{footprint, looked_up};
 use change::{CellRef, CellTest, Change, KeyRef, any_cell};
 use indexes::Tables;
-use model::{Cell, OutOfMemory, TableId, Value};
+use model::{Cell, OutOfMemory, TableId};
 use std::alloc::Global;
 use std::collections::BTreeMap;
 use std::process::Abort;
 use std::test::Fail;
 
-/// A cell, with an int for a key and a text for a value.
+/// A cell, by the words of its key or value.
 #[derive(Clone, Copy, Debug)]
 enum Told {
-    Row(TableId, i64),
-    Uniq(TableId, usize, &'static str),
+    Row(TableId, Word),
+    Uniq(TableId, usize, Word),
     Whole(TableId),
 }
 
 fn cell(alloc: Global, told: &Told) -> Result<Cell, OutOfMemory> {
     match told {
-        Told::Row(table, id) => Ok(Cell::Row(*table, key(alloc, Value::Int(*id))?)),
-        Told::Uniq(table, number, text) => {
-            let text = Value::Text(ByteStr::from_static(text));
-            Ok(Cell::Uniq(*table, *number, key(alloc, text)?))
-        }
-        Told::Whole(table) => Ok(Cell::Whole(*table)),
+        Row(table, id) => Ok(Cell::Row(*table, key(alloc, id)?)),
+        Uniq(table, number, text) => Ok(Cell::Uniq(*table, *number, key(alloc, text)?)),
+        Whole(table) => Ok(Cell::Whole(*table)),
     }
 }
 
@@ -56,7 +55,7 @@ fn finds(
     change: &Change,
     told: &Told,
 ) -> Result<bool, OutOfMemory> {
-    assert!(rt; are_there(t, change));
+    assert!(rt; are_there(t.len(), change));
     let mut kept = BTreeMap::new(alloc);
     kept.insert(cell(alloc, told)?, ())?;
     Ok(any_cell(t, change, &Kept { cells: &kept }))
@@ -69,103 +68,120 @@ fn told_cells(
     t: &Tables,
     change: &Change,
 ) -> Result<Vec<Cell>, OutOfMemory> {
-    assert!(rt; are_there(t, change));
+    assert!(rt; are_there(t.len(), change));
     footprint(alloc, t, change)
 }
 
-/// Each change has just these cells, and each of them is found where it lies.
-fn cells_of_each(rt: &impl Abort, alloc: Global, cases: &[(Call, &[Told])]) -> Result<(), Fail> {
-    let t = filled(rt, alloc)?;
-    for (call, want) in cases {
-        let change = change(alloc, call)?;
-        let cells = told_cells(rt, alloc, &t, &change)?;
-        assert_eq!(rt; cells.len(), want.len(), "{call:?}");
-        let elsewhere = Told::Row(TWO_UNIQUES, 9);
-        assert!(rt; !finds(rt, alloc, &t, &change, &elsewhere)?, "{call:?}");
-        for (told, cell_told) in want.iter().zip(cells.iter()) {
-            assert_eq!(rt; *cell_told, cell(alloc, told)?, "{call:?}");
-            assert!(rt; finds(rt, alloc, &t, &change, told)?, "{call:?}");
-        }
+/// A change has just these cells, and each of them is found where it lies.
+fn has_cells(
+    rt: &impl Abort,
+    alloc: Global,
+    t: &Tables,
+    call: &Call,
+    wanted: &[Told],
+) -> Result<(), Fail> {
+    let change = change(alloc, call)?;
+    let cells = told_cells(rt, alloc, t, &change)?;
+    assert_eq!(rt; cells.len(), wanted.len(), "{call:?}");
+    assert!(rt;
+        !finds(rt, alloc, t, &change, &Row(TWO_UNIQUES, "9"))?,
+        "{call:?}"
+    );
+    for (told, found) in wanted.iter().zip(cells.iter()) {
+        let cell = cell(alloc, told)?;
+        assert_eq!(rt; *found, cell, "{call:?}");
+        assert!(rt; finds(rt, alloc, t, &change, told)?, "{call:?}");
     }
     Ok(())
 }
 
+fn cells_of_each(rt: &impl Abort, alloc: Global, cases: &[(Call, &[Told])]) -> Result<(), Fail> {
+    let t = filled(rt, alloc)?;
+    for (call, wanted) in cases {
+        has_cells(rt, alloc, &t, call, wanted)?;
+    }
+    Ok(())
+}
+
+const PUTS: [(Call, &[Told]); 4] = [
+    (Put(NO_UNIQUE, ("4", "c", "w")), &[Row(NO_UNIQUE, "4")]),
+    (
+        Put(TWO_UNIQUES, ("4", "c", "w")),
+        &[
+            Row(TWO_UNIQUES, "4"),
+            Uniq(TWO_UNIQUES, 1, "c"),
+            Uniq(TWO_UNIQUES, 2, "w"),
+        ],
+    ),
+    (
+        Put(TWO_UNIQUES, ("4", r"\N", "w")),
+        &[Row(TWO_UNIQUES, "4"), Uniq(TWO_UNIQUES, 2, "w")],
+    ),
+    (Put(NO_UNIQUE, (r"\N", "c", "w")), &[]),
+];
+
 #[test]
 fn a_put_fills_its_place_and_its_unique_values(rt: HostRuntime) -> Result<(), Fail> {
-    let cases: [(Call, &[Told]); 4] = [
-        (Call::Put(NO_UNIQUE, "4|c|w"), &[Told::Row(NO_UNIQUE, 4)]),
-        (
-            Call::Put(TWO_UNIQUES, "4|c|w"),
-            &[
-                Told::Row(TWO_UNIQUES, 4),
-                Told::Uniq(TWO_UNIQUES, 1, "c"),
-                Told::Uniq(TWO_UNIQUES, 2, "w"),
-            ],
-        ),
-        (
-            Call::Put(TWO_UNIQUES, r"4|\N|w"),
-            &[Told::Row(TWO_UNIQUES, 4), Told::Uniq(TWO_UNIQUES, 2, "w")],
-        ),
-        (Call::Put(NO_UNIQUE, r"\N|c|w"), &[]),
-    ];
-    cells_of_each(&rt, rt.alloc(), cases.as_slice())
+    cells_of_each(&rt, rt.alloc(), &PUTS)
 }
+
+const SETS: [(Call, &[Told]); 5] = [
+    (
+        Set(TWO_UNIQUES, "1", ("-", "a", "-")),
+        &[Row(TWO_UNIQUES, "1")],
+    ),
+    (
+        Set(TWO_UNIQUES, "1", ("4", "c", "-")),
+        &[
+            Row(TWO_UNIQUES, "1"),
+            Row(TWO_UNIQUES, "4"),
+            Uniq(TWO_UNIQUES, 1, "a"),
+            Uniq(TWO_UNIQUES, 1, "c"),
+        ],
+    ),
+    (
+        Set(TWO_UNIQUES, "1", ("-", "-", r"\N")),
+        &[Row(TWO_UNIQUES, "1"), Uniq(TWO_UNIQUES, 2, "n")],
+    ),
+    (
+        Set(TWO_UNIQUES, "3", ("-", "c", "-")),
+        &[Row(TWO_UNIQUES, "3"), Uniq(TWO_UNIQUES, 1, "c")],
+    ),
+    (
+        Set(TWO_UNIQUES, "7", ("4", "c", "-")),
+        &[Row(TWO_UNIQUES, "7")],
+    ),
+];
 
 #[test]
 fn a_set_moves_what_differs(rt: HostRuntime) -> Result<(), Fail> {
-    let cases: [(Call, &[Told]); 5] = [
-        (
-            Call::Set(TWO_UNIQUES, 1, "-|a|-"),
-            &[Told::Row(TWO_UNIQUES, 1)],
-        ),
-        (
-            Call::Set(TWO_UNIQUES, 1, "4|c|-"),
-            &[
-                Told::Row(TWO_UNIQUES, 1),
-                Told::Row(TWO_UNIQUES, 4),
-                Told::Uniq(TWO_UNIQUES, 1, "a"),
-                Told::Uniq(TWO_UNIQUES, 1, "c"),
-            ],
-        ),
-        (
-            Call::Set(TWO_UNIQUES, 1, r"-|-|\N"),
-            &[Told::Row(TWO_UNIQUES, 1), Told::Uniq(TWO_UNIQUES, 2, "n")],
-        ),
-        (
-            Call::Set(TWO_UNIQUES, 3, "-|c|-"),
-            &[Told::Row(TWO_UNIQUES, 3), Told::Uniq(TWO_UNIQUES, 1, "c")],
-        ),
-        (
-            Call::Set(TWO_UNIQUES, 7, "4|c|-"),
-            &[Told::Row(TWO_UNIQUES, 7)],
-        ),
-    ];
-    cells_of_each(&rt, rt.alloc(), cases.as_slice())
+    cells_of_each(&rt, rt.alloc(), &SETS)
 }
+
+const REMOVES_AND_WIPES: [(Call, &[Told]); 3] = [
+    (
+        Remove(ONE_UNIQUE, "1"),
+        &[Row(ONE_UNIQUE, "1"), Uniq(ONE_UNIQUE, 1, "a")],
+    ),
+    (Remove(ONE_UNIQUE, "7"), &[Row(ONE_UNIQUE, "7")]),
+    (
+        Wipe(&[ONE_UNIQUE, NO_UNIQUE]),
+        &[Whole(ONE_UNIQUE), Whole(NO_UNIQUE)],
+    ),
+];
 
 #[test]
 fn a_remove_and_a_wipe_have_their_cells(rt: HostRuntime) -> Result<(), Fail> {
-    let cases: [(Call, &[Told]); 3] = [
-        (
-            Call::Remove(ONE_UNIQUE, 1),
-            &[Told::Row(ONE_UNIQUE, 1), Told::Uniq(ONE_UNIQUE, 1, "a")],
-        ),
-        (Call::Remove(ONE_UNIQUE, 7), &[Told::Row(ONE_UNIQUE, 7)]),
-        (
-            Call::Wipe(&[ONE_UNIQUE, NO_UNIQUE]),
-            &[Told::Whole(ONE_UNIQUE), Told::Whole(NO_UNIQUE)],
-        ),
-    ];
-    cells_of_each(&rt, rt.alloc(), cases.as_slice())
+    cells_of_each(&rt, rt.alloc(), &REMOVES_AND_WIPES)
 }
 
 #[test]
 fn a_set_looks_its_row_up(rt: HostRuntime) -> Result<(), Fail> {
     let alloc = rt.alloc();
-    let set = change(alloc, &Call::Set(ONE_UNIQUE, 7, "4|c|-"))?;
-    let want = cell(alloc, &Told::Row(ONE_UNIQUE, 7))?;
-    assert_eq!(rt; looked_up(&set)?, Some(want));
-    let put = change(alloc, &Call::Put(ONE_UNIQUE, "4|c|w"))?;
+    let set = change(alloc, &Set(ONE_UNIQUE, "7", ("4", "c", "-")))?;
+    let wanted = cell(alloc, &Row(ONE_UNIQUE, "7"))?;
+    assert_eq!(rt; looked_up(&set)?, Some(wanted));
+    let put = change(alloc, &Put(ONE_UNIQUE, ("4", "c", "w")))?;
     assert_eq!(rt; looked_up(&put)?, None);
     Ok(())
 }
@@ -173,7 +189,7 @@ fn a_set_looks_its_row_up(rt: HostRuntime) -> Result<(), Fail> {
 #[test]
 fn a_whole_table_overlaps_its_rows(rt: HostRuntime) -> Result<(), Fail> {
     let alloc = rt.alloc();
-    let id = key(alloc, Value::Int(1))?;
+    let id = key(alloc, "1")?;
     let row = CellRef::Row(ONE_UNIQUE, KeyRef::Key(&id));
     assert!(rt; row.overlaps(&Cell::Whole(ONE_UNIQUE)));
     assert!(rt; !row.overlaps(&Cell::Whole(NO_UNIQUE)));

@@ -4,6 +4,7 @@
 // They show what no clause says, and by public calls alone. A library with tests of its own is proved
 // twice, so they stand here, and each library is proved once.
 //
+//   calls        what the others write: tables, rows and changes in plain words
 //   cells        `change`, the cells of changes
 //   changes      `change`
 //   holds        `keyholds`
@@ -13,6 +14,8 @@
 //   undo_logs    `undo`
 #![tactic(auto)]
 
+#[cfg(test)]
+mod calls;
 #[cfg(test)]
 mod cells;
 #[cfg(test)]

@@ -1,12 +1,13 @@
 // That an undo gives the rows and look-ups at its mark, wherever memory is refused before it.
-ghost use Rattle.std.specs.Prelude.{IsTrue, length, ◌≤◌};
+ghost use Rattle.std.specs.Prelude.{length, ◌≤◌, IfOk};
 ghost use Rattle.model.specs.Named.{NamesTables};
 ghost use Rattle.undo.specs.Undo.{CanUndo};
 
-use bytes::ByteStr;
-use change::{Applied, Change, Clash, ColumnPatch, Patch, TableIds, apply};
+use crate::calls::Call::{Put, Remove, Set, Wipe};
+use crate::calls::{Call, Word, are_there, change, empty_tables, key};
+use change::{Applied, Change, Clash, apply};
 use indexes::Tables;
-use model::{Key, KeyColumns, OutOfMemory, Row, TableDef, TableId, Value};
+use model::{Key, OutOfMemory, TableId};
 use std::alloc::Global;
 use std::fmt::Write;
 use std::process::Abort;
@@ -15,84 +16,6 @@ use undo::UndoLog;
 
 // A table of an int, which is the primary key, and two texts, the first of them unique.
 const ACCOUNTS: TableId = 0;
-
-/// A change, with a row as a text: columns divided by `|`, `\N` for null.
-#[derive(Clone, Copy, Debug)]
-enum Call {
-    Put(&'static str),
-    Set(i64, &'static str),
-    Remove(i64),
-    Wipe,
-}
-
-fn value(word: &'static str) -> Option<Value> {
-    match word.parse::<i64>() {
-        Ok(number) => Some(Value::Int(number)),
-        Err(_) if word == r"\N" => None,
-        Err(_) => Some(Value::Text(ByteStr::from_static(word))),
-    }
-}
-
-fn row(alloc: Global, text: &'static str) -> Result<Row, OutOfMemory> {
-    let mut values = Vec::new(alloc);
-    for word in text.split('|') {
-        values.push(value(word))?;
-    }
-    Row::from_values(values)
-}
-
-fn key(alloc: Global, value: Value) -> Result<Key, OutOfMemory> {
-    Key::from_value(alloc, value)
-}
-
-fn column_patch(word: &'static str) -> ColumnPatch {
-    match value(word) {
-        None => ColumnPatch::Null,
-        Some(value) => ColumnPatch::Value(value),
-    }
-}
-
-fn patch(alloc: Global, text: &'static str) -> Result<Patch, OutOfMemory> {
-    let mut columns = Vec::new(alloc);
-    for word in text.split('|') {
-        columns.push(column_patch(word))?;
-    }
-    Ok(Patch::from_columns(columns))
-}
-
-fn change(alloc: Global, call: &Call) -> Result<Change, OutOfMemory> {
-    let table = ACCOUNTS;
-    match call {
-        Call::Put(text) => Ok(Change::Put {
-            table,
-            row: row(alloc, text)?,
-        }),
-        Call::Set(id, text) => Ok(Change::Set {
-            table,
-            key: key(alloc, Value::Int(*id))?,
-            patch: patch(alloc, text)?,
-        }),
-        Call::Remove(id) => Ok(Change::Remove {
-            table,
-            key: key(alloc, Value::Int(*id))?,
-        }),
-        Call::Wipe => Ok(Change::Wipe {
-            tables: TableIds::from_ids(vec![in alloc; table]?),
-        }),
-    }
-}
-
-/// Whether the tables of a change are there.
-fn are_there(t: &Tables, c: &Change) -> bool
-    ensures { IsTrue result → NamesTables (length t.now.schema) c.now }
-{
-    match c {
-        Change::Put { table, .. } | Change::Set { table, .. } | Change::Remove { table, .. } => {
-            *table < t.len()
-        }
-        Change::Wipe { tables } => tables.ids().iter().all(|table| *table < t.len()),
-    }
-}
 
 /// Applies a change and logs what takes it back, as a transaction does.
 fn apply_logged(
@@ -127,7 +50,7 @@ fn run(
     ensures { CanUndo t.new log.new.inverses }
 {
     let change = change(alloc, call)?;
-    assert!(rt; are_there(t, &change));
+    assert!(rt; are_there(t.len(), &change));
     apply_logged(alloc, log, t, &change)
 }
 
@@ -160,136 +83,168 @@ fn settle(log: &UndoLog, t: &mut Tables)
     log.settle(t);
 }
 
-fn empty_table(alloc: Global) -> Result<Tables, OutOfMemory> {
-    let unique = KeyColumns::from_numbers(vec![in alloc; 1]?);
-    let definition = TableDef::new(
-        ByteStr::new(),
-        ByteStr::new(),
-        Vec::new(alloc),
-        Vec::new(alloc),
-        KeyColumns::from_numbers(vec![in alloc; 0]?),
-        vec![in alloc; unique]?,
-    );
-    Tables::of_definitions(alloc, &[definition])
-}
-
 /// The table with the rows `1|a|n` and `2|b|n`.
 fn filled(rt: &impl Abort, alloc: Global) -> Result<Tables, Clash> {
-    let mut t = empty_table(alloc)?;
+    let mut t = empty_tables(alloc, &[&[1]])?;
     let mut log = UndoLog::new(alloc);
-    let rows = [Call::Put("1|a|n"), Call::Put("2|b|n")];
-    run_all(rt, alloc, &mut log, &mut t, rows.as_slice())?;
+    run_all(rt, alloc, &mut log, &mut t, &ROWS)?;
     Ok(t)
 }
 
 /// All rows, and what each look-up of a text in the unique key finds.
 fn shown(rt: &impl Abort, alloc: Global, t: &Tables) -> Result<String, OutOfMemory> {
     assert!(rt; ACCOUNTS < t.len());
-    assert!(rt; 1 <= t.unique_count(ACCOUNTS));
     let mut out = String::new(alloc);
     for row in t.walk(ACCOUNTS) {
         let row = row.to_row()?;
         write!(out, "{row:?}\n")?;
     }
     for text in ["a", "b", "c"] {
-        let values = key(alloc, Value::Text(ByteStr::from_static(text)))?;
-        let found = t.find_unique(ACCOUNTS, 1, &values);
-        write!(out, "{text}: {found:?}\n")?;
+        show_holder(rt, alloc, t, text, &mut out)?;
     }
     Ok(out)
+}
+
+fn show_holder(
+    rt: &impl Abort,
+    alloc: Global,
+    t: &Tables,
+    text: Word,
+    out: &mut String,
+) -> Result<(), OutOfMemory> {
+    assert!(rt; ACCOUNTS < t.len());
+    assert!(rt; 1 <= t.unique_count(ACCOUNTS));
+    let values = key(alloc, text)?;
+    let found = t.find_unique(ACCOUNTS, 1, &values);
+    write!(out, "{text}: {found:?}\n")?;
+    Ok(())
+}
+
+/// The table shows this.
+fn shows(rt: &impl Abort, alloc: Global, t: &Tables, wanted: &str) -> Result<(), OutOfMemory> {
+    let found = shown(rt, alloc, t)?;
+    assert_eq!(rt; found.as_str(), wanted);
+    Ok(())
+}
+
+/// The first row stands at its key and in the unique key. So much is looked at without memory.
+fn has_the_first(rt: &impl Abort, t: &Tables, id: &Key, email: &Key, calls: &[Call]) {
+    assert!(rt; ACCOUNTS < t.len());
+    assert!(rt; 1 <= t.unique_count(ACCOUNTS));
+    let holder = t.find_unique(ACCOUNTS, 1, email);
+    assert!(rt;
+        matches!(holder, Some(key) if *key == *id),
+        "undone {calls:?}"
+    );
+    assert!(rt; t.get(ACCOUNTS, id).is_some(), "undone {calls:?}");
 }
 
 /// Runs calls, up to the first that is refused, and undoes what was done: all is as it was first.
 fn run_and_undo(rt: &impl Abort, alloc: Global, calls: &[Call]) -> Result<(), Clash> {
     let mut t = filled(rt, alloc)?;
     let mut log = UndoLog::new(alloc);
-    let id = key(alloc, Value::Int(1))?;
-    let email = key(alloc, Value::Text(ByteStr::from_static("a")))?;
+    let id = key(alloc, "1")?;
+    let email = key(alloc, "a")?;
     let answer = run_all(rt, alloc, &mut log, &mut t, calls);
     undo_to(&mut log, &mut t, 0);
-    // So much is looked at without memory, which may be refused from here on.
+    // Memory may be refused from here on.
     assert_eq!(rt; log.mark(), 0);
-    assert!(rt; ACCOUNTS < t.len());
-    assert!(rt; 1 <= t.unique_count(ACCOUNTS));
-    let holder = t.find_unique(ACCOUNTS, 1, &email);
-    assert!(rt;
-        matches!(holder, Some(key) if *key == id),
-        "undone {calls:?}"
-    );
-    assert!(rt; t.get(ACCOUNTS, &id).is_some(), "undone {calls:?}");
-    let first = shown(rt, alloc, &filled(rt, alloc)?)?;
-    assert_eq!(rt;
-        shown(rt, alloc, &t)?.as_str(),
-        first.as_str(),
-        "undone {calls:?}"
-    );
+    has_the_first(rt, &t, &id, &email, calls);
+    is_as_first(rt, alloc, &t)?;
     answer
 }
 
+fn is_as_first(rt: &impl Abort, alloc: Global, t: &Tables) -> Result<(), Clash> {
+    let first = filled(rt, alloc)?;
+    let wanted = shown(rt, alloc, &first)?;
+    shows(rt, alloc, t, wanted.as_str())?;
+    Ok(())
+}
+
+const ROWS: [Call; 2] = [
+    Put(ACCOUNTS, ("1", "a", "n")),
+    Put(ACCOUNTS, ("2", "b", "n")),
+];
+
 // Changes of each kind: the row that was removed comes again and goes, the other moves and clashes.
 const CHANGES: [Call; 7] = [
-    Call::Remove(1),
-    Call::Put("3|a|n"),
-    Call::Set(2, r"4|c|\N"),
-    Call::Remove(3),
-    Call::Put("2|b|n"),
-    Call::Wipe,
-    Call::Put("5|a|n"),
+    Remove(ACCOUNTS, "1"),
+    Put(ACCOUNTS, ("3", "a", "n")),
+    Set(ACCOUNTS, "2", ("4", "c", r"\N")),
+    Remove(ACCOUNTS, "3"),
+    Put(ACCOUNTS, ("2", "b", "n")),
+    Wipe(&[ACCOUNTS]),
+    Put(ACCOUNTS, ("5", "a", "n")),
+];
+
+const COMES_AND_GOES: [Call; 3] = [
+    Remove(ACCOUNTS, "1"),
+    Put(ACCOUNTS, ("3", "a", "n")),
+    Remove(ACCOUNTS, "3"),
+];
+
+const EMPTIED_AND_CLASHING: [Call; 3] = [
+    Wipe(&[ACCOUNTS]),
+    Put(ACCOUNTS, ("5", "a", "n")),
+    Put(ACCOUNTS, ("6", "a", "n")),
 ];
 
 #[test]
 fn an_undo_gives_the_first_rows(rt: HostRuntime) -> Result<(), Fail> {
     let alloc = rt.alloc();
-    let again = [Call::Remove(1), Call::Put("3|a|n"), Call::Remove(3)];
-    run_and_undo(&rt, alloc, again.as_slice())?;
-    run_and_undo(&rt, alloc, &[Call::Wipe, Call::Put("5|a|n")])?;
-    run_and_undo(&rt, alloc, CHANGES.as_slice())?;
-    let clash = run_and_undo(
-        &rt,
-        alloc,
-        &[Call::Wipe, Call::Put("5|a|n"), Call::Put("6|a|n")],
-    );
-    assert_eq!(rt;
-        clash.err(),
-        Some(Clash::Unique {
-            table: ACCOUNTS,
-            key: 1
-        })
-    );
+    for calls in [
+        &COMES_AND_GOES[..],
+        &EMPTIED_AND_CLASHING[..2],
+        &CHANGES[..],
+    ] {
+        run_and_undo(&rt, alloc, calls)?;
+    }
+    let answer = run_and_undo(&rt, alloc, &EMPTIED_AND_CLASHING);
+    let clash = Clash::Unique {
+        table: ACCOUNTS,
+        key: 1,
+    };
+    assert_eq!(rt; answer.err(), Some(clash));
     Ok(())
+}
+
+/// The table with its rows after these changes, and their log.
+fn logged(rt: &impl Abort, alloc: Global, calls: &[Call]) -> Result<(Tables, UndoLog), Clash>
+    ensures { IfOk result (λ made. CanUndo made.0 made.1.inverses) }
+{
+    let mut t = filled(rt, alloc)?;
+    let mut log = UndoLog::new(alloc);
+    run_all(rt, alloc, &mut log, &mut t, calls)?;
+    Ok((t, log))
 }
 
 #[test]
 fn an_undo_to_a_mark_keeps_what_came_before_it(rt: HostRuntime) -> Result<(), Fail> {
     let alloc = rt.alloc();
-    let mut t = filled(&rt, alloc)?;
-    let mut log = UndoLog::new(alloc);
-    run_all(&rt, alloc, &mut log, &mut t, &CHANGES[..3])?;
+    let (mut t, mut log) = logged(&rt, alloc, &CHANGES[..3])?;
     assert_eq!(rt; log.mark(), 3);
     let at_mark = shown(&rt, alloc, &t)?;
     run_all(&rt, alloc, &mut log, &mut t, &CHANGES[3..])?;
     assert_eq!(rt; log.mark(), 7);
     undo_to(&mut log, &mut t, 3);
-    assert_eq!(rt; shown(&rt, alloc, &t)?.as_str(), at_mark.as_str());
     assert_eq!(rt; log.mark(), 3);
+    shows(&rt, alloc, &t, at_mark.as_str())?;
     Ok(())
 }
 
 #[test]
 fn a_log_that_is_settled_leaves_the_rows(rt: HostRuntime) -> Result<(), Fail> {
     let alloc = rt.alloc();
-    let mut t = filled(&rt, alloc)?;
-    let mut log = UndoLog::new(alloc);
-    run_all(&rt, alloc, &mut log, &mut t, CHANGES.as_slice())?;
+    let (mut t, log) = logged(&rt, alloc, &CHANGES)?;
     let committed = shown(&rt, alloc, &t)?;
     settle(&log, &mut t);
-    assert_eq!(rt; shown(&rt, alloc, &t)?.as_str(), committed.as_str());
+    shows(&rt, alloc, &t, committed.as_str())?;
     Ok(())
 }
 
 // Whether the inverse with this number keeps a row at a key.
-fn keeps_row(alloc: Global, log: &UndoLog, number: usize, id: i64) -> Result<bool, OutOfMemory> {
-    let key = key(alloc, Value::Int(id))?;
+fn keeps_row(alloc: Global, log: &UndoLog, number: usize, id: Word) -> Result<bool, OutOfMemory> {
+    let key = key(alloc, id)?;
     match log.get(number) {
         Some(inverse) => Ok(inverse.row_at(ACCOUNTS, &key).is_some()),
         None => Ok(false),
@@ -298,24 +253,26 @@ fn keeps_row(alloc: Global, log: &UndoLog, number: usize, id: i64) -> Result<boo
 
 #[test]
 fn a_log_lends_the_rows_that_went(rt: HostRuntime) -> Result<(), Fail> {
-    let alloc = rt.alloc();
-    let mut t = filled(&rt, alloc)?;
-    let mut log = UndoLog::new(alloc);
-    run_all(&rt, alloc, &mut log, &mut t, CHANGES.as_slice())?;
-    assert!(rt; keeps_row(alloc, &log, 0, 1)?);
-    assert!(rt; !keeps_row(alloc, &log, 1, 3)?);
-    assert!(rt; keeps_row(alloc, &log, 2, 2)?);
-    assert!(rt; !keeps_row(alloc, &log, 2, 4)?);
-    assert!(rt; keeps_row(alloc, &log, 5, 4)?);
-    assert!(rt; !keeps_row(alloc, &log, 5, 1)?);
-    assert!(rt; !keeps_row(alloc, &log, 7, 4)?);
+    let (_, log) = logged(&rt, rt.alloc(), &CHANGES)?;
+    for (number, id, wanted) in [
+        (0, "1", true),
+        (1, "3", false),
+        (2, "2", true),
+        (2, "4", false),
+        (5, "4", true),
+        (5, "1", false),
+        (7, "4", false),
+    ] {
+        let keeps = keeps_row(rt.alloc(), &log, number, id)?;
+        assert_eq!(rt; keeps, wanted, "{number} at {id}");
+    }
     Ok(())
 }
 
 // Whichever call memory is refused in, the undo of those before it succeeds.
 #[test]
 fn an_undo_where_memory_is_refused(rt: HostRuntime) {
-    if let Err(clash) = run_and_undo(&rt, rt.alloc(), CHANGES.as_slice()) {
+    if let Err(clash) = run_and_undo(&rt, rt.alloc(), &CHANGES) {
         assert_eq!(rt; clash, Clash::OutOfMemory);
     }
 }

@@ -1,43 +1,59 @@
 // What a store is by its definitions, done by hand: the committed rows as a plain list, and for each
 // open transaction the items of it that survive its rollbacks. There are no live tables, no inverses
 // and no holds: they are worked out of these, each time anew.
-use super::calls::{ACCOUNTS, Call, Field, Record, Update};
+ghost use Rattle.std.specs.Prelude.{◌<◌, IfSome, length};
+
+use super::scene::{ACCOUNTS, Deed};
+use crate::calls::{Call, KEPT, NULL, Word, Words};
 use change::Clash;
 use engine::{Acted, EngineFault, NotSettled, Stop};
 use model::{OutOfMemory, TableId, Xid};
 use std::alloc::Global;
 
 /// A row in its table.
-#[derive(Clone, Copy, Debug, PartialEq)]
+#[derive(Clone, Copy)]
 pub(super) struct Stored {
     pub(super) table: TableId,
-    pub(super) row: Record,
+    pub(super) row: Words,
 }
 
 impl Stored {
-    fn stands_at(&self, table: TableId, id: Field) -> bool {
+    fn stands_at(&self, table: TableId, id: Word) -> bool {
         self.table == table && self.id() == id
     }
 
-    fn id(&self) -> Field {
-        self.row.id
+    fn id(&self) -> Word {
+        self.row.0
+    }
+
+    /// Whether it has this one's key, and is not the row that is replaced.
+    fn has_id_of(&self, new: &Stored, replaced: Word) -> bool {
+        self.table == new.table && self.id() != replaced && self.id() == new.id()
+    }
+
+    /// Whether it has this one's unique value, and is not the row that is replaced. A null is like none.
+    fn has_unique_of(&self, new: &Stored, replaced: Word) -> bool {
+        self.table == new.table
+            && self.id() != replaced
+            && self.unique() != NULL
+            && self.unique() == new.unique()
     }
 
     /// Its value in the unique key; null where its table has none.
-    fn unique(&self) -> Field {
+    fn unique(&self) -> Word {
         if self.table == ACCOUNTS {
-            self.row.second
+            self.row.1
         } else {
-            Field::Null
+            NULL
         }
     }
 }
 
 /// A place that a change looks up or alters.
-#[derive(Clone, Copy, Debug, PartialEq)]
+#[derive(Clone, Copy, PartialEq)]
 enum Spot {
-    Row(TableId, Field),
-    Unique(TableId, Field),
+    Row(TableId, Word),
+    Unique(TableId, Word),
     Whole(TableId),
 }
 
@@ -57,7 +73,7 @@ impl Spot {
 }
 
 /// What comes of a change that nobody is in the way of.
-#[derive(Clone, Copy, Debug, PartialEq)]
+#[derive(Clone, Copy)]
 pub(super) enum Outcome {
     Done,
     Skipped,
@@ -75,72 +91,90 @@ impl Outcome {
 }
 
 /// The row at a place.
-pub(super) fn row_at(rows: &[Stored], table: TableId, id: Field) -> Option<Stored> {
-    rows.iter()
-        .find(|stored| stored.stands_at(table, id))
-        .copied()
-}
-
-/// Why a row may not come to these rows, without the one that it replaces.
-fn clash_of(rows: &[Stored], new: Stored, replaced: Field) -> Option<Clash> {
-    let table = new.table;
-    if new.id() == Field::Null {
-        return Some(Clash::NullKey { table });
-    }
-    let others = |stored: &Stored| stored.table == table && stored.id() != replaced;
-    let agrees = |stored: &Stored| others(stored) && stored.id() == new.id();
-    if rows.iter().any(agrees) {
-        return Some(Clash::Unique { table, key: 0 });
-    }
-    let agrees = |stored: &Stored| others(stored) && stored.unique() == new.unique();
-    if new.unique() != Field::Null && rows.iter().any(agrees) {
-        return Some(Clash::Unique { table, key: 1 });
+pub(super) fn row_at(rows: &[Stored], table: TableId, id: Word) -> Option<Stored> {
+    for stored in rows {
+        if stored.stands_at(table, id) {
+            return Some(*stored);
+        }
     }
     None
 }
 
-fn patched(old: Stored, update: &Update) -> Stored {
-    let row = Record {
-        id: update.id.unwrap_or(old.row.id),
-        second: update.second.unwrap_or(old.row.second),
-        note: update.note.unwrap_or(old.row.note),
-    };
-    Stored { row, ..old }
+fn place_of(rows: &[Stored], table: TableId, id: Word) -> Option<usize>
+    ensures { IfSome result (λ at. at < length rows.now) }
+{
+    for (at, stored) in rows.iter().enumerate() {
+        if stored.stands_at(table, id) {
+            return Some(at);
+        }
+    }
+    None
+}
+
+/// The row at a place goes, if there is one.
+fn take_out(rows: &mut Vec<Stored>, table: TableId, id: Word) -> bool {
+    match place_of(rows.as_slice(), table, id) {
+        Some(at) => {
+            rows.remove(at);
+            true
+        }
+        None => false,
+    }
+}
+
+/// Why a row may not come to these rows, without the one that it replaces: the least key decides.
+fn clash_of(rows: &[Stored], new: &Stored, replaced: Word) -> Option<Clash> {
+    let table = new.table;
+    if new.id() == NULL {
+        return Some(Clash::NullKey { table });
+    }
+    let mut clash = None;
+    for stored in rows {
+        if stored.has_id_of(new, replaced) {
+            return Some(Clash::Unique { table, key: 0 });
+        }
+        if stored.has_unique_of(new, replaced) {
+            clash = Some(Clash::Unique { table, key: 1 });
+        }
+    }
+    clash
+}
+
+fn patched_word(old: Word, word: Word) -> Word {
+    if word == KEPT { old } else { word }
+}
+
+fn patched(old: &Stored, words: &Words) -> Stored {
+    Stored {
+        table: old.table,
+        row: (
+            patched_word(old.row.0, words.0),
+            patched_word(old.row.1, words.1),
+            patched_word(old.row.2, words.2),
+        ),
+    }
 }
 
 /// A row comes to these rows, in the place of one or of none.
-fn come(rows: &mut Vec<Stored>, new: Stored, replaced: Field) -> Result<Outcome, OutOfMemory> {
-    if let Some(clash) = clash_of(rows.as_slice(), new, replaced) {
+fn come(rows: &mut Vec<Stored>, new: Stored, replaced: Word) -> Result<Outcome, OutOfMemory> {
+    if let Some(clash) = clash_of(rows.as_slice(), &new, replaced) {
         return Ok(Outcome::Clashes(clash));
     }
-    rows.retain(|stored| !stored.stands_at(new.table, replaced));
+    take_out(rows, new.table, replaced);
     rows.push(new)?;
     Ok(Outcome::Done)
 }
 
 /// What a change does to these rows.
 fn alter(rows: &mut Vec<Stored>, call: &Call) -> Result<Outcome, OutOfMemory> {
-    match call {
-        Call::Put(table, row) => {
-            let new = Stored {
-                table: *table,
-                row: *row,
-            };
-            come(rows, new, Field::Null)
-        }
-        Call::Set(table, id, update) => match row_at(rows.as_slice(), *table, *id) {
+    match *call {
+        Call::Put(table, row) => come(rows, Stored { table, row }, NULL),
+        Call::Set(table, id, words) => match row_at(rows.as_slice(), table, id) {
             None => Ok(Outcome::Skipped),
-            Some(old) => come(rows, patched(old, update), *id),
+            Some(old) => come(rows, patched(&old, &words), id),
         },
-        Call::Remove(table, id) => {
-            let before = rows.len();
-            rows.retain(|stored| !stored.stands_at(*table, *id));
-            Ok(if rows.len() == before {
-                Outcome::Skipped
-            } else {
-                Outcome::Done
-            })
-        }
+        Call::Remove(table, id) if take_out(rows, table, id) => Ok(Outcome::Done),
+        Call::Remove(..) => Ok(Outcome::Skipped),
         Call::Wipe(tables) => {
             rows.retain(|stored| !tables.contains(&stored.table));
             Ok(Outcome::Done)
@@ -148,69 +182,80 @@ fn alter(rows: &mut Vec<Stored>, call: &Call) -> Result<Outcome, OutOfMemory> {
     }
 }
 
-/// The place of a row, if its key holds no null, and the one of its unique value, likewise.
-fn push_spots(
-    spots: &mut Vec<Spot>,
-    place: Option<Stored>,
-    unique: Option<Stored>,
-) -> Result<(), OutOfMemory> {
-    if let Some(stored) = place {
-        if stored.id() != Field::Null {
-            spots.push(Spot::Row(stored.table, stored.id()))?;
-        }
+/// The place of a row, if its key holds no null.
+fn push_place(spots: &mut Vec<Spot>, stored: &Stored) -> Result<(), OutOfMemory> {
+    if stored.id() != NULL {
+        spots.push(Spot::Row(stored.table, stored.id()))?;
     }
-    if let Some(stored) = unique {
-        if stored.unique() != Field::Null {
-            spots.push(Spot::Unique(stored.table, stored.unique()))?;
-        }
+    Ok(())
+}
+
+/// The place of a row's unique value, if it is no null.
+fn push_unique(spots: &mut Vec<Spot>, stored: &Stored) -> Result<(), OutOfMemory> {
+    if stored.unique() != NULL {
+        spots.push(Spot::Unique(stored.table, stored.unique()))?;
+    }
+    Ok(())
+}
+
+/// What a row moves from and to.
+fn push_moves(spots: &mut Vec<Spot>, old: &Stored, new: &Stored) -> Result<(), OutOfMemory> {
+    if new.id() != old.id() {
+        push_place(spots, new)?;
+    }
+    if new.unique() != old.unique() {
+        push_unique(spots, old)?;
+        push_unique(spots, new)?;
     }
     Ok(())
 }
 
 /// The places that a change looks up or alters, on the rows that it meets.
 fn push_footprint(spots: &mut Vec<Spot>, rows: &[Stored], call: &Call) -> Result<(), OutOfMemory> {
-    match call {
+    match *call {
         Call::Put(table, row) => {
-            let new = Stored {
-                table: *table,
-                row: *row,
-            };
-            push_spots(spots, Some(new), Some(new))
+            let new = Stored { table, row };
+            push_place(spots, &new)?;
+            push_unique(spots, &new)
         }
-        Call::Set(table, id, update) => {
-            spots.push(Spot::Row(*table, *id))?;
-            let Some(old) = row_at(rows, *table, *id) else {
-                return Ok(());
-            };
-            let new = patched(old, update);
-            push_spots(spots, if new.id() == *id { None } else { Some(new) }, None)?;
-            if new.unique() != old.unique() {
-                push_spots(spots, None, Some(old))?;
-                push_spots(spots, None, Some(new))?;
+        Call::Set(table, id, words) => {
+            spots.push(Spot::Row(table, id))?;
+            match row_at(rows, table, id) {
+                None => Ok(()),
+                Some(old) => push_moves(spots, &old, &patched(&old, &words)),
             }
-            Ok(())
         }
         Call::Remove(table, id) => {
-            spots.push(Spot::Row(*table, *id))?;
-            push_spots(spots, None, row_at(rows, *table, *id))
-        }
-        Call::Wipe(tables) => {
-            for table in *tables {
-                spots.push(Spot::Whole(*table))?;
+            spots.push(Spot::Row(table, id))?;
+            match row_at(rows, table, id) {
+                None => Ok(()),
+                Some(old) => push_unique(spots, &old),
             }
-            Ok(())
         }
+        Call::Wipe(tables) => push_tables(spots, tables),
     }
 }
 
+fn push_tables(spots: &mut Vec<Spot>, tables: &[TableId]) -> Result<(), OutOfMemory> {
+    for table in tables {
+        spots.push(Spot::Whole(*table))?;
+    }
+    Ok(())
+}
+
 fn share(spots: &[Spot], others: &[Spot]) -> bool {
-    spots
-        .iter()
-        .any(|spot| others.iter().any(|other| spot.overlaps(other)))
+    for spot in spots {
+        for other in others {
+            if spot.overlaps(other) {
+                return true;
+            }
+        }
+    }
+    false
 }
 
 /// An item of a transaction: a change, or none for a relation or type message.
-#[derive(Clone, Copy, Debug)]
+#[derive(Clone, Copy)]
 pub(super) struct Item {
     pub(super) sub: Xid,
     pub(super) call: Option<Call>,
@@ -305,7 +350,12 @@ impl Model {
     }
 
     pub(super) fn find(&self, xid: Xid) -> Option<&Opened> {
-        self.opened.iter().find(|opened| opened.xid == xid)
+        for opened in &self.opened {
+            if opened.xid == xid {
+                return Some(opened);
+            }
+        }
+        None
     }
 
     /// The rows as an open transaction sees them.
@@ -356,7 +406,7 @@ impl Model {
 
     /// Whether this may be answered to a change of an open transaction. Several may be in its way: then
     /// any of them may be named.
-    pub(super) fn allows(
+    fn allows(
         &self,
         alloc: Global,
         xid: Xid,
@@ -458,30 +508,60 @@ impl Model {
         }
     }
 
+    /// A call had this answer. Makes the call too, and says whether it may answer so.
+    pub(super) fn follow(
+        &mut self,
+        alloc: Global,
+        deed: &Deed,
+        answer: Result<Acted, EngineFault>,
+    ) -> Result<bool, OutOfMemory> {
+        match deed {
+            Deed::Open(xid) => Ok(answer == self.open(alloc, *xid)),
+            Deed::Act(xid, sub, call) => {
+                let is_allowed = self.allows(alloc, *xid, call, answer)?;
+                self.act(*xid, *sub, call, answer)?;
+                Ok(is_allowed)
+            }
+            Deed::Touch(xid, sub) => Ok(answer == self.touch(*xid, *sub)),
+            Deed::BackTo(xid, sub) => {
+                self.back_to(*xid, *sub);
+                Ok(answer == Ok(Acted::Done))
+            }
+            Deed::Commit(xid) => {
+                self.commit(alloc, *xid)?;
+                Ok(answer == Ok(Acted::Done))
+            }
+            Deed::Abort(xid) => {
+                self.take(*xid);
+                Ok(answer == Ok(Acted::Done))
+            }
+        }
+    }
+
     /// A transaction opens.
-    pub(super) fn open(&mut self, alloc: Global, xid: Xid) -> Result<(), EngineFault> {
+    fn open(&mut self, alloc: Global, xid: Xid) -> Result<Acted, EngineFault> {
         if self.stopped.is_some() {
             return Err(EngineFault::Stopped);
         }
         if self.find(xid).is_some() {
             return Err(EngineFault::AlreadyOpen);
         }
-        let items = Vec::new(alloc);
-        Ok(self.add(Opened {
-            xid,
-            items,
-            done: 0,
-            wants: None,
-        })?)
+        self.add(alloc, xid)?;
+        Ok(Acted::Done)
     }
 
-    fn add(&mut self, opened: Opened) -> Result<(), OutOfMemory> {
-        self.opened.push(opened)?;
+    fn add(&mut self, alloc: Global, xid: Xid) -> Result<(), OutOfMemory> {
+        self.opened.push(Opened {
+            xid,
+            items: Vec::new(alloc),
+            done: 0,
+            wants: None,
+        })?;
         Ok(())
     }
 
     /// A change had this answer.
-    pub(super) fn act(
+    fn act(
         &mut self,
         xid: Xid,
         sub: Xid,
@@ -512,14 +592,15 @@ impl Model {
         Ok(())
     }
 
-    pub(super) fn touch(&mut self, xid: Xid, sub: Xid) -> Result<(), EngineFault> {
+    fn touch(&mut self, xid: Xid, sub: Xid) -> Result<Acted, EngineFault> {
         if self.stopped.is_some() {
             return Err(EngineFault::Stopped);
         }
-        Ok(self.push(xid, sub, None)?)
+        self.push(xid, sub, None)?;
+        Ok(Acted::Done)
     }
 
-    pub(super) fn back_to(&mut self, xid: Xid, sub: Xid) {
+    fn back_to(&mut self, xid: Xid, sub: Xid) {
         for opened in &mut self.opened {
             if opened.xid == xid {
                 opened.back_to(sub);
@@ -528,16 +609,12 @@ impl Model {
         }
     }
 
-    pub(super) fn commit(&mut self, alloc: Global, xid: Xid) -> Result<(), OutOfMemory> {
+    fn commit(&mut self, alloc: Global, xid: Xid) -> Result<(), OutOfMemory> {
         self.committed = self.own_rows(alloc, xid)?;
         if let Some(Opened { xid, items, .. }) = self.take(xid) {
             self.journal.push(Past { xid, items })?;
         }
         Ok(())
-    }
-
-    pub(super) fn abort(&mut self, xid: Xid) {
-        self.take(xid);
     }
 
     fn take(&mut self, xid: Xid) -> Option<Opened> {

@@ -1,8 +1,13 @@
 // What is refused, when, and that nothing comes of it: what later calls, the journal and the tables show.
-use super::calls::{ACCOUNTS, Call, put, remove, set, wipe};
-use super::scene::Scene;
+use super::scene::{ACCOUNTS, Scene};
+use super::script::Step::{
+    Aborts, Clashes, Commits, Does, DoesNot, GoesBack, Opens, OpensNot, Skips, TouchesNot, Waits,
+};
+use super::script::{Step, play, play_on};
+use crate::calls::Call;
+use crate::calls::Call::{Put, Remove, Set, Wipe};
 use change::Clash;
-use engine::{Acted, EngineFault, NotSettled, Stop};
+use engine::{EngineFault, NotSettled, Stop};
 use model::Xid;
 use std::alloc::Global;
 use std::process::Abort;
@@ -20,179 +25,160 @@ const SAME_EMAIL: Clash = Clash::Unique {
     key: 1,
 };
 
-/// The change is done.
-fn does(rt: &impl Abort, alloc: Global, scene: &mut Scene, (xid, sub): (Xid, Xid), call: &Call) {
-    let answer = scene.act(rt, alloc, xid, sub, call);
-    assert_eq!(rt; answer, Ok(Acted::Done), "{call:?} of {sub}");
-}
-
-/// The change is held by another transaction.
-fn waits(
-    rt: &impl Abort,
-    alloc: Global,
-    scene: &mut Scene,
-    (xid, sub, holder): (Xid, Xid, Xid),
-    call: &Call,
-) {
-    let answer = scene.act(rt, alloc, xid, sub, call);
-    assert_eq!(rt; answer, Ok(Acted::Held(holder)), "{call:?} of {sub}");
-}
+const OPENED_AGAIN: [Step; 7] = [
+    Does(700, 700, Put(ACCOUNTS, ("3", "c", "n"))),
+    OpensNot(700, EngineFault::AlreadyOpen),
+    Does(700, 700, Put(ACCOUNTS, ("4", "d", "n"))),
+    Commits(700, "1|a|n 2|b|n 3|c|n 4|d|n"),
+    Opens(700),
+    Does(700, 700, Remove(ACCOUNTS, "3")),
+    Commits(700, "1|a|n 2|b|n 4|d|n"),
+];
 
 #[test]
 fn a_number_that_is_open_does_not_open_again(rt: HostRuntime) -> Result<(), Fail> {
-    let alloc = rt.alloc();
-    let mut scene = Scene::worked(&rt, alloc, &[700])?;
-    does(&rt, alloc, &mut scene, (700, 700), &put("3", "c", "n"));
-    assert_eq!(rt; scene.open(alloc, 700), Err(EngineFault::AlreadyOpen));
-    does(&rt, alloc, &mut scene, (700, 700), &put("4", "d", "n"));
-    scene.commit(&rt, 700);
-    assert_eq!(rt; scene.open(alloc, 700), Ok(()));
-    does(&rt, alloc, &mut scene, (700, 700), &remove(3));
-    scene.commit(&rt, 700);
-    scene.ends_with(&rt, alloc, "1|a|n 2|b|n 4|d|n", 2)
+    play(&rt, rt.alloc(), &[700], &OPENED_AGAIN)
+}
+
+// With the numbers below 4096 open.
+const FULL: [Step; 7] = [
+    OpensNot(5000, EngineFault::TooManyOpen),
+    OpensNot(4095, EngineFault::AlreadyOpen),
+    Does(4095, 4095, Put(ACCOUNTS, ("3", "c", "n"))),
+    Aborts(0),
+    Opens(5000),
+    OpensNot(0, EngineFault::TooManyOpen),
+    Aborts(5000),
+];
+
+fn open_all(alloc: Global, scene: &mut Scene, first: Xid, end: Xid) -> Result<(), EngineFault> {
+    for xid in first..end {
+        scene.open(alloc, xid)?;
+    }
+    Ok(())
+}
+
+fn commit_all(rt: &impl Abort, scene: &mut Scene, first: Xid, end: Xid) {
+    for xid in first..end {
+        scene.commit(rt, xid);
+    }
 }
 
 #[test]
 fn no_more_than_4096_are_open(rt: HostRuntime) -> Result<(), Fail> {
     let alloc = rt.alloc();
     let mut scene = Scene::worked(&rt, alloc, &[])?;
-    for xid in 0..4096 {
-        assert_eq!(rt; scene.open(alloc, xid), Ok(()), "{xid}");
-    }
-    assert_eq!(rt; scene.open(alloc, 5000), Err(EngineFault::TooManyOpen));
-    assert_eq!(rt; scene.open(alloc, 4095), Err(EngineFault::AlreadyOpen));
-    does(&rt, alloc, &mut scene, (4095, 4095), &put("3", "c", "n"));
-    scene.abort(&rt, 0);
-    assert_eq!(rt; scene.open(alloc, 5000), Ok(()));
-    assert_eq!(rt; scene.open(alloc, 0), Err(EngineFault::TooManyOpen));
+    open_all(alloc, &mut scene, 0, 4096)?;
+    play_on(&rt, alloc, &mut scene, &FULL)?;
     // Each has room for its entry: none of them is refused one.
-    scene.abort(&rt, 5000);
-    for xid in 1..4096 {
-        scene.commit(&rt, xid);
-    }
+    commit_all(&rt, &mut scene, 1, 4096);
     scene.ends_with(&rt, alloc, "1|a|n 2|b|n 3|c|n", 4095)
 }
 
+const HELD: [Step; 10] = [
+    Does(700, 700, Set(ACCOUNTS, "1", ("-", "-", "v"))),
+    Does(900, 900, Put(ACCOUNTS, ("3", "c", "n"))),
+    // It would take the fifth place and its email, and no longer hold the first.
+    Waits(900, 911, Set(ACCOUNTS, "1", ("5", "e", "-")), 700),
+    Waits(900, 911, Wipe(&[ACCOUNTS]), 700),
+    Does(701, 701, Put(ACCOUNTS, ("5", "e", "n"))),
+    // No savepoint was set: the item of the top transaction that comes next stays.
+    Does(900, 900, Put(ACCOUNTS, ("4", "d", "n"))),
+    GoesBack(900, 911),
+    Commits(900, "1|a|n 2|b|n 3|c|n 4|d|n"),
+    Aborts(700),
+    Commits(701, "1|a|n 2|b|n 3|c|n 4|d|n 5|e|n"),
+];
+
 #[test]
 fn a_change_that_is_held_leaves_nothing(rt: HostRuntime) -> Result<(), Fail> {
-    let alloc = rt.alloc();
-    let mut scene = Scene::worked(&rt, alloc, &[700, 701, 900])?;
-    does(&rt, alloc, &mut scene, (700, 700), &set(1, ["-", "-", "v"]));
-    // It would take the fifth place and its email, and no longer hold the first.
-    let moved = set(1, ["5", "e", "-"]);
-    does(&rt, alloc, &mut scene, (900, 900), &put("3", "c", "n"));
-    waits(&rt, alloc, &mut scene, (900, 911, 700), &moved);
-    waits(&rt, alloc, &mut scene, (900, 911, 700), &wipe());
-    assert_eq!(rt; scene.stop(), None);
-    assert_eq!(rt; scene.store.journal().len(), 0);
-    does(&rt, alloc, &mut scene, (701, 701), &put("5", "e", "n"));
-    // No savepoint was set: the item of the top transaction that comes next stays.
-    does(&rt, alloc, &mut scene, (900, 900), &put("4", "d", "n"));
-    scene.back_to(&rt, 900, 911);
-    scene.commit(&rt, 900);
-    scene.abort(&rt, 700);
-    scene.commit(&rt, 701);
-    scene.ends_with(&rt, alloc, "1|a|n 2|b|n 3|c|n 4|d|n 5|e|n", 2)
+    play(&rt, rt.alloc(), &[700, 701, 900], &HELD)
 }
+
+const HELD_FIRST: [Step; 13] = [
+    Does(700, 700, Remove(ACCOUNTS, "1")),
+    Waits(900, 900, Put(ACCOUNTS, ("1", "f", "n")), 700),
+    Waits(900, 900, Put(ACCOUNTS, ("6", "a", "n")), 700),
+    Waits(900, 900, Put(ACCOUNTS, (r"\N", "a", "n")), 700),
+    Waits(900, 900, Put(ACCOUNTS, ("2", "a", "n")), 700),
+    Waits(900, 900, Set(ACCOUNTS, "1", ("-", "-", "v")), 700),
+    Waits(900, 900, Set(ACCOUNTS, "2", ("1", "-", "-")), 700),
+    Waits(900, 900, Set(ACCOUNTS, "2", ("-", "a", "-")), 700),
+    Waits(900, 900, Remove(ACCOUNTS, "1"), 700),
+    Waits(900, 900, Wipe(&[ACCOUNTS]), 700),
+    Commits(700, "2|b|n"),
+    Skips(900, 900, Remove(ACCOUNTS, "1")),
+    Commits(900, "2|b|n"),
+];
 
 #[test]
 fn held_goes_before_a_clash_and_a_skip(rt: HostRuntime) -> Result<(), Fail> {
-    let alloc = rt.alloc();
-    let mut scene = Scene::worked(&rt, alloc, &[700, 900])?;
-    does(&rt, alloc, &mut scene, (700, 700), &remove(1));
-    for call in [
-        put("1", "f", "n"),
-        put("6", "a", "n"),
-        put(r"\N", "a", "n"),
-        put("2", "a", "n"),
-        set(1, ["-", "-", "v"]),
-        set(2, ["1", "-", "-"]),
-        set(2, ["-", "a", "-"]),
-        remove(1),
-        wipe(),
-    ] {
-        waits(&rt, alloc, &mut scene, (900, 900, 700), &call);
-    }
-    assert_eq!(rt; scene.stop(), None);
-    scene.commit(&rt, 700);
-    assert_eq!(rt;
-        scene.act(&rt, alloc, 900, 900, &remove(1)),
-        Ok(Acted::Skipped)
-    );
-    scene.commit(&rt, 900);
-    scene.ends_with(&rt, alloc, "2|b|n", 2)
+    play(&rt, rt.alloc(), &[700, 900], &HELD_FIRST)
 }
 
-/// A change clashes and stops the store, after another of the same transaction, and nothing comes of it.
-fn clashes(rt: &impl Abort, alloc: Global, call: &Call, clash: Clash) -> Result<(), Fail> {
-    let mut scene = Scene::worked(rt, alloc, &[700, 900])?;
-    does(rt, alloc, &mut scene, (700, 700), &put("7", "g", "n"));
-    does(rt, alloc, &mut scene, (900, 900), &put("3", "c", "n"));
-    does(rt, alloc, &mut scene, (900, 911), &put("4", "d", "n"));
-    let answer = scene.act(rt, alloc, 900, 912, call);
-    assert_eq!(rt; answer, Err(EngineFault::Clash(clash)), "{call:?}");
-    assert_eq!(rt; scene.stop(), Some(Stop::Clash(900, clash)), "{call:?}");
-    assert_eq!(rt; scene.store.journal().len(), 0);
-    refuses_all(rt, alloc, &mut scene);
-    assert_eq!(rt; scene.stop(), Some(Stop::Clash(900, clash)), "{call:?}");
-    // What is open goes on to end. The change that clashed is no item and set no savepoint.
-    scene.back_to(rt, 900, 912);
-    scene.abort(rt, 700);
-    scene.commit(rt, 900);
-    assert_eq!(rt; scene.stop(), Some(Stop::Clash(900, clash)), "{call:?}");
-    scene.ends_with(rt, alloc, "1|a|n 2|b|n 3|c|n 4|d|n", 1)
+/// A change clashes and stops the store, after others of the same transaction. The store opens nothing
+/// and does nothing then, and stopped goes before any other fault. What is open goes on to end. The
+/// change that clashed is no item and set no savepoint.
+const fn clashing(call: Call, clash: Clash) -> [Step; 18] {
+    [
+        Does(700, 700, Put(ACCOUNTS, ("7", "g", "n"))),
+        Does(900, 900, Put(ACCOUNTS, ("3", "c", "n"))),
+        Does(900, 911, Put(ACCOUNTS, ("4", "d", "n"))),
+        Clashes(900, 912, call, clash),
+        OpensNot(700, EngineFault::Stopped),
+        OpensNot(901, EngineFault::Stopped),
+        DoesNot(700, 700, Put(ACCOUNTS, ("8", "h", "n"))),
+        DoesNot(900, 900, Put(ACCOUNTS, ("8", "h", "n"))),
+        DoesNot(700, 700, Put(ACCOUNTS, ("1", "a", "n"))),
+        DoesNot(900, 900, Put(ACCOUNTS, ("1", "a", "n"))),
+        DoesNot(700, 700, Remove(ACCOUNTS, "7")),
+        DoesNot(900, 900, Remove(ACCOUNTS, "7")),
+        DoesNot(700, 700, Wipe(&[ACCOUNTS])),
+        DoesNot(900, 900, Wipe(&[ACCOUNTS])),
+        TouchesNot(700, 711),
+        GoesBack(900, 912),
+        Aborts(700),
+        Commits(900, "1|a|n 2|b|n 3|c|n 4|d|n"),
+    ]
 }
 
-/// A store that is stopped opens nothing and does nothing. Stopped goes before any other fault.
-fn refuses_all(rt: &impl Abort, alloc: Global, scene: &mut Scene) {
-    for xid in [700u32, 901] {
-        assert_eq!(rt; scene.open(alloc, xid), Err(EngineFault::Stopped), "{xid}");
-    }
-    for call in [put("8", "h", "n"), put("1", "a", "n"), remove(7), wipe()] {
-        for xid in [700u32, 900] {
-            let answer = scene.act(rt, alloc, xid, xid, &call);
-            assert_eq!(rt; answer, Err(EngineFault::Stopped), "{call:?}");
-        }
-    }
-    assert_eq!(rt; scene.touch(rt, 700, 711), Err(EngineFault::Stopped));
-}
+const CLASHES: [(Call, Clash); 11] = [
+    (Put(ACCOUNTS, (r"\N", "h", "n")), NULL_KEY),
+    (Put(ACCOUNTS, (r"\N", "b", "n")), NULL_KEY),
+    (Put(ACCOUNTS, ("2", "h", "n")), SAME_ID),
+    (Put(ACCOUNTS, ("2", "a", "n")), SAME_ID),
+    (Put(ACCOUNTS, ("3", "h", "n")), SAME_ID),
+    (Put(ACCOUNTS, ("8", "b", "n")), SAME_EMAIL),
+    (Put(ACCOUNTS, ("8", "d", "n")), SAME_EMAIL),
+    (Set(ACCOUNTS, "1", (r"\N", "-", "-")), NULL_KEY),
+    (Set(ACCOUNTS, "1", ("2", "b", "-")), SAME_ID),
+    (Set(ACCOUNTS, "1", ("-", "b", "-")), SAME_EMAIL),
+    (Set(ACCOUNTS, "4", ("8", "a", "-")), SAME_EMAIL),
+];
 
 #[test]
 fn a_clash_stops_the_store(rt: HostRuntime) -> Result<(), Fail> {
-    for (call, clash) in [
-        (put(r"\N", "h", "n"), NULL_KEY),
-        (put(r"\N", "b", "n"), NULL_KEY),
-        (put("2", "h", "n"), SAME_ID),
-        (put("2", "a", "n"), SAME_ID),
-        (put("3", "h", "n"), SAME_ID),
-        (put("8", "b", "n"), SAME_EMAIL),
-        (put("8", "d", "n"), SAME_EMAIL),
-        (set(1, [r"\N", "-", "-"]), NULL_KEY),
-        (set(1, ["2", "b", "-"]), SAME_ID),
-        (set(1, ["-", "b", "-"]), SAME_EMAIL),
-        (set(4, ["8", "a", "-"]), SAME_EMAIL),
-    ] {
-        clashes(&rt, rt.alloc(), &call, clash)?;
+    for (call, clash) in CLASHES {
+        play(&rt, rt.alloc(), &[700, 900], &clashing(call, clash))?;
     }
     Ok(())
 }
 
+const STOPPED: [Step; 9] = [
+    Does(700, 700, Put(ACCOUNTS, ("3", "c", "n"))),
+    Does(700, 711, Remove(ACCOUNTS, "1")),
+    Does(701, 701, Put(ACCOUNTS, ("4", "d", "n"))),
+    Clashes(900, 900, Put(ACCOUNTS, ("2", "h", "n")), SAME_ID),
+    GoesBack(700, 711),
+    Commits(700, "1|a|n 2|b|n 3|c|n"),
+    Aborts(900),
+    OpensNot(900, EngineFault::Stopped),
+    Aborts(701),
+];
+
 #[test]
 fn a_stopped_store_rolls_back_and_ends_what_is_open(rt: HostRuntime) -> Result<(), Fail> {
-    let alloc = rt.alloc();
-    let mut scene = Scene::worked(&rt, alloc, &[700, 701, 900])?;
-    does(&rt, alloc, &mut scene, (700, 700), &put("3", "c", "n"));
-    does(&rt, alloc, &mut scene, (700, 711), &remove(1));
-    does(&rt, alloc, &mut scene, (701, 701), &put("4", "d", "n"));
-    let answer = scene.act(&rt, alloc, 900, 900, &put("2", "h", "n"));
-    assert_eq!(rt; answer, Err(EngineFault::Clash(SAME_ID)));
-    scene.back_to(&rt, 700, 711);
-    scene.commit(&rt, 700);
-    scene.abort(&rt, 900);
-    assert_eq!(rt; scene.stop(), Some(Stop::Clash(900, SAME_ID)));
-    assert_eq!(rt; scene.open(alloc, 900), Err(EngineFault::Stopped));
-    scene.abort(&rt, 701);
-    scene.ends_with(&rt, alloc, "1|a|n 2|b|n 3|c|n", 1)
+    play(&rt, rt.alloc(), &[700, 701, 900], &STOPPED)
 }
 
 #[test]

@@ -1,21 +1,45 @@
 // A store with its line and the tickets of its open transactions, called by their numbers.
-ghost use Rattle.std.specs.Prelude.{◌≡◌, ℕ, IsTrue, IfErr, OnOk, OnErr, true, is_some, Some, length};
+ghost use Rattle.std.specs.Prelude.{◌≡◌, ℕ, IfErr, OnOk, OnErr, true, is_some, Some, length};
 ghost use Rattle.std.specs.Ordering.{nat_cmp};
 ghost use Rattle.std.specs.BTreeMap as tree;
 ghost use Rattle.std.specs.FinMap as finite;
-ghost use Rattle.model.specs.Named.{NamesTables};
 ghost use Rattle.tokens.specs.Lists.{OpenList};
 ghost use Rattle.engine.specs.declared.events.Event.{Event};
 ghost use Rattle.engine.specs.Events.{last_end};
 
-use super::calls::{ACCOUNTS, Call, TABLES, change, empty_tables, put, rows_of, rows_text};
+use crate::calls::{Call, Words, are_there, change, empty_tables, rows_of, rows_text};
 use engine::{Acted, EngineFault, Entry, Line, NotSettled, Stop, Store, Ticket};
 use indexes::Tables;
-use model::{Change, CommitInfo, Key, Lsn, OutOfMemory, Row, TableId, Xid};
+use model::{CommitInfo, Key, Lsn, OutOfMemory, Row, TableId, Xid};
 use std::alloc::Global;
 use std::collections::BTreeMap;
 use std::process::Abort;
 use std::test::Fail;
+
+/// An int, which is the primary key, a text, which is a unique key, and a text.
+pub(super) const ACCOUNTS: TableId = 0;
+
+/// A text, which is the primary key, and two more columns, with no unique key.
+pub(super) const NAMES: TableId = 1;
+
+/// How many tables there are.
+pub(super) const TABLES: usize = 2;
+
+/// What the accounts are in a store that is worked on.
+pub(super) const WORKED: &str = "1|a|n 2|b|n";
+
+const ROWS: [Words; 2] = [("1", "a", "n"), ("2", "b", "n")];
+
+/// A call of a transaction, a change by one of its subtransactions or by itself.
+#[derive(Clone, Copy, Debug)]
+pub(super) enum Deed {
+    Open(Xid),
+    Act(Xid, Xid, Call),
+    Touch(Xid, Xid),
+    BackTo(Xid, Xid),
+    Commit(Xid),
+    Abort(Xid),
+}
 
 /// A store, and what its callers hold of it.
 #[derive(Drop)]
@@ -38,18 +62,6 @@ pub(super) fn commit_info(commits: usize) -> CommitInfo {
     CommitInfo {
         commit: end - 16,
         end,
-    }
-}
-
-/// Whether the tables of a change are there.
-fn are_there(c: &Change) -> bool
-    ensures { IsTrue result → NamesTables 2 c.now }
-{
-    match c {
-        Change::Put { table, .. } | Change::Set { table, .. } | Change::Remove { table, .. } => {
-            *table < TABLES
-        }
-        Change::Wipe { tables } => tables.ids().iter().all(|table| *table < TABLES),
     }
 }
 
@@ -93,24 +105,55 @@ impl Scene {
         }
     }
 
-    /// A store over the accounts `1|a|n` and `2|b|n`, with these transactions open.
+    /// A store over tables with no rows.
+    pub(super) fn empty(rt: &impl Abort, alloc: Global) -> Result<Scene, OutOfMemory> {
+        let tables = empty_tables(alloc, &[&[1], &[]])?;
+        Scene::over(rt, alloc, tables)
+    }
+
+    /// A store over the accounts of `WORKED`, with these transactions open.
     pub(super) fn worked(
         rt: &impl Abort,
         alloc: Global,
         xids: &[Xid],
     ) -> Result<Scene, EngineFault> {
-        let mut scene = Scene::over(rt, alloc, empty_tables(alloc)?)?;
-        scene.open(alloc, 1)?;
-        for call in [put("1", "a", "n"), put("2", "b", "n")] {
-            assert_eq!(rt; scene.act(rt, alloc, 1, 1, &call)?, Acted::Done);
-        }
-        scene.commit(rt, 1);
-        let (tables, _) = scene.close(rt);
+        let tables = worked_tables(rt, alloc)?;
         let mut scene = Scene::over(rt, alloc, tables)?;
         for xid in xids {
             scene.open(alloc, *xid)?;
         }
         Ok(scene)
+    }
+
+    /// Makes a call, and answers that it is done where there is nothing else to say.
+    pub(super) fn make(
+        &mut self,
+        rt: &impl Abort,
+        alloc: Global,
+        deed: &Deed,
+    ) -> Result<Acted, EngineFault> {
+        match deed {
+            Deed::Open(xid) => self.open(alloc, *xid)?,
+            Deed::Act(xid, sub, call) => return self.act(rt, alloc, *xid, *sub, call),
+            Deed::Touch(xid, sub) => self.touch(rt, *xid, *sub)?,
+            Deed::BackTo(xid, sub) => self.back_to(rt, *xid, *sub),
+            Deed::Commit(xid) => self.commit(rt, *xid),
+            Deed::Abort(xid) => self.abort(rt, *xid),
+        }
+        Ok(Acted::Done)
+    }
+
+    /// Makes these calls, up to the first that is refused.
+    pub(super) fn make_all(
+        &mut self,
+        rt: &impl Abort,
+        alloc: Global,
+        deeds: &[Deed],
+    ) -> Result<(), EngineFault> {
+        for deed in deeds {
+            self.make(rt, alloc, deed)?;
+        }
+        Ok(())
     }
 
     pub(super) fn open(&mut self, alloc: Global, xid: Xid) -> Result<(), EngineFault> {
@@ -140,7 +183,7 @@ impl Scene {
         call: &Call,
     ) -> Result<Acted, EngineFault> {
         let change = change(alloc, call)?;
-        assert!(rt; are_there(&change));
+        assert!(rt; are_there(TABLES, &change));
         let Some(ticket) = self.tickets.get_mut(&xid) else {
             panic!(rt; "{xid} is not open")
         };
@@ -229,16 +272,10 @@ impl Scene {
         self.store.committed_rows(alloc, table)
     }
 
-    /// The accounts that are committed are these.
-    pub(super) fn has_committed(
-        &self,
-        rt: &impl Abort,
-        alloc: Global,
-        accounts: &str,
-    ) -> Result<(), Fail> {
+    /// The accounts that are committed.
+    pub(super) fn accounts(&self, rt: &impl Abort, alloc: Global) -> Result<String, EngineFault> {
         let rows = self.committed_rows(rt, alloc, ACCOUNTS)?;
-        assert_eq!(rt; rows_text(alloc, rows.as_slice())?.as_str(), accounts);
-        Ok(())
+        Ok(rows_text(alloc, rows.as_slice())?)
     }
 
     pub(super) fn rows_after(
@@ -265,6 +302,12 @@ impl Scene {
         store.close(line)
     }
 
+    /// The tables and the journal, whatever is open.
+    pub(super) fn shut(self) -> (Tables, Vec<Entry>) {
+        let Scene { store, line, .. } = self;
+        store.shut(line)
+    }
+
     /// The accounts and how many entries the journal has. None may be open.
     pub(super) fn ends_with(
         self,
@@ -274,8 +317,21 @@ impl Scene {
         entries: usize,
     ) -> Result<(), Fail> {
         let (tables, journal) = self.close(rt);
-        assert_eq!(rt; rows_of(alloc, &tables, ACCOUNTS)?.as_str(), accounts);
         assert_eq!(rt; journal.len(), entries);
+        assert_eq!(rt; rows_of(rt, alloc, &tables, ACCOUNTS)?.as_str(), accounts);
         Ok(())
     }
+}
+
+/// Tables with the accounts of `WORKED`, which a transaction put there.
+fn worked_tables(rt: &impl Abort, alloc: Global) -> Result<Tables, EngineFault> {
+    let mut scene = Scene::empty(rt, alloc)?;
+    scene.open(alloc, 1)?;
+    for row in ROWS {
+        let acted = scene.act(rt, alloc, 1, 1, &Call::Put(ACCOUNTS, row))?;
+        assert_eq!(rt; acted, Acted::Done);
+    }
+    scene.commit(rt, 1);
+    let (tables, _) = scene.close(rt);
+    Ok(tables)
 }

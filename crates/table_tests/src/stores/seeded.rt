@@ -2,12 +2,10 @@
 // with the model.
 ghost use Rattle.std.specs.Prelude.{◌<◌, length};
 
-use super::by_hand::{Model, Outcome, Past, Stored, row_at};
-use super::calls::{
-    ACCOUNTS, Call, Field, NAMES, Record, TABLES, Update, change, empty_tables, is_row, key,
-};
-use super::scene::{Scene, commit_info};
-use engine::{Acted, EngineFault, Entry, Stop};
+use super::by_hand::{Item, Model, Outcome, Past, Stored, row_at};
+use super::scene::{ACCOUNTS, Deed, NAMES, Scene, TABLES, commit_info};
+use crate::calls::{Call, KEPT, NULL, Word, Words, change, is_row, key};
+use engine::{Acted, EngineFault, Entry, NotSettled, Stop};
 use indexes::Tables;
 use model::{OutOfMemory, Row, TableId, Xid};
 use rows::RowView;
@@ -26,41 +24,19 @@ const XIDS: [Xid; 8] = [100, 200, 300, 400, 500, 600, 700, 800];
 /// A transaction's own number, and three subtransactions.
 const SUBS: [Xid; 6] = [0, 0, 0, 1, 2, 3];
 
-const IDS: [Field; 6] = [
-    Field::Int(1),
-    Field::Int(2),
-    Field::Int(3),
-    Field::Int(4),
-    Field::Int(5),
-    Field::Int(6),
-];
+const IDS: [Word; 6] = ["1", "2", "3", "4", "5", "6"];
 
-const TEXTS: [Field; 5] = [
-    Field::Text("a"),
-    Field::Text("b"),
-    Field::Text("c"),
-    Field::Text("d"),
-    Field::Text("e"),
-];
+const TEXTS: [Word; 5] = ["a", "b", "c", "d", "e"];
 
-const NOTES: [Field; 4] = [
-    Field::Null,
-    Field::Int(7),
-    Field::Text("n"),
-    Field::Text("a"),
-];
+const NOTES: [Word; 4] = [NULL, "7", "n", "a"];
 
 const WIPES: [&[TableId]; 3] = [&[ACCOUNTS], &[NAMES], &[NAMES, ACCOUNTS]];
 
-#[derive(Clone, Copy)]
-enum Kind {
-    Open,
-    Act,
-    Touch,
-    BackTo,
-    StopHeld,
-    Commit,
-    Abort,
+/// What comes next.
+enum Turn {
+    Makes(Deed),
+    /// The store is to stop where all wait.
+    StopsHeld(Xid),
 }
 
 /// The generator: the same numbers at each run.
@@ -90,20 +66,8 @@ impl Draws {
         all[self.number() % all.len()]
     }
 
-    fn kind(&mut self) -> Kind {
-        match self.number() % 48 {
-            0..=9 => Kind::Open,
-            10..=34 => Kind::Act,
-            35..=36 => Kind::Touch,
-            37..=42 => Kind::BackTo,
-            43 => Kind::StopHeld,
-            44..=45 => Kind::Commit,
-            _ => Kind::Abort,
-        }
-    }
-
     /// A key of a table.
-    fn id(&mut self, table: TableId) -> Field {
+    fn id(&mut self, table: TableId) -> Word {
         if table == ACCOUNTS {
             self.pick(&IDS)
         } else {
@@ -112,7 +76,7 @@ impl Draws {
     }
 
     /// A value of the second column: an email, which may be null, or a note.
-    fn second(&mut self, table: TableId) -> Field {
+    fn second(&mut self, table: TableId) -> Word {
         if table == ACCOUNTS && !self.one_in(4) {
             self.pick(&TEXTS)
         } else {
@@ -120,35 +84,26 @@ impl Draws {
         }
     }
 
-    fn record(&mut self, table: TableId) -> Record {
+    fn row(&mut self, table: TableId) -> Words {
         let id = if self.one_in(50) {
-            Field::Null
+            NULL
         } else {
             self.id(table)
         };
-        Record {
-            id,
-            second: self.second(table),
-            note: self.pick(&NOTES),
-        }
+        (id, self.second(table), self.pick(&NOTES))
+    }
+
+    /// A word of an update, one of so many times.
+    fn word(&mut self, word: Word, count: usize) -> Word
+        requires { 0 < count }
+    {
+        if self.one_in(count) { word } else { KEPT }
     }
 
     /// An update that often keeps a column.
-    fn update(&mut self, table: TableId) -> Update {
-        let drawn = self.record(table);
-        Update {
-            id: if self.one_in(4) { Some(drawn.id) } else { None },
-            second: if self.one_in(2) {
-                Some(drawn.second)
-            } else {
-                None
-            },
-            note: if self.one_in(2) {
-                Some(drawn.note)
-            } else {
-                None
-            },
-        }
+    fn update(&mut self, table: TableId) -> Words {
+        let (id, second, note) = self.row(table);
+        (self.word(id, 4), self.word(second, 2), self.word(note, 2))
     }
 
     fn call(&mut self) -> Call {
@@ -157,9 +112,90 @@ impl Draws {
             0 => Call::Wipe(self.pick(&WIPES)),
             1..=6 => Call::Remove(table, self.id(table)),
             7..=22 => Call::Set(table, self.id(table), self.update(table)),
-            _ => Call::Put(table, self.record(table)),
+            _ => Call::Put(table, self.row(table)),
         }
     }
+
+    /// Some open transaction.
+    fn opened(&mut self, model: &Model) -> Option<Xid> {
+        let opened = model.opened.as_slice();
+        if opened.is_empty() {
+            return None;
+        }
+        Some(opened[self.number() % opened.len()].xid)
+    }
+
+    /// Mostly the subtransaction of an item that a transaction has done, else this one.
+    fn savepoint(&mut self, model: &Model, xid: Xid, sub: Xid) -> Xid {
+        if self.one_in(3) {
+            return sub;
+        }
+        let drawn = self.number();
+        match model.find(xid) {
+            Some(opened) => sub_at(opened.items.as_slice(), drawn, sub),
+            None => sub,
+        }
+    }
+
+    /// A change that mostly does not clash on the view of its transaction.
+    fn change(&mut self, alloc: Global, model: &Model, xid: Xid) -> Result<Call, OutOfMemory> {
+        let mut call = self.call();
+        for _ in 0..6 {
+            let outcome = model.outcome(alloc, xid, &call)?;
+            if !matches!(outcome, Outcome::Clashes(_)) || self.one_in(40) {
+                return Ok(call);
+            }
+            call = self.call();
+        }
+        Ok(call)
+    }
+
+    /// The next call.
+    fn turn(&mut self, alloc: Global, model: &Model) -> Result<Turn, OutOfMemory> {
+        let kind = self.number() % 48;
+        match self.opened(model) {
+            Some(xid) if kind > 9 => self.turn_of(alloc, model, xid, kind),
+            _ => Ok(Turn::Makes(Deed::Open(self.pick(&XIDS)))),
+        }
+    }
+
+    /// A call of this transaction.
+    fn turn_of(
+        &mut self,
+        alloc: Global,
+        model: &Model,
+        xid: Xid,
+        kind: usize,
+    ) -> Result<Turn, OutOfMemory> {
+        let sub = xid.saturating_add(self.pick(&SUBS));
+        let deed = match kind {
+            0..=34 => Deed::Act(xid, sub, self.change(alloc, model, xid)?),
+            35..=36 => Deed::Touch(xid, sub),
+            37..=42 => Deed::BackTo(xid, self.savepoint(model, xid, sub)),
+            43 => return Ok(Turn::StopsHeld(xid)),
+            44..=45 => Deed::Commit(xid),
+            _ => Deed::Abort(xid),
+        };
+        Ok(Turn::Makes(deed))
+    }
+
+    /// How many items were sent to each, which is mostly as many as it has done.
+    fn sent(&mut self, alloc: Global, model: &Model) -> Result<Vec<(Xid, u64)>, OutOfMemory> {
+        let mut sent = Vec::new(alloc);
+        for opened in &model.opened {
+            let more = u64::from(self.one_in(12));
+            sent.push((opened.xid, opened.done.saturating_add(more)))?;
+        }
+        Ok(sent)
+    }
+}
+
+/// The subtransaction of the item that was drawn.
+fn sub_at(items: &[Item], drawn: usize, sub: Xid) -> Xid {
+    if items.is_empty() {
+        return sub;
+    }
+    items[drawn % items.len()].sub
 }
 
 /// How often each answer came to a change.
@@ -184,21 +220,24 @@ impl Answers {
         };
         *count = count.saturating_add(1);
     }
+
+    fn are_many(&self) -> bool {
+        let least = self.done.min(self.skipped).min(self.held);
+        least > 300 && self.clashed > 30 && self.stopped > 100 && self.stops > 10
+    }
 }
 
-/// A store and the model of it, and what is called next.
+/// The model of a store, and what is called next.
 #[derive(Drop)]
 struct Run {
-    scene: Scene,
     model: Model,
     draws: Draws,
     answers: Answers,
 }
 
 impl Run {
-    fn new(rt: &impl Abort, alloc: Global) -> Result<Run, OutOfMemory> {
-        Ok(Run {
-            scene: Scene::over(rt, alloc, empty_tables(alloc)?)?,
+    fn new(alloc: Global) -> Run {
+        Run {
             model: Model::new(alloc),
             draws: Draws { state: 29 },
             answers: Answers {
@@ -209,120 +248,34 @@ impl Run {
                 stopped: 0,
                 stops: 0,
             },
-        })
-    }
-
-    /// Some open transaction.
-    fn draw_open(&mut self) -> Option<Xid> {
-        let count = self.model.opened.len();
-        if count == 0 {
-            return None;
-        }
-        let drawn = self.draws.number() % count;
-        self.model
-            .opened
-            .as_slice()
-            .get(drawn)
-            .map(|opened| opened.xid)
-    }
-
-    /// Mostly the subtransaction of an item that a transaction has done, else this one.
-    fn draw_savepoint(&mut self, xid: Xid, sub: Xid) -> Xid {
-        if self.draws.one_in(3) {
-            return sub;
-        }
-        let drawn = self.draws.number();
-        let Some(opened) = self.model.find(xid) else {
-            return sub;
-        };
-        let items = opened.items.as_slice();
-        if items.is_empty() {
-            return sub;
-        }
-        items[drawn % items.len()].sub
-    }
-
-    /// A change that mostly does not clash on the view of its transaction.
-    fn draw_call(&mut self, alloc: Global, xid: Xid) -> Result<Call, OutOfMemory> {
-        let mut call = self.draws.call();
-        for _ in 0..6 {
-            let outcome = self.model.outcome(alloc, xid, &call)?;
-            if !matches!(outcome, Outcome::Clashes(_)) || self.draws.one_in(40) {
-                return Ok(call);
-            }
-            call = self.draws.call();
-        }
-        Ok(call)
-    }
-
-    /// One call.
-    fn step(&mut self, rt: &impl Abort, alloc: Global) -> Result<(), OutOfMemory> {
-        let kind = self.draws.kind();
-        let Some(xid) = self.draw_open() else {
-            return self.open(rt, alloc);
-        };
-        let sub = xid.saturating_add(self.draws.pick(&SUBS));
-        match kind {
-            Kind::Open => self.open(rt, alloc),
-            Kind::Act => self.act(rt, alloc, xid, sub),
-            Kind::Touch => {
-                let answer = self.scene.touch(rt, xid, sub);
-                assert_eq!(rt; answer, self.model.touch(xid, sub));
-                Ok(())
-            }
-            Kind::BackTo => {
-                let sub = self.draw_savepoint(xid, sub);
-                self.scene.back_to(rt, xid, sub);
-                self.model.back_to(xid, sub);
-                Ok(())
-            }
-            Kind::StopHeld => self.stop_held(rt, alloc, xid),
-            Kind::Commit => self.commit(rt, alloc, xid),
-            Kind::Abort => {
-                self.abort(rt, xid);
-                Ok(())
-            }
         }
     }
 
-    fn open(&mut self, rt: &impl Abort, alloc: Global) -> Result<(), OutOfMemory> {
-        let xid = self.draws.pick(&XIDS);
-        let answer = self.scene.open(alloc, xid);
-        assert_eq!(rt; answer, self.model.open(alloc, xid), "{xid} opens");
+    /// The store made a call, and answered this.
+    fn follow(
+        &mut self,
+        rt: &impl Abort,
+        alloc: Global,
+        deed: &Deed,
+        answer: Result<Acted, EngineFault>,
+    ) -> Result<(), OutOfMemory> {
+        let is_allowed = self.model.follow(alloc, deed, answer)?;
+        assert!(rt; is_allowed, "{answer:?} to {deed:?}");
+        if let Deed::Act(..) = deed {
+            self.answers.count(answer);
+        }
         Ok(())
     }
 
-    fn act(
+    /// The store was to stop where this one waits, and answered this.
+    fn follow_stop(
         &mut self,
         rt: &impl Abort,
         alloc: Global,
-        xid: Xid,
-        sub: Xid,
+        (waiter, sent): (Xid, &[(Xid, u64)]),
+        answer: Result<Xid, NotSettled>,
     ) -> Result<(), OutOfMemory> {
-        let call = self.draw_call(alloc, xid)?;
-        let answer = self.scene.act(rt, alloc, xid, sub, &call);
-        let is_allowed = self.model.allows(alloc, xid, &call, answer)?;
-        assert!(rt; is_allowed, "{answer:?} to {call:?} of {sub} in {xid}");
-        self.answers.count(answer);
-        self.model.act(xid, sub, &call, answer)
-    }
-
-    /// The store is to stop where all wait, and mostly all that was sent is told.
-    fn stop_held(
-        &mut self,
-        rt: &impl Abort,
-        alloc: Global,
-        waiter: Xid,
-    ) -> Result<(), OutOfMemory> {
-        let mut sent = Vec::new(alloc);
-        for opened in &self.model.opened {
-            let more = u64::from(self.draws.one_in(12));
-            sent.push((opened.xid, opened.done.saturating_add(more)))?;
-        }
-        let answer = self.scene.stop_held(waiter, sent.as_slice());
-        let is_allowed = self
-            .model
-            .allows_stop(alloc, waiter, sent.as_slice(), answer)?;
+        let is_allowed = self.model.allows_stop(alloc, waiter, sent, answer)?;
         assert!(rt; is_allowed, "{answer:?} to {sent:?} by {waiter}");
         if let Ok(holder) = answer {
             self.model.stopped = Some(Stop::Held(waiter, holder));
@@ -331,54 +284,91 @@ impl Run {
         Ok(())
     }
 
-    fn commit(&mut self, rt: &impl Abort, alloc: Global, xid: Xid) -> Result<(), OutOfMemory> {
-        self.scene.commit(rt, xid);
-        self.model.commit(alloc, xid)?;
-        let scene = &self.scene;
-        let model = &self.model;
-        let past = model.journal.as_slice().last();
-        compare_changes(rt, alloc, scene.store.journal().last(), past)
-    }
-
-    fn abort(&mut self, rt: &impl Abort, xid: Xid) {
-        self.scene.abort(rt, xid);
-        self.model.abort(xid);
-    }
-
-    /// All transactions end, some by a commit, and a new store goes on over the tables.
-    fn renew(self, rt: &impl Abort, alloc: Global) -> Result<Run, OutOfMemory> {
-        let mut run = self;
-        for xid in XIDS {
-            if run.model.find(xid).is_some() {
-                if run.draws.one_in(3) {
-                    run.commit(rt, alloc, xid)?;
-                } else {
-                    run.abort(rt, xid);
-                }
-                compare(rt, alloc, &run.scene, &run.model)?;
-            }
+    /// How an open transaction ends where all do: some by a commit.
+    fn end_of(&mut self, xid: Xid) -> Option<Deed> {
+        if self.model.find(xid).is_none() {
+            return None;
         }
-        compare_after(rt, alloc, &run.scene, &run.model)?;
-        let Run {
-            scene,
-            mut model,
-            draws,
-            answers,
-        } = run;
-        let (tables, entries) = scene.close(rt);
-        compare_rows(rt, &tables, &model);
-        compare_journal(rt, entries.as_slice(), &model);
-        for (entry, past) in entries.iter().zip(model.journal.iter()) {
-            compare_changes(rt, alloc, Some(entry), Some(past))?;
+        if self.draws.one_in(3) {
+            Some(Deed::Commit(xid))
+        } else {
+            Some(Deed::Abort(xid))
         }
-        model.renew(alloc)?;
-        Ok(Run {
-            scene: Scene::over(rt, alloc, tables)?,
-            model,
-            draws,
-            answers,
-        })
     }
+}
+
+/// The store and the model make a call.
+fn make(
+    rt: &impl Abort,
+    alloc: Global,
+    scene: &mut Scene,
+    run: &mut Run,
+    deed: &Deed,
+) -> Result<(), OutOfMemory> {
+    let answer = scene.make(rt, alloc, deed);
+    run.follow(rt, alloc, deed, answer)?;
+    compare(rt, alloc, scene, &run.model)?;
+    if let Deed::Commit(_) = deed {
+        let past = run.model.journal.as_slice().last();
+        compare_changes(rt, alloc, scene.store.journal().last(), past)?;
+    }
+    Ok(())
+}
+
+/// The store is to stop where this one waits.
+fn stop_held(
+    rt: &impl Abort,
+    alloc: Global,
+    scene: &mut Scene,
+    run: &mut Run,
+    waiter: Xid,
+) -> Result<(), OutOfMemory> {
+    let sent = run.draws.sent(alloc, &run.model)?;
+    let answer = scene.stop_held(waiter, sent.as_slice());
+    run.follow_stop(rt, alloc, (waiter, sent.as_slice()), answer)?;
+    compare(rt, alloc, scene, &run.model)
+}
+
+/// One call.
+fn step(
+    rt: &impl Abort,
+    alloc: Global,
+    scene: &mut Scene,
+    run: &mut Run,
+) -> Result<(), OutOfMemory> {
+    match run.draws.turn(alloc, &run.model)? {
+        Turn::Makes(deed) => make(rt, alloc, scene, run, &deed),
+        Turn::StopsHeld(waiter) => stop_held(rt, alloc, scene, run, waiter),
+    }
+}
+
+/// All transactions end, some by a commit.
+fn end_all(
+    rt: &impl Abort,
+    alloc: Global,
+    scene: &mut Scene,
+    run: &mut Run,
+) -> Result<(), OutOfMemory> {
+    for xid in XIDS {
+        if let Some(deed) = run.end_of(xid) {
+            make(rt, alloc, scene, run, &deed)?;
+        }
+    }
+    compare_after(rt, alloc, scene, &run.model)
+}
+
+/// A store in which all have ended is closed, and a new one goes on over its tables.
+fn renew(
+    rt: &impl Abort,
+    alloc: Global,
+    scene: Scene,
+    model: &mut Model,
+) -> Result<Scene, OutOfMemory> {
+    let (tables, entries) = scene.close(rt);
+    compare_rows(rt, &tables, model);
+    compare_entries(rt, alloc, entries.as_slice(), model)?;
+    model.renew(alloc)?;
+    Scene::over(rt, alloc, tables)
 }
 
 /// What a store tells between its calls.
@@ -393,33 +383,65 @@ fn compare(
     let live = model.live_rows(alloc)?;
     for (table, ids) in [(ACCOUNTS, IDS.as_slice()), (NAMES, TEXTS.as_slice())] {
         for id in ids {
-            let key = key(alloc, *id)?;
-            let is_live = is_stored(
-                row_at(live.as_slice(), table, *id),
-                scene.live(rt, table, &key),
-            );
-            assert!(rt; is_live, "live at {id:?} of table {table}");
-            let is_committed = is_stored(
-                row_at(model.committed.as_slice(), table, *id),
-                scene.committed(rt, table, &key),
-            );
-            assert!(rt; is_committed, "committed at {id:?} of table {table}");
+            let wanted = row_at(live.as_slice(), table, id);
+            compare_live(rt, alloc, scene, (table, id), wanted)?;
+            let wanted = row_at(model.committed.as_slice(), table, id);
+            compare_committed(rt, alloc, scene, (table, id), wanted)?;
         }
-        let Ok(rows) = scene.committed_rows(rt, alloc, table) else {
-            return Err(OutOfMemory);
-        };
-        let committed = model.committed.as_slice();
-        let are_committed = are_stored(committed, table, ids, rows.as_slice());
-        assert!(rt; are_committed, "committed rows of table {table}");
+        compare_table(rt, alloc, scene, model, (table, ids))?;
     }
     Ok(())
 }
 
+fn compare_live(
+    rt: &impl Abort,
+    alloc: Global,
+    scene: &Scene,
+    (table, id): (TableId, Word),
+    wanted: Option<Stored>,
+) -> Result<(), OutOfMemory> {
+    let key = key(alloc, id)?;
+    let answer = scene.live(rt, table, &key);
+    assert!(rt; is_stored(wanted, answer), "live at {id} of table {table}");
+    Ok(())
+}
+
+fn compare_committed(
+    rt: &impl Abort,
+    alloc: Global,
+    scene: &Scene,
+    (table, id): (TableId, Word),
+    wanted: Option<Stored>,
+) -> Result<(), OutOfMemory> {
+    let key = key(alloc, id)?;
+    let answer = scene.committed(rt, table, &key);
+    assert!(rt;
+        is_stored(wanted, answer),
+        "committed at {id} of table {table}"
+    );
+    Ok(())
+}
+
+fn compare_table(
+    rt: &impl Abort,
+    alloc: Global,
+    scene: &Scene,
+    model: &Model,
+    (table, ids): (TableId, &[Word]),
+) -> Result<(), OutOfMemory> {
+    let Ok(rows) = scene.committed_rows(rt, alloc, table) else {
+        return Err(OutOfMemory);
+    };
+    let are_committed = are_stored(model.committed.as_slice(), table, ids, rows.as_slice());
+    assert!(rt; are_committed, "committed rows of table {table}");
+    Ok(())
+}
+
 /// Whether these rows were read of a table, in key order.
-fn are_stored(stored: &[Stored], table: TableId, ids: &[Field], rows: &[Row]) -> bool {
+fn are_stored(stored: &[Stored], table: TableId, ids: &[Word], rows: &[Row]) -> bool {
     let mut count = 0;
     for id in ids {
-        if let Some(stored) = row_at(stored, table, *id) {
+        if let Some(stored) = row_at(stored, table, id) {
             let Some(row) = rows.get(count) else {
                 return false;
             };
@@ -468,22 +490,33 @@ fn compare_changes(
     entry: Option<&Entry>,
     past: Option<&Past>,
 ) -> Result<(), OutOfMemory> {
-    let mut told = String::new(alloc);
-    let mut want = String::new(alloc);
+    let told = entry_text(alloc, entry)?;
+    let wanted = past_text(alloc, past)?;
+    assert_eq!(rt; told.as_str(), wanted.as_str());
+    Ok(())
+}
+
+fn entry_text(alloc: Global, entry: Option<&Entry>) -> Result<String, OutOfMemory> {
+    let mut out = String::new(alloc);
     if let Some(entry) = entry {
         for change in entry.changes.iter() {
-            write!(told, "{change:?} ")?;
+            write!(out, "{change:?} ")?;
         }
     }
+    Ok(out)
+}
+
+fn past_text(alloc: Global, past: Option<&Past>) -> Result<String, OutOfMemory> {
+    let mut out = String::new(alloc);
     if let Some(past) = past {
         for item in &past.items {
             if let Some(call) = &item.call {
-                write!(want, "{:?} ", change(alloc, call)?)?;
+                let change = change(alloc, call)?;
+                write!(out, "{change:?} ")?;
             }
         }
     }
-    assert_eq!(rt; told.as_str(), want.as_str());
-    Ok(())
+    Ok(out)
 }
 
 /// The entries have the commits, in their order, each at its place in the log.
@@ -495,6 +528,20 @@ fn compare_journal(rt: &impl Abort, entries: &[Entry], model: &Model) {
         assert_eq!(rt; entry.commit, info.commit);
         assert_eq!(rt; entry.end, info.end);
     }
+}
+
+/// The entries have the commits, each with its changes.
+fn compare_entries(
+    rt: &impl Abort,
+    alloc: Global,
+    entries: &[Entry],
+    model: &Model,
+) -> Result<(), OutOfMemory> {
+    compare_journal(rt, entries, model);
+    for (entry, past) in entries.iter().zip(model.journal.iter()) {
+        compare_changes(rt, alloc, Some(entry), Some(past))?;
+    }
+    Ok(())
 }
 
 /// The tables have the committed rows, and no others.
@@ -511,29 +558,27 @@ fn compare_rows(rt: &impl Abort, tables: &Tables, model: &Model) {
 }
 
 fn is_committed(model: &Model, table: TableId, row: &RowView<'_>) -> bool {
-    model
-        .committed
-        .iter()
-        .any(|stored| stored.table == table && is_row(&stored.row, row))
+    for stored in &model.committed {
+        if stored.table == table && is_row(&stored.row, row) {
+            return true;
+        }
+    }
+    false
 }
 
 #[test]
 fn ten_thousand_calls_are_as_the_model_says(rt: HostRuntime) -> Result<(), Fail> {
     let alloc = rt.alloc();
-    let mut run = Run::new(&rt, alloc)?;
+    let mut scene = Scene::empty(&rt, alloc)?;
+    let mut run = Run::new(alloc);
     for turn in 0..CALLS {
-        run.step(&rt, alloc)?;
-        compare(&rt, alloc, &run.scene, &run.model)?;
+        step(&rt, alloc, &mut scene, &mut run)?;
         let is_over = run.model.stopped.is_some() && run.draws.one_in(12);
         if is_over || turn % CALLS_OF_A_STORE == CALLS_OF_A_STORE - 1 {
-            run = run.renew(&rt, alloc)?;
+            end_all(&rt, alloc, &mut scene, &mut run)?;
+            scene = renew(&rt, alloc, scene, &mut run.model)?;
         }
     }
-    let answers = run.answers;
-    let least = answers.done.min(answers.skipped).min(answers.held);
-    assert!(rt;
-        least > 300 && answers.clashed > 30 && answers.stopped > 100 && answers.stops > 10,
-        "{answers:?}"
-    );
+    assert!(rt; run.answers.are_many(), "{:?}", run.answers);
     Ok(())
 }

@@ -1,9 +1,22 @@
 // A store that is given up with transactions open.
-use super::calls::{ACCOUNTS, put, remove, rows_of, set};
-use super::scene::Scene;
+use super::scene::{ACCOUNTS, Scene};
+use super::script::Step::{Clashes, Commits, Does};
+use super::script::{Step, play_on};
+use crate::calls::Call::{Put, Remove, Set};
+use crate::calls::rows_of;
 use change::Clash;
-use engine::{Acted, EngineFault};
 use std::test::Fail;
+
+const SAME_EMAIL: Clash = Clash::Unique { table: 0, key: 1 };
+
+const STEPS: [Step; 6] = [
+    Does(700, 700, Put(ACCOUNTS, ("3", "c", "n"))),
+    Does(701, 701, Set(ACCOUNTS, "1", ("-", "-", "v"))),
+    Does(701, 701, Remove(ACCOUNTS, "2")),
+    Does(900, 900, Put(ACCOUNTS, ("5", "e", "n"))),
+    Commits(700, "1|a|n 2|b|n 3|c|n"),
+    Clashes(900, 900, Put(ACCOUNTS, ("9", "c", "n")), SAME_EMAIL),
+];
 
 // What is open is undone, also that of the transaction that stopped the store, and what was committed
 // stays.
@@ -11,24 +24,10 @@ use std::test::Fail;
 fn what_is_open_is_undone(rt: HostRuntime) -> Result<(), Fail> {
     let alloc = rt.alloc();
     let mut scene = Scene::worked(&rt, alloc, &[700, 701, 900])?;
-    for (xid, call) in [
-        (700, put("3", "c", "n")),
-        (701, set(1, ["-", "-", "v"])),
-        (701, remove(2)),
-        (900, put("5", "e", "n")),
-    ] {
-        assert_eq!(rt; scene.act(&rt, alloc, xid, xid, &call), Ok(Acted::Done));
-    }
-    scene.commit(&rt, 700);
-    let clash = Clash::Unique { table: 0, key: 1 };
-    let answer = scene.act(&rt, alloc, 900, 900, &put("9", "c", "n"));
-    assert_eq!(rt; answer, Err(EngineFault::Clash(clash)));
-    let Scene { store, line, .. } = scene;
-    let (tables, journal) = store.shut(line);
-    assert_eq!(rt;
-        rows_of(alloc, &tables, ACCOUNTS)?.as_str(),
-        "1|a|n 2|b|n 3|c|n"
-    );
+    let shown = play_on(&rt, alloc, &mut scene, &STEPS)?;
+    let (tables, journal) = scene.shut();
+    let accounts = rows_of(&rt, alloc, &tables, ACCOUNTS)?;
+    assert_eq!(rt; accounts.as_str(), shown.accounts);
     assert_eq!(rt; journal.len(), 1);
     Ok(())
 }

@@ -1,209 +1,161 @@
 // The worked calls: open transactions over the accounts `1|a|n` and `2|b|n`.
-use super::calls::{put, remove, set, wipe};
-use super::scene::Scene;
+use super::scene::ACCOUNTS;
+use super::script::Step::{
+    Aborts, Clashes, Commits, Does, GoesBack, Opens, OpensNot, Skips, Touches, Waits, Wants,
+};
+use super::script::{Step, play};
+use crate::calls::Call::{Put, Remove, Set, Wipe};
 use change::Clash;
-use engine::{Acted, EngineFault, Stop};
+use engine::EngineFault;
 use std::test::Fail;
 
+const SAME_ID: Clash = Clash::Unique { table: 0, key: 0 };
+
+const SAME_EMAIL: Clash = Clash::Unique { table: 0, key: 1 };
+
 // A row that one transaction has updated can't be deleted by another until the first commits.
+const REMOVED_AFTER_A_SET: [Step; 5] = [
+    Does(700, 700, Set(ACCOUNTS, "1", ("-", "-", "v"))),
+    Waits(900, 900, Remove(ACCOUNTS, "1"), 700),
+    Commits(700, "1|a|v 2|b|n"),
+    Does(900, 900, Remove(ACCOUNTS, "1")),
+    Commits(900, "2|b|n"),
+];
+
 #[test]
 fn a_row_that_another_set_is_removed_after_its_commit(rt: HostRuntime) -> Result<(), Fail> {
-    let alloc = rt.alloc();
-    let mut scene = Scene::worked(&rt, alloc, &[700, 900])?;
-    let noted = set(1, ["-", "-", "v"]);
-    assert_eq!(rt; scene.act(&rt, alloc, 700, 700, &noted), Ok(Acted::Done));
-    assert_eq!(rt;
-        scene.act(&rt, alloc, 900, 900, &remove(1)),
-        Ok(Acted::Held(700))
-    );
-    scene.commit(&rt, 700);
-    assert_eq!(rt;
-        scene.act(&rt, alloc, 900, 900, &remove(1)),
-        Ok(Acted::Done)
-    );
-    scene.commit(&rt, 900);
-    scene.ends_with(&rt, alloc, "2|b|n", 2)
+    play(&rt, rt.alloc(), &[700, 900], &REMOVED_AFTER_A_SET)
 }
 
 // An update that found no row keeps others from inserting one there, until it is rolled back.
+const LOOKED_UP: [Step; 6] = [
+    Skips(700, 711, Set(ACCOUNTS, "7", ("-", "-", "v"))),
+    Waits(900, 900, Put(ACCOUNTS, ("7", "g", "n")), 700),
+    GoesBack(700, 711),
+    Does(900, 900, Put(ACCOUNTS, ("7", "g", "n"))),
+    Commits(900, "1|a|n 2|b|n 7|g|n"),
+    Commits(700, "1|a|n 2|b|n 7|g|n"),
+];
+
 #[test]
 fn a_place_that_was_looked_up_is_let_go_by_a_rollback(rt: HostRuntime) -> Result<(), Fail> {
-    let alloc = rt.alloc();
-    let mut scene = Scene::worked(&rt, alloc, &[700, 900])?;
-    let missing = set(7, ["-", "-", "v"]);
-    let seventh = put("7", "g", "n");
-    assert_eq!(rt;
-        scene.act(&rt, alloc, 700, 711, &missing),
-        Ok(Acted::Skipped)
-    );
-    assert_eq!(rt;
-        scene.act(&rt, alloc, 900, 900, &seventh),
-        Ok(Acted::Held(700))
-    );
-    scene.back_to(&rt, 700, 711);
-    assert_eq!(rt; scene.act(&rt, alloc, 900, 900, &seventh), Ok(Acted::Done));
-    scene.commit(&rt, 900);
-    scene.commit(&rt, 700);
-    scene.ends_with(&rt, alloc, "1|a|n 2|b|n 7|g|n", 2)
+    play(&rt, rt.alloc(), &[700, 900], &LOOKED_UP)
 }
 
 // What one transaction commits stays, whatever another that was open then rolls back and aborts.
+const COMMITTED_BESIDE: [Step; 6] = [
+    Does(700, 700, Put(ACCOUNTS, ("3", "c", "n"))),
+    Does(900, 900, Put(ACCOUNTS, ("4", "d", "n"))),
+    Does(700, 711, Put(ACCOUNTS, ("5", "e", "n"))),
+    Commits(900, "1|a|n 2|b|n 4|d|n"),
+    GoesBack(700, 711),
+    Aborts(700),
+];
+
 #[test]
 fn a_commit_stays_past_anothers_rollback_and_abort(rt: HostRuntime) -> Result<(), Fail> {
-    let alloc = rt.alloc();
-    let mut scene = Scene::worked(&rt, alloc, &[700, 900])?;
-    for (xid, sub, call) in [
-        (700, 700, put("3", "c", "n")),
-        (900, 900, put("4", "d", "n")),
-        (700, 711, put("5", "e", "n")),
-    ] {
-        assert_eq!(rt; scene.act(&rt, alloc, xid, sub, &call), Ok(Acted::Done));
-    }
-    scene.commit(&rt, 900);
-    scene.back_to(&rt, 700, 711);
-    scene.abort(&rt, 700);
-    scene.ends_with(&rt, alloc, "1|a|n 2|b|n 4|d|n", 1)
+    play(&rt, rt.alloc(), &[700, 900], &COMMITTED_BESIDE)
 }
 
 // A unique value that an update leaves as it was is not held, so another's insert of it clashes at once,
 // and stops the store.
+const KEPT_VALUE: [Step; 5] = [
+    Does(700, 700, Set(ACCOUNTS, "1", ("-", "-", "v"))),
+    Clashes(900, 900, Put(ACCOUNTS, ("9", "a", "n")), SAME_EMAIL),
+    OpensNot(901, EngineFault::Stopped),
+    Aborts(700),
+    Aborts(900),
+];
+
 #[test]
 fn a_value_that_is_kept_is_not_held(rt: HostRuntime) -> Result<(), Fail> {
-    let alloc = rt.alloc();
-    let mut scene = Scene::worked(&rt, alloc, &[700, 900])?;
-    let noted = set(1, ["-", "-", "v"]);
-    let clash = Clash::Unique { table: 0, key: 1 };
-    assert_eq!(rt; scene.act(&rt, alloc, 700, 700, &noted), Ok(Acted::Done));
-    let answer = scene.act(&rt, alloc, 900, 900, &put("9", "a", "n"));
-    assert_eq!(rt; answer, Err(EngineFault::Clash(clash)));
-    assert_eq!(rt; scene.stop(), Some(Stop::Clash(900, clash)));
-    assert_eq!(rt; scene.open(alloc, 901), Err(EngineFault::Stopped));
-    scene.abort(&rt, 700);
-    scene.abort(&rt, 900);
-    scene.ends_with(&rt, alloc, "1|a|n 2|b|n", 0)
+    play(&rt, rt.alloc(), &[700, 900], &KEPT_VALUE)
 }
 
 // Two transactions that each want the other's place both wait, and the store goes on once one ends.
+const EACH_FOR_THE_OTHER: [Step; 6] = [
+    Does(700, 700, Put(ACCOUNTS, ("3", r"\N", "n"))),
+    Does(701, 701, Put(ACCOUNTS, ("4", r"\N", "n"))),
+    Waits(700, 700, Put(ACCOUNTS, ("4", r"\N", "n")), 701),
+    Waits(701, 701, Put(ACCOUNTS, ("3", r"\N", "n")), 700),
+    Commits(701, r"1|a|n 2|b|n 4|\N|n"),
+    Aborts(700),
+];
+
 #[test]
 fn two_wait_for_each_other(rt: HostRuntime) -> Result<(), Fail> {
-    let alloc = rt.alloc();
-    let mut scene = Scene::worked(&rt, alloc, &[700, 701])?;
-    let third = put("3", r"\N", "n");
-    let fourth = put("4", r"\N", "n");
-    assert_eq!(rt; scene.act(&rt, alloc, 700, 700, &third), Ok(Acted::Done));
-    assert_eq!(rt; scene.act(&rt, alloc, 701, 701, &fourth), Ok(Acted::Done));
-    assert_eq!(rt;
-        scene.act(&rt, alloc, 700, 700, &fourth),
-        Ok(Acted::Held(701))
-    );
-    assert_eq!(rt;
-        scene.act(&rt, alloc, 701, 701, &third),
-        Ok(Acted::Held(700))
-    );
-    assert_eq!(rt; scene.stop(), None);
-    scene.commit(&rt, 701);
-    scene.abort(&rt, 700);
-    scene.ends_with(&rt, alloc, r"1|a|n 2|b|n 4|\N|n", 1)
+    play(&rt, rt.alloc(), &[700, 701], &EACH_FOR_THE_OTHER)
 }
 
 // A ticket tells that its transaction waits with a change, until that is rolled back, and that one clashed.
+const WANTED: [Step; 11] = [
+    Does(700, 700, Put(ACCOUNTS, ("3", "c", "n"))),
+    Wants(700, false),
+    Waits(900, 900, Put(ACCOUNTS, ("3", "c", "n")), 700),
+    Wants(900, true),
+    GoesBack(900, 900),
+    Wants(900, false),
+    Clashes(900, 900, Put(ACCOUNTS, ("1", "z", "n")), SAME_ID),
+    Wants(900, true),
+    Wants(700, false),
+    Aborts(700),
+    Aborts(900),
+];
+
 #[test]
 fn a_ticket_tells_what_its_transaction_wants(rt: HostRuntime) -> Result<(), Fail> {
-    let alloc = rt.alloc();
-    let mut scene = Scene::worked(&rt, alloc, &[700, 900])?;
-    let third = put("3", "c", "n");
-    let clash = Clash::Unique { table: 0, key: 0 };
-    assert_eq!(rt; scene.act(&rt, alloc, 700, 700, &third), Ok(Acted::Done));
-    assert!(rt; !scene.wants(&rt, 700));
-    assert_eq!(rt;
-        scene.act(&rt, alloc, 900, 900, &third),
-        Ok(Acted::Held(700))
-    );
-    assert!(rt; scene.wants(&rt, 900));
-    scene.back_to(&rt, 900, 900);
-    assert!(rt; !scene.wants(&rt, 900));
-    let answer = scene.act(&rt, alloc, 900, 900, &put("1", "z", "n"));
-    assert_eq!(rt; answer, Err(EngineFault::Clash(clash)));
-    assert!(rt; scene.wants(&rt, 900));
-    assert!(rt; !scene.wants(&rt, 700));
-    scene.abort(&rt, 700);
-    scene.abort(&rt, 900);
-    scene.ends_with(&rt, alloc, "1|a|n 2|b|n", 0)
+    play(&rt, rt.alloc(), &[700, 900], &WANTED)
 }
 
 // While a truncate is open nobody inserts into its table, and its abort brings the rows back.
+const EMPTIED: [Step; 4] = [
+    Does(700, 700, Wipe(&[ACCOUNTS])),
+    Waits(900, 900, Put(ACCOUNTS, ("8", "h", "n")), 700),
+    Aborts(700),
+    Aborts(900),
+];
+
 #[test]
 fn a_table_that_was_emptied_is_held_whole(rt: HostRuntime) -> Result<(), Fail> {
-    let alloc = rt.alloc();
-    let mut scene = Scene::worked(&rt, alloc, &[700, 900])?;
-    let eighth = put("8", "h", "n");
-    assert_eq!(rt; scene.act(&rt, alloc, 700, 700, &wipe()), Ok(Acted::Done));
-    assert_eq!(rt;
-        scene.act(&rt, alloc, 900, 900, &eighth),
-        Ok(Acted::Held(700))
-    );
-    scene.abort(&rt, 700);
-    scene.abort(&rt, 900);
-    scene.ends_with(&rt, alloc, "1|a|n 2|b|n", 0)
+    play(&rt, rt.alloc(), &[700, 900], &EMPTIED)
 }
 
 // A table is read as it was committed, whatever open transactions put, moved, removed or looked up in it,
 // and while an open truncate has its rows.
+const READ_AS_COMMITTED: [Step; 12] = [
+    Does(700, 700, Put(ACCOUNTS, ("0", "z", "n"))),
+    Does(900, 900, Remove(ACCOUNTS, "2")),
+    Does(700, 700, Set(ACCOUNTS, "1", ("5", "e", "-"))),
+    Does(900, 900, Put(ACCOUNTS, ("3", "c", "n"))),
+    Does(900, 900, Put(ACCOUNTS, ("9", "i", "n"))),
+    Skips(700, 700, Set(ACCOUNTS, "7", ("-", "-", "v"))),
+    Commits(900, "1|a|n 3|c|n 9|i|n"),
+    Commits(700, "0|z|n 3|c|n 5|e|n 9|i|n"),
+    Opens(901),
+    Does(901, 901, Wipe(&[ACCOUNTS])),
+    Does(901, 901, Put(ACCOUNTS, ("4", "d", "n"))),
+    Commits(901, "4|d|n"),
+];
+
 #[test]
 fn a_table_is_read_as_it_was_committed(rt: HostRuntime) -> Result<(), Fail> {
-    let alloc = rt.alloc();
-    let mut scene = Scene::worked(&rt, alloc, &[700, 900])?;
-    let missing = set(7, ["-", "-", "v"]);
-    scene.has_committed(&rt, alloc, "1|a|n 2|b|n")?;
-    for (xid, call) in [
-        (700, put("0", "z", "n")),
-        (900, remove(2)),
-        (700, set(1, ["5", "e", "-"])),
-        (900, put("3", "c", "n")),
-        (900, put("9", "i", "n")),
-    ] {
-        assert_eq!(rt; scene.act(&rt, alloc, xid, xid, &call), Ok(Acted::Done));
-        scene.has_committed(&rt, alloc, "1|a|n 2|b|n")?;
-    }
-    assert_eq!(rt;
-        scene.act(&rt, alloc, 700, 700, &missing),
-        Ok(Acted::Skipped)
-    );
-    scene.commit(&rt, 900);
-    scene.has_committed(&rt, alloc, "1|a|n 3|c|n 9|i|n")?;
-    scene.commit(&rt, 700);
-    scene.has_committed(&rt, alloc, "0|z|n 3|c|n 5|e|n 9|i|n")?;
-    scene.open(alloc, 901)?;
-    for call in [wipe(), put("4", "d", "n")] {
-        assert_eq!(rt; scene.act(&rt, alloc, 901, 901, &call), Ok(Acted::Done));
-        scene.has_committed(&rt, alloc, "0|z|n 3|c|n 5|e|n 9|i|n")?;
-    }
-    scene.commit(&rt, 901);
-    scene.has_committed(&rt, alloc, "4|d|n")?;
-    scene.ends_with(&rt, alloc, "4|d|n", 3)
+    play(&rt, rt.alloc(), &[700, 900], &READ_AS_COMMITTED)
 }
 
 // A touch sets its subtransaction's savepoint, so a rollback to it drops what the transaction did since.
 // Then the savepoint is gone, and a second rollback drops nothing. Here each call comes once at least.
+const TOUCHED: [Step; 8] = [
+    Touches(700, 711),
+    Does(700, 700, Put(ACCOUNTS, ("3", "c", "n"))),
+    GoesBack(700, 711),
+    Does(700, 700, Put(ACCOUNTS, ("4", "d", "n"))),
+    GoesBack(700, 711),
+    Does(701, 701, Put(ACCOUNTS, ("5", "e", "n"))),
+    Commits(700, "1|a|n 2|b|n 4|d|n"),
+    Aborts(701),
+];
+
 #[test]
 fn a_touch_sets_a_savepoint(rt: HostRuntime) -> Result<(), Fail> {
-    let alloc = rt.alloc();
-    let mut scene = Scene::worked(&rt, alloc, &[700, 701])?;
-    assert_eq!(rt; scene.touch(&rt, 700, 711), Ok(()));
-    for call in [put("3", "c", "n"), put("4", "d", "n")] {
-        assert_eq!(rt; scene.act(&rt, alloc, 700, 700, &call), Ok(Acted::Done));
-        scene.back_to(&rt, 700, 711);
-    }
-    assert_eq!(rt;
-        scene.act(&rt, alloc, 701, 701, &put("5", "e", "n")),
-        Ok(Acted::Done)
-    );
-    assert_eq!(rt; scene.stop(), None);
-    scene.commit(&rt, 700);
-    scene.abort(&rt, 701);
-    let journal = scene.store.journal();
-    assert!(rt;
-        matches!(journal, [entry] if entry.xid == 700 && entry.commit == 16 && entry.end == 32)
-    );
-    scene.ends_with(&rt, alloc, "1|a|n 2|b|n 4|d|n", 1)
+    play(&rt, rt.alloc(), &[700, 701], &TOUCHED)
 }
