@@ -13,8 +13,7 @@
 // What is promised: it is safe and total, whatever the server sends, and each refusal has a name on
 // standard error and status 1. It writes only whole frames.
 //
-// This crate reads the command line and the environment; `server` and `publication` do the work. Their tests
-// stand here too, so that those two are proved once.
+// This crate reads the command line and the environment; `server` and `publication` do the work.
 #![tactic(auto)]
 
 mod settings;

@@ -1,10 +1,99 @@
-// What no clause says: known vectors, and what each part makes of a scripted server, in memory and on
-// loopback. The script is written before the client speaks, so a test needs no thread, but where the client
-// connects by itself; a server that stalls moves the clock of the line in memory.
-mod catalogs;
-mod lines;
-mod logins;
-mod loopback;
-mod relays;
-mod script;
-mod vectors;
+// The command line, and libpq's variables.
+use crate::settings;
+use crate::settings::{Job, Variables};
+use server::host::Server;
+use std::alloc::Global;
+use std::test::Fail;
+
+/// The words of a command line.
+fn words(alloc: Global, line: &str) -> Result<Vec<String>, Fail> {
+    let mut words = Vec::new(alloc);
+    for word in line.split(' ') {
+        words.push(String::from_str(alloc, word)?)?;
+    }
+    Ok(words)
+}
+
+/// An option of `capture` with its value, and whether it is read.
+const VALUES: [(&str, bool); 12] = [
+    ("--timeout 1", true),
+    ("--timeout 0", false),
+    ("--timeout 1000000001", false),
+    ("--timeout +1", false),
+    ("--seconds 10", true),
+    ("--seconds ", false),
+    ("--until 0/0", true),
+    ("--until FFFFFFFF/ffffffff", true),
+    ("--until 1/2A", true),
+    ("--until 12A", false),
+    ("--until 1/100000000", false),
+    ("--until 1/", false),
+];
+
+#[test]
+fn values_within_their_limits(rt: HostRuntime) -> Result<(), Fail> {
+    for (option, want) in &VALUES {
+        let line = format!(in rt.alloc();
+            "publisher capture --publication p --slot s --out f {option}"
+        )?;
+        let words = words(rt.alloc(), line.as_str())?;
+        let read = settings::parse(rt.alloc(), words.as_slice()).is_ok();
+        assert_eq!(rt; read, *want, "{option}");
+    }
+    Ok(())
+}
+
+const CAPTURE: &str =
+    "publisher capture --publication p --slot s --out f --until 1/2A --create --seconds 7";
+
+#[test]
+fn a_place_is_two_halves(rt: HostRuntime) -> Result<(), Fail> {
+    let words = words(rt.alloc(), CAPTURE)?;
+    let options = settings::parse(rt.alloc(), words.as_slice())
+        .ok()
+        .ok_or("refused")?;
+    let Job::Capture {
+        slot,
+        out,
+        until,
+        millis,
+    } = options.job
+    else {
+        return Err(Fail::from("another command"));
+    };
+    assert!(rt; slot.name == "s" && slot.create && out == "f");
+    assert_eq!(rt; (until, millis), (Some(0x1_0000_002a), Some(7000)));
+    Ok(())
+}
+
+/// The server of an option for the port, and of variables for the host, the password and who is logged in.
+fn chosen(alloc: Global) -> Result<Server, Fail> {
+    let variables = Variables {
+        host: Some(String::from_str(alloc, "db.example")?),
+        port: None,
+        user: None,
+        database: None,
+        password: Some(String::from_str(alloc, "secret")?),
+        login: Some(String::from_str(alloc, "carol")?),
+    };
+    let words = words(alloc, "publisher catalog --publication p --port 5433")?;
+    let options = settings::parse(alloc, words.as_slice())
+        .ok()
+        .ok_or("refused")?;
+    Ok(settings::choose_server(alloc, &options, &variables)?.ok_or("no user")?)
+}
+
+#[test]
+fn options_go_before_variables(rt: HostRuntime) -> Result<(), Fail> {
+    let server = chosen(rt.alloc())?;
+    let found = [
+        server.host.as_str(),
+        server.port.as_str(),
+        server.user.as_str(),
+        server.database.as_str(),
+        server.password.as_deref().unwrap_or("none"),
+    ];
+    let want = ["db.example", "5433", "carol", "carol", "secret"];
+    assert_eq!(rt; found, want);
+    Ok(())
+}

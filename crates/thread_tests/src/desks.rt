@@ -2,6 +2,7 @@
 // leader is woken, that all threads end however the leader leaves, and when a job is dropped.
 ghost use Rattle.std.specs.Prelude.{◌≡◌, IfOk};
 
+use crate::asserts::assert_same;
 use crew::{Bell, Desk, Work, make_desks, with_workers};
 use model::OutOfMemory;
 use std::alloc::Global;
@@ -123,9 +124,9 @@ fn all_at_once(rt: HostRuntime) -> Result<(), Fail> {
                 count_back(&rt, &desks, &shop.bell)
             },
         );
-        assert_eq!(rt; back, workers);
+        assert_same(&rt, back, workers, "back");
     }
-    assert_eq!(rt; Arc::strong_count(&held), 1);
+    assert_same(&rt, Arc::strong_count(&held), 1, "jobs that are held");
     Ok(())
 }
 
@@ -187,10 +188,10 @@ fn the_leader_leaves_at_each_turn(rt: HostRuntime) -> Result<(), Fail> {
                     leave_at(&rt, turn, &desks, &shop.bell, first, second)
                 },
             );
-            assert_eq!(rt; back, expected(turn, workers), "at {turn} with {workers}");
+            assert_same(&rt, back, expected(turn, workers), turn);
         }
     }
-    assert_eq!(rt; Arc::strong_count(&held), 1);
+    assert_same(&rt, Arc::strong_count(&held), 1, "jobs that are held");
     Ok(())
 }
 
@@ -212,18 +213,28 @@ fn a_desk_on_one_thread(rt: HostRuntime) -> Result<(), Fail> {
         panic!(rt; "one desk was made")
     };
     let shop = Shop::new(1);
-    assert_eq!(rt; seen(desk.wait_back(&rt)), None);
+    assert_same(&rt, seen(desk.wait_back(&rt)), None, "no job");
     let mut jobs = jobs(rt.alloc(), 3, &held)?.into_iter();
     let (Some(first), Some(second), Some(third)) = (jobs.next(), jobs.next(), jobs.next()) else {
         panic!(rt; "a job is missing")
     };
-    assert_eq!(rt; seen(desk.give(&rt, first).err()), None);
-    assert_eq!(rt; seen(desk.give(&rt, second).err()), Some((1, 0)));
-    assert_eq!(rt; seen(desk.try_back(&rt)), None);
-    assert_eq!(rt; seen(desk.close(&rt)), Some((0, 0)));
-    assert_eq!(rt; seen(desk.give(&rt, third).err()), Some((2, 0)));
+    assert_same(&rt, seen(desk.give(&rt, first).err()), None, "the first");
+    assert_same(
+        &rt,
+        seen(desk.give(&rt, second).err()),
+        Some((1, 0)),
+        "the second",
+    );
+    assert_same(&rt, seen(desk.try_back(&rt)), None, "not done");
+    assert_same(&rt, seen(desk.close(&rt)), Some((0, 0)), "closed");
+    assert_same(
+        &rt,
+        seen(desk.give(&rt, third).err()),
+        Some((2, 0)),
+        "the third",
+    );
     desk.serve(&rt, &shop);
-    assert_eq!(rt; seen(desk.close(&rt)), None);
+    assert_same(&rt, seen(desk.close(&rt)), None, "closed again");
     Ok(())
 }
 
@@ -231,7 +242,7 @@ fn a_desk_on_one_thread(rt: HostRuntime) -> Result<(), Fail> {
 #[test]
 fn desks_where_memory_is_refused(rt: HostRuntime) {
     match make_desks::<Job>(rt.alloc(), 16) {
-        Ok(desks) => assert_eq!(rt; desks.len(), 16),
-        Err(refused) => assert_eq!(rt; refused, OutOfMemory),
+        Ok(desks) => assert_same(&rt, desks.len(), 16, "desks"),
+        Err(refused) => assert_same(&rt, refused, OutOfMemory, "refused"),
     }
 }

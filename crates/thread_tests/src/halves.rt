@@ -6,6 +6,7 @@ ghost use Rattle.std.specs.List.{last_or};
 ghost use Rattle.tokens.specs.Half.{Begins};
 ghost use Rattle.tokens.specs.Lists.{open_list, with_list};
 
+use crate::asserts::assert_same;
 use model::OutOfMemory;
 use std::alloc::Global;
 use std::collections::BTreeMap;
@@ -328,9 +329,9 @@ fn run<R: Threads + Wait + Sync>(
 fn what_lies_under_a_lock_is_what_three_threads_met(rt: HostRuntime) -> Result<(), Fail> {
     for _ in 0..20 {
         let ends = run(&rt, rt.alloc(), &[1, 2, 3, 4, 5], &[10, 20])?;
-        assert_eq!(rt; ends.first, Some(5));
-        assert_eq!(rt; ends.second, Some(20));
-        assert_eq!(rt; ends.closed, Some(701));
+        assert_same(&rt, ends.first, Some(5), "first");
+        assert_same(&rt, ends.second, Some(20), "second");
+        assert_same(&rt, ends.closed, Some(701), "closed");
     }
     Ok(())
 }

@@ -13,6 +13,8 @@
 #![tactic(auto)]
 
 #[cfg(test)]
+mod asserts;
+#[cfg(test)]
 mod desks;
 #[cfg(test)]
 mod halves;

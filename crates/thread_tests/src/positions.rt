@@ -3,6 +3,7 @@
 ghost use Rattle.std.specs.Prelude.{◌≡◌, ◌≤◌, ◌<◌, []};
 ghost use Rattle.origin.specs.Commits.{Begins, commits_of};
 
+use crate::asserts::{assert_holds, assert_same};
 use model::OutOfMemory;
 use origin::{Loader, Origin, Position, Publisher};
 use std::sync::Wait;
@@ -84,7 +85,7 @@ fn two_threads_load_while_positions_are_published(rt: HostRuntime) -> Result<(),
             || publish_all(&rt, &origin, publisher),
             || load_in_two(&rt, &origin, loader),
         );
-        assert!(rt; in_order && also_in_order);
+        assert_holds(&rt, in_order && also_in_order, "in order");
         origin.meet(&rt, &mut publisher, &mut one);
         origin.meet(&rt, &mut publisher, &mut other);
     }
@@ -108,22 +109,27 @@ fn each_load_has_the_last_position(rt: HostRuntime) -> Result<(), Fail> {
         commits: 0,
         end_lsn: 0,
     };
-    assert_eq!(rt; load_twice(&rt, &origin, &mut loader), (start, start));
+    assert_same(
+        &rt,
+        load_twice(&rt, &origin, &mut loader),
+        (start, start),
+        "the start",
+    );
     let first = Position {
         commits: 1,
         end_lsn: 0x140,
     };
     origin.publish(&rt, &mut publisher, first);
     let (mut one, mut other) = loader.split(&origin);
-    assert_eq!(rt; origin.load(&rt, &mut one), first);
+    assert_same(&rt, origin.load(&rt, &mut one), first, "the first");
     let second = Position {
         commits: 2,
         end_lsn: 0x220,
     };
     origin.publish(&rt, &mut publisher, second);
     origin.meet(&rt, &mut publisher, &mut one);
-    assert_eq!(rt; origin.load(&rt, &mut one), second);
-    assert_eq!(rt; origin.load(&rt, &mut other), second);
+    assert_same(&rt, origin.load(&rt, &mut one), second, "the second");
+    assert_same(&rt, origin.load(&rt, &mut other), second, "the second");
     Ok(())
 }
 
@@ -132,8 +138,8 @@ fn each_load_has_the_last_position(rt: HostRuntime) -> Result<(), Fail> {
 fn an_origin_where_memory_is_refused(rt: HostRuntime) {
     match Origin::new(rt.alloc()) {
         Ok((origin, _publisher, mut loader)) => {
-            assert_eq!(rt; origin.load(&rt, &mut loader).commits, 0);
+            assert_same(&rt, origin.load(&rt, &mut loader).commits, 0, "commits");
         }
-        Err(refused) => assert_eq!(rt; refused, OutOfMemory),
+        Err(refused) => assert_same(&rt, refused, OutOfMemory, "refused"),
     }
 }

@@ -2,6 +2,7 @@
 // worker sends on come in order, through rings of few slots, and none stays behind.
 ghost use Rattle.std.specs.Prelude.{◌≡◌, [], false};
 
+use crate::asserts::assert_same;
 use engine::StoreNames;
 use model::{Item, OutOfMemory};
 use ring::{Ring, Sender, Taker};
@@ -98,7 +99,7 @@ fn a_post_on_one_thread(rt: HostRuntime) -> Result<(), Fail> {
         next: None,
         collected_last: Collected::All,
     };
-    assert_eq!(rt; answers, expected);
+    assert_same(&rt, answers, expected, "answers");
     Ok(())
 }
 
@@ -191,7 +192,7 @@ fn items_through_a_post(rt: HostRuntime) -> Result<(), Fail> {
         let (sender, taker) = Ring::new::<WorkItem<Brand>>(rt.alloc(), slots)?;
         let (kept, token) = pair::<PostEvent>(rt.alloc())?;
         let done = through::<Brand, Brand, _>(&rt, rt.alloc(), sender, taker, kept, token);
-        assert_eq!(rt; done, (true, Collected::All), "through {slots} slots");
+        assert_same(&rt, done, (true, Collected::All), slots);
     }
     Ok(())
 }

@@ -4,6 +4,7 @@ ghost use Rattle.model.specs.Named.{NamesTables};
 ghost use Rattle.origin.specs.Commits.{commits_of};
 
 use super::scene::{Parts, Scene, TABLE, key, put, remove, written};
+use crate::asserts::{assert_holds, assert_same};
 use engine::{EngineFault, SharedStore, StoreNames};
 use model::{Change, Key, Lsn, TableId, Xid};
 use origin::{Origin, Position, Publisher};
@@ -68,23 +69,58 @@ fn reads_between<N: StoreNames, R: Abort + Wait>(
     let mut first = scene.open(rt, alloc, 1)?;
     scene.act(rt, alloc, &mut first, &put(alloc, 1, 10)?)?;
     scene.act(rt, alloc, &mut first, &put(alloc, 2, 20)?)?;
-    assert_eq!(rt; rows_of(rt, alloc, reader)?.as_str(), "");
+    assert_same(
+        rt,
+        rows_of(rt, alloc, reader)?.as_str(),
+        "",
+        "while the first is open",
+    );
     scene.commit(rt, first, 16);
-    assert_eq!(rt; rows_of(rt, alloc, reader)?.as_str(), "1|10 2|20");
+    assert_same(
+        rt,
+        rows_of(rt, alloc, reader)?.as_str(),
+        "1|10 2|20",
+        "the first",
+    );
     let mut one = scene.open(rt, alloc, 700)?;
     let mut other = scene.open(rt, alloc, 900)?;
     scene.act(rt, alloc, &mut one, &put(alloc, 3, 30)?)?;
     scene.act(rt, alloc, &mut other, &remove(alloc, 1)?)?;
-    assert_eq!(rt; row_of(rt, alloc, reader, 3)?.as_str(), "");
-    assert_eq!(rt; row_of(rt, alloc, reader, 1)?.as_str(), "1|10");
-    assert_eq!(rt; rows_of(rt, alloc, reader)?.as_str(), "1|10 2|20");
+    assert_same(
+        rt,
+        row_of(rt, alloc, reader, 3)?.as_str(),
+        "",
+        "row 3 while open",
+    );
+    assert_same(
+        rt,
+        row_of(rt, alloc, reader, 1)?.as_str(),
+        "1|10",
+        "row 1 while open",
+    );
+    assert_same(
+        rt,
+        rows_of(rt, alloc, reader)?.as_str(),
+        "1|10 2|20",
+        "while two are open",
+    );
     scene.commit(rt, other, 32);
-    assert_eq!(rt; row_of(rt, alloc, reader, 1)?.as_str(), "");
-    assert_eq!(rt; row_of(rt, alloc, reader, 3)?.as_str(), "");
-    assert_eq!(rt; rows_of(rt, alloc, reader)?.as_str(), "2|20");
+    assert_same(rt, row_of(rt, alloc, reader, 1)?.as_str(), "", "row 1");
+    assert_same(rt, row_of(rt, alloc, reader, 3)?.as_str(), "", "row 3");
+    assert_same(
+        rt,
+        rows_of(rt, alloc, reader)?.as_str(),
+        "2|20",
+        "the other",
+    );
     scene.commit(rt, one, 48);
-    assert_eq!(rt; row_of(rt, alloc, reader, 3)?.as_str(), "3|30");
-    assert_eq!(rt; rows_of(rt, alloc, reader)?.as_str(), "2|20 3|30");
+    assert_same(
+        rt,
+        row_of(rt, alloc, reader, 3)?.as_str(),
+        "3|30",
+        "row 3 at last",
+    );
+    assert_same(rt, rows_of(rt, alloc, reader)?.as_str(), "2|20 3|30", "all");
     Ok(())
 }
 
@@ -118,19 +154,25 @@ fn reads_positions<N: StoreNames, R: Abort + Wait>(
     commit_one(rt, alloc, scene, 702, &put(alloc, 1, 10)?, 40)?;
     commit_one(rt, alloc, scene, 703, &remove(alloc, 2)?, 64)?;
     for (position, rows) in [(0, ""), (16, "2|20"), (40, "1|10 2|20"), (64, "1|10")] {
-        assert_eq!(rt;
+        assert_same(
+            rt,
             rows_at(rt, alloc, reader, position)?.as_str(),
             rows,
-            "{position}"
+            position,
         );
     }
     for position in [1, 15, 17, 41, 63, 65, Lsn::MAX] {
         let answer = reader.rows_at(rt, alloc, TABLE, position).err();
-        assert_eq!(rt; answer, Some(ReadFault::PositionUnknown), "{position}");
+        assert_same(rt, answer, Some(ReadFault::PositionUnknown), position);
     }
     scene.commit(rt, open, 65);
-    assert_eq!(rt; rows_at(rt, alloc, reader, 65)?.as_str(), "1|10 9|90");
-    assert_eq!(rt; rows_at(rt, alloc, reader, 16)?.as_str(), "2|20");
+    assert_same(
+        rt,
+        rows_at(rt, alloc, reader, 65)?.as_str(),
+        "1|10 9|90",
+        65,
+    );
+    assert_same(rt, rows_at(rt, alloc, reader, 16)?.as_str(), "2|20", 16);
     Ok(())
 }
 
@@ -142,10 +184,25 @@ fn reads_unknown<N: StoreNames, R: Abort + Wait>(
 ) -> Result<(), Fail> {
     let unknown = Some(ReadFault::UnknownTable);
     for table in [1, 2, TableId::MAX] {
-        assert_eq!(rt; reader.get(rt, table, &key(alloc, 1)?).err(), unknown);
-        assert_eq!(rt; reader.rows(rt, alloc, table).err(), unknown);
-        assert_eq!(rt; reader.rows_at(rt, alloc, table, 0).err(), unknown);
-        assert_eq!(rt; reader.rows_at(rt, alloc, table, 7).err(), unknown);
+        assert_same(
+            rt,
+            reader.get(rt, table, &key(alloc, 1)?).err(),
+            unknown,
+            table,
+        );
+        assert_same(rt, reader.rows(rt, alloc, table).err(), unknown, table);
+        assert_same(
+            rt,
+            reader.rows_at(rt, alloc, table, 0).err(),
+            unknown,
+            table,
+        );
+        assert_same(
+            rt,
+            reader.rows_at(rt, alloc, table, 7).err(),
+            unknown,
+            table,
+        );
     }
     Ok(())
 }
@@ -175,10 +232,18 @@ fn reads_refused<N: StoreNames, R: Abort + Wait>(
     };
     let refused = Some(ReadFault::OutOfMemory);
     let first = reader.rows(rt, alloc, TABLE).err();
-    assert!(rt; first.is_none() || first == refused);
-    assert!(rt; matches!(reader.get(rt, TABLE, &key), Ok(Some(_))));
+    assert_holds(rt, first.is_none() || first == refused, "first");
+    assert_holds(
+        rt,
+        matches!(reader.get(rt, TABLE, &key), Ok(Some(_))),
+        "the row",
+    );
     let second = reader.rows(rt, alloc, TABLE).err();
-    assert!(rt; second.is_none() || (second == refused && first.is_none()));
+    assert_holds(
+        rt,
+        second.is_none() || (second == refused && first.is_none()),
+        "second",
+    );
     Ok(())
 }
 
@@ -193,13 +258,13 @@ fn reads_published<N: StoreNames, R: Abort + Wait>(
     requires publisher { publisher ≡ commits_of origin.now [] }
     requires reader { reader.published ≡ commits_of origin.now [] }
 {
-    assert_eq!(rt; reader.position(rt).commits, 0);
+    assert_same(rt, reader.position(rt).commits, 0, "commits");
     let first = Position {
         commits: 1,
         end_lsn: 16,
     };
     origin.publish(rt, &mut publisher, first);
-    assert_eq!(rt; reader.position(rt), first);
+    assert_same(rt, reader.position(rt), first, "position");
     let (mut seen, mut loader) = reader.into_parts();
     store.lock(rt).look(&mut seen);
     origin.meet(rt, &mut publisher, &mut loader);

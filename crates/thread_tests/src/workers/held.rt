@@ -7,6 +7,7 @@ use super::flags::{Flag, Plan};
 use super::lane::{Came, Doom, run_worker};
 use super::shop::{Hand, Shop, empty_store, share};
 use super::steps::Step;
+use crate::asserts::{assert_holds, assert_same};
 use engine::{Acted, Line, Stop, Store, StoreNames, Ticket};
 use std::alloc::Global;
 use std::marker::Brand;
@@ -122,7 +123,7 @@ fn open_holder<N: StoreNames, R: Wait + Abort>(
     hand.start_with(rt, alloc, shop, &[1, 2]);
     let mut holder = hand.open(rt, alloc, shop, 701);
     let acted = shop.act(rt, alloc, &mut holder, HOLDING);
-    assert_eq!(rt; acted, Ok(Acted::Done));
+    assert_same(rt, acted, Ok(Acted::Done), "acted");
     holder
 }
 
@@ -143,11 +144,11 @@ fn holder_ends<N: StoreNames + Send + Sync, R: Threads + Wait + Abort + Clock + 
     let ticket = hand.open(rt, alloc, shop, 700);
     let held = Flag::new();
     let (mut hand, came) = end_beside(rt, alloc, shop, hand, holder, ticket, &held, commits);
-    assert!(rt; came.is(Ended::Last, 2, 1));
-    assert_eq!(rt; shop.note(rt, alloc, 1), Some(7));
+    assert_holds(rt, came.is(Ended::Last, 2, 1), "came");
+    assert_same(rt, shop.note(rt, alloc, 1), Some(7), "the note");
     hand.abort(rt, shop, came.into_ticket());
     let before = if commits { 1 } else { 0 };
-    assert_eq!(rt; shop.note(rt, alloc, 1), Some(before));
+    assert_same(rt, shop.note(rt, alloc, 1), Some(before), "the note");
 }
 
 fn play_holder_ends<R: Threads + Wait + Abort + Clock + Sync>(
@@ -204,7 +205,7 @@ fn doomed_while_held<N: StoreNames + Send + Sync, R: Threads + Wait + Abort + Cl
         told: &never,
     };
     let came = run_worker(rt, alloc, shop, ticket, &HELD, plan, Some(doom));
-    assert!(rt; came.is(Ended::Doomed, 0, 3));
+    assert_holds(rt, came.is(Ended::Doomed, 0, 3), "came");
     hand.abort(rt, shop, came.into_ticket());
     hand.abort(rt, shop, holder);
 }
@@ -279,10 +280,14 @@ fn holder_rolls_back<N: StoreNames + Send + Sync, R: Threads + Wait + Abort + Cl
     let holder = hand.open(rt, alloc, shop, 701);
     let at = Point::After(2);
     let (came, other) = run_both(rt, alloc, shop, ticket, holder, &ROLLED_BACK, at);
-    assert!(rt; came.is(Ended::Last, 2, 1) && other.is(Ended::Last, 3, 1));
+    assert_holds(
+        rt,
+        came.is(Ended::Last, 2, 1) && other.is(Ended::Last, 3, 1),
+        "came",
+    );
     hand.commit(rt, shop, other.into_ticket());
     hand.commit(rt, shop, came.into_ticket());
-    assert_eq!(rt; shop.note(rt, alloc, 1), Some(7));
+    assert_same(rt, shop.note(rt, alloc, 1), Some(7), "the note");
 }
 
 fn play_holder_rolls_back<R: Threads + Wait + Abort + Clock + Sync>(rt: &R, alloc: Global) {
@@ -316,12 +321,20 @@ fn other_clashes<N: StoreNames + Send + Sync, R: Threads + Wait + Abort + Clock 
     let other = hand.open(rt, alloc, shop, 702);
     let at = Point::Before(1);
     let (came, other) = run_both(rt, alloc, shop, ticket, other, &CLASHING, at);
-    assert!(rt; came.is(Ended::Stopped, 0, 3) && other.is(Ended::Clashed, 0, 2));
-    assert!(rt; matches!(shop.stop(rt), Some(Stop::Clash(702, _))));
+    assert_holds(
+        rt,
+        came.is(Ended::Stopped, 0, 3) && other.is(Ended::Clashed, 0, 2),
+        "came",
+    );
+    assert_holds(
+        rt,
+        matches!(shop.stop(rt), Some(Stop::Clash(702, _))),
+        "stopped",
+    );
     hand.abort(rt, shop, came.into_ticket());
     hand.abort(rt, shop, other.into_ticket());
     hand.abort(rt, shop, holder);
-    assert_eq!(rt; shop.note(rt, alloc, 1), Some(0));
+    assert_same(rt, shop.note(rt, alloc, 1), Some(0), "the note");
 }
 
 fn play_other_clashes<R: Threads + Wait + Abort + Clock + Sync>(rt: &R, alloc: Global) {

@@ -6,6 +6,7 @@ use super::flags::{Flag, Plan};
 use super::lane::{Came, Doom, run_worker};
 use super::shop::{Hand, Shop, empty_store, share};
 use super::steps::{Step, put_key};
+use crate::asserts::{assert_holds, assert_same};
 use engine::{Line, Store, StoreNames, Ticket};
 use model::{Item, Xid};
 use std::alloc::Global;
@@ -69,12 +70,16 @@ fn two<N: StoreNames + Send + Sync, R: Threads + Wait + Abort + Clock + Sync>(
             requires { (second.name ≡ N.tickets) × (second.list ≡ []) }
         { run_worker(rt, alloc, shop, second, &HIGH, other_plan, None) },
     );
-    assert!(rt; first.is(Ended::Last, 5, 1) && second.is(Ended::Last, 3, 1));
-    assert!(rt; !held.has(1));
+    assert_holds(
+        rt,
+        first.is(Ended::Last, 5, 1) && second.is(Ended::Last, 3, 1),
+        "came",
+    );
+    assert_holds(rt, !held.has(1), "held");
     hand.commit(rt, shop, second.into_ticket());
     hand.abort(rt, shop, first.into_ticket());
-    assert_eq!(rt; shop.note(rt, alloc, 5), None);
-    assert_eq!(rt; shop.note(rt, alloc, 12), Some(0));
+    assert_same(rt, shop.note(rt, alloc, 5), None, "the note");
+    assert_same(rt, shop.note(rt, alloc, 12), Some(0), "the note");
 }
 
 fn play_two<R: Threads + Wait + Abort + Clock + Sync>(rt: &R, alloc: Global) {
@@ -136,16 +141,16 @@ fn doomed<N: StoreNames + Send + Sync, R: Threads + Wait + Abort + Clock + Sync>
         told: &told,
     };
     let came = run_worker(rt, alloc, shop, ticket, &LOW, plan, Some(doom));
-    assert_eq!(rt; came.ended, Ended::Doomed);
-    assert_eq!(rt; came.acked, number);
-    assert!(rt; are_left(&came, number), "what is left");
+    assert_same(rt, came.ended, Ended::Doomed, "ended");
+    assert_same(rt, came.acked, number, "acked");
+    assert_holds(rt, are_left(&came, number), "what is left");
     let done = number.min(100) as i64;
     for key in 1..6i64 {
         let is_there = shop.note(rt, alloc, key).is_some();
-        assert_eq!(rt; is_there, key <= done);
+        assert_same(rt, is_there, key <= done, key);
     }
     hand.abort(rt, shop, came.into_ticket());
-    assert_eq!(rt; shop.note(rt, alloc, 1), None);
+    assert_same(rt, shop.note(rt, alloc, 1), None, "the note");
 }
 
 fn play_doomed<R: Threads + Wait + Abort + Clock + Sync>(
@@ -213,7 +218,7 @@ fn one_of_many<N: StoreNames + Send + Sync, R: Threads + Wait + Abort + Clock + 
         held: &meeting.held,
     };
     let came = run_worker(rt, alloc, shop, ticket, &steps, plan, None);
-    assert!(rt; meeting.back.lock(rt).push(came).is_ok());
+    assert_holds(rt, meeting.back.lock(rt).push(came).is_ok(), "push");
 }
 
 fn start_all<N: StoreNames + Send + Sync, R: Threads + Wait + Abort + Clock + Sync>(
@@ -229,7 +234,7 @@ fn start_all<N: StoreNames + Send + Sync, R: Threads + Wait + Abort + Clock + Sy
             let worker = move ||
                 requires { (ticket.name ≡ N.tickets) × (ticket.list ≡ []) }
             { one_of_many(rt, alloc, shop, meeting, ticket, number) };
-            assert!(rt; scope.spawn(worker).is_ok());
+            assert_holds(rt, scope.spawn(worker).is_ok(), "spawn");
         }
     });
 }
@@ -251,12 +256,17 @@ fn many<N: StoreNames + Send + Sync, R: Threads + Wait + Abort + Clock + Sync>(
         back: Mutex::new(Vec::new(alloc)),
     };
     start_all(rt, alloc, &shop, &meeting, &mut hand);
-    assert!(rt; !meeting.held.has(1));
+    assert_holds(rt, !meeting.held.has(1), "held");
     for came in meeting.into_back() {
-        assert!(rt; came.is(Ended::Last, 2, 1));
+        assert_holds(rt, came.is(Ended::Last, 2, 1), "came");
         hand.commit(rt, &shop, came.into_ticket());
     }
-    assert_eq!(rt; shop.store.lock(rt).journal().len(), WORKERS as usize);
+    assert_same(
+        rt,
+        shop.store.lock(rt).journal().len(),
+        WORKERS as usize,
+        "journal",
+    );
 }
 
 fn play_many<R: Threads + Wait + Abort + Clock + Sync>(rt: &R, alloc: Global) {
