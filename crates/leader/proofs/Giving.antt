@@ -22,7 +22,7 @@ use Rattle.worker.specs.Post.{given_after, given_since}
 use Rattle.worker.specs.Working.{Working, IsTaken, IsInStep}
 use Rattle.worker.specs.declared.post.Collected.{Collected}
 use Rattle.worker.specs.declared.post.Collected.TheVariants.{All as WasAll}
-use Rattle.leader.specs.Lanes.{own_item, own_items, after_events, given_before, Given, Laned, going, laned, done_by, IsDoing, IsBack, IsLane, IsFree, IsHome, IsCounted, AddsTo, ComesBack, IsTakenOut}
+use Rattle.leader.specs.Lanes.{own_item, own_items, after_events, given_before, Given, Laned, going, laned, done_by, IsDoing, IsBack, IsLane, IsFree, IsHome, HasCount, IsCounted, AddsTo, ComesBack, IsTakenOut, HasAll}
 use Rattle.leader.specs.Standing.{own_by, items_of}
 use Rattle.leader.specs.Ending.{in_lane, holds_in, KeepsGiven}
 use Rattle.leader.proofs.Agreeing.{same_apart}
@@ -124,12 +124,16 @@ did_all done acked given same own e =
 
 -- ---- a lane, by its parts
 
-module _ (n xid : ℕ) (events : List PostEvent) (taker : Option (Taking Item)) (ticket : Option (OpenList Event)) (now : Laned) (view : laned n xid events taker ticket ≡ now) where
+module _ (n xid : ℕ) (events : List PostEvent) (taker : Option (Taking Item)) (ticket : Option (OpenList Event)) (collected : Collected) (now : Laned)
+    (view : laned n xid events taker ticket collected ≡ now) where
   goes : going xid events taker ticket ≡ now.goes
   goes = ap (λ (l : Laned). l.goes) view
 
   back : option_map done_by ticket ≡ now.back
   back = ap (λ (l : Laned). l.back) view
+
+  same_collected : collected ≡ now.collected
+  same_collected = ap (λ (l : Laned). l.collected) view
 
   -- it is free where the end of the ring is here, and no ticket
   pub free_here : is_some taker ≡ true → (r : Bool) → is_some ticket ≡ not r → MatchBool r (IsFree now) ((given : Given) × (now.goes ≡ Some given))
@@ -154,9 +158,9 @@ module _ (n xid : ℕ) (events : List PostEvent) (taker : Option (Taking Item)) 
       by_parts (Some t) ea false is not_so = absurd (false≢true is)
 
   -- a worker has its transaction, or that came back, or none goes by it
-  pub whose : (its_ring : TableId) (its_name tickets : Name) (token : Half PostEvent) (collected : Collected) → IsLane its_ring its_name tickets xid token taker ticket collected
+  pub whose : (its_ring : TableId) (its_name tickets : Name) (token : Half PostEvent) → IsLane its_ring its_name tickets xid token taker ticket collected
       → (r : Bool) → is_some taker ≡ not r → MatchBool r ((given : Given) × (now.goes ≡ Some given) × (now.back ≡ None)) (IsHome now)
-  whose its_ring its_name tickets token collected lane = by_parts taker ticket refl refl lane.end
+  whose its_ring its_name tickets token lane = by_parts taker ticket refl refl lane.end
     where
       by_parts : (a : Option (Taking Item)) (b : Option (OpenList Event)) → taker ≡ a → ticket ≡ b → MatchOption a (ticket ≡ None) (λ t. (t.ring ≡ its_ring) × (t.acked ≡ []) × (given_since token.list ≡ []))
           → (r : Bool) → is_some a ≡ not r → MatchBool r ((given : Given) × (now.goes ≡ Some given) × (now.back ≡ None)) (IsHome now)
@@ -183,19 +187,19 @@ module _ (n xid : ℕ) (events : List PostEvent) (taker : Option (Taking Item)) 
           let e : Some (done_by k) ≡ None = sym (ap (option_map done_by) eb) ∙ back ∙ none in absurd cc
 
   -- a transaction goes by it to which nothing was given yet
-  pub opened : (its_ring : TableId) (its_name tickets : Name) (token : Half PostEvent) (collected : Collected) (new_xid : ℕ) (taken : Taking Item) (after : Option (Taking Item)) → token.list ≡ events
+  pub opened : (its_ring : TableId) (its_name tickets : Name) (token : Half PostEvent) (new_xid : ℕ) (taken : Taking Item) (after : Option (Taking Item)) → token.list ≡ events
       → taker ≡ Some taken → after ≡ None → now.back ≡ None → IsLane its_ring its_name tickets xid token taker ticket collected
-      → IsLane its_ring its_name tickets new_xid token after ticket collected × IsCounted (going new_xid events after ticket) (new_xid, 0)
-  opened its_ring its_name tickets token collected new_xid taken after list here gone none is =
+      → IsLane its_ring its_name tickets new_xid token after ticket collected × HasCount (going new_xid events after ticket) (new_xid, 0)
+  opened its_ring its_name tickets token new_xid taken after list here gone none is =
       let eb = no_ticket ticket back in
       let since : given_since token.list ≡ [] = (subst (λ a. MatchOption a (ticket ≡ None) (λ t. (t.ring ≡ its_ring) × (t.acked ≡ []) × (given_since token.list ≡ []))) here is.end).2 in
-      subst (λ a. IsLane its_ring its_name tickets new_xid token a ticket collected × IsCounted (going new_xid events a ticket) (new_xid, 0)) (sym gone) (
+      subst (λ a. IsLane its_ring its_name tickets new_xid token a ticket collected × HasCount (going new_xid events a ticket) (new_xid, 0)) (sym gone) (
         record {
           name = is.name;
           end = eb;
           back = subst (λ b. MatchOption b (Unit {0}) (IsBack tickets new_xid (own_items (given_before token.list)) collected)) (sym eb) tt;
         },
-        λ short. (record { xid = new_xid; items = own_items (given_since events) }, refl, refl, sym (ap (λ given. length (own_items given)) (ap given_since (sym list) ∙ since))),
+        (refl, sym (ap (λ given. min (length (own_items given)) (2 ^ 64 - 1)) (ap given_since (sym list) ∙ since))),
       )
     where
       no_ticket : (b : Option (OpenList Event)) → option_map done_by b ≡ now.back → b ≡ None
@@ -203,18 +207,18 @@ module _ (n xid : ℕ) (events : List PostEvent) (taker : Option (Taking Item)) 
       no_ticket (Some k) e = let some : Some (done_by k) ≡ None = e ∙ none in absurd cc
 
   -- its ticket is taken out of it
-  pub taken_out : (its_ring : TableId) (its_name tickets : Name) (token : Half PostEvent) (collected : Collected) → token.list ≡ events → IsLane its_ring its_name tickets xid token taker ticket collected
+  pub taken_out : (its_ring : TableId) (its_name tickets : Name) (token : Half PostEvent) → token.list ≡ events → IsLane its_ring its_name tickets xid token taker ticket collected
       → (result after : Option (OpenList Event)) → result ≡ ticket → after ≡ None
-      → MatchOption result ((now.back ≡ None) × (laned n xid events taker after ≡ now)) (λ k. IsTakenOut tickets now k (laned n xid events taker after))
-  taken_out its_ring its_name tickets token collected list is None after e none =
-      (sym back ∙ ap (option_map done_by) (sym e), ap (laned n xid events taker) (none ∙ e) ∙ view)
-  taken_out its_ring its_name tickets token collected list is (Some k) after e none = by_taker taker refl is.end
+      → MatchOption result ((now.back ≡ None) × (laned n xid events taker after collected ≡ now)) (λ k. IsTakenOut tickets now k (laned n xid events taker after collected))
+  taken_out its_ring its_name tickets token list is None after e none =
+      (sym back ∙ ap (option_map done_by) (sym e), ap (λ b. laned n xid events taker b collected) (none ∙ e) ∙ view)
+  taken_out its_ring its_name tickets token list is (Some k) after e none = by_taker taker refl is.end
     where
       its : IsBack tickets xid (own_items (given_before token.list)) collected k
       its = subst (λ b. MatchOption b (Unit {0}) (IsBack tickets xid (own_items (given_before token.list)) collected)) (sym e) is.back
 
       by_taker : (a : Option (Taking Item)) → taker ≡ a → MatchOption a (ticket ≡ None) (λ t. (t.ring ≡ its_ring) × (t.acked ≡ []) × (given_since token.list ≡ []))
-          → IsTakenOut tickets now k (laned n xid events taker after)
+          → IsTakenOut tickets now k (laned n xid events taker after collected)
       by_taker None ea end = let none_here : Some k ≡ None = e ∙ end in absurd cc
       by_taker (Some t) ea end = record {
         given = record { xid = xid; items = own_items (given_before events) };
@@ -224,14 +228,14 @@ module _ (n xid : ℕ) (events : List PostEvent) (taker : Option (Taking Item)) 
         number = its.number;
         doing = subst (λ l. IsDoing (done_by k) (own_items (given_before l))) list its.doing;
         is =
-            ap (laned n xid events taker) none ∙ ap (λ x. laned n xid events x None) ea
-            ∙ ap (λ m. record { number = m; goes = None; back = None }) (ap (λ (l : Laned). l.number) view);
+            ap (λ b. laned n xid events taker b collected) none ∙ ap (λ x. laned n xid events x None collected) ea
+            ∙ (λ i. record { number = ap (λ (l : Laned). l.number) view i; goes = None; back = None; collected = same_collected i });
       }
 
   -- the transaction that it holds is that of its ticket, and has done a beginning of what was given to it
-  pub held_in : (its_ring : TableId) (its_name tickets : Name) (token : Half PostEvent) (collected : Collected) → token.list ≡ events → IsLane its_ring its_name tickets xid token taker ticket collected
+  pub held_in : (its_ring : TableId) (its_name tickets : Name) (token : Half PostEvent) → token.list ≡ events → IsLane its_ring its_name tickets xid token taker ticket collected
       → (holds_in now ≡ option_map own_by ticket) × KeepsGiven now × IfSome ticket (λ (t : OpenList Event). t.name ≡ tickets)
-  held_in its_ring its_name tickets token collected list lane = by_parts taker ticket refl refl lane.end lane.back
+  held_in its_ring its_name tickets token list lane = by_parts taker ticket refl refl lane.end lane.back
     where
       Keeps : Option Given → Option Opened → Type 0
       Keeps its_goes its_back = MatchOption its_goes (Unit {0}) (λ given. MatchOption its_back (Unit {0}) (λ done. IsDoing done given.items))
@@ -259,7 +263,7 @@ module _ (n xid : ℕ) (events : List PostEvent) (taker : Option (Taking Item)) 
           both (Some t) (Some k) ea eb (ap (λ n. Some (record { xid = n; done = done_by k })) (sym its.number)) (subst (λ l. IsDoing (done_by k) (own_items (given_before l))) list its.doing) its.name
 
   -- an item was given to its transaction
-  pub added : (item : Item) (given : Given) → now.goes ≡ Some given → now.back ≡ None → AddsTo now item (laned n xid (events ++ WasGiven item ∷ []) taker ticket)
+  pub added : (item : Item) (given : Given) → now.goes ≡ Some given → now.back ≡ None → AddsTo now item (laned n xid (events ++ WasGiven item ∷ []) taker ticket collected)
   added item given gone none =
       let ea = no_taker given gone none in
       let mine : going xid events taker ticket ≡ Some (record { xid = xid; items = own_items (given_since events) }) = ap (λ x. going xid events x ticket) ea in
@@ -270,13 +274,13 @@ module _ (n xid : ℕ) (events : List PostEvent) (taker : Option (Taking Item)) 
         given = record { xid = xid; items = own_items (given_since events) };
         was = sym goes ∙ mine;
         away = none;
-        is = λ i. record { number = ap (λ (l : Laned). l.number) view i; goes = after i; back = back i };
+        is = λ i. record { number = ap (λ (l : Laned). l.number) view i; goes = after i; back = back i; collected = same_collected i };
       }
 
   -- and it is kept as it was
-  pub still_lane : (its_ring : TableId) (its_name tickets : Name) (token after : Half PostEvent) (collected : Collected) (given : Given) → now.goes ≡ Some given → now.back ≡ None → after.name ≡ token.name
+  pub still_lane : (its_ring : TableId) (its_name tickets : Name) (token after : Half PostEvent) (given : Given) → now.goes ≡ Some given → now.back ≡ None → after.name ≡ token.name
       → IsLane its_ring its_name tickets xid token taker ticket collected → IsLane its_ring its_name tickets xid after taker ticket collected
-  still_lane its_ring its_name tickets token after collected given gone none name is =
+  still_lane its_ring its_name tickets token after given gone none name is =
       let ea = no_taker given gone none in
       let eb : ticket ≡ None = subst (λ a. MatchOption a (ticket ≡ None) (λ t. (t.ring ≡ its_ring) × (t.acked ≡ []) × (given_since token.list ≡ []))) ea is.end in
       record {
@@ -286,15 +290,15 @@ module _ (n xid : ℕ) (events : List PostEvent) (taker : Option (Taking Item)) 
       }
 
   pub ok_added : {E : Type 0} (r : Result (Unit {0}) E) (item : Item) (given : Given) (token after : Half PostEvent) → token.list ≡ events → now.goes ≡ Some given → now.back ≡ None
-      → OnOk r (after ≡ record token { list = token.list ++ WasGiven item ∷ [] }) → OnOk r (AddsTo now item (laned n xid after.list taker ticket))
+      → OnOk r (after ≡ record token { list = token.list ++ WasGiven item ∷ [] }) → OnOk r (AddsTo now item (laned n xid after.list taker ticket collected))
   ok_added (Ok u) item given token after list gone none told =
-      subst (λ l. AddsTo now item (laned n xid l taker ticket)) (ap (λ (l : List PostEvent). l ++ WasGiven item ∷ []) (sym list) ∙ sym (ap (λ (h : Half PostEvent). h.list) told)) (added item given gone none)
+      subst (λ l. AddsTo now item (laned n xid l taker ticket collected)) (ap (λ (l : List PostEvent). l ++ WasGiven item ∷ []) (sym list) ∙ sym (ap (λ (h : Half PostEvent). h.list) told)) (added item given gone none)
   ok_added (Err e) item given token after list gone none told = tt
 
   -- its worker gave its transaction back
-  pub came_back : (taker_now : Taking Item) (k : OpenList Event) (given : Given) → now.goes ≡ Some given → now.back ≡ None → IsDoing (done_by k) (own_items (given_since events))
-      → ComesBack now (laned n xid (events ++ Begun ∷ []) (Some taker_now) (Some k))
-  came_back taker_now k given gone none doing =
+  pub came_back : (taker_now : Taking Item) (k : OpenList Event) (its_collected : Collected) (given : Given) → now.goes ≡ Some given → now.back ≡ None → IsDoing (done_by k) (own_items (given_since events))
+      → ComesBack now its_collected (laned n xid (events ++ Begun ∷ []) (Some taker_now) (Some k) its_collected)
+  came_back taker_now k its_collected given gone none doing =
       let ea = no_taker given gone none in
       let mine : going xid events taker ticket ≡ Some (record { xid = xid; items = own_items (given_since events) }) = ap (λ x. going xid events x ticket) ea in
       record {
@@ -305,6 +309,7 @@ module _ (n xid : ℕ) (events : List PostEvent) (taker : Option (Taking Item)) 
           number = ap (λ (l : Laned). l.number) view i;
           goes = (ap (λ (g : List Item). Some (record { xid = xid; items = own_items g })) (before_begun events) ∙ sym mine ∙ goes) i;
           back = Some (done_by k);
+          collected = its_collected;
         };
         doing = doing;
       }
@@ -317,38 +322,77 @@ module _ (n xid : ℕ) (events : List PostEvent) (taker : Option (Taking Item)) 
       ∙ ap (λ (g : List Item). Some (record { xid = xid; items = own_items g })) (sym (before_begun events) ∙ ap given_before (sym begun))
 
   -- what it counts is so once an item was given
-  pub counted_more : (item : Item) (count : ℕ) (given : Given) → now.goes ≡ Some given → now.back ≡ None → item ≢ Last → IsCounted (going xid events taker ticket) (xid, count)
-      → IsCounted (going xid (events ++ WasGiven item ∷ []) taker ticket) (xid, min (count + 1) (2 ^ 64 - 1))
-  counted_more item count given gone none own counted short =
+  pub counted_more : (item : Item) (count : ℕ) (given : Given) → now.goes ≡ Some given → now.back ≡ None → item ≢ Last → HasCount (going xid events taker ticket) (xid, count)
+      → HasCount (going xid (events ++ WasGiven item ∷ []) taker ticket) (xid, min (count + 1) (2 ^ 64 - 1))
+  counted_more item count given gone none own counted =
       let ea = no_taker given gone none in
-      let had = counted (omega (arith, short)) in
-      let same : record { xid = xid; items = own_items (given_since events) } ≡ had.0 = same_given (ap (λ x. going xid events x ticket) (sym ea) ∙ had.1) in
+      let had : (xid ≡ xid) × (count ≡ min (length (own_items (given_since events))) (2 ^ 64 - 1)) = subst (λ x. HasCount (going xid events x ticket) (xid, count)) ea counted in
       let items : own_items (given_since (events ++ WasGiven item ∷ [])) ≡ own_items (given_since events) ++ item ∷ [] =
       ap own_items (since_given events item) ∙ own_more (given_since events) item ∙ ap (λ is. own_items (given_since events) ++ is) (own_itself item own) in
       let more : length (own_items (given_since events) ++ item ∷ []) ≡ length (own_items (given_since events)) + 1 = length-append (own_items (given_since events)) (item ∷ []) in
-      let before : count ≡ length (own_items (given_since events)) = had.3 ∙ ap (λ (g : Given). length g.items) (sym same) in (
-        record { xid = xid; items = own_items (given_since (events ++ WasGiven item ∷ [])) },
-        ap (λ x. going xid (events ++ WasGiven item ∷ []) x ticket) ea,
-        refl,
-        omega (arith, short, before, more) ∙ ap length (sym items),
-      )
-    where
-      same_given : {a b : Given} → Some a ≡ Some b → a ≡ b
-      same_given is = cc
+      let counts : min (count + 1) (2 ^ 64 - 1) ≡ min (length (own_items (given_since events) ++ item ∷ [])) (2 ^ 64 - 1) = omega (arith, had.1, more) in
+      subst (λ x. HasCount (going xid (events ++ WasGiven item ∷ []) x ticket) (xid, min (count + 1) (2 ^ 64 - 1))) (sym ea)
+      (refl, counts ∙ ap (λ (is : List Item). min (length is) (2 ^ 64 - 1)) (sym items))
 
   -- nothing more is counted where the commit was read
-  pub counted_last : (count : ℕ) (given : Given) → now.goes ≡ Some given → now.back ≡ None → IsCounted (going xid events taker ticket) (xid, count)
-      → IsCounted (going xid (events ++ WasGiven Last ∷ []) taker ticket) (xid, count)
+  pub counted_last : (count : ℕ) (given : Given) → now.goes ≡ Some given → now.back ≡ None → HasCount (going xid events taker ticket) (xid, count)
+      → HasCount (going xid (events ++ WasGiven Last ∷ []) taker ticket) (xid, count)
   counted_last count given gone none counted =
       let ea = no_taker given gone none in
-      subst (λ (goes : Option Given). IsCounted goes (xid, count))
+      subst (λ (goes : Option Given). HasCount goes (xid, count))
       (ap (λ x. going xid events x ticket) ea ∙ ap (λ (is : List Item). Some (record { xid = xid; items = is }))
       (sym (append-nil (own_items (given_since events))) ∙ sym (own_more (given_since events) Last) ∙ ap own_items (sym (since_given events Last)))
       ∙ ap (λ x. going xid (events ++ WasGiven Last ∷ []) x ticket) (sym ea)) counted
 
--- where the last number stands nothing is counted
-pub uncounted : (goes : Option Given) (xid : ℕ) → IsCounted goes (xid, 2 ^ 64 - 1)
-uncounted goes xid = λ short. absurd (omega (arith, short))
+  module _ (its_ring : TableId) (its_name tickets : Name) (token : Half PostEvent) (list : token.list ≡ events) (lane : IsLane its_ring its_name tickets xid token taker ticket collected) where
+    -- nothing is counted once its ticket was taken out
+    pub uncounted : (k : OpenList Event) (after : Option (OpenList Event)) → ticket ≡ Some k → after ≡ None → HasCount (going xid events taker after) (xid, 2 ^ 64 - 1)
+    uncounted k after here gone = by_taker taker refl lane.end
+      where
+        by_taker : (a : Option (Taking Item)) → taker ≡ a → MatchOption a (ticket ≡ None) (λ t. (t.ring ≡ its_ring) × (t.acked ≡ []) × (given_since token.list ≡ []))
+            → HasCount (going xid events taker after) (xid, 2 ^ 64 - 1)
+        by_taker None ea end = let none : Some k ≡ None = sym here ∙ end in absurd cc
+        by_taker (Some t) ea end =
+            subst (λ (goes : Option Given). HasCount goes (xid, 2 ^ 64 - 1)) (sym (ap (λ x. going xid events x after) ea ∙ ap (going xid events (Some t)) gone)) refl
+
+    -- and it is kept so
+    pub emptied : (k : OpenList Event) (after : Option (OpenList Event)) → ticket ≡ Some k → after ≡ None
+        → IsLane its_ring its_name tickets xid token taker after collected × HasCount (going xid events taker after) (xid, 2 ^ 64 - 1)
+    emptied k after here gone = (
+      record {
+        name = lane.name;
+        end = by_taker taker lane.end;
+        back = subst (λ b. MatchOption b (Unit {0}) (IsBack tickets xid (own_items (given_before token.list)) collected)) (sym gone) tt;
+      },
+      uncounted k after here gone,
+    )
+      where
+        by_taker : (a : Option (Taking Item)) → MatchOption a (ticket ≡ None) (λ t. (t.ring ≡ its_ring) × (t.acked ≡ []) × (given_since token.list ≡ []))
+            → MatchOption a (after ≡ None) (λ t. (t.ring ≡ its_ring) × (t.acked ≡ []) × (given_since token.list ≡ []))
+        by_taker None end = gone
+        by_taker (Some t) end = end
+
+    -- whose ticket is taken out, and who was said to have done all, has
+    pub has_all : collected ≡ WasAll → (result : Option (OpenList Event)) (after : Laned) → MatchOption result ((now.back ≡ None) × (after ≡ now)) (λ k. IsTakenOut tickets now k after)
+        → MatchOption result (after ≡ now) (λ k. IsTakenOut tickets now k after × HasAll now k)
+    has_all all None after out = out.1
+    has_all all (Some k) after out = (out, by_parts taker ticket refl refl lane.end lane.back)
+      where
+        by_parts : (a : Option (Taking Item)) (b : Option (OpenList Event)) → taker ≡ a → ticket ≡ b → MatchOption a (ticket ≡ None) (λ t. (t.ring ≡ its_ring) × (t.acked ≡ []) × (given_since token.list ≡ []))
+            → MatchOption b (Unit {0}) (IsBack tickets xid (own_items (given_before token.list)) collected) → HasAll now k
+        by_parts a None ea eb end its = let none : None ≡ Some (done_by k) = ap (option_map done_by) (sym eb) ∙ back ∙ out.back in absurd cc
+        by_parts None (Some j) ea eb end its = let none : Some j ≡ None = sym eb ∙ end in absurd cc
+        by_parts (Some t) (Some j) ea eb end its =
+            let same : Some (done_by j) ≡ Some (done_by k) = ap (option_map done_by) (sym eb) ∙ back ∙ out.back in
+            let did : done_by j ≡ done_by k = cc in
+            let goes_is : Some (record { xid = xid; items = own_items (given_before events) }) ≡ now.goes = ap (going xid events (Some t)) (sym eb) ∙ ap (λ x. going xid events x ticket) (sym ea) ∙ goes in
+            subst (λ (g : Option Given). MatchOption g ⊥ (λ given. (done_by k).items ≡ given.items)) goes_is
+            (ap (λ (d : Opened). d.items) (sym did) ∙ its.all all ∙ ap (λ l. own_items (given_before l)) list)
+
+-- what counts all is a count
+pub is_counted : (goes : Option Given) (named : ℕ × ℕ) → HasCount goes named → IsCounted goes named
+is_counted None named none = λ short. absurd (omega (arith, none, short))
+is_counted (Some given) named has = λ short. (given, refl, has.0, omega (arith, has.1, short))
 
 -- a token keeps its name, whether an item was given or not
 pub same_name : {E : Type 0} (r : Result (Unit {0}) E) (item : Item) (token after : Half PostEvent) → OnOk r (after ≡ record token { list = token.list ++ WasGiven item ∷ [] }) → OnErr r (after ≡ token) → after.name ≡ token.name

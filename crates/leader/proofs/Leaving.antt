@@ -1,5 +1,6 @@
 -- What a run with workers leaves, by what ended it.
 --     over_led, nothing_read      a run is over, by what its leader knows; before a byte is read
+--     refused_end      where want of memory was proposed, that is the end
 --     has_left      its leader has ended it
 --     shut_at_start      what is left of a store before its first call
 --     left_run, none_run      what is left is a run's
@@ -43,7 +44,7 @@ use Rattle.course.proofs.Threading.{entries_done, ends_done, changes_told}
 use Rattle.leader.specs.Lanes.{Laned, IsHome, AreCounted}
 use Rattle.leader.specs.Standing.{own_by, goes_by}
 use Rattle.leader.specs.Threads.{Led, HasCommitted, IsLeadAt, AreLeft, MayEndBy, HasLedTo}
-use Rattle.leader.specs.Ending.{holds_in, KeepsGiven, HasFinished, AreInHand, AreGiven}
+use Rattle.leader.specs.Ending.{Hand, holds_in, KeepsGiven, IsDecided, HasFinished, AreInHand, AreGiven}
 use Rattle.leader.specs.WithWorkers.{WasSent, Leaves, IsShutSo, IsRunByWorkers, RunsBy}
 use Rattle.leader.proofs.Held.{is_world_of, is_cause}
 use Rattle.leader.proofs.InHand.{in_hand, are_given}
@@ -90,6 +91,12 @@ nothing_read g rows devices l at = record {
     sent = (refl, Appends-nil devices.sent);
   });
 }
+
+-- where want of memory was proposed, that is the end
+pub refused_end : (schema : Schema) (rows : Rows) (line : List LineEvent) (hand : Hand) (given : List (ℕ × ℕ)) (proposed end : End)
+    → HasFinished schema rows line hand given proposed end → proposed ≡ ends.OutOfMemory → end ≡ ends.OutOfMemory
+refused_end schema rows line hand given proposed end finished refused =
+    subst (λ (p : End). IsDecided schema finished.world hand given p end) refused finished.decided
 
 -- what follows from why a run is over: its commits, what was sent, and that a clean end leaves no item
 module _ (g : Setting) (rows : Rows) (old new : DeviceState) (l : Led) (handled : List CopyItem) (p : Progress) (times : List ℤ) where

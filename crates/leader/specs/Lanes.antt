@@ -3,15 +3,16 @@
 --     after_events, given_before      what was given to the transaction before the last
 --     Given, Laned      a transaction that goes by a lane; what a lane knows
 --     going, laned      that of its parts
+--     new_lane, AreNumbered      one to which nothing was given; the place of each in a list is its number
 --     done_by      what an open transaction has done, by its ticket
 --     IsDoing      what an open transaction has done is a beginning of its work
 --     IsBack, IsLane      what its type keeps
 --     IsFree, IsHome      no transaction goes by it; none is with its worker
---     IsCounted, AreCounted      how many items were given to a transaction; counts of those that go by lanes
+--     HasCount, IsCounted, AreCounted      how many items were given to a transaction; a count of them; counts of those that go by lanes
 --     AddsTo      one item more was given to its transaction
 --     ComesBack      its worker gave its transaction back
 --     IsTakenOut, HasAll      its ticket was taken; the transaction had done all items
-use Rattle.std.specs.Prelude.{◌≡◌, ℕ, ◌-◌, ◌^◌, ◌<◌, List, [], ◌∷◌, ◌++◌, length, All, Contains, Option, Some, None, MatchOption, fold, flat_map, option_map}
+use Rattle.std.specs.Prelude.{◌≡◌, ℕ, ◌+◌, ◌-◌, ◌^◌, ◌<◌, min, List, [], ◌∷◌, ◌++◌, length, All, Contains, Option, Some, None, MatchOption, fold, flat_map, option_map}
 use Rattle.atomic_table.specs.Seated.{TableId}
 use Rattle.model.specs.declared.item.Item.{Item}
 use Rattle.model.specs.declared.item.Item.TheVariants.{Change, Touch, BackTo, Last}
@@ -22,7 +23,7 @@ use Rattle.world.specs.World.{Opened}
 use Rattle.engine.specs.declared.events.Event.{Event}
 use Rattle.engine.specs.Events.{opened_by}
 use Rattle.worker.specs.declared.post.Collected.{Collected}
-use Rattle.worker.specs.declared.post.Collected.TheVariants.{All as WasAll}
+use Rattle.worker.specs.declared.post.Collected.TheVariants.{All as WasAll, Left}
 use Rattle.worker.specs.declared.post.PostEvent.{PostEvent}
 use Rattle.worker.specs.declared.post.PostEvent.TheVariants.{Begun, Given as WasGiven}
 use Rattle.worker.specs.Post.{given_since}
@@ -63,6 +64,8 @@ pub record Laned : Type 0 where
   pub goes : Option Given
   -- what that has done, once its worker gave it back
   pub back : Option Opened
+  -- whether that was all of its items, as the last one said that came back
+  pub collected : Collected
 
 -- The transaction that goes by a lane: a worker has it where the end of the ring isn't here, and it came back where its
 -- ticket is.
@@ -76,9 +79,18 @@ abbrev pub done_by : OpenList Event → Opened
 done_by ticket = opened_by ticket.list
 
 -- what a lane knows, by its parts
-abbrev pub laned : ℕ → ℕ → List PostEvent → Option (Taking Item) → Option (OpenList Event) → Laned
-laned its_number its_xid events taker ticket =
-    record { number = its_number; goes = going its_xid events taker ticket; back = option_map done_by ticket }
+abbrev pub laned : ℕ → ℕ → List PostEvent → Option (Taking Item) → Option (OpenList Event) → Collected → Laned
+laned its_number its_xid events taker ticket its_collected =
+    record { number = its_number; goes = going its_xid events taker ticket; back = option_map done_by ticket; collected = its_collected }
+
+-- a lane of this number, to which nothing was given
+abbrev pub new_lane : ℕ → Laned
+new_lane its_number = record { number = its_number; goes = None; back = None; collected = Left }
+
+-- The numbers of lanes, one after another, go up from this one.
+abbrev pub AreNumbered : ℕ → List Laned → Type 0
+AreNumbered first [] = Unit {0}
+AreNumbered first (l ∷ more) = (l.number ≡ first) × AreNumbered (first + 1) more
 
 -- ---- what is kept
 
@@ -112,6 +124,12 @@ IsFree l = (l.goes ≡ None) × (l.back ≡ None)
 abbrev pub IsHome : Laned → Type 0
 IsHome l = MatchOption l.goes (Unit {0}) (λ given. (done : Opened) × (l.back ≡ Some done))
 
+-- The number is that of all items that were given to this transaction, which goes by the lane. Where none does, or there
+-- were too many, it is the last number of a u64, which is no count.
+abbrev pub HasCount : Option Given → ℕ × ℕ → Type 0
+HasCount goes named =
+    MatchOption goes (named.1 ≡ 2 ^ 64 - 1) (λ given. (given.xid ≡ named.0) × (named.1 ≡ min (length given.items) (2 ^ 64 - 1)))
+
 -- The number, if it is a count, is of all items that were given to this transaction, which goes by the lane. The last
 -- number of a u64 is no count.
 abbrev pub IsCounted : Option Given → ℕ × ℕ → Type 0
@@ -131,12 +149,12 @@ pub record AddsTo (old : Laned) (item : Item) (new : Laned) : Type 0 where
   pub away : old.back ≡ None
   pub is : new ≡ record old { goes = Some (record given { items = given.items ++ own_item item }) }
 
--- Its worker gave its transaction back, which has done a beginning of what was given to it.
-pub record ComesBack (old new : Laned) : Type 0 where
+-- Its worker gave its transaction back, which has done a beginning of what was given to it: all of it, or not.
+pub record ComesBack (old : Laned) (its_collected : Collected) (new : Laned) : Type 0 where
   pub given : Given
   pub was : old.goes ≡ Some given
   pub done : Opened
-  pub is : new ≡ record old { back = Some done }
+  pub is : new ≡ record old { back = Some done; collected = its_collected }
   pub doing : IsDoing done given.items
 
 -- Its transaction, which had come back, was taken out of it: this is the ticket.

@@ -5,6 +5,7 @@
 --     items_of, items_by, own_of      what is there of a transaction: by a lane, by all lanes, with the leader
 --     Turns      one of a list is another now
 --     IsStoreEnd, IsStopEnd      an end that the store gives a run, by whose turn it is, and whoever's
+--     stop_end, fault_end      the end that what stopped a store makes, and a call that it refused
 --     IsBegun, IsHandedOut      a transaction was opened, for the leader or for a worker
 --     IsGiven      items were given to a worker
 --     with_done, with_wanted, IsUndone, Tries      what a transaction has done, before and after an item
@@ -24,8 +25,13 @@ use Rattle.engine.specs.declared.events.Event.{Event}
 use Rattle.engine.specs.declared.events.LineEvent.{LineEvent}
 use Rattle.engine.specs.declared.events.LineEvent.TheVariants.{Opened as WasOpened, Committed as WasCommitted, Aborted as WasAborted}
 use Rattle.engine.specs.Events.{is_same}
+use Rattle.engine.specs.declared.answers.EngineFault.{EngineFault}
+use Rattle.engine.specs.declared.answers.EngineFault.TheVariants.{Clash as Clashed, Stopped as StoreStopped}
+use Rattle.engine.specs.declared.answers.Stop.{Stop}
+use Rattle.engine.specs.declared.answers.Stop.TheVariants.{Clash as ByClash, Held as ByHold}
 use Rattle.spooled.specs.declared.end.End.{End}
 use Rattle.spooled.specs.declared.end.End.TheVariants as ends
+use Rattle.spooled.specs.Ends.{end_of_clash}
 use Rattle.leader.specs.Lanes.{Given, Laned, done_by, IsDoing}
 
 -- ---- what is shown
@@ -106,6 +112,19 @@ IsStoreEnd turn ends.OutOfMemory = Unit {0}
 -- It is one of these, whoever's turn it is: no key is held.
 abbrev pub IsStopEnd : End → Type 0
 IsStopEnd end = (turn : Option ℕ) → IsStoreEnd turn end
+
+-- the end of a run whose store was stopped: that of the clash. That nothing goes on ends a run at once where the leader
+-- finds so, and elsewhere it is told as memory that was refused
+abbrev pub stop_end : Stop → End
+stop_end (ByClash xid clash) = end_of_clash clash
+stop_end (ByHold waiter holder) = ends.OutOfMemory
+
+-- the end of a run in which a call on the store was refused, by what has stopped that; what can't be is told as memory
+-- that was refused
+abbrev pub fault_end : EngineFault → Option Stop → End
+fault_end (Clashed clash) stop = end_of_clash clash
+fault_end StoreStopped (Some stop) = stop_end stop
+fault_end fault stop = ends.OutOfMemory
 
 -- The transaction was opened, and the leader, which had none itself, applies it.
 pub record IsBegun (old : Standing) (its_xid : ℕ) (new : Standing) : Type 0 where

@@ -3,7 +3,7 @@
 // `crew` takes a leader as a closure. What a run's leader needs has more than one type parameter, and a
 // closure that holds references to it gets no proof yet; so the closure holds a value of a type
 // parameter, which leads.
-ghost use Rattle.std.specs.Prelude.{◌≡◌, IfNone, IfSome, length};
+ghost use Rattle.std.specs.Prelude.{◌≡◌, ℕ, Bool, false, ◌&&◌, nat_eq, IfErr, IfNone, IfSome, length};
 
 use crate::watching::{Turn, Watching, give_turns};
 use crew::{Desk, Work, with_workers};
@@ -14,20 +14,20 @@ use std::thread::Threads;
 
 /// Leads while workers work, and hands back what it was lent.
 pub trait Leading<J, W> {
-    ghost use Rattle.std.specs.Prelude.{ℕ};
+    ghost use Rattle.std.specs.Prelude.{ℕ, Bool};
 
     type Left;
 
     /// It can lead so many workers.
     ghost can_lead: { Self → ℕ → Type 0 };
 
-    /// It has led so many, and leaves this.
-    ghost lead_gives: { Self → ℕ → Self.Left → Type 0 };
+    /// It has led so many, told whether it has all threads, and leaves this.
+    ghost lead_gives: { Self → ℕ → Bool → Self.Left → Type 0 };
 
     /// Leads. It is told whether each desk has a worker, and each watcher a thread.
     fn lead<R: Wait>(self, rt: &R, desks: &[Desk<J>], shop: &W, has_all: bool) -> Self::Left
         requires { can_lead self (length desks.now) }
-        ensures { lead_gives self (length desks.now) result };
+        ensures { lead_gives self (length desks.now) has_all result };
 }
 
 /// Starts a thread for each watcher and a worker for each desk, and lets the leader lead, which tells
@@ -48,7 +48,8 @@ where
     V: Turn + Drop + Send,
     T: Leading<J, W, Left = X> + Drop,
     requires { T.can_lead leader (length desks.now) }
-    ensures { T.lead_gives leader (length desks.now) result }
+    ensures led { (has_all : Bool) × T.lead_gives leader (length desks.now) has_all result }
+    ensures unwatched { IfErr watchers (λ _. T.lead_gives leader (length desks.now) false result) }
 {
     let Ok(watchers) = watchers else {
         return beside_workers(rt, desks, shop, leader, false);
@@ -58,7 +59,7 @@ where
         rt,
         move |scope| -> X
             requires { T.can_lead leader (length desks.now) }
-            ensures { T.lead_gives leader (length desks.entry.now) result }
+            ensures { (has_all : Bool) × T.lead_gives leader (length desks.entry.now) has_all result }
         {
             let mut are_watching = true;
             for watcher in watchers {
@@ -75,7 +76,8 @@ where
     )
 }
 
-// Starts a worker for each desk and lets the leader lead, as `with_workers` has it.
+// Starts a worker for each desk and lets the leader lead, as `with_workers` has it. It is told that it has
+// all threads if those who watch have theirs, and so many desks have a worker as there are.
 fn beside_workers<J, R, W, T, X>(
     rt: &R,
     desks: &[Desk<J>],
@@ -89,7 +91,7 @@ where
     W: Work<J> + Sync,
     T: Leading<J, W, Left = X> + Drop,
     requires { T.can_lead leader (length desks.now) }
-    ensures { T.lead_gives leader (length desks.now) result }
+    ensures { (serving : ℕ) × T.lead_gives leader (length desks.now) (are_watching && nat_eq serving (length desks.now)) result }
 {
     let mut leader = Some(leader);
     with_workers(
@@ -98,7 +100,7 @@ where
         shop,
         &mut |serving: usize| -> X
             requires { IfNone leader ⊥ × IfSome leader (λ l. T.can_lead l (length desks.now)) }
-            ensures { IfSome leader.entry (λ l. T.lead_gives l (length desks.entry.now) result) }
+            ensures { IfSome leader.entry (λ l. T.lead_gives l (length desks.entry.now) (are_watching && nat_eq serving (length desks.entry.now)) result) }
         {
             let Some(leader) = leader.take() else {
                 unreachable!()

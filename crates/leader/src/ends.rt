@@ -1,5 +1,6 @@
 // The ends that a store gives a run.
-ghost use Rattle.leader.specs.Standing.{IsStopEnd};
+ghost use Rattle.std.specs.Prelude.{◌≡◌};
+ghost use Rattle.leader.specs.Standing.{IsStopEnd, stop_end, fault_end};
 
 use engine::{EngineFault, Stop};
 use spooled::End;
@@ -7,7 +8,8 @@ use spooled::End;
 /// The end of a run whose store was stopped. That nothing goes on stops a store only where the leader
 /// finds so, and it ends the run by it at once; so elsewhere it is told as memory that was refused.
 pub fn end_of_stop(stop: Stop) -> End
-    ensures { IsStopEnd result }
+    ensures end { result ≡ stop_end stop }
+    ensures stop { IsStopEnd result }
 {
     match stop {
         Stop::Clash(_, clash) => End::from(clash),
@@ -19,7 +21,8 @@ pub fn end_of_stop(stop: Stop) -> End
 /// anything has. A session has the store's limits and refuses what would be too many, and nothing is
 /// opened twice; so what says otherwise is told as memory that was refused.
 pub fn end_of_fault(fault: EngineFault, stop: Option<Stop>) -> End
-    ensures { IsStopEnd result }
+    ensures end { result ≡ fault_end fault stop }
+    ensures stop { IsStopEnd result }
 {
     match (fault, stop) {
         (EngineFault::Clash(clash), _) => End::from(clash),

@@ -1,8 +1,8 @@
 // A leader's side of a lane to a worker.
-ghost use Rattle.std.specs.Prelude.{◌≡◌, ◌≢◌, [], None, Some, OnOk, OnErr, MatchBool, MatchOption};
+ghost use Rattle.std.specs.Prelude.{◌≡◌, ◌≢◌, [], None, Some, OnOk, OnErr, IsSome, MatchBool, MatchOption};
 ghost use Rattle.model.specs.declared.item.Item.TheVariants.{Last};
 ghost use Rattle.worker.specs.declared.post.Collected.TheVariants.{All as WasAll};
-ghost use Rattle.leader.specs.Lanes.{Given, IsFree, IsHome, IsCounted, AddsTo, ComesBack, IsTakenOut, HasAll};
+ghost use Rattle.leader.specs.Lanes.{Given, new_lane, IsFree, IsHome, HasCount, IsCounted, AddsTo, ComesBack, IsTakenOut, HasAll};
 ghost use Rattle.leader.specs.Standing.{items_of};
 
 use crate::ending::Slot;
@@ -35,14 +35,14 @@ pub struct Lane<N: StoreNames, L: PostNames> {
 }
 
 impl<N: StoreNames, L: PostNames> Model for Lane<N, L> {
-    ghost use Rattle.leader.specs.Lanes.{Laned, laned, going, IsLane, IsCounted};
+    ghost use Rattle.leader.specs.Lanes.{Laned, laned, going, IsLane, HasCount};
 
     ghost Value = { Laned };
 
-    ghost view = { λ l. laned l.number l.xid l.token.list l.taker l.back };
+    ghost view = { λ l. laned l.number l.xid l.token.list l.taker l.back l.collected };
 
     ghost invariant = { λ l. IsLane (L.ring l.number) (L.post l.number) N.tickets l.xid l.token l.taker l.back l.collected
-        × IsCounted (going l.xid l.token.list l.taker l.back) (l.xid, l.count) };
+        × HasCount (going l.xid l.token.list l.taker l.back) (l.xid, l.count) };
 }
 
 impl<N: StoreNames, L: PostNames> Lane<N, L> {
@@ -52,7 +52,7 @@ impl<N: StoreNames, L: PostNames> Lane<N, L> {
         requires given { token.list ≡ [] }
         requires ring { taker.ring ≡ L.ring number }
         requires acked { taker.acked ≡ [] }
-        ensures { result ≡ record { number = number; goes = None; back = None } }
+        ensures { result ≡ new_lane number }
     {
         Lane {
             number,
@@ -97,7 +97,8 @@ impl<N: StoreNames, L: PostNames> Lane<N, L> {
     /// The transaction that goes by it, and how many items were given to it. The last number is no
     /// count: none goes by it, or there were too many.
     pub fn given(&self) -> (Xid, u64)
-        ensures { IsCounted self.now.goes result }
+        ensures count { HasCount self.now.goes result }
+        ensures counted { IsCounted self.now.goes result }
     {
         (self.xid, self.count)
     }
@@ -146,7 +147,7 @@ impl<N: StoreNames, L: PostNames> Lane<N, L> {
         post: &Mutex<Post<N, L>>,
         job: Job<N, L>,
     ) -> Collected
-        ensures { ComesBack self.old self.new }
+        ensures { ComesBack self.old result self.new }
     {
         let job = self.own_job(rt, job);
         let (ticket, taker) = job.split();
@@ -176,19 +177,20 @@ impl<N: StoreNames, L: PostNames> Lane<N, L> {
     pub fn take_back(&mut self) -> Option<Ticket>
         ensures { MatchOption result ((self.old.back ≡ None) × (self.new ≡ self.old)) (λ ticket. IsTakenOut N.tickets self.old ticket self.new) }
     {
+        let ticket = self.back.take()?;
         self.count = u64::MAX;
-        self.back.take()
+        Some(ticket)
     }
 
     /// The same, if it had done all of its items.
     pub fn take_done(&mut self) -> Option<Ticket>
-        ensures { MatchOption result (self.new ≡ self.old) (λ ticket. IsTakenOut N.tickets self.old ticket self.new × HasAll self.old ticket) }
+        ensures taken { MatchOption result (self.new ≡ self.old) (λ ticket. IsTakenOut N.tickets self.old ticket self.new × HasAll self.old ticket) }
+        ensures all { self.old.collected ≡ WasAll → IsSome self.old.back → IsSome result }
     {
         if self.collected != Collected::All {
             return None;
         }
-        self.count = u64::MAX;
-        self.back.take()
+        self.take_back()
     }
 }
 

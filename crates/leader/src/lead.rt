@@ -50,8 +50,8 @@ impl<'a, N: StoreNames, L: PostNames, R: Wait, G: Gate + Drop> Lead<'a, N, L, R,
     ghost use Rattle.leader.specs.Standing.{own_by, goes_by, IsCommitted, HasTried, IsStoreEnd};
     ghost use Rattle.leader.specs.Threads.{led, after_commit, IsLeadAt, IsLeadAtSome, LeadTakes};
 
-    /// Before the first item: no transaction is open, so many may have a worker, and the spools may keep
-    /// so many bytes.
+    /// Before the first item: no transaction is open, so many may have a worker, each by a lane, and the
+    /// spools may keep so many bytes.
     pub fn new(
         alloc: Global,
         catalog: &'a Catalog,
@@ -61,6 +61,7 @@ impl<'a, N: StoreNames, L: PostNames, R: Wait, G: Gate + Drop> Lead<'a, N, L, R,
     ) -> Lead<'a, N, L, R, G>
         requires tables { transactions.tables ≡ length catalog.now }
         requires line { transactions.line ≡ [] }
+        requires workers { length transactions.lanes ≡ workers }
         requires lanes { All (λ goes. goes ≡ None) transactions.lanes }
         requires begun { transactions.begun ≡ None }
         ensures { (rows : Rows) → IsLeadAt (setting workers spool catalog.now) rows (led result.stream result.transactions) start_progress }

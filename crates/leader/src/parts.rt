@@ -1,6 +1,6 @@
 // What the lanes of a run are made of.
-ghost use Rattle.std.specs.Prelude.{◌≡◌, ◌<◌, ◌≤◌, ℕ, All, IfOk, OnOk, length, max, min, slice_index_or, map};
-ghost use Rattle.leader.specs.Lanes.{IsFree};
+ghost use Rattle.std.specs.Prelude.{◌≡◌, ◌<◌, ◌≤◌, ◌+◌, ◌∷◌, ◌++◌, [], ℕ, All, IfOk, OnOk, length, max, min, slice_index_or, map};
+ghost use Rattle.leader.specs.Lanes.{IsFree, AreNumbered, new_lane};
 ghost use Rattle.leader.specs.Parts.{IsFresh, HasSlots, ring_of, post_of};
 ghost use Rattle.tokens.specs.Half.{no_name};
 
@@ -75,23 +75,32 @@ pub struct Places<N: StoreNames, L: PostNames, G: Drop> {
 }
 
 impl<N: StoreNames, L: PostNames, G: Gate + Drop> Places<N, L, G> {
-    /// A seat and a lane for each gate, in their order.
+    /// A seat and a lane for each gate, in their order: the place of a lane is its number.
     pub fn new(
         alloc: Global,
         mut parts: Vec<Parts<N>>,
         mut gates: Vec<G>,
     ) -> Result<Places<N, L, G>, OutOfMemory>
+        requires count { length parts.items ≡ length gates.items }
         requires fresh { All IsFresh parts.items }
         requires rings { (i : ℕ) → i < length parts.items → slice_index_or (map ring_of parts.items) i no_name ≡ L.ring i }
         requires posts { (i : ℕ) → i < length parts.items → slice_index_or (map post_of parts.items) i no_name ≡ L.post i }
-        ensures { IfOk result (λ places. All IsFree places.lanes.items) }
+        ensures free { IfOk result (λ places. All IsFree places.lanes.items) }
+        ensures numbered { IfOk result (λ places. AreNumbered 0 places.lanes.items) }
+
+        ensures lanes { IfOk result (λ places. length places.lanes.items ≡ length gates.items) }
+        ensures seats { IfOk result (λ places. length places.seats.items ≡ length gates.items) }
+        ensures given { IfOk result (λ places. length places.given.items ≡ length gates.items) }
     {
         let mut places = Places {
             seats: Vec::new(alloc),
             lanes: Vec::new(alloc),
             given: Vec::new(alloc),
         };
-        while let (Some(part), Some(gate)) = (parts.pop(), gates.pop()) {
+        while let Some(part) = parts.pop() {
+            let Some(gate) = gates.pop() else {
+                unreachable!()
+            };
             places.add(alloc, parts.len(), part, gate)?;
         }
         places.seats.reverse();
@@ -110,7 +119,9 @@ impl<N: StoreNames, L: PostNames, G: Gate + Drop> Places<N, L, G> {
         requires fresh { IsFresh parts }
         requires ring { parts.sending.ring ≡ L.ring number }
         requires post { parts.kept.name ≡ L.post number }
-        ensures { OnOk result (All IsFree self.old.lanes.items → All IsFree self.new.lanes.items) }
+        ensures lanes { OnOk result (self.new.lanes.items ≡ self.old.lanes.items ++ new_lane number ∷ []) }
+        ensures seats { OnOk result (length self.new.seats.items ≡ length self.old.seats.items + 1) }
+        ensures given { OnOk result (length self.new.given.items ≡ length self.old.given.items + 1) }
     {
         let Parts {
             sender,

@@ -1,5 +1,5 @@
 // A run whose streamed transactions have workers.
-ghost use Rattle.std.specs.Prelude.{◌≡◌, ◌<◌, ℕ, All, [], false, length, map, min, slice_index_or};
+ghost use Rattle.std.specs.Prelude.{◌≡◌, ◌<◌, ℕ, All, [], false, length, map, max, min, slice_index_or};
 ghost use Rattle.model.specs.Rows.{Rows, keys_of, IsValid};
 ghost use Rattle.world.specs.World.{starting};
 ghost use Rattle.session.specs.State.{Setting, setting};
@@ -9,7 +9,7 @@ ghost use Rattle.spooled.specs.Handler.{IsRunOver};
 ghost use Rattle.spooled.specs.Run.{IsRun};
 ghost use Rattle.spooled.specs.declared.end.End.TheVariants.{OutOfMemory as NoMemory};
 ghost use Rattle.leader.specs.Lanes.{IsFree};
-ghost use Rattle.leader.specs.Parts.{IsFresh, ring_of, post_of};
+ghost use Rattle.leader.specs.Parts.{IsFresh, HasSlots, ring_of, post_of};
 ghost use Rattle.tokens.specs.Half.{no_name};
 ghost use Rattle.leader.specs.Threads.{led, IsLeadAt, IsLeadAtStart, HasLedTo};
 ghost use Rattle.leader.specs.WithWorkers.{Leaves, IsRunByWorkers, RunsBy, IsShutSo};
@@ -165,22 +165,13 @@ where
     let store = SharedStore::<N>::new(store);
     match make_parts(alloc, gates.len(), config.ring) {
         Ok(parts) => run_lanes::<N, Brand, R, S, W, C, G, V>(
-            rt,
-            alloc,
-            devices,
-            catalog,
-            store,
-            line,
-            config.spool,
-            parts,
-            gates,
-            watchers,
+            rt, alloc, devices, catalog, store, line, config, parts, gates, watchers,
         ),
         Err(_) => shut(store, line, 0, End::OutOfMemory),
     }
 }
 
-// A run by lanes that have names.
+// A run by lanes that have names: one for each gate, with as many slots as `config` says.
 fn run_lanes<N, L, R, S, W, C, G, V>(
     rt: &R,
     alloc: Global,
@@ -188,7 +179,7 @@ fn run_lanes<N, L, R, S, W, C, G, V>(
     catalog: &Catalog,
     store: SharedStore<N>,
     line: Line,
-    spool: u64,
+    config: &Config,
     parts: Vec<Parts<N>>,
     gates: Vec<G>,
     watchers: Vec<V>,
@@ -206,17 +197,28 @@ where
     requires none { line.list ≡ [] }
     requires keys { N.schema ≡ map keys_of catalog.now }
     requires valid { IsValid N.schema N.start }
+    requires count { length parts.items ≡ length gates.items }
+    requires slots { All (HasSlots (max 1 (min config.now.ring 1024))) parts.items }
     requires fresh { All IsFresh parts.items }
     requires rings { (i : ℕ) → i < length parts.items → slice_index_or (map ring_of parts.items) i no_name ≡ L.ring i }
     requires posts { (i : ℕ) → i < length parts.items → slice_index_or (map post_of parts.items) i no_name ≡ L.post i }
-    ensures { IsRunByWorkers (setting (length gates.items) spool catalog.now) N.start devices.old devices.new result }
+    ensures { IsRunByWorkers (setting (length gates.items) config.now.spool catalog.now) N.start devices.old devices.new result }
 {
     let desks = make_desks::<Job<N, L>>(alloc, gates.len());
     let places = Places::<N, L, G>::new(alloc, parts, gates);
     let audience = Audience::new(alloc, watchers);
     match (desks, places, audience) {
         (Ok(desks), Ok(places), Ok(audience)) => run_places(
-            rt, alloc, devices, catalog, store, line, spool, desks, places, audience,
+            rt,
+            alloc,
+            devices,
+            catalog,
+            store,
+            line,
+            config.spool,
+            desks,
+            places,
+            audience,
         ),
         _ => shut(store, line, 0, End::OutOfMemory),
     }
@@ -247,6 +249,9 @@ where
     requires name { line.name ≡ N.line }
     requires none { line.list ≡ [] }
     requires free { All IsFree places.lanes.items }
+    requires lanes { length places.lanes.items ≡ length desks.items }
+    requires seats { length places.seats.items ≡ length desks.items }
+    requires given { length places.given.items ≡ length desks.items }
     requires keys { N.schema ≡ map keys_of catalog.now }
     requires valid { IsValid N.schema N.start }
     ensures { IsRunByWorkers (setting (length desks.items) spool catalog.now) N.start devices.old devices.new result }
@@ -313,6 +318,7 @@ where
     requires none { opening.line.list ≡ [] }
     requires unpublished { opening.positions ≡ [] }
     requires free { All IsFree opening.lanes.items }
+    requires lanes { length opening.lanes.items ≡ length desks.now }
     requires keys { N.schema ≡ map keys_of catalog.now }
     requires valid { IsValid N.schema N.start }
     ensures name { result.1.name ≡ N.line }
@@ -365,8 +371,9 @@ where
     C: Clock,
     G: Gate + Drop,
 {
-    ghost use Rattle.std.specs.Prelude.{◌≡◌, [], All, map};
+    ghost use Rattle.std.specs.Prelude.{◌≡◌, [], All, false, length, map};
     ghost use Rattle.model.specs.Rows.{keys_of, IsValid};
+    ghost use Rattle.spooled.specs.declared.end.End.TheVariants.{OutOfMemory as NoMemory};
     ghost use Rattle.leader.specs.Lanes.{IsFree};
     ghost use Rattle.leader.specs.WithWorkers.{Leaves};
     ghost use Rattle.session.specs.State.{setting};
@@ -374,9 +381,10 @@ where
     type Left = (&'a mut Devices<S, W, C>, End, Line, Lsn);
 
     ghost can_lead = { λ l n. (l.opening.line.name ≡ N.line) × (l.opening.line.list ≡ []) × (l.opening.positions ≡ [])
-        × All IsFree l.opening.lanes.items × (N.schema ≡ map keys_of l.catalog.now) × IsValid N.schema N.start };
+        × All IsFree l.opening.lanes.items × (length l.opening.lanes.items ≡ n) × (N.schema ≡ map keys_of l.catalog.now) × IsValid N.schema N.start };
 
-    ghost lead_gives = { λ l n left. (left.0.ghost_name ≡ l.devices.ghost_name) × (left.2.name ≡ N.line)
+    ghost lead_gives = { λ l n has_all left. (left.0.ghost_name ≡ l.devices.ghost_name) × (left.2.name ≡ N.line)
+        × (has_all ≡ false → (left.1 ≡ NoMemory) × (left.0.now ≡ l.devices.now))
         × Leaves (setting n l.spool l.catalog.now) N.start l.devices.now left.0.now left.2.list left.3 left.1 };
 
     fn lead<R: Wait>(
@@ -426,9 +434,11 @@ where
     requires none { opening.line.list ≡ [] }
     requires unpublished { opening.positions ≡ [] }
     requires free { All IsFree opening.lanes.items }
+    requires lanes { length opening.lanes.items ≡ length desks.now }
     requires keys { N.schema ≡ map keys_of catalog.now }
     requires valid { IsValid N.schema N.start }
     ensures name { result.1.name ≡ N.line }
+    ensures unread { has_all ≡ false → (result.0 ≡ NoMemory) × (devices.new ≡ devices.old) }
     ensures ends { Leaves (setting (length desks.now) spool catalog.now) N.start devices.old devices.new result.1.list result.2 result.0 }
 {
     let Opening {

@@ -3,7 +3,7 @@
 // A watcher has turns until it wants none or the run has ended, and one more behind the end. One that
 // wants none waits for the end without work. The leader tells the end; so a watcher's thread ends if its
 // turns do, and the leader ends the run.
-ghost use Rattle.std.specs.Prelude.{◌≡◌, []};
+ghost use Rattle.std.specs.Prelude.{◌≡◌, [], IfOk, length};
 ghost use Rattle.origin.specs.Commits.{commits_of};
 
 use crew::Bell;
@@ -28,7 +28,9 @@ pub struct Audience<V: Drop> {
 
 impl<V: Drop> Audience<V> {
     /// Nothing was published yet.
-    pub fn new(alloc: Global, watches: Vec<V>) -> Result<Audience<V>, OutOfMemory> {
+    pub fn new(alloc: Global, watches: Vec<V>) -> Result<Audience<V>, OutOfMemory>
+        ensures { IfOk result (λ audience. audience.watches ≡ watches) }
+    {
         let (origin, publisher, loader) = Origin::new(alloc)?;
         Ok(Audience {
             watches,
@@ -99,6 +101,7 @@ pub fn make_watchers<'a, N: StoreNames, V: Watch + Drop, R: Wait>(
     watches: Vec<V>,
 ) -> Result<Vec<Watcher<'a, N, V>>, OutOfMemory>
     requires { loader.origin ≡ origin.now }
+    ensures { IfOk result (λ watchers. length watchers.items ≡ length watches.items) }
 {
     let mut loader = loader;
     let mut watchers = Vec::new(alloc);

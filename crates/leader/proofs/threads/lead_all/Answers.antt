@@ -1,5 +1,6 @@
 use Rattle.std.proofs.Common.{◌≡◌, ◌∷◌, None, length, sym, ap, subst, ◌∙◌}
 use Rattle.std.specs.Prelude.{List, All, map, option_map}
+use Rattle.std.proofs.lemmas.List.{length-map}
 use Rattle.std.proofs.lemmas.List.Elements.{All-map}
 use Rattle.model.specs.Rows.{Schema, IsValid}
 use Rattle.engine.specs.declared.events.LineEvent.{LineEvent}
@@ -9,8 +10,12 @@ use Rattle.leader.specs.Standing.{Standing, own_by, goes_by}
 use Rattle.leader.specs.Threads.{led}
 use Rattle.leader.specs.Ending.{holds_in, HasFinished}
 use Rattle.session.specs.State.{setting}
-use Rattle.leader.proofs.Leaving.{has_left}
+use Rattle.leader.proofs.Leaving.{has_left, refused_end}
 use Rattle.leader.proofs.threads.lead_all.Goals as goal
+
+pub new-lead-requires-clause-workers : goal.new-lead-requires-clause-workers
+new-lead-requires-clause-workers g c =
+    ap (λ (t : Standing). length t.lanes) c.new-transactions.ensures ∙ length-map c.args.opening.lanes.items goes_by ∙ c.requires.lanes
 
 pub new-lead-requires-clause-lanes : goal.new-lead-requires-clause-lanes
 new-lead-requires-clause-lanes g c =
@@ -19,6 +24,11 @@ new-lead-requires-clause-lanes g c =
 
 pub lead_stream-proposed-requires : goal.lead_stream-proposed-requires
 lead_stream-proposed-requires g c = (setting (length c.args.desks.now) c.args.spool c.args.catalog.now, g.N.StoreNames.start, c.new-lead.ensures g.N.StoreNames.start)
+
+pub returns-clause-unread : goal.returns-clause-unread
+returns-clause-unread g c = λ told.
+    let none = c.lead_stream-proposed.ensures.unread told in
+    (refused_end _ _ _ _ _ _ _ c.finish-end.ensures.finished none.0, none.1)
 
 pub returns-clause-ends : goal.returns-clause-ends
 returns-clause-ends g c =

@@ -5,5 +5,5 @@ use Rattle.leader.proofs.threads.run_lanes.Goals as goal
 
 pub returns-in_default : goal.returns-in_default
 returns-in_default g c =
-    none_run (setting (length c.args.gates.items) c.args.spool c.args.catalog.now) g.N.StoreNames.start g.N.StoreNames.schema c.args.devices.now c.args.line.list c.shut.result
+    none_run (setting (length c.args.gates.items) c.args.config.now.spool c.args.catalog.now) g.N.StoreNames.start g.N.StoreNames.schema c.args.devices.now c.args.line.list c.shut.result
     c.shut.ensures.shut c.requires.keys c.requires.none c.shut.ensures.position c.shut.ensures.end

@@ -1,5 +1,4 @@
 use Rattle.std.proofs.Common.{◌≡◌, length, map, ap, arith}
-use Rattle.std.specs.Prelude.{List}
 use Rattle.std.proofs.lemmas.List.{length-map}
 use Rattle.world.specs.World.{Past, entry_of, journal}
 use Rattle.engine.specs.Engine.{entry_in}

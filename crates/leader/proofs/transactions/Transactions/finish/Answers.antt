@@ -7,4 +7,4 @@ pub returns-in_err-post-clause-err : goal.returns-in_err-post-clause-err
 returns-in_err-post-clause-err g c = if_err c.from_residual.result c.in_err-post.field-0.0 (IsStoreEnd (Some c.args.xid)) c.from_residual.ensures.1 (c.in_err-post.ensures.err (Some c.args.xid))
 
 pub returns-in-Some-clause-err : goal.returns-in-Some-clause-err
-returns-in-Some-clause-err g c = c.end_of_stop.ensures (Some c.args.xid)
+returns-in-Some-clause-err g c = c.end_of_stop.ensures.stop (Some c.args.xid)
