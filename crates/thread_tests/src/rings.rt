@@ -2,7 +2,6 @@
 // an item is dropped, and that a refused allocation is told.
 ghost use Rattle.std.specs.Prelude.{◌≡◌, ◌<◌, IfOk};
 
-use crate::asserts::{assert_holds, assert_same};
 use model::OutOfMemory;
 use ring::{Ends, Full, Ring, Sender, Taker, meet};
 use std::alloc::Global;
@@ -14,31 +13,29 @@ use std::thread;
 #[test]
 fn a_ring_of_one_slot(rt: HostRuntime) -> Result<(), Fail> {
     let (mut sender, mut taker) = Ring::new::<u64>(rt.alloc(), 1)?;
-    assert_same(&rt, &sender.try_send(5), &Ok(()), "sent");
-    assert_same(&rt, &sender.try_send(6), &Err(Full(6)), "full");
+    assert_eq!(rt; sender.try_send(5), Ok(()));
+    assert_eq!(rt; sender.try_send(6), Err(Full(6)));
     let said = format!(in rt.alloc(); "{}: {:?} by {sender:?} to {taker:?}", Full(6), Full(6))?;
-    assert_same(
-        &rt,
+    assert_eq!(rt;
         said.as_str(),
-        "the ring is full: Full(6) by Sender { .. } to Taker { .. }",
-        "said",
+        "the ring is full: Full(6) by Sender { .. } to Taker { .. }"
     );
-    assert_same(&rt, taker.take(), Some(&5), "taken");
-    assert_same(&rt, taker.take(), Some(&5), "taken");
+    assert_eq!(rt; taker.take(), Some(&5));
+    assert_eq!(rt; taker.take(), Some(&5));
     taker.ack();
-    assert_same(&rt, &sender.try_send(6), &Ok(()), "sent again");
-    assert_same(&rt, sender.acked(), 1, "acked");
+    assert_eq!(rt; sender.try_send(6), Ok(()));
+    assert_eq!(rt; sender.acked(), 1);
     sender.doom();
-    assert_holds(&rt, taker.doomed(), "doomed");
+    assert!(rt; taker.doomed());
     let mut ends = meet(sender, taker);
-    assert_same(&rt, ends.acked(), 1, "acked");
-    assert_same(&rt, ends.next_left(), Some(6), "next left");
+    assert_eq!(rt; ends.acked(), 1);
+    assert_eq!(rt; ends.next_left(), Some(6));
     let None = ends.next_left() else {
         panic!(rt; "an item too many")
     };
     let (_sender, mut taker) = ends.reopen();
-    assert_holds(&rt, !taker.doomed(), "doomed");
-    assert_same(&rt, taker.take(), None, "nothing left");
+    assert!(rt; !taker.doomed());
+    assert_eq!(rt; taker.take(), None);
     Ok(())
 }
 
@@ -90,9 +87,9 @@ fn numbers_through_a_ring(rt: HostRuntime) -> Result<(), Fail> {
             || send_all(&rt, sender, 100000),
             || take_all(&rt, taker, 100000),
         );
-        assert_holds(&rt, in_order, capacity);
-        assert_same(&rt, sender.acked(), 100000, "acked");
-        assert_same(&rt, taker.take(), None, "nothing left");
+        assert!(rt; in_order, "through {capacity} slots");
+        assert_eq!(rt; sender.acked(), 100000);
+        assert_eq!(rt; taker.take(), None);
     }
     Ok(())
 }
@@ -146,7 +143,7 @@ fn a_doom_at_each_place(rt: HostRuntime) -> Result<(), Fail> {
             || doom_at(&rt, sender, place),
             || take_until_doomed(&rt, taker),
         );
-        assert_holds(&rt, are_left(meet(sender, taker), sent), place);
+        assert!(rt; are_left(meet(sender, taker), sent), "at {place}");
     }
     Ok(())
 }
@@ -155,13 +152,13 @@ fn a_doom_at_each_place(rt: HostRuntime) -> Result<(), Fail> {
 #[test]
 fn an_early_wake(rt: HostRuntime) -> Result<(), Fail> {
     let (mut sender, mut taker) = Ring::new::<u64>(rt.alloc(), 2)?;
-    assert_holds(&rt, sender.try_send(7).is_ok(), "sent");
+    assert!(rt; sender.try_send(7).is_ok());
     taker.wait_more(&rt);
-    assert_same(&rt, taker.take(), Some(&7), "taken");
+    assert_eq!(rt; taker.take(), Some(&7));
     taker.ack();
     sender.doom();
     taker.wait_more(&rt);
-    assert_holds(&rt, taker.doomed(), "doomed");
+    assert!(rt; taker.doomed());
     Ok(())
 }
 
@@ -188,21 +185,21 @@ fn started(
 fn ends_dropped_with_items_left(rt: HostRuntime) -> Result<(), Fail> {
     let item = Arc::new(rt.alloc(), 0u8)?;
     let (sender, taker) = started(rt.alloc(), &item)?;
-    assert_same(&rt, Arc::strong_count(&item), 3, "items that are held");
+    assert_eq!(rt; Arc::strong_count(&item), 3);
     drop(sender);
     drop(taker);
-    assert_same(&rt, Arc::strong_count(&item), 1, "items that are held");
+    assert_eq!(rt; Arc::strong_count(&item), 1);
     let (sender, taker) = started(rt.alloc(), &item)?;
     drop(taker);
     drop(sender);
-    assert_same(&rt, Arc::strong_count(&item), 1, "items that are held");
+    assert_eq!(rt; Arc::strong_count(&item), 1);
     let (sender, taker) = started(rt.alloc(), &item)?;
     let mut ends = meet(sender, taker);
-    assert_same(&rt, ends.acked(), 1, "acked");
+    assert_eq!(rt; ends.acked(), 1);
     drop(ends.next_left());
-    assert_same(&rt, Arc::strong_count(&item), 2, "items that are held");
+    assert_eq!(rt; Arc::strong_count(&item), 2);
     drop(ends);
-    assert_same(&rt, Arc::strong_count(&item), 1, "items that are held");
+    assert_eq!(rt; Arc::strong_count(&item), 1);
     Ok(())
 }
 
@@ -210,7 +207,7 @@ fn ends_dropped_with_items_left(rt: HostRuntime) -> Result<(), Fail> {
 #[test]
 fn a_ring_where_memory_is_refused(rt: HostRuntime) {
     match Ring::new::<u64>(rt.alloc(), 1024) {
-        Ok((mut sender, _taker)) => assert_holds(&rt, sender.try_send(1).is_ok(), "sent"),
-        Err(refused) => assert_same(&rt, refused, OutOfMemory, "refused"),
+        Ok((mut sender, _taker)) => assert!(rt; sender.try_send(1).is_ok()),
+        Err(refused) => assert_eq!(rt; refused, OutOfMemory),
     }
 }
