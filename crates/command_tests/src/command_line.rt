@@ -76,7 +76,7 @@ fn numbers_that_are_not_given(rt: HostRuntime) -> Result<(), Fail> {
             .ok_or("a command line that is refused")?;
         assert_same(&rt, asked.spooled, spooled, "spooled");
         assert_same(&rt, asked.catalog, "c", "catalog");
-        assert_same(&rt, asked.input, input, "input");
+        assert_holds(&rt, asked.input == input, "input");
         assert_same(
             &rt,
             asked.config.workers,
