@@ -1,6 +1,5 @@
 // Both sides of a connection over a socket of this machine. Where what is sent fits the system's
 // buffers, one thread plays both.
-use super::super::asserts::{assert_holds, assert_same};
 use connection::Connection;
 use frames::{
     CopyItem, FrameFault, Frames, ReadSource, Source, Status, WriteSink, send_status, write_status,
@@ -65,8 +64,8 @@ fn the_other_side_closes_at_a_frames_edge(rt: HostRuntime) -> Result<(), Fail> {
     peer.write_all(keepalives(rt.alloc())?.as_slice())?;
     drop(peer);
     let (count, end) = read_all(rt.alloc(), connection.source());
-    assert_same(&rt, count, 3, "count");
-    assert_same(&rt, end, Ok(()), "end");
+    assert_eq!(rt; count, 3);
+    assert_eq!(rt; end, Ok(()));
     Ok(())
 }
 
@@ -78,8 +77,8 @@ fn the_other_side_closes_within_a_frame(rt: HostRuntime) -> Result<(), Fail> {
     peer.write_all(bytes.as_slice())?;
     drop(peer);
     let (count, end) = read_all(rt.alloc(), connection.source());
-    assert_same(&rt, count, 2, "count");
-    assert_same(&rt, end, Err(FrameFault::Truncated), "end");
+    assert_eq!(rt; count, 2);
+    assert_eq!(rt; end, Err(FrameFault::Truncated));
     Ok(())
 }
 
@@ -88,14 +87,14 @@ fn the_other_side_closes_within_a_frame(rt: HostRuntime) -> Result<(), Fail> {
 fn a_connection_that_breaks(rt: HostRuntime) -> Result<(), Fail> {
     let (connection, peer) = pair(&rt)?;
     send_status(rt.alloc(), &STATUS, &mut connection.sink())?;
-    assert_same(&rt, peer.peek(&mut [0u8; 1])?, 1, "peek");
+    assert_eq!(rt; peer.peek(&mut [0u8; 1])?, 1);
     drop(peer);
     let (count, end) = read_all(rt.alloc(), connection.source());
-    assert_same(&rt, count, 0, "count");
-    assert_same(&rt, end, Err(FrameFault::Device), "end");
+    assert_eq!(rt; count, 0);
+    assert_eq!(rt; end, Err(FrameFault::Device));
     let mut sink = connection.sink();
     let sent = send_status(rt.alloc(), &STATUS, &mut sink);
-    assert_same(&rt, sent, Err(FrameFault::Device), "sent");
+    assert_eq!(rt; sent, Err(FrameFault::Device));
     Ok(())
 }
 
@@ -133,10 +132,10 @@ fn bytes_one_at_a_time_and_updates_that_come_back(rt: HostRuntime) -> Result<(),
         },
         || tell_slowly(alloc, peer, told),
     );
-    assert_same(&rt, (count, end, sent), (3, Ok(()), Ok(())), "ends");
+    assert_eq!(rt; (count, end, sent), (3, Ok(()), Ok(())));
     let mut update = Vec::new(alloc);
     write_status(&STATUS, &mut update)?;
-    assert_same(&rt, heard.as_slice(), update.as_slice(), "heard");
+    assert_eq!(rt; heard.as_slice(), update.as_slice());
     Ok(())
 }
 
@@ -148,13 +147,13 @@ fn ends_that_are_kept_apart(rt: HostRuntime) -> Result<(), Fail> {
     peer.shutdown(Shutdown::Write)?;
     let (read, written) = connection.into_ends()?;
     let (count, end) = read_all(alloc, ReadSource::new(read));
-    assert_same(&rt, (count, end), (3, Ok(())), "end");
+    assert_eq!(rt; (count, end), (3, Ok(())));
     send_status(alloc, &STATUS, &mut WriteSink::new(written))?;
     let mut heard = Vec::new(alloc);
     peer.read_to_end(&mut heard)?;
     let mut update = Vec::new(alloc);
     write_status(&STATUS, &mut update)?;
-    assert_same(&rt, heard.as_slice(), update.as_slice(), "heard");
+    assert_eq!(rt; heard.as_slice(), update.as_slice());
     Ok(())
 }
 
@@ -175,13 +174,13 @@ fn what_is_no_host_and_port_is_refused(rt: HostRuntime) -> Result<(), Fail> {
         "[::1]",
         "/tmp:x",
     ] {
-        assert_holds(&rt, Connection::open(&rt, address).is_err(), address);
+        assert!(rt; Connection::open(&rt, address).is_err(), "{address}");
     }
     Ok(())
 }
 
 #[test]
 fn where_nobody_listens_is_refused(rt: HostRuntime) -> Result<(), Fail> {
-    assert_holds(&rt, Connection::open(&rt, "127.0.0.1:1").is_err(), "open");
+    assert!(rt; Connection::open(&rt, "127.0.0.1:1").is_err());
     Ok(())
 }
