@@ -1,5 +1,5 @@
 -- One cell more at the end of a transaction's list: its address, its counts, and what overlaps.
-use Rattle.std.specs.Prelude.{◌≡◌, ◌≢◌, ℕ, zero, suc, ◌+◌, ◌==◌, Bool, true, false, cond, List, [], ◌∷◌, ◌++◌, length, Some, None, refl, ◌⊎◌, slice_get, Contains, if◌then◌else◌}
+use Rattle.std.specs.Prelude.{◌≡◌, ◌≢◌, ℕ, zero, suc, ◌+◌, ◌==◌, Bool, true, false, cond, List, [], ◌∷◌, ◌++◌, length, Option, Some, None, refl, ◌⊎◌, slice_get, Contains, if◌then◌else◌}
 use Rattle.std.proofs.Common.{sym, ◌∙◌, ap, subst, inl, inr, arith, zero-add}
 use Rattle.std.specs.Prelude.{◌≤◌, take}
 use Rattle.std.specs.Map.{keys_of}
@@ -15,7 +15,7 @@ use Rattle.model.specs.CellOrder.{cell_cmp_total, cell_cmp_exact}
 use Rattle.keyholds.specs.declared.addresses.Address.{Address}
 use Rattle.keyholds.specs.declared.addresses.Addresses.{Addresses}
 use Rattle.keyholds.specs.Counts.{count_in}
-use Rattle.keyholds.specs.Holds.{IsFree, AreApart}
+use Rattle.keyholds.specs.Holds.{IsFree, AreApart, ReleasesLast}
 use Rattle.keyholds.specs.Addresses.{address_at, AreAddresses, AddsAddress, RemovesAddress, SameAddresses, HasNoAddresses, count_of_table, with_cells}
 use Rattle.keyholds.proofs.Ties.{same_or_apart, same_value}
 use Rattle.keyholds.proofs.Overlaps.{contains_at, at_contains, overlaps_symm}
@@ -38,7 +38,7 @@ module _ {X : Type 0} where
   push_old (z ∷ xs) x (suc i) y e = push_old xs x i y e
 
   -- without the last one
-  pub take-popped : (n : ℕ) (xs popped : List X) (x : X) → xs ≡ popped ++ x ∷ [] → n ≤ length popped → take n popped ≡ take n xs
+  take-popped : (n : ℕ) (xs popped : List X) (x : X) → xs ≡ popped ++ x ∷ [] → n ≤ length popped → take n popped ≡ take n xs
   take-popped n xs popped x is within = sym (take-append-le n popped (x ∷ []) within) ∙ ap (take n) (sym is)
 
   pub push_new : (xs : List X) (x : X) (i : ℕ) → i ≡ length xs → slice_get (xs ++ x ∷ []) i ≡ Some x
@@ -49,6 +49,11 @@ module _ {X : Type 0} where
 
 pub keys_of-push : {S : Type 0} (xs ys : List (Cell × S)) (hold : Cell × S) → ys ≡ xs ++ hold ∷ [] → keys_of ys ≡ keys_of xs ++ hold.0 ∷ []
 keys_of-push xs ys hold is = ap keys_of is ∙ map-append (λ e. e.0) xs (hold ∷ [])
+
+-- the cells before the mark stay when the last one goes
+pub front_stays : {S : Type 0} (mark : ℕ) (old new : List (Cell × S)) (released : Option Cell) → ReleasesLast mark old new released → take mark new ≡ take mark old
+front_stays mark old new None step = ap (take mark) step.1
+front_stays mark old new (Some cell) step = take-popped mark old new (cell, step.0) step.1 step.2
 
 count-push : (table : ℕ) (cells : List Cell) (cell : Cell) → count_of_table table (cells ++ cell ∷ []) ≡ count_of_table table cells + cond (table == table_of cell) 1 0
 count-push table cells cell =

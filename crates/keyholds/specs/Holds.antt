@@ -1,10 +1,11 @@
 -- What transactions hold: cells, each with what stood there, in the order in which they were first held.
 --     holds_of, cells_held      what a transaction holds; its cells alone
 --     with_hold, with_holds      what is held once a cell is taken; once cells are taken in turn
+--     ReleasesLast      the cell held last goes, if more than so many are held
 --     IsFree, IsHeldBy      no other transaction holds a cell that overlaps; this one does
 --     IsFirstHeldBy      it does so for the first cell of a list that another has
 --     AreApart      no two transactions hold cells that overlap
-use Rattle.std.specs.Prelude.{◌≡◌, ◌≢◌, ℕ, Bool, false, List, [], ◌∷◌, ◌++◌, Some, IsTrue, is_some, if◌then◌else◌, unwrap_or, fold, take, slice_get, All, Contains}
+use Rattle.std.specs.Prelude.{◌≡◌, ◌≢◌, ℕ, ◌≤◌, Bool, false, List, [], ◌∷◌, ◌++◌, length, Option, Some, None, IsTrue, is_some, if◌then◌else◌, unwrap_or, fold, take, slice_get, All, Contains}
 use Rattle.std.specs.Ordering.{nat_cmp, eq_by_cmp}
 use Rattle.std.specs.FinMap.{FinMap, get}
 use Rattle.std.specs.Map.{lookup, keys_of}
@@ -36,6 +37,11 @@ module _ {S : Type 0} where
   -- once cells are taken in turn
   abbrev pub with_holds : List (Cell × S) → List (Cell × S) → List (Cell × S)
   with_holds held holds = fold with_hold held holds
+
+  -- the cell held last goes, if more than so many are held; without one, nothing changes
+  abbrev pub ReleasesLast : ℕ → List (Cell × S) → List (Cell × S) → Option Cell → Type 0
+  ReleasesLast mark old new None = (length old ≤ mark) × (new ≡ old)
+  ReleasesLast mark old new (Some cell) = (stood : S) × (old ≡ new ++ (cell, stood) ∷ []) × (mark ≤ length new)
 
 -- ---- by the cells that each transaction holds
 

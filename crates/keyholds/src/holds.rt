@@ -4,7 +4,7 @@ ghost use Rattle.std.specs.Map.{keys_of};
 ghost use Rattle.model.specs.declared.cell.Cell.{Cell as AnyCell};
 ghost use Rattle.model.specs.declared.cell.Cell.TheVariants.{Row};
 ghost use Rattle.model.specs.declared.key.Key.{Key as AnyKey};
-ghost use Rattle.keyholds.specs.Holds.{holds_of, cells_held, with_hold, with_holds, HasNoEmptyList, IsFree, IsHeldBy, IsFirstHeldBy, AreApart, StoodAt};
+ghost use Rattle.keyholds.specs.Holds.{holds_of, cells_held, with_hold, with_holds, HasNoEmptyList, IsFree, IsHeldBy, IsFirstHeldBy, AreApart, StoodAt, ReleasesLast};
 ghost use Rattle.model.specs.Cells.{table_of, overlaps};
 ghost use Rattle.std.specs.List.{list_any};
 ghost use Rattle.keyholds.specs.Counts.{count_in};
@@ -215,6 +215,18 @@ impl<S: Drop> Holds<S> {
         }
     }
 
+    /// Lets go the cell that a transaction took last, if it holds more than so many, and gives it
+    /// back. It takes no memory.
+    pub fn release_last(&mut self, xid: Xid, mark: usize) -> Option<Cell>
+        ensures own { ReleasesLast mark (holds_of self.old xid) (holds_of self.new xid) result }
+        ensures others { (other : ℕ) → other ≢ xid → holds_of self.new other ≡ holds_of self.old other }
+        ensures filled { HasNoEmptyList self.new }
+        ensures apart { AreApart (cells_held self.new) }
+    {
+        let list = self.lists.get_mut(&xid)?;
+        pop_past(list, &mut self.addresses, xid, mark)
+    }
+
     /// Lets go all that a transaction holds. It takes no memory.
     pub fn release_all(&mut self, xid: Xid)
         ensures own { holds_of self.new xid ≡ [] }
@@ -316,9 +328,25 @@ fn release_from<S: Drop>(
         → AreAddresses held addresses.old
         → AreAddresses (with_cells held xid (keys_of list.new.items)) addresses.new }
 {
-    while list.len() > mark {
-        if let Some((cell, _)) = list.pop() {
-            addresses.remove(&cell, xid);
-        }
+    while pop_past(list, addresses, xid, mark).is_some() {}
+}
+
+// Takes the last cell off a transaction's list, if more than so many are in it; it is at no address
+// any more.
+fn pop_past<S: Drop>(
+    list: &mut Vec<(Cell, S)>,
+    addresses: &mut Addresses,
+    xid: Xid,
+    mark: usize,
+) -> Option<Cell>
+    ensures items { ReleasesLast mark list.old.items list.new.items result }
+    ensures addresses { (held : ℕ → List AnyCell) → AreAddresses (with_cells held xid (keys_of list.old.items)) addresses.old
+        → AreAddresses (with_cells held xid (keys_of list.new.items)) addresses.new }
+{
+    if list.len() <= mark {
+        return None;
     }
+    let (cell, _) = list.pop()?;
+    addresses.remove(&cell, xid);
+    Some(cell)
 }

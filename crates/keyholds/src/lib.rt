@@ -11,7 +11,8 @@
 //
 // Callers see, of each transaction, the list of what it holds: each cell once, in the order in
 // which it was first held, with what the caller says stood there then. So a mark is a number, how
-// many cells are held, and a release to it leaves just those held before it.
+// many cells are held, and a release to it leaves just those held before it. The cells past a mark
+// may also go one by one, from the last to the first, and each is given back to the caller.
 //
 // Each cell that is held lies in a map of hashes with the transaction that holds it and its address
 // in that transaction's list, so a cell is looked up by a few reads, and so is the table that it lies

@@ -111,6 +111,27 @@ fn a_release_to_a_mark_leaves_what_was_held_before(rt: HostRuntime) -> Result<()
     Ok(())
 }
 
+// A caller walks the cells past a mark, from the last to the first.
+#[test]
+fn cells_past_a_mark_are_let_go_from_the_last(rt: HostRuntime) -> Result<(), Fail> {
+    let alloc = rt.alloc();
+    let mut holds = Holds::new(alloc);
+    for (key, stood) in [(1i64, 10i64), (2, 20), (3, 30)] {
+        let cell = row(alloc, ACCOUNTS, key)?;
+        hold(alloc, &mut holds, 700, cell, stood)?;
+    }
+    for key in [3i64, 2] {
+        let cell = row(alloc, ACCOUNTS, key)?;
+        assert_eq!(rt; holds.release_last(700, 1), Some(cell));
+    }
+    assert_eq!(rt; holds.release_last(700, 1), None);
+    for (key, other) in [(1i64, Some(700u32)), (2, None), (3, None)] {
+        let cell = row(alloc, ACCOUNTS, key)?;
+        assert_eq!(rt; holds.other_holder(701, &cell), other, "at {key}");
+    }
+    Ok(())
+}
+
 // A row is looked for by a key that its owner keeps.
 #[test]
 fn a_row_is_found_by_a_borrowed_key(rt: HostRuntime) -> Result<(), Fail> {
