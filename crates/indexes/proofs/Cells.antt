@@ -96,6 +96,14 @@ in_rooms n (u ∷ ts) zero m t s at h is =
 in_rooms n (u ∷ ts) (suc i) m t s at h is =
     elem_right (cells_in n u) (cells_from (suc n) ts) (cell_at m s) (in_rooms (suc n) ts i m t s at h (omega arith))
 
+-- the room has cells of the tables that are there alone
+pub table_of_room : (ts : List TableContent) (c : Cell) → Contains (cells_from 0 ts) c → (t : TableContent) × (slice_get ts (table_of c) ≡ Some t) × (s : Spot) × (c ≡ cell_at (table_of c) s)
+table_of_room ts c h =
+    let r = room_at 0 ts c (elem_contains _ _ h) in
+    let table_is : table_of c ≡ 0 + r.i = ap table_of r.is ∙ table_of_cell (0 + r.i) r.spot in
+    let i_is : table_of c ≡ r.i = omega arith in
+    (r.t, ap (slice_get ts) i_is ∙ r.at, r.spot, r.is ∙ ap (λ (m : ℕ). cell_at m r.spot) (sym table_is))
+
 -- a cell of a table's room is a spot of it
 pub spot_in : (ts : List TableContent) (i : ℕ) (t : TableContent) (s : Spot) → slice_get ts i ≡ Some t → Contains (cells_from 0 ts) (cell_at i s) → Contains t.room s
 spot_in ts i t s at c =
@@ -128,8 +136,10 @@ room_has ts i t row at room c h =
 
 -- ---- after a change of one table
 
-pub room_after : (ts : List TableContent) (i : ℕ) (t new : TableContent) → slice_get ts i ≡ Some t → KeepsSpots t.room new.room → Keeps (cells_from 0 ts) (cells_from 0 (slice_set ts i new))
-room_after ts i t new at keeps c h =
+-- a cell stays where the spots of the table that are that cell stay
+pub cell_stays : (ts : List TableContent) (i : ℕ) (t new : TableContent) → slice_get ts i ≡ Some t → (c : Cell)
+    → ((s : Spot) → cell_at i s ≡ c → Contains t.room s → Contains new.room s) → Contains (cells_from 0 ts) c → Contains (cells_from 0 (slice_set ts i new)) c
+cell_stays ts i t new at c keeps h =
     let r = room_at 0 ts c (elem_contains _ _ h) in
     let i_is : r.i ≡ 0 + r.i = omega arith in
     let c_is : cell_at r.i r.spot ≡ c = ap (λ (m : ℕ). cell_at m r.spot) i_is ∙ sym r.is in
@@ -138,11 +148,15 @@ room_after ts i t new at keeps c h =
           let t_is : r.t ≡ t = let there : slice_get ts r.i ≡ Some t = ap (slice_get ts) same ∙ at in let here = r.at in cc in
           let new_at : slice_get (slice_set ts i new) r.i ≡ Some new = ap (slice_get (slice_set ts i new)) same ∙ set_there ts i t new at in
           subst (Contains (cells_from 0 (slice_set ts i new))) c_is
-          (cell_in (slice_set ts i new) r.i new r.spot new_at (keeps r.spot (subst (λ (w : TableContent). Contains w.room r.spot) t_is (contains_elem _ _ r.there))))
+          (cell_in (slice_set ts i new) r.i new r.spot new_at
+          (keeps r.spot (ap (λ (m : ℕ). cell_at m r.spot) (sym same) ∙ c_is) (subst (λ (w : TableContent). Contains w.room r.spot) t_is (contains_elem _ _ r.there))))
       | inr differs ↦
           subst (Contains (cells_from 0 (slice_set ts i new))) c_is
           (cell_in (slice_set ts i new) r.i r.t r.spot (set_elsewhere ts i r.i new differs ∙ r.at) (contains_elem _ _ r.there))
     ]
+
+pub room_after : (ts : List TableContent) (i : ℕ) (t new : TableContent) → slice_get ts i ≡ Some t → KeepsSpots t.room new.room → Keeps (cells_from 0 ts) (cells_from 0 (slice_set ts i new))
+room_after ts i t new at keeps c = cell_stays ts i t new at c (λ s is. keeps s)
 
 set_back : (ts : List TableContent) (i : ℕ) (t new : TableContent) → slice_get ts i ≡ Some t → slice_set (slice_set ts i new) i t ≡ ts
 set_back [] i t new at = absurd cc

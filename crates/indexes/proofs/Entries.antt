@@ -8,7 +8,7 @@ use Rattle.model.specs.Rows.{value_at, values_in, with_first}
 use Rattle.indexes.specs.Columns.{present, before_key}
 use Rattle.indexes.proofs.Elements.{one_or_other}
 use Rattle.indexes.proofs.Indexing.{has_or_not}
-use Rattle.indexes.specs.Unique.{Entries, entry_at, held, held_by, number_in, with_number, SameApart, KeepsEntries, SetsEntry, PutsEntry, SettlesEntry}
+use Rattle.indexes.specs.Unique.{Entries, entry_at, held, held_by, number_in, with_number, SameApart, KeepsEntries, SetsEntry, PutsEntry, DropsEntry, SettlesEntry}
 
 -- a row that has all its values in some columns has those values there
 with_first_some : (o : Option Value) (rest : Option Key) (values : Key) → with_first o rest ≡ Some values → (v : Value) × (vs : Key) × (o ≡ Some v) × (rest ≡ Some vs) × (values ≡ v ∷ vs)
@@ -87,18 +87,14 @@ set_at_present columns row number old new has is here beside = record {
 }
 
 pub settled_at_present : (columns : List ℕ) (row : Row) (old new : Entries) (has : Key) → values_in columns row ≡ Some has
-    → (held old (present columns row) ≡ None → entry_at new (present columns row) ≡ None)
-    → ((other : Key) → held new other ≡ held old other)
-    → ((other : Key) → IsSome (entry_at new other) → IsSome (entry_at old other))
-    → SameApart (present columns row) old new
-    → SettlesEntry columns row old new
-settled_at_present columns row old new has is gone numbers fewer beside = record {
-  gone = λ values e. subst (λ (v : Key). held old v ≡ None → entry_at new v ≡ None) (present_is columns row values e) gone;
-  numbers = numbers;
-  fewer = fewer;
+    → DropsEntry (present columns row) old new → SettlesEntry columns row old new
+settled_at_present columns row old new has is drops = record {
+  gone = λ values e. subst (λ (v : Key). held old v ≡ None → entry_at new v ≡ None) (present_is columns row values e) drops.gone;
+  numbers = drops.numbers;
+  fewer = drops.fewer;
   beside = λ values differs. elim (one_or_other (present columns row) values) [
     | inl same ↦ absurd (differs (is ∙ ap Some (sym (present_is columns row has is) ∙ same)))
-    | inr apart ↦ beside values apart
+    | inr apart ↦ drops.beside values apart
   ];
 }
 
@@ -112,20 +108,23 @@ nothing_settled columns row entries none = record {
 }
 
 -- an entry that had no number went
-pub entry_dropped : (old new : Entries) (values : Key) → held old values ≡ None → entry_at new values ≡ None
-    → SameApart values old new → (other : Key) → held new other ≡ held old other
-entry_dropped old new values none gone beside other = elim (one_or_other values other) [
-  | inl same ↦ subst (λ (v : Key). held new v ≡ held old v) same (ap number_in gone ∙ sym none)
-  | inr apart ↦ ap number_in (beside other apart)
-]
+pub entry_dropped : (old new : Entries) (values : Key) → held old values ≡ None → entry_at new values ≡ None → SameApart values old new → DropsEntry values old new
+entry_dropped old new values none gone beside = record {
+  gone = λ absent. gone;
+  numbers = λ other. elim (one_or_other values other) [
+    | inl same ↦ subst (λ (v : Key). held new v ≡ held old v) same (ap number_in gone ∙ sym none)
+    | inr apart ↦ ap number_in (beside other apart)
+  ];
+  fewer = λ other some. elim (one_or_other values other) [
+    | inl same ↦ absurd (let absent : entry_at new other ≡ None = subst (λ (v : Key). entry_at new v ≡ None) same gone in let no = ap is_some absent in cc)
+    | inr apart ↦ ap is_some (sym (beside other apart)) ∙ some
+  ];
+  beside = beside;
+}
 
--- and no entry came
-pub none_came : (old new : Entries) (values : Key) → entry_at new values ≡ None → SameApart values old new
-    → (other : Key) → IsSome (entry_at new other) → IsSome (entry_at old other)
-none_came old new values gone beside other some = elim (one_or_other values other) [
-  | inl same ↦ absurd (let none : entry_at new other ≡ None = subst (λ (v : Key). entry_at new v ≡ None) same gone in let no = ap is_some none in cc)
-  | inr apart ↦ ap is_some (sym (beside other apart)) ∙ some
-]
+-- one that had a number stays, and where there is none nothing changes
+pub no_entry_dropped : (entries : Entries) (values : Key) → (held entries values ≡ None → entry_at entries values ≡ None) → DropsEntry values entries entries
+no_entry_dropped entries values gone = record { gone = gone; numbers = λ other. refl; fewer = λ other some. some; beside = λ other apart. refl }
 
 pub value_of_some : (o : Option Key) → is_some o ≡ true → (values : Key) × (o ≡ Some values)
 value_of_some None e = absurd cc

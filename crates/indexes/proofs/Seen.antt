@@ -1,6 +1,6 @@
 -- One table among all as callers see them: what it needs of a requirement, and what its change does.
-use Rattle.std.specs.Prelude.{◌≡◌, ◌≢◌, ℕ, suc, ◌<◌, true, false, List, [], ◌∷◌, ◌++◌, length, map, Option, Some, None, refl, ◌⊎◌, slice_get, slice_set, slice_index_or, IsSome, is_some, IfSome, IfNone}
-use Rattle.std.proofs.Common.{zero, sym, ◌∙◌, ap, subst, inl, inr, arith}
+use Rattle.std.specs.Prelude.{◌≡◌, ◌≢◌, ℕ, suc, ◌<◌, true, false, List, [], ◌∷◌, ◌++◌, length, map, Option, Some, None, refl, slice_get, slice_set, slice_index_or, IsSome, is_some, IfSome, IfNone}
+use Rattle.std.proofs.Common.{zero, sym, ◌∙◌, ap, subst, arith}
 use Rattle.std.specs.List.{Contains, AllByRecursion}
 use Rattle.std.specs.Borrow.{Bor}
 use Rattle.std.specs.FinMap.{FinMap, get, insert, remove, empty, from_entries, entries, values, len-empty, len-entries}
@@ -18,10 +18,10 @@ use Rattle.model.specs.TakenLaws.{taken_by_row, row_of_taken}
 use Rattle.indexes.specs.Table.{Spot, TableContent, spots_of, KeepsSpots, NoClash, HasValues, IsTwin, IsSound, unique_at, cell_at, cells_in}
 use Rattle.indexes.specs.Content.{Content, Keeps, HasRoom, unique_columns, IsTable, SameElsewhere, SameRoomElsewhere}
 use Rattle.indexes.specs.Gathered.{placed, rows_of, cells_from, schema_of, gathered, AllSound, IsNew}
-use Rattle.indexes.proofs.Elements.{contains_elem, elem_contains, elem_map, elem_of_map}
+use Rattle.indexes.proofs.Elements.{contains_elem, elem_contains, elem_map}
 use Rattle.indexes.proofs.Gather.{sound_after, get_is, keys_is, get_without, set_there, rows_inserted, rows_removed, rows_replaced, rows_same, get_there, get_elsewhere, no_clash, schema_after, table_at, valid, TableAt}
 use Rattle.indexes.proofs.Walking.{rows_of_table-gathered}
-use Rattle.indexes.proofs.Cells.{cells_are, has_room, room_has, room_after, room_fewer, room_elsewhere, room_of_table, room_of_new}
+use Rattle.indexes.proofs.Cells.{cells_are, cell_stays, has_room, room_has, room_after, room_fewer, room_elsewhere, room_of_table, room_of_new}
 
 schema_length : (ts : List TableContent) → length (schema_of ts) ≡ length ts
 schema_length [] = refl
@@ -159,21 +159,14 @@ module _ (ts : List TableContent) (seen : Content) (v : gathered ts ≡ seen) (i
 
     pub settled : (row : Record) (key : Key) → ((s : Spot) → ¬ Contains (spots_of t.keys row) s → s ≢ (0, key) → Contains t.room s → Contains new.room s)
         → (c : Cell) → ¬ Contains (cells_of seen.schema i row) c → c ≢ Row i key → Contains seen.room c → Contains (cells_from 0 (slice_set ts i new)) c
-    settled row key stays c not_row not_key h = elim (this_or_other (table_of c) i) [
-      | inr differs ↦ same_room_elsewhere c differs h
-      | inl same ↦
-          let p = elem_of_map (cell_at i) t.room c (elem_contains _ _ (out_room c same h)) in
-          let stayed = stays p.0
-          (λ there. not_row (subst (λ (cs : List Cell). Contains cs c) (sym (cells_are seen.schema i row))
-          (subst (λ (k : TableKeys). Contains (map (cell_at i) (spots_of k row)) c) (sym seen_keys)
-          (subst (Contains (map (cell_at i) (spots_of t.keys row))) p.2 (contains_elem _ _ (elem_map (cell_at i) (spots_of t.keys row) p.0 (elem_contains _ _ there)))))))
-          (λ e. not_key (sym p.2 ∙ ap (cell_at i) e))
-          (contains_elem _ _ p.1) in
-          new_room c (subst (Contains (cells_in i new)) p.2 (contains_elem _ _ (elem_map (cell_at i) new.room p.0 (elem_contains _ _ stayed))))
-    ]
-      where
-        this_or_other : (n m : ℕ) → (n ≡ m) ⊎ (n ≢ m)
-        this_or_other n m = grind arith
+    settled row key stays c not_row not_key h =
+        cell_stays ts i t new at c
+        (λ s is. stays s
+        (λ there. not_row (subst (λ (cs : List Cell). Contains cs c) (sym (cells_are seen.schema i row))
+        (subst (λ (k : TableKeys). Contains (map (cell_at i) (spots_of k row)) c) (sym seen_keys)
+        (subst (Contains (map (cell_at i) (spots_of t.keys row))) is (contains_elem _ _ (elem_map (cell_at i) (spots_of t.keys row) s (elem_contains _ _ there)))))))
+        (λ e. not_key (sym is ∙ ap (cell_at i) e)))
+        (subst (λ (s : Content). Contains s.room c) (sym v) h)
 
 -- ---- all tables
 

@@ -16,7 +16,7 @@ use Rattle.indexes.proofs.Indexing.{has_or_not}
 before_or_after : (k i : ℕ) → (k < i + 1) ⊎ (i < k)
 before_or_after k i = grind arith
 
-same_or_not : (n m : ℕ) → (n ≡ m) ⊎ (n ≢ m)
+pub same_or_not : (n m : ℕ) → (n ≡ m) ⊎ (n ≢ m)
 same_or_not n m = grind arith
 
 -- within a list the default does not matter
@@ -67,6 +67,10 @@ module _ (Step : Unique → Unique → Type 0) (same : (u : Unique) → Step u u
       | inr after ↦ subst (λ (u : Unique). Step (slice_index_or olds k d) u) (sym (left_after Step olds now i within left item new k d after)) (same (slice_index_or olds k d))
     ];
   }
+
+-- one index took a step, and the others are as they were
+pub one_stepped : (Step : Unique → Unique → Type 0) → ((u : Unique) → Step u u) → (us : List Unique) (i : ℕ) → i < length us → (item new : Unique) → Step (slice_index_or us i item) new → EachStep Step us (slice_set us i new)
+one_stepped Step same us i within item new step = all_stepped Step same us us i within (λ k d l. refl) item new (λ k d l. same (slice_index_or us k d)) step refl
 
 pub all_kept : (olds now : List Unique) (i : ℕ) (within : i < length now) (left : (k : ℕ) (d : Unique) → i ≤ k → slice_index_or now k d ≡ slice_index_or olds k d)
     (item new : Unique) → ((k : ℕ) (d : Unique) → k < i → KeepsSlots (slice_index_or olds k d) (slice_index_or now k d)) → KeepsSlots (slice_index_or now i item) new

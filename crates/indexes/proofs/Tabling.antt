@@ -42,18 +42,28 @@ first_of : (us : List Unique) (i : ℕ) → i < length us → Unique
 first_of [] i l = absurd (omega arith)
 first_of (u ∷ us) i l = u
 
-pub room_kept : (old new : Kept) (us vs : List Unique) → KeepsSlots old.slots new.slots → length vs ≡ length us
-    → ((k : ℕ) (d : Unique) → k < length us → (values : Key) → IsSome (entry_at (slice_index_or us k d).entries values) → IsSome (entry_at (slice_index_or vs k d).entries values))
-    → KeepsSpots (room_of old us) (room_of new vs)
-room_kept old new us vs slots long entries s c = elim (in_room old us s c) [
-  | inl (key, is, number, at) ↦ subst (λ (t : Spot). Contains (room_of new vs) t) (sym is) (key_in_room new vs key number (slots key number at))
+-- a spot stays in the room where its slot or its entry stays
+pub spot_kept : (old new : Kept) (us vs : List Unique) (s : Spot)
+    → ((number : ℕ) → s.0 ≡ 0 → get old.slots s.1 ≡ Some number → get new.slots s.1 ≡ Some number) → length vs ≡ length us
+    → ((k : ℕ) (d : Unique) → k < length us → s.0 ≡ suc k → IsSome (entry_at (slice_index_or us k d).entries s.1) → IsSome (entry_at (slice_index_or vs k d).entries s.1))
+    → Contains (room_of old us) s → Contains (room_of new vs) s
+spot_kept old new us vs s slots long entries c = elim (in_room old us s c) [
+  | inl (key, is, number, at) ↦
+      let key_is : s.1 ≡ key = ap (λ (t : Spot). t.1) is in
+      let stays = slots number (ap (λ (t : Spot). t.0) is) (ap (get old.slots) key_is ∙ at) in
+      subst (λ (t : Spot). Contains (room_of new vs) t) (sym is) (key_in_room new vs key number (ap (get new.slots) (sym key_is) ∙ stays))
   | inr h ↦
       let number_is : suc h.i ≡ s.0 = let e = h.number in omega arith in
       let within : h.i < length vs = let l = h.within in omega arith in
       let u = first_of us h.i h.within in
       subst (λ (n : ℕ). Contains (room_of new vs) (n, s.1)) number_is
-      (entry_in_room new vs h.i u s.1 within (entries h.i u h.within s.1 (h.entry u)))
+      (entry_in_room new vs h.i u s.1 within (entries h.i u h.within (sym number_is) (h.entry u)))
 ]
+
+pub room_kept : (old new : Kept) (us vs : List Unique) → KeepsSlots old.slots new.slots → length vs ≡ length us
+    → ((k : ℕ) (d : Unique) → k < length us → (values : Key) → IsSome (entry_at (slice_index_or us k d).entries values) → IsSome (entry_at (slice_index_or vs k d).entries values))
+    → KeepsSpots (room_of old us) (room_of new vs)
+room_kept old new us vs slots long entries s = spot_kept old new us vs s (λ number primary at. slots s.1 number at) long (λ k d l unique some. entries k d l s.1 some)
 
 -- the key of a row that there is room for has a slot
 pub slot_of_room : (keys : TableKeys) (kept : Kept) (us : List Unique) (row : Row) (key : Key) → values_in keys.primary row ≡ Some key
@@ -347,7 +357,63 @@ indexed_empty primary us all =
       slotted = λ key row e. absurd (no_row key row e);
     }
 
+-- ---- empty slots and entries that go
+
+-- no row changes, no slot comes, and none goes that a row is in
+pub record LosesSlots (old new : Kept) : Type 0 where
+  pub rows : new.rows ≡ old.rows
+  pub filled : (key : Key) (number : ℕ) → IsSome (get old.rows key) → get old.slots key ≡ Some number → get new.slots key ≡ Some number
+  pub fewer : (key : Key) (number : ℕ) → get new.slots key ≡ Some number → get old.slots key ≡ Some number
+
+-- no number in the index changes, and no entry comes
+pub record LosesEntries (old new : Unique) : Type 0 where
+  pub columns : new.columns.items ≡ old.columns.items
+  pub numbers : (values : Key) → held new.entries values ≡ held old.entries values
+  pub fewer : (values : Key) → IsSome (entry_at new.entries values) → IsSome (entry_at old.entries values)
+
+pub nothing_lost : (u : Unique) → LosesEntries u u
+nothing_lost u = record { columns = refl; numbers = λ values. refl; fewer = λ values some. some }
+
+module _ (old new : Kept) (us vs : List Unique) (slots : LosesSlots old new) (steps : EachStep LosesEntries us vs) where
+  pub columns_stay : columns_of vs ≡ columns_of us
+  columns_stay = same_columns us vs steps.long (λ k d l. (steps.each k d l).columns)
+
+  -- each index is still of the rows
+  pub indexed_fewer : (primary : List ℕ) → IsIndexed primary old us → IsIndexed primary new vs
+  indexed_fewer primary was = record {
+    own_key = λ other there at. was.own_key other there (ap (λ m. get m other) (sym slots.rows) ∙ at);
+    each = λ k d l.
+        let within : k < length us = let e = steps.long in omega arith in
+        let s = steps.each k d within in
+        let index = was.each k d within in
+        subst (λ (cs : List ℕ). IsIndex cs new (slice_index_or vs k d).entries) (sym s.columns)
+        (record {
+          holds = λ other there values number at slot has.
+              s.numbers values ∙ index.holds other there values number (ap (λ m. get m other) (sym slots.rows) ∙ at) (slots.fewer other number slot) has;
+          only = λ values number e.
+              let h = index.only values number (sym (s.numbers values) ∙ e) in
+              record { key = h.key; row = h.row; slot = slots.filled h.key number (ap is_some h.at) h.slot; at = ap (λ m. get m h.key) slots.rows ∙ h.at; has = h.has };
+        });
+    numbered = λ one other number e f. was.numbered one other number (slots.fewer one number e) (slots.fewer other number f);
+    slotted = λ other there at.
+        let before = ap (λ m. get m other) (sym slots.rows) ∙ at in
+        let place = was.slotted other there before in
+        (place.0, slots.filled other place.0 (ap is_some before) place.1);
+  }
+
+  -- no spot comes
+  pub room_fewer : KeepsSpots (room_of new vs) (room_of old us)
+  room_fewer =
+      room_kept new old vs us slots.fewer (sym steps.long)
+      (λ k d l values some. let within : k < length us = let e = steps.long in omega arith in (steps.each k d within).fewer values some)
+
 -- ---- settling
+
+entries_settled : (us vs : List Unique) (row : Row) → EachStep (step.Settles row) us vs → EachStep LosesEntries us vs
+entries_settled us vs row steps = record {
+  long = steps.long;
+  each = λ k d l. let s = steps.each k d l in record { columns = s.columns; numbers = s.entries.numbers; fewer = s.entries.fewer };
+}
 
 module _ (old new : Kept) (key : Key) (rows : new.rows ≡ old.rows) (slots : new.slots ≡ if is_some (get old.rows key) then old.slots else remove old.slots key) where
   by_row : (filled : Bool) → is_some (get old.rows key) ≡ filled → new.slots ≡ if filled then old.slots else remove old.slots key
@@ -366,7 +432,7 @@ module _ (old new : Kept) (key : Key) (rows : new.rows ≡ old.rows) (slots : ne
         ]
       ] refl
 
-  pub slot_was : (other : Key) (number : ℕ) → get new.slots other ≡ Some number → get old.slots other ≡ Some number
+  slot_was : (other : Key) (number : ℕ) → get new.slots other ≡ Some number → get old.slots other ≡ Some number
   slot_was other number at =
       elim (is_some (get old.rows key)) as (λ b. is_some (get old.rows key) ≡ b → get old.slots other ≡ Some number) [
         | true ↦ λ is. ap (λ m. get m other) (sym (by_row true is)) ∙ at
@@ -378,48 +444,26 @@ module _ (old new : Kept) (key : Key) (rows : new.rows ≡ old.rows) (slots : ne
             ]
       ] refl
 
+  pub slots_settled : LosesSlots old new
+  slots_settled = record { rows = rows; filled = λ other number filled at. slot_stays other number (inl filled) at; fewer = slot_was }
+
+  -- the spot of a key that isn't settled stays
+  pub key_stays : (s : Spot) → s ≢ (0, key) → (number : ℕ) → s.0 ≡ 0 → get old.slots s.1 ≡ Some number → get new.slots s.1 ≡ Some number
+  key_stays s differs number primary = slot_stays s.1 number (inr (λ same. differs (λ i. (primary i, sym same i))))
+
   pub indexed_settled : (primary : List ℕ) (us vs : List Unique) (row : Row) → IsIndexed primary old us → EachStep (step.Settles row) us vs → IsIndexed primary new vs
-  indexed_settled primary us vs row was steps = record {
-    own_key = λ other there at. was.own_key other there (ap (λ m. get m other) (sym rows) ∙ at);
-    each = λ k d l.
-        let within : k < length us = let e = steps.long in omega arith in
-        let s = steps.each k d within in
-        let index = was.each k d within in
-        subst (λ (cs : List ℕ). IsIndex cs new (slice_index_or vs k d).entries) (sym s.columns)
-        (record {
-          holds = λ other there values number at slot has.
-              s.entries.numbers values ∙ index.holds other there values number (ap (λ m. get m other) (sym rows) ∙ at) (slot_was other number slot) has;
-          only = λ values number e.
-              let h = index.only values number (sym (s.entries.numbers values) ∙ e) in
-              record { key = h.key; row = h.row; slot = slot_stays h.key number (inl (ap is_some h.at)) h.slot; at = ap (λ m. get m h.key) rows ∙ h.at; has = h.has };
-        });
-    numbered = λ one other number e f. was.numbered one other number (slot_was one number e) (slot_was other number f);
-    slotted = λ other there at.
-        let before = ap (λ m. get m other) (sym rows) ∙ at in
-        let place = was.slotted other there before in
-        (place.0, slot_stays other place.0 (inl (ap is_some before)) place.1);
-  }
+  indexed_settled primary us vs row was steps = indexed_fewer old new us vs slots_settled (entries_settled us vs row steps) primary was
 
   -- no spot comes
   pub settled_fewer : (us vs : List Unique) (row : Row) → EachStep (step.Settles row) us vs → KeepsSpots (room_of new vs) (room_of old us)
-  settled_fewer us vs row steps =
-      room_kept new old vs us slot_was (sym steps.long)
-      (λ k d l values some. let within : k < length us = let e = steps.long in omega arith in (steps.each k d within).entries.fewer values some)
+  settled_fewer us vs row steps = room_fewer old new us vs slots_settled (entries_settled us vs row steps)
 
   pub room_settled : (keys : TableKeys) (us vs : List Unique) (row : Row) → keys.uniques ≡ columns_of us → EachStep (step.Settles row) us vs
       → (s : Spot) → ¬ Contains (spots_of keys row) s → s ≢ (0, key) → Contains (room_of old us) s → Contains (room_of new vs) s
-  room_settled keys us vs row is steps s not_row not_key c = elim (in_room old us s c) [
-    | inl (other, same, number, at) ↦
-        let differs : key ≢ other = λ e. not_key (same ∙ ap (λ (k : Key). let t : Spot = (0, k) in t) (sym e)) in
-        subst (λ (t : Spot). Contains (room_of new vs) t) (sym same) (key_in_room new vs other number (slot_stays other number (inr differs) at))
-    | inr h ↦
-        let number_is : suc h.i ≡ s.0 = let e = h.number in omega arith in
-        let within : h.i < length vs = let l = h.within in let e = steps.long in omega arith in
-        let u = first_of us h.i h.within in
-        let stepped = steps.each h.i u h.within in
-        let differs : values_in (slice_index_or us h.i u).columns.items row ≢ Some s.1 =
-        λ e. not_row (subst (λ (n : ℕ). Contains (spots_of keys row) (n, s.1)) number_is
-        (unique_spot keys row h.i (slice_index_or us h.i u).columns.items s.1 (ap (λ cs. slice_get cs h.i) is ∙ columns_at us h.i u h.within) e)) in
-        subst (λ (n : ℕ). Contains (room_of new vs) (n, s.1)) number_is
-        (entry_in_room new vs h.i u s.1 within (ap is_some (stepped.entries.beside s.1 differs) ∙ h.entry u))
-  ]
+  room_settled keys us vs row is steps s not_row not_key =
+      spot_kept old new us vs s (key_stays s not_key) steps.long
+      (λ k d l number some.
+      let differs : values_in (slice_index_or us k d).columns.items row ≢ Some s.1 =
+      λ e. not_row (subst (λ (n : ℕ). Contains (spots_of keys row) (n, s.1)) (sym number)
+      (unique_spot keys row k (slice_index_or us k d).columns.items s.1 (ap (λ cs. slice_get cs k) is ∙ columns_at us k d l) e)) in
+      ap is_some ((steps.each k d l).entries.beside s.1 differs) ∙ some)

@@ -2,7 +2,8 @@
 --     Keeps, HasRoom      no cell goes; there is room for a row
 --     unique_columns      the columns of a unique key, by its number from 1
 --     IsTable, SameElsewhere, SameRoomElsewhere      a table's rows by themselves; the other tables stay as they were
-use Rattle.std.specs.Prelude.{◌≡◌, ◌≢◌, ℕ, ◌-◌, List, [], unwrap_or, slice_get}
+--     IsEmptyCell, GivesUpCell      no row fills a cell; such a cell goes from the room
+use Rattle.std.specs.Prelude.{◌≡◌, ◌≢◌, ℕ, ◌-◌, List, [], Some, unwrap_or, slice_get}
 use Rattle.std.specs.List.{Contains}
 use Rattle.std.specs.FinMap.{FinMap, get}
 use Rattle.model.specs.declared.key.Key.{Key}
@@ -41,3 +42,15 @@ SameElsewhere old new table = (other : ℕ) (key : Key) → other ≢ table → 
 -- no cell of another table goes
 abbrev pub SameRoomElsewhere : List Cell → List Cell → ℕ → Type 0
 SameRoomElsewhere old new table = (c : Cell) → table_of c ≢ table → Contains old c → Contains new c
+
+-- no row of its table fills the cell
+abbrev pub IsEmptyCell : Schema → Rows → Cell → Type 0
+IsEmptyCell schema rows cell = (key : Key) (row : Record) → get rows (table_of cell, key) ≡ Some row → ¬ Contains (cells_of schema (table_of cell) row) cell
+
+-- A cell that no row fills goes from the room. No other cell goes, none comes, and no row changes.
+pub record GivesUpCell (old new : Content) (cell : Cell) : Type 0 where
+  pub schema : new.schema ≡ old.schema
+  pub rows : new.rows ≡ old.rows
+  pub gone : IsEmptyCell old.schema old.rows cell → ¬ Contains new.room cell
+  pub fewer : Keeps new.room old.room
+  pub others : (c : Cell) → c ≢ cell → Contains old.room c → Contains new.room c

@@ -2,6 +2,7 @@
 --     Spot      a key's number, 0 for the primary key, and values of it.        spots_of      those that a row fills
 --     cell_at, cells_in      a spot as a cell of a table with a number; all of a table's
 --     IsOfSettled, IsFilled      what settling may give up; a row is there
+--     GivesUpSpot      a spot that no row fills goes from the room
 --     IsSound      rows stand at their own keys, no two agree in a unique key, and the room has what they fill
 use Rattle.std.specs.Prelude.{◌≡◌, ◌≢◌, ◌⊎◌, ℕ, suc, List, [], ◌∷◌, ◌++◌, ◌-◌, Option, Some, None, map, slice_get, unwrap_or}
 use Rattle.std.specs.List.{Contains}
@@ -79,6 +80,14 @@ IsOfSettled keys key row s = (s ≡ (0, key)) ⊎ Contains (unique_spots row 1 k
 -- a row of the table fills the spot
 abbrev pub IsFilled : TableKeys → FinMap key_cmp Record → Spot → Type 0
 IsFilled keys rows s = (key : Key) × (row : Record) × (finite.get rows key ≡ Some row) × Contains (spots_of keys row) s
+
+-- A spot that no row fills goes from the room. No other spot goes, none comes, and no row changes.
+pub record GivesUpSpot (old new : TableContent) (s : Spot) : Type 0 where
+  pub keys : new.keys ≡ old.keys
+  pub rows : new.rows ≡ old.rows
+  pub gone : ¬ IsFilled old.keys old.rows s → ¬ Contains new.room s
+  pub fewer : KeepsSpots new.room old.room
+  pub others : (other : Spot) → other ≢ s → Contains old.room other → Contains new.room other
 
 -- no row has the values that this one has in some unique key
 abbrev pub NoClash : TableKeys → FinMap key_cmp Record → Record → Type 0

@@ -2,6 +2,7 @@
 --     held, held_by      the number at some values, if there is an entry with one; at those of a row
 --     KeepsSlots, HasSlot      no number changes and no entry goes; there is an entry for the row's values
 --     Sets, Puts, Settles      the number at the row's values is set; it comes there; their entry is dropped if it has none
+--     DropsEntry, GivesUpValues      the entry for some values is dropped if it has no number
 use Rattle.std.specs.Prelude.{◌≡◌, ◌≢◌, ℕ, ◌<◌, false, List, [], length, Option, Some, None, IsSome, slice_index_or, map}
 use Rattle.std.specs.Ordering.{eq_by_cmp}
 use Rattle.std.specs.HashMap as hash
@@ -69,6 +70,13 @@ pub record MayPutEntry (columns : List ℕ) (row : Row) (old new : Entries) : Ty
   pub beside : (values : Key) → values_in columns row ≢ Some values → held new values ≡ held old values
   pub entries : (values : Key) → IsSome (entry_at old values) → IsSome (entry_at new values)
 
+-- the entry for these values goes if it has no number, none comes, and nothing else changes
+pub record DropsEntry (values : Key) (old new : Entries) : Type 0 where
+  pub gone : held old values ≡ None → entry_at new values ≡ None
+  pub numbers : (other : Key) → held new other ≡ held old other
+  pub fewer : (other : Key) → IsSome (entry_at new other) → IsSome (entry_at old other)
+  pub beside : SameApart values old new
+
 -- the entry for the row's values goes if it has no number, none comes, and nothing else changes
 pub record SettlesEntry (columns : List ℕ) (row : Row) (old new : Entries) : Type 0 where
   pub gone : (values : Key) → values_in columns row ≡ Some values → held old values ≡ None → entry_at new values ≡ None
@@ -110,6 +118,11 @@ IsFree row unique = (values : Key) → values_in unique.columns.items row ≡ So
 pub record Settles (row : Row) (old new : Unique) : Type 0 where
   pub columns : new.columns.items ≡ old.columns.items
   pub entries : SettlesEntry old.columns.items row old.entries new.entries
+
+-- the index's entry for these values goes if it has no number; nothing else changes
+pub record GivesUpValues (values : Key) (old new : Unique) : Type 0 where
+  pub columns : new.columns.items ≡ old.columns.items
+  pub entries : DropsEntry values old.entries new.entries
 
 -- ---- of each index of a table
 

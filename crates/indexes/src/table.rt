@@ -5,7 +5,7 @@ ghost use Rattle.std.specs.List.{AllByRecursion, Contains};
 ghost use Rattle.model.specs.Rows.{values_in, keys_of};
 ghost use Rattle.indexes.specs.Unique.{HasNone, columns_of};
 ghost use Rattle.model.specs.declared.key.Key.{Key as AnyKey};
-ghost use Rattle.indexes.specs.Table.{Spot, IsSound, IsOfSettled, IsFilled, HasValues, IsTwin, KeepsValues, NoClash, KeepsSpots, spots_of, unique_at};
+ghost use Rattle.indexes.specs.Table.{Spot, IsSound, IsOfSettled, IsFilled, GivesUpSpot, HasValues, IsTwin, KeepsValues, NoClash, KeepsSpots, spots_of, unique_at};
 
 use crate::columns::values_of;
 use crate::seed::Seed;
@@ -406,5 +406,25 @@ impl Table {
     {
         self.rows.settle(key);
         settle_each(&mut self.uniques, row);
+    }
+
+    /// Drops the slot of a key where no row is in it. It takes no memory.
+    pub fn give_up_key(&mut self, key: &Key)
+        ensures given_up { GivesUpSpot self.old self.new (0, key.now) }
+        ensures sound { IsSound self.new }
+    {
+        self.rows.settle(key);
+    }
+
+    /// Drops the entry of values in a unique key, by the key's number from 1, where no row has them.
+    /// For a number that is no unique key's it does nothing. It takes no memory.
+    pub fn give_up_values(&mut self, number: usize, values: &Key)
+        ensures given_up { 1 ≤ number → GivesUpSpot self.old self.new (number, values.now) }
+        ensures no_key { ¬ ((1 ≤ number) × (number ≤ length self.old.keys.uniques)) → self.new ≡ self.old }
+        ensures sound { IsSound self.new }
+    {
+        if 1 <= number && number <= self.uniques.len() {
+            self.uniques[number - 1].give_up(values);
+        }
     }
 }

@@ -4,19 +4,19 @@ ghost use Rattle.std.specs.List.{Contains};
 ghost use Rattle.std.specs.FinMap as finite;
 ghost use Rattle.model.specs.declared.key.Key.{Key as AnyKey};
 ghost use Rattle.model.specs.declared.row.Row.{Row as AnyRow};
-ghost use Rattle.model.specs.declared.cell.Cell.{Cell};
+ghost use Rattle.model.specs.declared.cell.Cell.{Cell as AnyCell};
 ghost use Rattle.model.specs.declared.cell.Cell.TheVariants.{Row as RowCell, Uniq};
 ghost use Rattle.model.specs.Cells.{cells_of, table_of};
 ghost use Rattle.model.specs.Rows.{IsValid, keys_at, keys_of, key_of, values_in, are_taken};
 ghost use Rattle.model.specs.TableRows.{rows_of_table};
 ghost use Rattle.model.specs.Effect.{first_taken, are_taken_unless_null};
 ghost use Rattle.indexes.specs.Table.{cells_in};
-ghost use Rattle.indexes.specs.Content.{Keeps, HasRoom, unique_columns, IsTable, SameElsewhere, SameRoomElsewhere};
+ghost use Rattle.indexes.specs.Content.{Keeps, HasRoom, unique_columns, IsTable, SameElsewhere, SameRoomElsewhere, GivesUpCell};
 
 use crate::seed::Seed;
 use crate::table::{Contents, Table};
 use catalog::Catalog;
-use model::{Key, OutOfMemory, Row, TableDef};
+use model::{Cell, Key, OutOfMemory, Row, TableDef};
 use rows::{RowView, Walk};
 use std::alloc::Global;
 use std::marker::Model;
@@ -258,7 +258,7 @@ impl Tables {
         // The content is what was there.
         ensures keys { IfOk result (λ contents. contents.keys ≡ keys_at self.old.schema table) }
         ensures out { IfOk result (λ contents. IsTable self.old.rows table contents.rows) }
-        ensures room_out { IfOk result (λ contents. (c : Cell) → table_of c ≡ table → Contains self.old.room c → Contains (cells_in table contents) c) }
+        ensures room_out { IfOk result (λ contents. (c : AnyCell) → table_of c ≡ table → Contains self.old.room c → Contains (cells_in table contents) c) }
         ensures err { OnErr result (self.new ≡ self.old) }
     {
         let table = &mut self.tables[table];
@@ -338,9 +338,29 @@ impl Tables {
 
         // No other cell goes from the room, and none comes.
         ensures fewer { Keeps self.new.room self.old.room }
-        ensures others { (c : Cell) → ¬ Contains (cells_of self.old.schema table row.now) c → c ≢ RowCell table key.now → Contains self.old.room c → Contains self.new.room c }
+        ensures others { (c : AnyCell) → ¬ Contains (cells_of self.old.schema table row.now) c → c ≢ RowCell table key.now → Contains self.old.room c → Contains self.new.room c }
     {
         let table = &mut self.tables[table];
         table.settle(key, row);
+    }
+
+    /// Gives up a cell that no row fills: the slot of a key, or the entry of values in a unique key. A
+    /// cell that a row fills stays, and so does a whole table's. It takes no memory.
+    pub fn give_up(&mut self, cell: &Cell)
+        ensures { GivesUpCell self.old self.new cell.now }
+    {
+        match cell {
+            Cell::Row(table, key) => {
+                if let Some(table) = self.tables.get_mut(*table) {
+                    table.give_up_key(key);
+                }
+            }
+            Cell::Uniq(table, number, values) => {
+                if let Some(table) = self.tables.get_mut(*table) {
+                    table.give_up_values(*number, values);
+                }
+            }
+            Cell::Whole(_) => {}
+        }
     }
 }

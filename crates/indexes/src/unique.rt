@@ -1,11 +1,10 @@
 // The index of a unique key.
 ghost use Rattle.std.specs.Prelude.{◌≡◌, map, IfOk, OnOk, OnErr, IsSome, None, true, false};
 ghost use Rattle.std.specs.Ordering.{eq_by_cmp};
-ghost use Rattle.model.specs.declared.key.Key.{Key as AnyKey};
 ghost use Rattle.model.specs.Rows.{values_in};
 ghost use Rattle.indexes.specs.Columns.{present};
 ghost use Rattle.model.specs.Key.{key_cmp};
-ghost use Rattle.indexes.specs.Unique.{plain, HasNone, held, held_by, entry_at, with_number, SameApart, KeepsEntries, HasEntry, SetsEntry, PutsEntry, SettlesEntry, KeepsSlots, HasSlot, Sets, Puts, MayPut, Settles, EachStep, EachHasSlot, EachAgrees, EachIsFree};
+ghost use Rattle.indexes.specs.Unique.{plain, HasNone, held, held_by, entry_at, with_number, SameApart, KeepsEntries, HasEntry, SetsEntry, PutsEntry, DropsEntry, SettlesEntry, KeepsSlots, HasSlot, Sets, Puts, MayPut, Settles, GivesUpValues, EachStep, EachHasSlot, EachAgrees, EachIsFree};
 
 use crate::columns::{agree, has_values, values_of};
 use crate::seed::Seed;
@@ -96,6 +95,13 @@ impl Unique {
         ensures { Settles row.now self.old self.new }
     {
         settle_entry(self.columns.as_slice(), &mut self.entries, row);
+    }
+
+    // Drops the entry for these values if it has no number.
+    pub(crate) fn give_up(&mut self, values: &Key)
+        ensures { GivesUpValues values.now self.old self.new }
+    {
+        give_up_entry(&mut self.entries, values);
     }
 }
 
@@ -331,12 +337,18 @@ fn settle_entry(columns: &[usize], entries: &mut HashMap<HashedKey, Option<usize
 
 // Drops the entry for some values if it has no number.
 fn drop_entry(entries: &mut HashMap<HashedKey, Option<usize>, Seed>, values: Sought<'_>)
-    ensures gone { held entries.old (present values.entry.columns.now values.entry.row.now) ≡ None → entry_at entries.new (present values.entry.columns.now values.entry.row.now) ≡ None }
-    ensures numbers { (other : AnyKey) → held entries.new other ≡ held entries.old other }
-    ensures fewer { (other : AnyKey) → IsSome (entry_at entries.new other) → IsSome (entry_at entries.old other) }
-    ensures beside { SameApart (present values.entry.columns.now values.entry.row.now) entries.old entries.new }
+    ensures { DropsEntry (present values.entry.columns.now values.entry.row.now) entries.old entries.new }
 {
     if let Some(None) = entries.get(values) {
         entries.remove(values);
+    }
+}
+
+// The same, for values that lie in a key.
+fn give_up_entry(entries: &mut HashMap<HashedKey, Option<usize>, Seed>, values: &Key)
+    ensures { DropsEntry values.now entries.old entries.new }
+{
+    if let Some(None) = entries.get(SoughtKey::of(values)) {
+        entries.remove(SoughtKey::of(values));
     }
 }

@@ -2,13 +2,9 @@ use Rattle.std.specs.Prelude.{Some}
 use Rattle.std.proofs.Common.{sym, ◌∙◌, ap}
 use Rattle.indexes.specs.Columns.{present}
 use Rattle.indexes.specs.Unique.{number_in}
-use Rattle.indexes.proofs.Entries.{entry_dropped, none_came}
+use Rattle.indexes.proofs.Entries.{entry_dropped}
 use Rattle.indexes.proofs.unique.drop_entry.Goals as goal
 
-pub returns-in-Some-None-clause-numbers : goal.returns-in-Some-None-clause-numbers
-returns-in-Some-None-clause-numbers c =
+pub returns-in-Some-None : goal.returns-in-Some-None
+returns-in-Some-None c =
     entry_dropped c.args.entries.now c.remove.new.self (present c.args.values.columns.now c.args.values.row.now) (ap number_in (sym c.in-Some-None.ensures.value ∙ ap Some c.in-Some-None.field-0-is)) c.remove.ensures.updates.1 c.remove.ensures.updates.2
-
-pub returns-in-Some-None-clause-fewer : goal.returns-in-Some-None-clause-fewer
-returns-in-Some-None-clause-fewer c =
-    none_came c.args.entries.now c.remove.new.self (present c.args.values.columns.now c.args.values.row.now) c.remove.ensures.updates.1 c.remove.ensures.updates.2
