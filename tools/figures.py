@@ -19,6 +19,8 @@ crates/pgapply/out). The kinds:
     pairs     one transaction of N rows whose key is two texts
     updates   N rows, and then an update of each, in transactions of a thousand
     churn     N inserts of keys that never come again, each deleted in the next transaction
+    aborted   N inserts in streamed transactions of ten thousand, each of which is aborted
+    rolled    one streamed transaction of N inserts, in subtransactions of ten thousand that are rolled back
 """
 import argparse, hashlib, os, struct, subprocess, sys, tempfile, time
 from dataclasses import dataclass, field
@@ -90,6 +92,10 @@ def stream_start(xid, is_first):
 
 def stream_commit(xid, lsn):
     return b"c" + struct.pack(">I", xid) + b"\0" + struct.pack(">QQq", lsn, lsn + 0x40, 0)
+
+
+def stream_abort(xid, sub):
+    return b"A" + struct.pack(">II", xid, sub) + bytes(16)
 
 
 def sub_of(xid):
@@ -208,7 +214,29 @@ def churn(count):
     return MAIL, in_transactions(MAIL, changes(), 1000)
 
 
-KINDS = {kind.__name__: kind for kind in (one, many, beside, undone, wide, pairs, updates, churn)}
+def aborted(count):
+    def messages():
+        for xid, first in enumerate(range(1, count + 1, 10000), 700):
+            yield from streamed(MAIL, [xid], [Rows(mail, first, 10000)], 1, ends=False)
+            yield stream_abort(xid, xid)
+    return MAIL, messages()
+
+
+def rolled(count):
+    def messages():
+        for sub, first in enumerate(range(1, count + 1, 10000), 701):
+            yield stream_start(700, sub == 701)
+            if sub == 701:
+                yield MAIL.relation(sub_of(700))
+            for number in range(first, first + 10000):
+                yield MAIL.insert(mail(number), sub_of(sub))
+            yield b"E"
+            yield stream_abort(700, sub)
+        yield stream_commit(700, 0x100)
+    return MAIL, messages()
+
+
+KINDS = {kind.__name__: kind for kind in (one, many, beside, undone, wide, pairs, updates, churn, aborted, rolled)}
 
 
 def write_stream(path, messages):

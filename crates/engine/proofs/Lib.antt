@@ -3,3 +3,4 @@ mod TableRows
 mod MergedLaws
 mod MergeSteps
 mod Standing
+pub mod LettingGo

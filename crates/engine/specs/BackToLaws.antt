@@ -1,9 +1,8 @@
 -- What a store keeps where a subtransaction is rolled back.
 --     can_since      what a rollback is to undo can be undone
 --     kept_back      the store after it
-use Rattle.std.proofs.Common.{◌≡◌, ◌≢◌, ℕ, ◌==◌, ◌⊎◌, Bool, true, false, List, [], ◌∷◌, ◌++◌, length, take, drop, Option, Some, None, map, refl, sym, ap, subst, ◌∙◌, inl, inr, append-nil}
+use Rattle.std.proofs.Common.{◌≡◌, ◌≢◌, ℕ, List, [], ◌∷◌, ◌++◌, take, drop, Option, Some, None, map, refl, sym, ap, subst, ◌∙◌, append-nil}
 use Rattle.std.specs.List.{Contains}
-use Rattle.std.specs.FinMap as finite
 use Rattle.std.specs.FinMap.{get}
 use Rattle.std.specs.Option.{option_map}
 use Rattle.std.proofs.lemmas.List.{take-append-drop}
@@ -12,9 +11,9 @@ use Rattle.model.specs.declared.change.Change as change_type
 use Rattle.model.specs.declared.cell.Cell.{Cell}
 use Rattle.model.specs.declared.item.Item.{Item}
 use Rattle.model.specs.declared.item.Item.TheVariants.{BackTo}
-use Rattle.model.specs.Rows.{Rows, Schema}
-use Rattle.model.specs.Effect.{serial, inverses, all_back}
-use Rattle.model.specs.Footprint.{held_cells, shares_cell}
+use Rattle.model.specs.Rows.{Schema}
+use Rattle.model.specs.Effect.{serial, all_back}
+use Rattle.model.specs.Footprint.{held_cells}
 use Rattle.model.specs.Survivors.{survivors, after_item, changes_of}
 use Rattle.model.specs.SurvivorLaws.{survivors_with, changes_of_both}
 use Rattle.model.specs.SerialLaws.{held_append}
@@ -31,7 +30,7 @@ use Rattle.savepoint.specs.declared.mark.Mark.{Mark}
 use Rattle.savepoint.specs.declared.record.CutPoint.{CutPoint}
 use Rattle.savepoint.specs.Savepoints.{mark_at, before_mark}
 use Rattle.savepoint.specs.Record.{Record, AllAreNamed, after_mark, up_to_mark, inverses_since, inverses_before}
-use Rattle.savepoint.specs.RecordInside.{marks_of, IsMarked}
+use Rattle.savepoint.specs.RecordInside.{marks_of}
 use Rattle.savepoint.proofs.Marked.{marked_uncut, marked_before, survivors_cut, survivors_kept, mark_at-marks_of, before_mark-marks_of}
 use Rattle.world.specs.World.{Opened, World, work, holds}
 use Rattle.world.specs.Live.{IsLive}
@@ -40,7 +39,7 @@ use Rattle.world.specs.FineLaws.{IsFine, fine_back}
 use Rattle.world.specs.ListingLaws.{got_other}
 use Rattle.world.specs.WorldLaws.{live_cut}
 use Rattle.world.specs.BackLaws.{valid_back}
-use Rattle.engine.specs.Kept.{HasLogs, IsRecordOf, IsReady, IsKept, IsPutAt}
+use Rattle.engine.specs.Kept.{IsRecordOf, IsKept, IsPutAt}
 use Rattle.engine.specs.RecordLaws.{AreLogs, has_logs, logs_of, logs_cut}
 use Rattle.engine.specs.KeptLaws.{log_of_work, kept_put}
 

@@ -1,5 +1,5 @@
 -- The laws of a store's calls, one a call, from what the layers below tell.
-use Rattle.std.proofs.Common.{◌≡◌, ◌≢◌, ℕ, ◌⊎◌, List, [], ◌∷◌, ◌++◌, Option, Some, None, refl, sym, ap, subst, ◌∙◌, inl, inr, append-nil}
+use Rattle.std.proofs.Common.{◌≡◌, ℕ, ◌⊎◌, List, [], ◌∷◌, Option, Some, None, refl, sym, ap, subst, ◌∙◌, inl, inr, append-nil}
 use Rattle.std.specs.Prelude.{Ok}
 use Rattle.std.specs.Ordering.{nat_cmp}
 use Rattle.std.specs.FinMap.{get, get-empty}
@@ -17,13 +17,12 @@ use Rattle.change.specs.Inverse.{IsKnown}
 use Rattle.change.specs.Applied.{IsDone as WasDone}
 use Rattle.undo.specs.Undo.{CanUndo, AreKnownAll}
 use Rattle.undo.specs.UndoLaws.{schema_undone}
-use Rattle.savepoint.specs.Record.{Record}
 use Rattle.world.specs.World.{Opened, Stop, ByClash, ByHold, World, starting, own_rows, holds, IsHeldBy, IsFree}
 use Rattle.world.specs.Live.{Reordered, same}
-use Rattle.world.specs.Steps.{IsDone, IsSkipped, Held, Clashed, opened_with, done_with, wanting, opens, acts, touches, stops_held}
+use Rattle.world.specs.Steps.{Held, Clashed, opened_with, done_with, wanting, opens, acts, touches, stops_held}
 use Rattle.world.specs.FineLaws.{IsFine, fine_start, fine_step}
 use Rattle.world.specs.WorldLaws.{no_entries, live_by, live_alone, footprint_live, outcome_live}
-use Rattle.engine.specs.Kept.{IsReady, IsKept}
+use Rattle.engine.specs.Kept.{IsKept}
 use Rattle.engine.specs.KeptLaws.{kept_opened, kept_done, kept_skipped, kept_touched, kept_wanting, kept_refused}
 use Rattle.engine.specs.EndLaws.{kept_aborted, kept_committed}
 use Rattle.engine.specs.BackToLaws.{can_since, kept_back}

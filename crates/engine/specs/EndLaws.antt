@@ -2,39 +2,35 @@
 --     kept_back      a rollback of a subtransaction
 --     kept_aborted      an abort
 --     kept_committed      a commit
-use Rattle.std.proofs.Common.{◌≡◌, ◌≢◌, ℕ, ◌==◌, Bool, true, false, List, [], ◌∷◌, ◌++◌, length, take, drop, Option, Some, None, map, refl, sym, ap, subst, ◌∙◌, inl, inr, append-nil}
-use Rattle.std.specs.List.{Contains, list_any}
+use Rattle.std.proofs.Common.{◌≡◌, ◌≢◌, ℕ, false, List, Option, Some, None, map, refl, sym, ap, subst, ◌∙◌, inl, inr}
+use Rattle.std.specs.List.{Contains}
 use Rattle.std.specs.FinMap as finite
 use Rattle.std.specs.FinMap.{get}
-use Rattle.model.specs.declared.change.Change as change_type
 use Rattle.model.specs.declared.cell.Cell.{Cell}
 use Rattle.model.specs.declared.item.Item.{Item}
-use Rattle.model.specs.declared.item.Item.TheVariants.{BackTo}
 use Rattle.model.specs.declared.item.CommitInfo.{CommitInfo}
-use Rattle.model.specs.Rows.{Rows, Schema}
-use Rattle.model.specs.Effect.{serial, inverses, all_back}
+use Rattle.model.specs.Rows.{Schema}
+use Rattle.model.specs.Effect.{all_back}
 use Rattle.model.specs.Footprint.{held_cells, shares_cell}
-use Rattle.model.specs.Survivors.{survivors, changes_of}
+use Rattle.model.specs.Survivors.{changes_of}
 use Rattle.model.specs.ValidLaws.{not_none}
 use Rattle.indexes.specs.Content.{Content, Keeps}
-use Rattle.change.specs.declared.inverse.Inverse.{Inverse}
 use Rattle.change.specs.Inverse.{edits_of}
 use Rattle.undo.specs.Undo.{content_undone, CanUndo, all_settled}
 use Rattle.undo.specs.UndoLaws.{rows_undone}
-use Rattle.undo.specs.Others.{all_altered, all_needed, AreValidBack, StaysInRoom, HasRoomForAll, IsFilled}
+use Rattle.undo.specs.Others.{all_needed, StaysInRoom, HasRoomForAll, IsFilled}
 use Rattle.undo.specs.OthersLaws.{CanUndo_past_undo, CanUndo_past_settle}
-use Rattle.undo.specs.LogOf.{IsLogOf}
 use Rattle.undo.specs.LogLaws.{log_valid, log_undone, logs_apart, settled_filled}
 use Rattle.savepoint.specs.Record.{Record}
-use Rattle.world.specs.World.{Opened, Stop, World, work, own_rows, holds}
+use Rattle.world.specs.World.{Opened, World, work, own_rows, holds}
 use Rattle.world.specs.Live.{IsLive}
 use Rattle.world.specs.Steps.{aborted_with, committed_with}
 use Rattle.world.specs.FineLaws.{IsFine, committed_valid, fine_aborted, fine_committed}
 use Rattle.world.specs.ListingLaws.{xid_cases, gone_same, gone_other}
 use Rattle.world.specs.WorldLaws.{live_aborted, live_committed}
 use Rattle.world.specs.BackLaws.{valid_back, held_live}
-use Rattle.engine.specs.Kept.{HasLogs, IsRecordOf, IsReady, IsKept, IsPutAt}
-use Rattle.engine.specs.RecordLaws.{AreLogs, has_logs, logs_of, logs_past}
+use Rattle.engine.specs.Kept.{IsRecordOf, IsKept, IsPutAt}
+use Rattle.engine.specs.RecordLaws.{has_logs, logs_of, logs_past}
 use Rattle.engine.specs.KeptLaws.{log_of_work}
 
 module _ (schema : Schema) (t : Content) (w : World) (records : ℕ → Option Record) (kept : IsKept schema t w records) where

@@ -1,13 +1,12 @@
 -- The laws of a store's holds.
 --     free_in_world, held_in_world      what the holds answer is so in the world
 --     holds_opened, holds_taken, holds_same, holds_touched, holds_aborted, holds_committed      they are the world's after each
-use Rattle.std.proofs.Common.{◌≡◌, ◌≢◌, ℕ, zero, suc, ◌⊎◌, Bool, true, false, ◌||◌, List, [], ◌∷◌, ◌++◌, take, Option, Some, None, refl, sym, ap, subst, ◌∙◌, inl, inr, arith}
+use Rattle.std.proofs.Common.{◌≡◌, ◌≢◌, ℕ, zero, suc, ◌⊎◌, Bool, true, false, ◌||◌, List, [], ◌∷◌, ◌++◌, Option, Some, None, refl, sym, ap, subst, ◌∙◌, inl, inr, arith}
 use Rattle.std.specs.Prelude.{◌↔◌, All, slice_get}
 use Rattle.std.specs.List.{Contains, list_any}
 use Rattle.std.specs.FinMap as finite
 use Rattle.std.specs.FinMap.{get}
 use Rattle.std.proofs.lemmas.List.Elements.{All-contains, Contains-append_left, Contains-append_right, Contains-append_cases}
-use Rattle.std.proofs.lemmas.Bool.{cases_Bool}
 use Rattle.model.specs.declared.change.Change as change_type
 use Rattle.model.specs.declared.cell.Cell.{Cell}
 use Rattle.model.specs.declared.item.Item.TheVariants.{Change, Touch}
@@ -24,7 +23,7 @@ use Rattle.keyholds.specs.Holds.{IsFree as IsFreeCell, IsFirstHeldBy}
 use Rattle.world.specs.World.{Opened, Stop, World, work, own_rows, holds, IsHeldBy, IsFree}
 use Rattle.world.specs.Steps.{opened_with, done_with, aborted_with, committed_with}
 use Rattle.world.specs.FineLaws.{IsFine, put_cases, gone_cases, holds_stay}
-use Rattle.world.specs.ListingLaws.{xid_cases, got_same, got_other, gone_same, gone_other}
+use Rattle.world.specs.ListingLaws.{xid_cases, got_same, got_other, gone_other}
 use Rattle.engine.specs.Held.{HasSameCells, AreHolds, IsHeldAt}
 use Rattle.engine.specs.Laws.{HoldsTellTheWorld, OpenIsHeld, TakenIsHeld, SameIsHeld, AbortIsHeld, CommitIsHeld}
 
@@ -45,7 +44,7 @@ or_true : (a b : Bool) → b ≡ true → (a || b) ≡ true
 or_true true b e = refl
 or_true false b e = e
 
-meets_one : (cell d : Cell) (others : List Cell) → Contains others d → overlaps cell d ≡ true → list_any (overlaps cell) others ≡ true
+pub meets_one : (cell d : Cell) (others : List Cell) → Contains others d → overlaps cell d ≡ true → list_any (overlaps cell) others ≡ true
 meets_one cell d [] is meets = absurd (omega (arith, is.1))
 meets_one cell d (other ∷ others) is meets =
     elim (contains_first other others d is) [

@@ -3,22 +3,19 @@
 --     kept_opened      a transaction opens
 --     kept_done, kept_skipped, kept_touched, kept_wanting      an item of it, and a change that it wants
 --     kept_refused      a call that is refused
-use Rattle.std.proofs.Common.{◌≡◌, ◌≢◌, ℕ, ◌==◌, Bool, true, false, List, [], ◌∷◌, ◌++◌, length, take, drop, Option, Some, None, is_some, map, refl, sym, ap, subst, ◌∙◌, inl, inr, append-nil}
+use Rattle.std.proofs.Common.{◌≡◌, ◌≢◌, ℕ, ◌==◌, List, [], ◌∷◌, ◌++◌, length, Option, Some, None, is_some, refl, sym, ap, subst, ◌∙◌, inl, inr, append-nil}
 use Rattle.std.specs.Prelude.{Ok}
-use Rattle.std.specs.List.{Contains, list_any}
+use Rattle.std.specs.List.{list_any}
 use Rattle.std.specs.FinMap as finite
 use Rattle.std.specs.FinMap.{get}
-use Rattle.model.specs.declared.key.Key.{Key}
-use Rattle.model.specs.declared.row.Row.{Row as AnyRow}
 use Rattle.model.specs.declared.change.Change as change_type
 use Rattle.model.specs.declared.cell.Cell.{Cell}
 use Rattle.model.specs.declared.item.Item.{Item}
-use Rattle.model.specs.declared.item.Item.TheVariants.{Change, Touch, BackTo}
-use Rattle.model.specs.declared.item.CommitInfo.{CommitInfo}
+use Rattle.model.specs.declared.item.Item.TheVariants.{Change, Touch}
 use Rattle.model.specs.Rows.{Rows, Schema}
-use Rattle.model.specs.Effect.{Outcome, Done, Skip, Clashes, outcome, effect, inverse, back, serial, inverses, all_back}
+use Rattle.model.specs.Effect.{Outcome, Done, Skip, Clashes, outcome, effect, inverse, back, serial}
 use Rattle.model.specs.EffectLaws.{back_of_inverse, effect_skipped}
-use Rattle.model.specs.Footprint.{looked_up, footprint, held_cells, shares_cell}
+use Rattle.model.specs.Footprint.{looked_up, footprint}
 use Rattle.model.specs.OverlapLaws.{shares_either_way}
 use Rattle.model.specs.Survivors.{is_of, survivors, changes_of}
 use Rattle.model.specs.SurvivorLaws.{survivors_with, changes_of_both}
@@ -28,16 +25,15 @@ use Rattle.change.specs.declared.inverse.Inverse.{Inverse}
 use Rattle.change.specs.Inverse.{edits_of, room_back, CanPutBack}
 use Rattle.change.specs.Altered.{cells_altered}
 use Rattle.change.specs.Applied.{IsDone as WasDone}
-use Rattle.undo.specs.Undo.{content_undone, CanUndo, all_settled}
+use Rattle.undo.specs.Undo.{CanUndo}
 use Rattle.undo.specs.UndoLaws.{CanUndo_keeps, CanUndo_applied}
-use Rattle.undo.specs.Others.{all_altered, AreValidBack}
+use Rattle.undo.specs.Others.{all_altered}
 use Rattle.undo.specs.OthersLaws.{CanUndo_past_change}
 use Rattle.undo.specs.LogOf.{IsLogOf}
 use Rattle.undo.specs.LogLaws.{log_valid, log_altered, log_more_done, log_more_skipped, apart_of_fewer}
 use Rattle.savepoint.specs.declared.mark.Mark.{Mark}
 use Rattle.savepoint.specs.Savepoints.{mark_at, with_mark}
 use Rattle.savepoint.specs.Record.{Record, with_mark_unless_top, AllAreNamed}
-use Rattle.savepoint.specs.RecordInside.{marks_of}
 use Rattle.savepoint.proofs.Marked.{marked-marks_of, with_mark-marks_of}
 use Rattle.std.proofs.lemmas.Bool.{cases_eq, eq-eqb, ne_eqb}
 use Rattle.std.specs.Prelude.{IsSome, IsTrue, if◌then◌else◌}
@@ -45,11 +41,11 @@ use Rattle.world.specs.World.{Opened, Stop, World, work, own_rows, holds, IsFree
 use Rattle.world.specs.Live.{IsLive}
 use Rattle.world.specs.Steps.{IsDone, IsSkipped, opened_with, done_with, wanting, acts}
 use Rattle.world.specs.FineLaws.{IsFine, fine_step, put_cases}
-use Rattle.world.specs.ListingLaws.{xid_cases, got_same, got_other, gone_same, gone_other}
+use Rattle.world.specs.ListingLaws.{xid_cases, got_same, got_other}
 use Rattle.world.specs.WorldLaws.{footprint_live, outcome_live, inverse_live, live_opened, live_acted, live_touched, live_wanting}
 use Rattle.world.specs.BackLaws.{valid_back}
 use Rattle.engine.specs.Kept.{HasLogs, IsRecordOf, IsReady, IsKept, IsPutAt}
-use Rattle.engine.specs.RecordLaws.{AreLogs, has_logs, logs_of, logs_at_first, logs_more_top, logs_more_sub}
+use Rattle.engine.specs.RecordLaws.{has_logs, logs_of, logs_at_first, logs_more_top, logs_more_sub}
 
 -- the log of an open transaction's work
 pub log_of_work : (schema : Schema) (w : World) (xid : ℕ) (o : Opened) (r : Record) → IsRecordOf schema w xid o r

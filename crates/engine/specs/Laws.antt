@@ -23,7 +23,7 @@ use Rattle.world.specs.Steps.{Fault, StopsHeld, ReadsLive, IsDone, IsSkipped, He
 use Rattle.world.specs.FineLaws.{IsFine}
 use Rattle.keyholds.specs.Holds.{IsFree as IsFreeCell, IsFirstHeldBy}
 use Rattle.engine.specs.Held.{HasSameCells, AreHolds, IsHeldAt, HasHeldMarks, up_to_held}
-use Rattle.engine.specs.Kept.{IsRecordOf, IsReady, IsKept, IsPutAt}
+use Rattle.engine.specs.Kept.{IsRecordOf, IsKept, IsPutAt}
 use Rattle.engine.specs.Told.{IsLeft, IsApplied, IsRolledBack, IsTakenBack, IsGivenUp, IsFresh, HasItem, HasTheSame}
 
 -- a store: tables, a world, and a record for each open transaction

@@ -44,3 +44,4 @@ pub mod Shut
 pub mod ShutLaws
 pub mod NamedLaws
 pub mod Merged
+pub mod GivenUp

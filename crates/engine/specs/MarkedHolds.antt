@@ -1,24 +1,23 @@
 -- The laws of holds and savepoints.
-use Rattle.std.proofs.Common.{◌≡◌, ◌≢◌, ℕ, ◌==◌, ◌⊎◌, Bool, true, false, List, [], ◌∷◌, ◌++◌, length, take, Option, Some, None, refl, sym, ap, subst, ◌∙◌, inl, inr, is_some}
+use Rattle.std.proofs.Common.{◌≡◌, ◌≢◌, ℕ, true, false, List, [], ◌∷◌, ◌++◌, take, Option, Some, None, refl, sym, ap, subst, ◌∙◌, inl, inr, is_some}
 use Rattle.std.specs.Prelude.{if◌then◌else◌}
-use Rattle.std.specs.FinMap.{get}
 use Rattle.std.proofs.lemmas.Bool.{cases_eq, eq-eqb, ne_eqb}
 use Rattle.model.specs.declared.cell.Cell.{Cell}
 use Rattle.model.specs.declared.item.Item.{Item}
 use Rattle.model.specs.declared.item.Item.TheVariants.{BackTo}
-use Rattle.model.specs.Rows.{Rows, Schema}
+use Rattle.model.specs.Rows.{Schema}
 use Rattle.model.specs.Footprint.{held_cells, shares_cell}
-use Rattle.model.specs.Survivors.{before_savepoint, survivors, after_item, changes_of}
+use Rattle.model.specs.Survivors.{before_savepoint, after_item, changes_of}
 use Rattle.model.specs.SurvivorLaws.{survivors_with}
 use Rattle.savepoint.specs.declared.mark.Mark.{Mark}
 use Rattle.savepoint.specs.Savepoints.{mark_at, before_mark}
 use Rattle.savepoint.specs.Record.{Record}
 use Rattle.savepoint.proofs.Cutting.{before_mark-unmarked}
 use Rattle.savepoint.proofs.Marked.{marked-marks_of}
-use Rattle.world.specs.World.{Opened, World, work, own_rows, holds}
-use Rattle.world.specs.FineLaws.{IsFine, committed_valid}
+use Rattle.world.specs.World.{Opened, World, work, holds}
+use Rattle.world.specs.FineLaws.{committed_valid}
 use Rattle.engine.specs.Kept.{IsRecordOf}
-use Rattle.engine.specs.Held.{HasSameCells, AreHolds, IsHeldAt, HasHeldMarks, up_to_held}
+use Rattle.engine.specs.Held.{HasSameCells, HasHeldMarks, up_to_held}
 use Rattle.engine.specs.HoldsLaws.{holds_put}
 use Rattle.engine.specs.MarksLaws.{unmarked_whole, marks_same, marks_more, marks_cut, marks_past}
 use Rattle.engine.specs.Laws.{ItemKeepsMarks, RollbackKeepsMarks, RollbackIsHeld, CommitKeepsMarks}

@@ -3,10 +3,10 @@
 --     logs_more      one more item, and the inverse of its change if it has one
 --     logs_cut      a rollback to a savepoint
 --     logs_past      others commit
-use Rattle.std.proofs.Common.{◌≡◌, ◌≢◌, ℕ, ◌+◌, ◌≤◌, ◌==◌, ◌⊎◌, Bool, true, false, List, [], ◌∷◌, ◌++◌, length, take, drop, Option, Some, None, refl, sym, ap, subst, ◌∙◌, arith, inl, inr, is_some}
-use Rattle.std.specs.Prelude.{IsSome, IsTrue, if◌then◌else◌}
+use Rattle.std.proofs.Common.{◌≡◌, ◌≢◌, ℕ, ◌≤◌, ◌==◌, true, false, List, [], ◌∷◌, ◌++◌, length, take, drop, Some, refl, sym, ap, subst, ◌∙◌, arith, inl, inr, is_some}
+use Rattle.std.specs.Prelude.{IsSome, IsTrue}
 use Rattle.std.specs.List.{list_any}
-use Rattle.std.proofs.lemmas.Bool.{cases_Bool, cases_eq, eq-eqb, eqb-true, ne_eqb}
+use Rattle.std.proofs.lemmas.Bool.{cases_Bool, ne_eqb}
 use Rattle.std.proofs.lemmas.List.{length-append, length-take-le, take-append-le, take-append-drop}
 use Rattle.std.proofs.Math.Seq.{take-length}
 use Rattle.model.specs.declared.change.Change as change_type
@@ -24,11 +24,11 @@ use Rattle.undo.specs.LogLaws.{log_past}
 use Rattle.savepoint.specs.declared.mark.Mark.{Mark}
 use Rattle.savepoint.specs.declared.record.CutPoint.{CutPoint}
 use Rattle.savepoint.specs.Savepoints.{mark_at, with_mark, before_mark}
-use Rattle.savepoint.specs.Record.{Record, with_mark_unless_top, AllAreNamed}
+use Rattle.savepoint.specs.Record.{Record}
 use Rattle.savepoint.specs.RecordInside.{marks_of, IsMarked}
 use Rattle.savepoint.proofs.Cutting.{unmarked_noted_other}
 use Rattle.savepoint.proofs.Indexed.{take-take}
-use Rattle.savepoint.proofs.Marked.{marked_before, noted_or_old, marked_noted, marked_more, marked_cut, marked_uncut, before_mark-marks_of, marked-marks_of, with_mark-marks_of, noted_there}
+use Rattle.savepoint.proofs.Marked.{marked_before, noted_or_old, marked_noted, marked_more, marked_cut, marked-marks_of, noted_there}
 use Rattle.engine.specs.Kept.{HasLogs}
 
 -- the record has these items, marks and inverses, and they are tied so

@@ -40,7 +40,7 @@ use Rattle.savepoint.specs.Record.{Record}
 use Rattle.world.specs.World.{Opened, Past, ByClash, World, starting, own_rows, holds}
 use Rattle.world.specs.Steps.{opened_with, done_with, aborted_with, committed_with}
 use Rattle.world.specs.FineLaws.{IsFine, StillClashes, fine_put, put_cases, gone_cases, holds_free, same_some}
-use Rattle.world.specs.ListingLaws.{xid_cases, got_same, got_other, same_by_xid}
+use Rattle.world.specs.ListingLaws.{xid_cases}
 use Rattle.engine.specs.declared.live.Live.{Live}
 use Rattle.engine.specs.declared.stood.Stood.{Stood}
 use Rattle.engine.specs.declared.transaction.OpenTransaction.{OpenTransaction}
@@ -50,16 +50,15 @@ use Rattle.engine.specs.Held.{AreHolds, IsHeldAt, HasHeldMarks}
 use Rattle.engine.specs.HoldsLaws.{holds_opened, holds_touched, abort_is_held, commit_is_held}
 use Rattle.engine.specs.Kept.{IsRecordOf, IsKept, IsPutAt}
 use Rattle.engine.specs.KeptLaws.{kept_opened, kept_touched}
-use Rattle.engine.specs.CallLaws.{start_is_kept, refusal_is_kept, rollback_is_kept, abort_is_kept, commit_is_kept}
-use Rattle.engine.specs.MarksLaws.{marks_same}
+use Rattle.engine.specs.CallLaws.{start_is_kept, rollback_is_kept, abort_is_kept, commit_is_kept}
 use Rattle.engine.specs.NamedLaws.{changes_item}
 use Rattle.engine.specs.MarkedHolds.{item_keeps_marks, rollback_keeps_marks, rollback_is_held, commit_keeps_marks}
 use Rattle.engine.specs.Stood.{HasStood, IsStoodAt, up_to_stood}
 use Rattle.engine.specs.StoodCalls.{start_is_stood, open_is_stood, touch_is_stood, rollback_is_stood, abort_is_stood, commit_is_stood}
 use Rattle.engine.specs.Tied.{records_in, IsBeside, IsTied}
 use Rattle.engine.specs.TiedBasics.{records_put, tied_by, marks_put, beside_put, is_there, still_caused, its_record, its_tells, its_can, its_marks, its_beside, tied_put}
-use Rattle.engine.specs.Told.{HasTheSame, IsLeft, IsFresh, IsRolledBack, IsTakenBack, IsGivenUp}
-use Rattle.engine.specs.Transactions.{PutsTransaction, WritesTransaction, WaitsNoMore, IsAsBefore, HasHeldItem, HasTouched}
+use Rattle.engine.specs.Told.{IsFresh, IsRolledBack, IsTakenBack, IsGivenUp}
+use Rattle.engine.specs.Transactions.{PutsTransaction, WritesTransaction, WaitsNoMore, HasHeldItem, HasTouched}
 
 -- ---- an item that is no change, with which it waits no more
 

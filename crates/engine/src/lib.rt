@@ -33,6 +33,7 @@
 //   tickets, events     `Ticket`, `Line`, `Seen`, and what they list
 //   answers, entry      what calls answer; a committed transaction as the journal has it
 //   live, transaction   `Live`, and what it keeps of an open transaction
+//   let_go              cells are let go, and given up where no row fills them
 //   cells, stood, waits who is in the way of a change; what stood at a cell; who waits for whom
 //   committed_rows      the committed rows of a table; `merging` them from two lists
 //   rows_after          those after entries of the journal
@@ -55,6 +56,7 @@
 //   specs/KeptLaws      a transaction opens, does, wants or is refused something
 //   specs/BackToLaws    a rollback
 //   specs/EndLaws       an abort and a commit
+//   specs/GivenUp       what is given up when cells are let go
 //   specs/RecordLaws    the savepoints of a record and the logs up to them
 //   specs/HoldsLaws     the holds through each call
 //   specs/MarksLaws     what was held at each savepoint
@@ -85,6 +87,7 @@ mod entry;
 mod events;
 pub mod laws;
 pub mod laws_of_reads;
+mod let_go;
 mod live;
 mod merging;
 mod rows_after;

@@ -17,14 +17,18 @@ ghost use Rattle.change.specs.Applied.{Answers};
 ghost use Rattle.change.specs.declared.inverse.Inverse.{Inverse};
 ghost use Rattle.change.specs.KeptRow.{row_kept};
 ghost use Rattle.keyholds.specs.Holds.{cells_held};
+ghost use Rattle.savepoint.specs.declared.mark.Mark.{Mark};
+ghost use Rattle.savepoint.specs.Savepoints.{mark_at};
 ghost use Rattle.savepoint.specs.Record.{Record};
 ghost use Rattle.engine.specs.Cells.{IsFreeOf, IsHeldIn};
+ghost use Rattle.engine.specs.GivenUp.{AreGivenUp};
 ghost use Rattle.engine.specs.Answers.{told, after_act, after_stop, TellsCause};
 ghost use Rattle.engine.specs.Tied.{records_in, IsTied};
 ghost use Rattle.engine.specs.declared.transaction.OpenTransaction.{OpenTransaction};
 
 use crate::answers::{Acted, EngineFault, NotSettled};
 use crate::cells::{Found, find_cells};
+use crate::let_go::let_go;
 use crate::stood::{CommittedRow, Stood, find_committed, with_what_stood};
 use crate::transaction::{OpenTransaction, Refused};
 use change::Clash;
@@ -242,32 +246,38 @@ impl Live {
     }
 
     /// A subtransaction of an open transaction is rolled back: its changes and all later ones are
-    /// undone, and the cells taken since are let go. It takes no memory.
+    /// undone, and the cells taken since are let go, and given up where no row fills them. It takes
+    /// no memory.
     pub(crate) fn back_to(&mut self, xid: Xid, sub: Xid)
         requires { (w : World) × (o : Opened) × IsTied w self.old × (finite.get w.opened xid ≡ Some o) }
         ensures tied { (w : World) (o : Opened) → IsTied w self.old → finite.get w.opened xid ≡ Some o
             → IsTied (done_with w xid o (BackTo sub)) self.new }
+        ensures given_up { (r : Record) (m : Mark) → records_in self.old.transactions xid ≡ Some r → mark_at sub r.marks ≡ Some m
+            → AreGivenUp m.held (cells_held self.old.holds xid) self.new.tables }
         ensures schema { self.new.tables.schema ≡ self.old.tables.schema }
     {
         let Some(transaction) = self.transactions.get_mut(&xid) else {
             unreachable!()
         };
         if let Some(mark) = transaction.go_back(&mut self.tables, sub) {
-            self.holds.release_since(xid, mark.held);
+            let_go(&mut self.tables, &mut self.holds, xid, mark.held);
         }
     }
 
-    /// An open transaction is gone, its changes undone and its cells let go. It takes no memory.
+    /// An open transaction is gone, its changes undone and its cells let go, and given up where no row
+    /// fills them. It takes no memory.
     pub(crate) fn abort(&mut self, xid: Xid)
         requires { (w : World) × (o : Opened) × IsTied w self.old × (finite.get w.opened xid ≡ Some o) }
         ensures tied { (w : World) (o : Opened) → IsTied w self.old → finite.get w.opened xid ≡ Some o
             → IsTied (aborted_with w xid) self.new }
+        ensures given_up { AreGivenUp 0 (cells_held self.old.holds xid) self.new.tables }
         ensures schema { self.new.tables.schema ≡ self.old.tables.schema }
     {
         let Some(transaction) = self.transactions.remove(&xid) else {
             unreachable!()
         };
         transaction.record.undo_all(&mut self.tables);
+        let_go(&mut self.tables, &mut self.holds, xid, 0);
         self.holds.release_all(xid);
     }
 

@@ -1,5 +1,5 @@
 -- What the callers of a log rest on, each as one statement. `src/laws.rt` names them, so that the check proves them.
-use Rattle.std.specs.Prelude.{◌≡◌, false, List, [], ◌∷◌, ◌++◌}
+use Rattle.std.specs.Prelude.{◌≡◌, ◌⊎◌, false, List, [], ◌∷◌, ◌++◌}
 use Rattle.std.specs.List.{Contains}
 use Rattle.model.specs.declared.cell.Cell.{Cell}
 use Rattle.model.specs.declared.change.Change.{Change}
@@ -41,6 +41,13 @@ PastUndoCanBeUndone =
     (old new : Content) (inverses others : List Inverse) → new.schema ≡ old.schema
     → new.rows ≡ (content_undone old others).rows → Keeps (content_undone old others).room new.room
     → shares_cell (all_altered inverses) (all_altered others) ≡ false → AreValidBack new inverses
+    → CanUndo old inverses → CanUndo new inverses
+
+-- past cells that went from the room, if a row fills each of them that is needed
+abbrev pub PastGoneCanBeUndone : Type 0
+PastGoneCanBeUndone =
+    (old new : Content) (inverses : List Inverse) → new.schema ≡ old.schema → new.rows ≡ old.rows → HasRoomForAll new
+    → ((cell : Cell) → Contains (all_needed old.schema inverses) cell → StaysInRoom old new cell ⊎ IsFilled old.schema old.rows cell)
     → CanUndo old inverses → CanUndo new inverses
 
 -- past the cells that another gave up, if a row fills each of them that is needed

@@ -311,7 +311,7 @@ IsNarrow (Uniq table number values) = Unit {0}
 IsNarrow (Whole table) = ⊥
 
 -- what overlaps it is the cell itself, or the whole of its table
-overlap_cases : (cell other : Cell) → IsNarrow cell → overlaps cell other ≡ true → (cell ≡ other) ⊎ (Whole (table_of cell) ≡ other)
+pub overlap_cases : (cell other : Cell) → IsNarrow cell → overlaps cell other ≡ true → (cell ≡ other) ⊎ (Whole (table_of cell) ≡ other)
 overlap_cases (Row t k) (Row u l) narrow is =
     let same : k ≡ l = tells_apart key_cmp_exact k l (second_true _ _ is) in
     inl (ap (λ (n : ℕ). Row n k) (number_is t u (first_true _ _ is)) ∙ ap (Row u) same)
@@ -388,7 +388,8 @@ settled_narrow schema (i ∷ rest) cell is =
 
 -- ---- what one needs and another gives up
 
-filled_live : (schema : Schema) (live own : Rows) (held : List Cell) → StandsLive live own held → (cell : Cell) → IsFilledBy schema own held cell → IsFilled schema live cell
+-- a row whose place is held fills the cell on the live rows too
+pub filled_live : (schema : Schema) (live own : Rows) (held : List Cell) → StandsLive live own held → (cell : Cell) → IsFilledBy schema own held cell → IsFilled schema live cell
 filled_live schema live own held stands cell f =
     record { key = f.key; row = f.row; at = stands (table_of cell) f.key f.its ∙ f.at; fills = f.fills }
 

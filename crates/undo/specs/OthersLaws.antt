@@ -6,6 +6,7 @@
 --     same_outside_back, same_outside_undone      so the rows are the same elsewhere
 --     CanUndo_past_change, CanUndo_past_undo      past another's change; past changes of others that are undone
 --     among      a cell is among a list, or not
+--     CanUndo_past_gone      past cells that went from the room
 --     CanUndo_past_settle      past the cells that another gave up
 use Rattle.std.specs.Prelude.{◌≡◌, ℕ, zero, suc, ◌⊎◌, ◌==◌, ◌&&◌, Bool, true, false, cond, not, filter, List, [], ◌∷◌, ◌++◌, Option, Some, None, map, unwrap_or, is_some, refl}
 use Rattle.std.proofs.Common.{sym, ◌∙◌, ap, subst, inl, inr, true≢false, arith}
@@ -437,6 +438,21 @@ alike_each schema rows others same [] = tt
 alike_each schema rows others same (cell ∷ cells) =
     (subst (λ (r : Rows). SameAt schema rows r cell) same (same_at_itself schema rows cell), alike_each schema rows others same cells)
 
+-- cells went from the room, but none that is needed, unless a row fills it
+pub CanUndo_past_gone : (old new : Content) (is : List Inverse) → new.schema ≡ old.schema → new.rows ≡ old.rows → HasRoomForAll new
+    → ((cell : Cell) → Contains (all_needed old.schema is) cell → StaysInRoom old new cell ⊎ IsFilled old.schema old.rows cell)
+    → CanUndo old is → CanUndo new is
+CanUndo_past_gone old new is schema rows room stays_or_filled can =
+    CanUndo_past old new schema is (alike_each old.schema old.rows new.rows (sym rows) (all_altered is))
+    (valid_alike old new schema rows is can)
+    (λ cell needs was. elim (stays_or_filled cell needs) [
+      | inl stays ↦ stays was
+      | inr f ↦
+          room (table_of cell) f.key f.row (ap (λ (r : Rows). get r (table_of cell, f.key)) rows ∙ f.at) cell
+          (subst (λ (s : Schema). Contains (cells_of s (table_of cell) f.row) cell) (sym schema) f.fills)
+    ])
+    can
+
 -- another has committed, and gave up the cells that only it needed
 pub CanUndo_past_settle : (old new : Content) (is others : List Inverse) → new.schema ≡ old.schema → new.rows ≡ old.rows
     → HasRoomForAll new
@@ -444,13 +460,9 @@ pub CanUndo_past_settle : (old new : Content) (is others : List Inverse) → new
     → ((cell : Cell) → Contains (all_needed old.schema is) cell → Contains (all_settled old.schema others) cell → IsFilled old.schema old.rows cell)
     → CanUndo old is → CanUndo new is
 CanUndo_past_settle old new is others schema rows room stays filled can =
-    CanUndo_past old new schema is (alike_each old.schema old.rows new.rows (sym rows) (all_altered is))
-    (valid_alike old new schema rows is can)
-    (λ cell needs was. elim (among (all_settled old.schema others) cell) [
-      | inr not ↦ stays cell not was
-      | inl is ↦
-          let f = filled cell needs is in
-          room (table_of cell) f.key f.row (ap (λ (r : Rows). get r (table_of cell, f.key)) rows ∙ f.at) cell
-          (subst (λ (s : Schema). Contains (cells_of s (table_of cell) f.row) cell) (sym schema) f.fills)
+    CanUndo_past_gone old new is schema rows room
+    (λ cell needs. elim (among (all_settled old.schema others) cell) [
+      | inr not ↦ inl (stays cell not)
+      | inl settled ↦ inr (filled cell needs settled)
     ])
     can

@@ -1,6 +1,6 @@
 // The laws of undoing. Each function does nothing: its contract is a law, over all tables, and the
 // check of this crate proves it.
-ghost use Rattle.undo.specs.Laws.{AppliedCanBeUndone, MoreRoomCanBeUndone, PastChangeCanBeUndone, PastUndoCanBeUndone, PastSettleCanBeUndone, SettledIsSecured, NeededIsFilled, PastOthersIsLog};
+ghost use Rattle.undo.specs.Laws.{AppliedCanBeUndone, MoreRoomCanBeUndone, PastChangeCanBeUndone, PastUndoCanBeUndone, PastGoneCanBeUndone, PastSettleCanBeUndone, SettledIsSecured, NeededIsFilled, PastOthersIsLog};
 
 /// What was just applied can be undone, and then what could be before it.
 pub fn applied_can_be_undone()
@@ -21,6 +21,11 @@ pub fn past_change_can_be_undone()
 /// The same past changes of others that are undone.
 pub fn past_undo_can_be_undone()
     ensures { PastUndoCanBeUndone }
+{}
+
+/// The same past cells that went from the room, if a row fills each of them that is needed.
+pub fn past_gone_can_be_undone()
+    ensures { PastGoneCanBeUndone }
 {}
 
 /// The same past the cells that another gave up at its commit, if a row fills each of them that is

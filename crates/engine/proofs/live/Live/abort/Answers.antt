@@ -1,4 +1,10 @@
-use Rattle.std.proofs.Common.{ap, is_some, refl, sym, true≢false, ◌∙◌}
+use Rattle.std.proofs.Common.{[], ap, is_some, refl, sym, true≢false, ◌∙◌}
+use Rattle.keyholds.specs.Holds.{holds_of, cells_held}
+use Rattle.world.specs.Steps.{aborted_with}
+use Rattle.engine.specs.declared.live.Live.{Live}
+use Rattle.engine.specs.CellLaws.{stood_is_held}
+use Rattle.engine.specs.Stood.{IsStoodAt}
+use Rattle.engine.specs.GivenUp.{IsLetGo, are_given_up, lets_go_free, tied_given_up}
 use Rattle.engine.specs.TiedBasics.{is_there, puts_by_update, its_can}
 use Rattle.engine.specs.TiedEnds.{tied_aborted}
 use Rattle.engine.proofs.live.Live.abort.Goals as goal
@@ -17,9 +23,20 @@ pub returns-clause-tied : goal.returns-clause-tied
 returns-clause-tied c =
     let store = c.args.self.now in
     let undone = c.undo_all.ensures in
+    let let_go = c.let_go.ensures in
+    let held : IsStoodAt (holds_of store.holds) c.args.xid [] (holds_of c.release_all.new.self) =
+    record { here = c.release_all.ensures.own; beside = λ other differs. c.release_all.ensures.others other differs ∙ let_go.others other differs } in
     λ w o tied is.
-    tied_aborted w store tied c.args.xid o is c.in-Some.transaction (sym c.in-Some.ensures.value)
-    (record { tables = c.undo_all.new.t; holds = c.release_all.new.self; transactions = c.remove.new.self; stopped = store.stopped })
-    (puts_by_update c.args.xid _ store.transactions c.remove.new.self c.in-Some.ensures.updates) c.in-Some.ensures.len
-    (record { here = c.release_all.ensures.own; beside = c.release_all.ensures.others }) refl
-    (record { schema_is = undone.schema; rows = undone.rows; room = undone.room })
+    let n : Live = record { tables = c.undo_all.new.t; holds = c.release_all.new.self; transactions = c.remove.new.self; stopped = store.stopped } in
+    tied_given_up (aborted_with w c.args.xid) n
+    (tied_aborted w store tied c.args.xid o is c.in-Some.transaction (sym c.in-Some.ensures.value) n
+    (puts_by_update c.args.xid _ store.transactions c.remove.new.self c.in-Some.ensures.updates) c.in-Some.ensures.len held refl
+    (record { schema_is = undone.schema; rows = undone.rows; room = undone.room }))
+    (IsLetGo 0 (cells_held store.holds c.args.xid)) c.let_go.new.tables let_go.given_up let_go.room
+    (lets_go_free w store tied c.args.xid o is 0 (cells_held c.release_all.new.self) (stood_is_held.gone (holds_of store.holds) c.args.xid (holds_of c.release_all.new.self) held))
+
+pub returns-clause-given_up : goal.returns-clause-given_up
+returns-clause-given_up c = are_given_up 0 (cells_held c.args.self.now.holds c.args.xid) c.undo_all.new.t c.let_go.new.tables c.let_go.ensures.given_up
+
+pub returns-clause-schema : goal.returns-clause-schema
+returns-clause-schema c = c.let_go.ensures.given_up.schema ∙ c.undo_all.ensures.schema

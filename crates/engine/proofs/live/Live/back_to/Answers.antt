@@ -1,5 +1,18 @@
-use Rattle.std.proofs.Common.{ap, is_some, refl, sym, true≢false, ◌∙◌}
+use Rattle.std.proofs.Common.{◌≡◌, Some, ap, is_some, refl, subst, sym, true≢false, ◌∙◌}
+use Rattle.std.specs.Prelude.{option_map}
+use Rattle.model.specs.declared.item.Item.TheVariants.{BackTo}
+use Rattle.model.specs.ValidLaws.{not_none}
+use Rattle.keyholds.specs.Holds.{holds_of, cells_held}
+use Rattle.savepoint.specs.declared.mark.Mark.{Mark}
+use Rattle.savepoint.specs.Savepoints.{mark_at}
+use Rattle.savepoint.specs.Record.{Record}
+use Rattle.world.specs.FineLaws.{same_some}
+use Rattle.world.specs.Steps.{done_with}
 use Rattle.engine.specs.BackToLaws.{can_since}
+use Rattle.engine.specs.declared.transaction.OpenTransaction.{OpenTransaction}
+use Rattle.engine.specs.declared.live.Live.{Live}
+use Rattle.engine.specs.CellLaws.{stood_is_held}
+use Rattle.engine.specs.GivenUp.{IsLetGo, AreGivenUp, are_given_up, lets_go_free, tied_given_up}
 use Rattle.engine.specs.TiedBasics.{is_there, writes_by_borrow, its_names, its_can}
 use Rattle.engine.specs.TiedEnds.{tied_back, stood_since, stood_still}
 use Rattle.engine.proofs.live.Live.back_to.Goals as goal
@@ -28,13 +41,38 @@ returns-in-Some-go_back-clause-tied c =
     let left = c.go_back.new.self in
     let after = c.get_mut.follows.lender left in
     let came = c.go_back.ensures in
+    let let_go = c.let_go.ensures in
+    let mark = c.in-Some-go_back.mark in
     λ w o tied is.
-    tied_back w store tied c.args.xid o is old left
-    (record { tables = c.go_back.new.tables; holds = c.release_since.new.self; transactions = after; stopped = store.stopped })
+    let n : Live = record { tables = c.go_back.new.tables; holds = c.let_go.new.holds; transactions = after; stopped = store.stopped } in
+    tied_given_up (done_with w c.args.xid o (BackTo c.args.sub)) n
+    (tied_back w store tied c.args.xid o is old left n
     (writes_by_borrow c.args.xid old left store.transactions after (sym c.in-Some.ensures.value) (c.get_mut.follows.holds left))
     c.args.sub came.more came.back
-    (stood_since store.holds c.release_since.new.self c.args.xid c.in-Some-go_back.mark _ c.in-Some-go_back.ensures.mark c.release_since.ensures.own c.release_since.ensures.others)
-    refl
+    (stood_since store.holds c.let_go.new.holds c.args.xid mark _ c.in-Some-go_back.ensures.mark let_go.own let_go.others)
+    refl)
+    (IsLetGo mark.held (cells_held store.holds c.args.xid)) c.let_go.new.tables let_go.given_up let_go.room
+    (lets_go_free w store tied c.args.xid o is mark.held (cells_held c.let_go.new.holds)
+    (stood_is_held.back (holds_of store.holds) c.args.xid (Some mark) (holds_of c.let_go.new.holds) (record { here = let_go.own; beside = let_go.others })))
+
+pub returns-in-Some-go_back-clause-given_up : goal.returns-in-Some-go_back-clause-given_up
+returns-in-Some-go_back-clause-given_up c = λ r m at marked.
+    let store = c.args.self.now in
+    let old = c.in-Some.transaction.now in
+    let its : old.record ≡ r = same_some old.record r (ap (option_map (λ (k : OpenTransaction). k.record)) c.in-Some.ensures.value ∙ at) in
+    let same : c.in-Some-go_back.mark ≡ m =
+    same_some c.in-Some-go_back.mark m (c.in-Some-go_back.ensures.mark ∙ ap (λ (s : Record). mark_at c.args.sub s.marks) its ∙ marked) in
+    subst (λ (n : Mark). AreGivenUp n.held (cells_held store.holds c.args.xid) c.let_go.new.tables) same
+    (are_given_up c.in-Some-go_back.mark.held (cells_held store.holds c.args.xid) c.go_back.new.tables c.let_go.new.tables c.let_go.ensures.given_up)
+
+pub returns-in-Some-go_back-clause-schema : goal.returns-in-Some-go_back-clause-schema
+returns-in-Some-go_back-clause-schema c = c.let_go.ensures.given_up.schema ∙ c.go_back.ensures.back.schema_is
+
+pub returns-in_default-go_back-clause-given_up : goal.returns-in_default-go_back-clause-given_up
+returns-in_default-go_back-clause-given_up c = λ r m at marked.
+    let old = c.in-Some.transaction.now in
+    let its : old.record ≡ r = same_some old.record r (ap (option_map (λ (k : OpenTransaction). k.record)) c.in-Some.ensures.value ∙ at) in
+    absurd (not_none m (c.in_default-go_back.ensures.mark ∙ ap (λ (s : Record). mark_at c.args.sub s.marks) its ∙ marked))
 
 pub returns-in_default-go_back-clause-tied : goal.returns-in_default-go_back-clause-tied
 returns-in_default-go_back-clause-tied c =
