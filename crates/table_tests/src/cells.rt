@@ -15,13 +15,13 @@ use std::test::Fail;
 
 /// A cell, by the words of its key or value.
 #[derive(Clone, Copy, Debug)]
-enum Told {
+pub(crate) enum Told {
     Row(TableId, Word),
     Uniq(TableId, usize, Word),
     Whole(TableId),
 }
 
-fn cell(alloc: Global, told: &Told) -> Result<Cell, OutOfMemory> {
+pub(crate) fn cell(alloc: Global, told: &Told) -> Result<Cell, OutOfMemory> {
     match told {
         Row(table, id) => Ok(Cell::Row(*table, key(alloc, id)?)),
         Uniq(table, number, text) => Ok(Cell::Uniq(*table, *number, key(alloc, text)?)),

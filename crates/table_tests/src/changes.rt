@@ -5,6 +5,7 @@ ghost use Rattle.change.specs.Inverse.{CanPutBack};
 use self::Answer::{Agrees, Done, NullKey, Skipped};
 use crate::calls::Call::{Put, Remove, Set, Wipe};
 use crate::calls::{Call, Word, Words, are_there, change, empty_tables, key, rows_of};
+use crate::cells::{Told, cell};
 use change::{Applied, Clash, apply, put_back};
 use indexes::Tables;
 use model::{Key, OutOfMemory, TableId};
@@ -252,6 +253,36 @@ fn a_set_that_moves_its_row_leaves_nothing_behind(rt: HostRuntime) -> Result<(),
         is_held_by(&rt, alloc, &t, (ONE_UNIQUE, 1), text, found)?;
     }
     run(&rt, alloc, &mut t, &Put(ONE_UNIQUE, ("1", "a", "n")))?;
+    Ok(())
+}
+
+// The cells of the first row of the table with one unique key, and some that no row can fill.
+const GIVEN_UP: [Told; 5] = [
+    Told::Row(ONE_UNIQUE, "1"),
+    Told::Uniq(ONE_UNIQUE, 1, "a"),
+    Told::Uniq(ONE_UNIQUE, 2, "a"),
+    Told::Row(9, "1"),
+    Told::Whole(ONE_UNIQUE),
+];
+
+#[test]
+fn a_row_keeps_its_cells_and_comes_again_once_they_are_given_up(
+    rt: HostRuntime,
+) -> Result<(), Fail> {
+    let alloc = rt.alloc();
+    let mut t = filled(&rt, alloc)?;
+    for _ in 0..2 {
+        for told in GIVEN_UP {
+            t.give_up(&cell(alloc, &told)?);
+        }
+        is_held_by(&rt, alloc, &t, (ONE_UNIQUE, 1), "a", Some("1"))?;
+        run(&rt, alloc, &mut t, &Remove(ONE_UNIQUE, "1"))?;
+        for told in GIVEN_UP {
+            t.give_up(&cell(alloc, &told)?);
+        }
+        run(&rt, alloc, &mut t, &Put(ONE_UNIQUE, ("1", "a", "n")))?;
+    }
+    has_rows(&rt, alloc, &t, ONE_UNIQUE, r"1|a|n 2|b|m 3|\N|\N")?;
     Ok(())
 }
 
