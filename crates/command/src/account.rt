@@ -6,7 +6,7 @@ use std::alloc::{AllocError, Global};
 use trace::Trace;
 
 /// Writes down why a command ended. Where memory is refused, there is less to read.
-#[derive(Drop)]
+#[derive(Debug, Drop)]
 pub struct Account {
     text: String,
     /// Whether a run has ended. Without one there is no place in the stream to tell.

@@ -15,7 +15,7 @@ pub enum Input<'a> {
 }
 
 /// What a command line asks for.
-#[derive(Drop)]
+#[derive(Debug, Drop)]
 pub struct Options<'a> {
     /// `replay`: every streamed transaction is spooled.
     pub spooled: bool,

@@ -87,7 +87,7 @@ impl Hash for HashedKey {
 }
 
 /// A key that is looked for.
-#[derive(Clone, Copy)]
+#[derive(Clone, Copy, Debug)]
 pub struct SoughtKey<'a> {
     /// The key.
     pub key: &'a Key,
