@@ -1,6 +1,8 @@
+use super::asserts::{assert_holds, assert_same};
 use bytes::ByteStr;
-use catalog::{Catalog, CatalogFault, ColumnType, Key, Row, Value};
+use catalog::{Catalog, CatalogFault, Column, ColumnType, Key, Row, Value};
 use std::alloc::{AllocError, Global};
+use std::process::Abort;
 use std::test::Fail;
 
 const ACCOUNTS: &str = r#"
@@ -21,32 +23,50 @@ type = "text"
 default = "x"
 "#;
 
+// The columns of the accounts.
+const COLUMNS: [(&str, ColumnType); 3] = [
+    ("id", ColumnType::Int),
+    ("email", ColumnType::Text),
+    ("note", ColumnType::Text),
+];
+
+fn assert_columns(rt: &impl Abort, columns: &[Column]) {
+    assert_same(rt, columns.len(), COLUMNS.len(), "columns");
+    for (column, (name, kind)) in columns.iter().zip(&COLUMNS) {
+        assert_same(rt, column.name.as_str(), *name, "name");
+        assert_same(rt, column.kind, *kind, "kind");
+    }
+}
+
 #[test]
 fn reads_the_accounts(rt: HostRuntime) -> Result<(), Fail> {
     let catalog = Catalog::read(rt.alloc(), ACCOUNTS)?;
     let [accounts] = catalog.tables() else {
         return Err(Fail::from("one table"));
     };
-    assert_eq!(rt; accounts.namespace().as_str(), "public");
-    assert_eq!(rt; accounts.name().as_str(), "accounts");
-    let names = ["id", "email", "note"];
-    let kinds = [ColumnType::Int, ColumnType::Text, ColumnType::Text];
-    assert_eq!(rt; accounts.columns().len(), 3);
-    for (column, (name, kind)) in accounts
-        .columns()
-        .iter()
-        .zip(names.iter().zip(kinds.iter()))
-    {
-        assert_eq!(rt; column.name.as_str(), *name);
-        assert_eq!(rt; column.kind, *kind);
-    }
-    assert!(rt; accounts.primary().numbers() == [0].as_slice());
+    assert_same(&rt, accounts.namespace().as_str(), "public", "namespace");
+    assert_same(&rt, accounts.name().as_str(), "accounts", "name");
+    assert_columns(&rt, accounts.columns());
+    let defaults = [None, None, Some(Value::Text(ByteStr::from_static("x")))];
+    assert_holds(&rt, accounts.defaults() == defaults.as_slice(), "defaults");
+    Ok(())
+}
+
+#[test]
+fn reads_the_keys_of_the_accounts(rt: HostRuntime) -> Result<(), Fail> {
+    let catalog = Catalog::read(rt.alloc(), ACCOUNTS)?;
+    let [accounts] = catalog.tables() else {
+        return Err(Fail::from("one table"));
+    };
+    assert_holds(
+        &rt,
+        accounts.primary().numbers() == [0].as_slice(),
+        "primary",
+    );
     let [email] = accounts.uniques() else {
         return Err(Fail::from("one unique key"));
     };
-    assert!(rt; email.numbers() == [1].as_slice());
-    let defaults = [None, None, Some(Value::Text(ByteStr::from_static("x")))];
-    assert!(rt; accounts.defaults() == defaults.as_slice());
+    assert_holds(&rt, email.numbers() == [1].as_slice(), "unique");
     Ok(())
 }
 
@@ -77,7 +97,7 @@ const TAKEN: [(&str, usize); 7] = [
 fn takes_what_is_a_catalog(rt: HostRuntime) -> Result<(), Fail> {
     for (text, count) in TAKEN {
         let catalog = Catalog::read(rt.alloc(), text)?;
-        assert_eq!(rt; catalog.tables().len(), count, "in {text}");
+        assert_same(&rt, catalog.tables().len(), count, text);
     }
     Ok(())
 }
@@ -264,12 +284,37 @@ const REFUSED: [(&str, CatalogFault); 48] = [
 #[test]
 fn answers_the_least_fault(rt: HostRuntime) {
     for (text, fault) in REFUSED {
-        assert_eq!(rt;
+        assert_same(
+            &rt,
             Catalog::read(rt.alloc(), text).err(),
             Some(fault),
-            "in {text}"
+            text,
         );
     }
+}
+
+// Appends a table with so many columns and unique keys.
+fn push_table(
+    text: &mut String,
+    number: usize,
+    columns: usize,
+    uniques: usize,
+) -> Result<(), AllocError> {
+    write!(
+        text,
+        "[[table]]\nnamespace = \"n\"\nname = \"t{number}\"\nprimary = [\"c0\"]\nunique = ["
+    )?;
+    for _ in 0..uniques {
+        text.push_str("[\"c0\"],")?;
+    }
+    text.push_str("]\n")?;
+    for column in 0..columns {
+        write!(
+            text,
+            "[[table.column]]\nname = \"c{column}\"\ntype = \"int\"\n"
+        )?;
+    }
+    Ok(())
 }
 
 // A text with so many tables, of which the first has so many columns and unique keys.
@@ -280,55 +325,29 @@ fn large_text(
     uniques: usize,
 ) -> Result<String, AllocError> {
     let mut text = String::new(alloc);
-    for number in 0..tables {
-        let (columns, uniques) = if number == 0 {
-            (columns, uniques)
-        } else {
-            (1, 0)
-        };
-        write!(
-            text,
-            "[[table]]\nnamespace = \"n\"\nname = \"t{number}\"\nprimary = [\"c0\"]\nunique = ["
-        )?;
-        for _ in 0..uniques {
-            text.push_str("[\"c0\"],")?;
-        }
-        text.push_str("]\n")?;
-        for column in 0..columns {
-            write!(
-                text,
-                "[[table.column]]\nname = \"c{column}\"\ntype = \"int\"\n"
-            )?;
-        }
+    push_table(&mut text, 0, columns, uniques)?;
+    for number in 1..tables {
+        push_table(&mut text, number, 1, 0)?;
     }
     Ok(text)
 }
 
 // Tables, columns and unique keys, and whether a catalog may have so many.
-const SIZES: [(usize, usize, usize, bool); 6] = [
-    (1024, 1, 0, true),
-    (1025, 1, 0, false),
-    (1, 1600, 0, true),
-    (1, 1601, 0, false),
-    (1, 1, 16, true),
-    (1, 1, 17, false),
+const SIZES: [(usize, usize, usize, Option<CatalogFault>); 6] = [
+    (1024, 1, 0, None),
+    (1025, 1, 0, Some(CatalogFault::OverLimit)),
+    (1, 1600, 0, None),
+    (1, 1601, 0, Some(CatalogFault::OverLimit)),
+    (1, 1, 16, None),
+    (1, 1, 17, Some(CatalogFault::OverLimit)),
 ];
 
 #[test]
 fn takes_up_to_the_limits(rt: HostRuntime) -> Result<(), Fail> {
-    for (tables, columns, uniques, taken) in SIZES {
+    for (tables, columns, uniques, want) in SIZES {
         let text = large_text(rt.alloc(), tables, columns, uniques)?;
         let fault = Catalog::read(rt.alloc(), text.as_str()).err();
-        let wanted = if taken {
-            None
-        } else {
-            Some(CatalogFault::OverLimit)
-        };
-        assert_eq!(rt;
-            fault,
-            wanted,
-            "at {tables} tables, {columns} columns, {uniques} unique keys"
-        );
+        assert_same(&rt, fault, want, tables);
     }
     Ok(())
 }
@@ -346,22 +365,23 @@ fn orders_and_copies_values(rt: HostRuntime) -> Result<(), Fail> {
     ];
     for (place, value) in ascending.iter().enumerate() {
         for (other_place, other) in ascending.iter().enumerate() {
-            assert_eq!(rt;
-                value.cmp(other),
-                place.cmp(&other_place),
-                "{value:?} to {other:?}"
-            );
+            assert_same(&rt, value.cmp(other), place.cmp(&other_place), place);
         }
-        assert!(rt; value.copy()? == *value);
+        assert_holds(&rt, value.copy()? == *value, place);
     }
+    Ok(())
+}
+
+#[test]
+fn orders_and_copies_keys_and_rows(rt: HostRuntime) -> Result<(), Fail> {
     let key = Key::from_values(vec![in rt.alloc(); Value::Int(1), Value::Bool(true)]?)?;
     let longer = Key::from_values(vec![in rt.alloc();
         Value::Int(1),
         Value::Bool(true),
         Value::Int(0),
     ]?)?;
-    assert!(rt; key < longer && key.copy()? == key);
+    assert_holds(&rt, key < longer && key.copy()? == key, "key");
     let row = Row::from_values(vec![in rt.alloc(); None, Some(Value::Int(1))]?)?;
-    assert!(rt; row.copy()?.values() == row.values());
+    assert_holds(&rt, row.copy()?.values() == row.values(), "values");
     Ok(())
 }

@@ -4,6 +4,7 @@ ghost use Rattle.std.specs.Io.KnownBytes.{Consumes};
 ghost use Rattle.frames.specs.Stream.{ending_of};
 ghost use Rattle.frames.specs.Reads.{HasRead, HasEnded, AtEndOf};
 
+use super::asserts::{assert_holds, assert_same};
 use bytes::Bytes;
 use frames::{
     CopyItem, Failed, FrameFault, Frames, Lsn, ReadSource, Sink, Source, Status, WriteSink,
@@ -11,6 +12,7 @@ use frames::{
 };
 use std::alloc::{AllocError, Global};
 use std::io::Cursor;
+use std::process::Abort;
 use std::test::Fail;
 
 // One transaction of an insert: Begin, Relation, Insert and Commit, each in a frame of its own.
@@ -120,67 +122,86 @@ fn read_pieces(
     Ok((items, frames.finish()))
 }
 
+// Frames, and how they end.
+const ENDS: [(&[u8], Result<(), FrameFault>); 17] = [
+    (b"d\x00\x00\x00\x04", Err(FrameFault::BadLength)),
+    (b"d\x80\x00\x00\x00", Err(FrameFault::BadLength)),
+    (b"c\x00\x00\x00\x05", Err(FrameFault::BadLength)),
+    (b"d\x00\x00\x00\x05w", Err(FrameFault::BadLength)),
+    (
+        b"d\x00\x00\x00\x15k\0\0\0\0\0\0\0\x02\0\0\0\0\0\0\0\0",
+        Err(FrameFault::BadLength),
+    ),
+    (
+        b"d\x00\x00\x00\x17k\0\0\0\0\0\0\0\x02\0\0\0\0\0\0\0\0\x01\0",
+        Err(FrameFault::BadLength),
+    ),
+    (
+        b"d\x00\x00\x00\x1cw\0\0\0\0\0\0\0\0\0\0\0\0\0\0\0\0\0\0\0\0\0\0\0",
+        Err(FrameFault::BadLength),
+    ),
+    (b"d\x04\x00\x00\x01", Err(FrameFault::TooLarge)),
+    (b"d\x04\x00\x00\x00", Err(FrameFault::Truncated)),
+    (b"X\x00\x00\x00\x04", Err(FrameFault::UnknownFrame)),
+    (b"X\x00\x00\x00", Err(FrameFault::Truncated)),
+    (b"E\x00\x00\x00\x04", Err(FrameFault::ServerError)),
+    (b"E\x00\x00\x00\x05", Err(FrameFault::Truncated)),
+    (b"d\x00\x00\x00\x05x", Err(FrameFault::UnknownCopyTag)),
+    (b"N\x00\x00\x00\x04", Ok(())),
+    (b"S\x00\x00\x00\x06a\0", Ok(())),
+    (b"c\x00\x00\x00\x04further", Ok(())),
+];
+
 #[test]
 fn frames_that_are_refused(rt: HostRuntime) -> Result<(), Fail> {
-    let cases: [(&[u8], Result<(), FrameFault>); 17] = [
-        (b"d\x00\x00\x00\x04", Err(FrameFault::BadLength)),
-        (b"d\x80\x00\x00\x00", Err(FrameFault::BadLength)),
-        (b"c\x00\x00\x00\x05", Err(FrameFault::BadLength)),
-        (b"d\x00\x00\x00\x05w", Err(FrameFault::BadLength)),
-        (
-            b"d\x00\x00\x00\x15k\0\0\0\0\0\0\0\x02\0\0\0\0\0\0\0\0",
-            Err(FrameFault::BadLength),
-        ),
-        (
-            b"d\x00\x00\x00\x17k\0\0\0\0\0\0\0\x02\0\0\0\0\0\0\0\0\x01\0",
-            Err(FrameFault::BadLength),
-        ),
-        (
-            b"d\x00\x00\x00\x1cw\0\0\0\0\0\0\0\0\0\0\0\0\0\0\0\0\0\0\0\0\0\0\0",
-            Err(FrameFault::BadLength),
-        ),
-        (b"d\x04\x00\x00\x01", Err(FrameFault::TooLarge)),
-        (b"d\x04\x00\x00\x00", Err(FrameFault::Truncated)),
-        (b"X\x00\x00\x00\x04", Err(FrameFault::UnknownFrame)),
-        (b"X\x00\x00\x00", Err(FrameFault::Truncated)),
-        (b"E\x00\x00\x00\x04", Err(FrameFault::ServerError)),
-        (b"E\x00\x00\x00\x05", Err(FrameFault::Truncated)),
-        (b"d\x00\x00\x00\x05x", Err(FrameFault::UnknownCopyTag)),
-        (b"N\x00\x00\x00\x04", Ok(())),
-        (b"S\x00\x00\x00\x06a\0", Ok(())),
-        (b"c\x00\x00\x00\x04further", Ok(())),
-    ];
-    for (bytes, want) in &cases {
+    for (case, (bytes, want)) in ENDS.iter().enumerate() {
         for size in [1, bytes.len()] {
-            let (_, end) = read_pieces(rt.alloc(), bytes, size)?;
-            assert_eq!(rt; end, *want, "{bytes:?} in pieces of {size}");
+            let (_, end) = read_pieces(rt.alloc(), *bytes, size)?;
+            assert_same(&rt, end, *want, case);
         }
     }
+    Ok(())
+}
+
+// How many frames of the stream are whole within so many bytes.
+fn whole_within(count: usize) -> usize {
+    EDGES
+        .iter()
+        .filter(|edge| **edge > 0 && **edge <= count)
+        .count()
+}
+
+// How the stream ends where it is cut.
+fn end_of_cut(cut: usize) -> Result<(), FrameFault> {
+    if EDGES.contains(&cut) {
+        Ok(())
+    } else {
+        Err(FrameFault::Truncated)
+    }
+}
+
+// The stream that is cut gives a beginning of all items.
+fn assert_cut(
+    rt: &impl Abort,
+    alloc: Global,
+    whole: &[CopyItem],
+    cut: usize,
+    size: usize,
+) -> Result<(), Fail> {
+    let (items, end) = read_pieces(alloc, STREAM.get(..cut).unwrap_or(&[]), size)?;
+    assert_same(rt, end, end_of_cut(cut), cut);
+    assert_same(rt, items.len(), whole_within(cut), cut);
+    assert_holds(rt, whole.starts_with(items.as_slice()), cut);
     Ok(())
 }
 
 #[test]
 fn a_stream_cut_at_each_byte(rt: HostRuntime) -> Result<(), Fail> {
     let (whole, _) = read_pieces(rt.alloc(), STREAM, STREAM.len())?;
-    assert_eq!(rt; whole.len(), 4);
-    for cut in 0..STREAM.len() + 1 {
+    assert_same(&rt, whole.len(), 4, "whole");
+    for cut in 0..=STREAM.len() {
         for size in [1, 7, cut] {
-            let (items, end) = read_pieces(rt.alloc(), &STREAM[..cut], size)?;
-            let want = if EDGES.contains(&cut) {
-                Ok(())
-            } else {
-                Err(FrameFault::Truncated)
-            };
-            assert_eq!(rt; end, want, "cut at {cut}");
-            let there = EDGES
-                .iter()
-                .filter(|edge| **edge > 0 && **edge <= cut)
-                .count();
-            assert_eq!(rt; items.len(), there, "cut at {cut}");
-            assert!(rt;
-                items.iter().zip(&whole).all(|(item, same)| *item == *same),
-                "cut at {cut}"
-            );
+            assert_cut(&rt, rt.alloc(), whole.as_slice(), cut, size)?;
         }
     }
     Ok(())
@@ -188,7 +209,7 @@ fn a_stream_cut_at_each_byte(rt: HostRuntime) -> Result<(), Fail> {
 
 #[test]
 fn a_source_that_fails_at_each_read(rt: HostRuntime) -> Result<(), Fail> {
-    for fails_at in 0..STREAM.len() + 1 {
+    for fails_at in 0..=STREAM.len() {
         let mut source = Failing {
             bytes: STREAM,
             fails_at,
@@ -196,15 +217,20 @@ fn a_source_that_fails_at_each_read(rt: HostRuntime) -> Result<(), Fail> {
             failed_last: false,
         };
         let (items, end) = read_all(rt.alloc(), &mut source)?;
-        assert_eq!(rt; end, Err(FrameFault::Device), "read {fails_at}");
-        assert_eq!(rt; source.failures, 1);
-        let there = EDGES
-            .iter()
-            .filter(|edge| **edge > 0 && **edge <= fails_at)
-            .count();
-        assert_eq!(rt; items.len(), there, "read {fails_at}");
+        assert_same(&rt, end, Err(FrameFault::Device), fails_at);
+        assert_same(&rt, source.failures, 1, "failures");
+        assert_same(&rt, items.len(), whole_within(fails_at), fails_at);
     }
     Ok(())
+}
+
+// Whatever is fed or read behind it, the fault is answered.
+fn assert_comes_again(rt: &impl Abort, frames: &mut Frames) {
+    let fault = Err(FrameFault::ServerError);
+    assert_same(rt, frames.feed(b"c\x00\x00\x00\x04"), fault, "feed");
+    let pulled = frames.pull(&mut ReadSource::new(Cursor::new(STREAM)));
+    assert_same(rt, pulled, Err(FrameFault::ServerError), "pulled");
+    assert_same(rt, frames.finish(), fault, "finish");
 }
 
 // A fault comes behind the items before it, and comes again.
@@ -212,27 +238,34 @@ fn a_source_that_fails_at_each_read(rt: HostRuntime) -> Result<(), Fail> {
 fn a_fault_comes_again(rt: HostRuntime) -> Result<(), Fail> {
     let mut frames = Frames::new(rt.alloc());
     let bytes = b"d\x00\x00\x00\x16k\0\0\0\0\0\0\x02\x00\0\0\0\0\0\0\0\0\x02E\x00\x00\x00\x04";
-    assert_eq!(rt; frames.feed(bytes), Err(FrameFault::ServerError));
-    assert_eq!(rt;
-        frames.feed(b"c\x00\x00\x00\x04"),
-        Err(FrameFault::ServerError)
+    assert_same(
+        &rt,
+        frames.feed(bytes),
+        Err(FrameFault::ServerError),
+        "feed",
     );
-    assert_eq!(rt;
-        frames.pull(&mut ReadSource::new(Cursor::new(STREAM))),
-        Err(FrameFault::ServerError)
-    );
-    assert_eq!(rt; frames.finish(), Err(FrameFault::ServerError));
+    assert_comes_again(&rt, &mut frames);
     let keepalive = CopyItem::Keepalive {
         end: 0x200,
         reply: true,
     };
-    assert_eq!(rt; frames.next(), Some(keepalive));
-    assert_eq!(rt; frames.next(), None);
+    assert_same(&rt, &frames.next(), &Some(keepalive), "next");
+    assert_same(&rt, &frames.next(), &None, "next");
     Ok(())
 }
 
 // Where the payloads of its frames lie.
 const PAYLOADS: [(usize, usize); 4] = [(30, 51), (81, 146), (176, 202), (232, 258)];
+
+// The item of the stream's frame whose payload lies here.
+fn item_at(place: Option<&(usize, usize)>) -> CopyItem {
+    let payload = place.and_then(|(from, to)| STREAM.get(*from..*to));
+    CopyItem::Wal {
+        start: 0,
+        end: 0,
+        payload: Bytes::from_static(payload.unwrap_or(&[])),
+    }
+}
 
 // Where memory is refused, the items are a beginning of all, and the refusal comes again. With ample memory it isn't.
 #[test]
@@ -242,25 +275,22 @@ fn items_where_memory_is_refused(rt: HostRuntime) {
     for piece in STREAM.chunks(40) {
         let answer = frames.feed(piece);
         while let Some(item) = frames.next() {
-            let payload = payloads
-                .next()
-                .and_then(|(from, to)| STREAM.get(*from..*to));
-            let want = CopyItem::Wal {
-                start: 0,
-                end: 0,
-                payload: Bytes::from_static(payload.unwrap_or(&[])),
-            };
-            assert_eq!(rt; item, want);
+            assert_same(&rt, &item, &item_at(payloads.next()), "item");
         }
         if let Err(fault) = answer {
-            assert_eq!(rt; fault, FrameFault::OutOfMemory);
-            assert_eq!(rt; frames.feed(piece), Err(FrameFault::OutOfMemory));
-            assert_eq!(rt; frames.finish(), Err(FrameFault::OutOfMemory));
+            assert_same(&rt, fault, FrameFault::OutOfMemory, "fault");
+            assert_same(
+                &rt,
+                frames.feed(piece),
+                Err(FrameFault::OutOfMemory),
+                "feed",
+            );
+            assert_same(&rt, frames.finish(), Err(FrameFault::OutOfMemory), "finish");
             return;
         }
     }
-    assert_eq!(rt; payloads.next(), None);
-    assert_eq!(rt; frames.finish(), Ok(()));
+    assert_same(&rt, payloads.next(), None, "payload");
+    assert_same(&rt, frames.finish(), Ok(()), "finish");
 }
 
 // Over std's readers: the payloads, and CopyDone, after which nothing is read.
@@ -270,15 +300,15 @@ fn a_reader_up_to_copy_done(rt: HostRuntime) -> Result<(), Fail> {
     bytes.extend_from_slice(b"c\x00\x00\x00\x04d\x00")?;
     let mut source = ReadSource::new(Cursor::new(bytes.as_slice()));
     let (items, end) = read_all(rt.alloc(), &mut source)?;
-    assert_eq!(rt; end, Ok(()));
-    assert_eq!(rt; items.len(), 5);
+    assert_same(&rt, end, Ok(()), "end");
+    assert_same(&rt, items.len(), 5, "items");
     let commit = CopyItem::Wal {
         start: 0,
         end: 0,
         payload: Bytes::from_static(&STREAM[232..]),
     };
-    assert_eq!(rt; items[3], commit);
-    assert_eq!(rt; items[4], CopyItem::Done);
+    assert_same(&rt, items.as_slice().get(3), Some(&commit), "commit");
+    assert_same(&rt, items.as_slice().get(4), Some(&CopyItem::Done), "done");
     Ok(())
 }
 
@@ -313,69 +343,96 @@ impl Sink for Narrow {
     }
 }
 
-// The update of the stream's commit, with the clock at 5.
+// Where a run is that has applied the stream's commit and has so much of the log, with the clock at 5.
+fn status(written: Lsn) -> Status {
+    Status {
+        written,
+        flushed: 0x120,
+        applied: 0x120,
+        clock: 5,
+    }
+}
+
+// The update of the stream's commit, and one of a run that has more of the log.
 const UPDATE: &[u8] = b"\
     d\x00\x00\x00\x26r\0\0\0\0\0\0\x01\x20\0\0\0\0\0\0\x01\x20\0\0\0\0\0\0\x01\x20\0\0\0\0\0\0\0\x05\0";
 
+const UPDATES: [(Lsn, &[u8]); 2] = [
+    (0x120, UPDATE),
+    (
+        0x200,
+        b"d\x00\x00\x00\x26r\0\0\0\0\0\0\x02\x00\0\0\0\0\0\0\x01\x20\0\0\0\0\0\0\x01\x20\0\0\0\0\0\0\0\x05\0",
+    ),
+];
+
+// The write that fails, how many bytes of an update were taken before, and what is answered.
+const SENT: [(usize, usize, Result<(), FrameFault>); 3] = [
+    (0, 0, Err(FrameFault::Device)),
+    (12, 36, Err(FrameFault::Device)),
+    (13, 39, Ok(())),
+];
+
 #[test]
 fn status_updates(rt: HostRuntime) -> Result<(), Fail> {
-    let cases: [(Lsn, &[u8]); 2] = [
-        (0x120, UPDATE),
-        (
-            0x200,
-            b"d\x00\x00\x00\x26r\0\0\0\0\0\0\x02\x00\0\0\0\0\0\0\x01\x20\0\0\0\0\0\0\x01\x20\0\0\0\0\0\0\0\x05\0",
-        ),
-    ];
-    for (written, want) in cases {
-        let status = Status {
-            written,
-            flushed: 0x120,
-            applied: 0x120,
-            clock: 5,
-        };
+    for (written, want) in UPDATES {
         let mut out = Vec::new(rt.alloc());
         out.push(7)?;
-        assert_eq!(rt; write_status(&status, &mut out), Ok(()));
-        assert_eq!(rt; out.as_slice().split_at(1).1, want);
-        for (fails_at, taken) in [(0, 0), (12, 36), (13, 39)] {
+        assert_same(
+            &rt,
+            write_status(&status(written), &mut out),
+            Ok(()),
+            "written",
+        );
+        assert_same(&rt, out.as_slice().split_at(1).1, want, "update");
+        let mut sink = WriteSink::new(Vec::new(rt.alloc()));
+        assert_same(
+            &rt,
+            send_status(rt.alloc(), &status(written), &mut sink),
+            Ok(()),
+            "sent",
+        );
+    }
+    Ok(())
+}
+
+#[test]
+fn status_updates_to_a_sink_that_fails(rt: HostRuntime) {
+    for (written, want) in UPDATES {
+        for (fails_at, taken, answer) in SENT {
             let mut sink = Narrow {
                 taken: Vec::new(rt.alloc()),
                 fails_at,
                 failures: 0,
                 failed_last: false,
             };
-            let answer = if fails_at < 13 {
-                Err(FrameFault::Device)
-            } else {
-                Ok(())
-            };
-            assert_eq!(rt; send_status(rt.alloc(), &status, &mut sink), answer);
-            assert_eq!(rt; Some(sink.taken.as_slice()), want.get(..taken));
+            assert_same(
+                &rt,
+                send_status(rt.alloc(), &status(written), &mut sink),
+                answer,
+                fails_at,
+            );
+            assert_same(
+                &rt,
+                Some(sink.taken.as_slice()),
+                want.get(..taken),
+                fails_at,
+            );
         }
-        let mut sink = WriteSink::new(Vec::new(rt.alloc()));
-        assert_eq!(rt; send_status(rt.alloc(), &status, &mut sink), Ok(()));
     }
-    Ok(())
 }
 
 // Where memory is refused, a status update is not written, and what was written before stays.
 #[test]
 fn status_updates_where_memory_is_refused(rt: HostRuntime) {
-    let status = Status {
-        written: 0x120,
-        flushed: 0x120,
-        applied: 0x120,
-        clock: 5,
-    };
     let mut out = Vec::new(rt.alloc());
     for _ in 0..3 {
         let before = out.len();
-        if let Err(fault) = write_status(&status, &mut out) {
-            assert_eq!(rt; fault, FrameFault::OutOfMemory);
-            assert_eq!(rt; out.len(), before);
+        if let Err(fault) = write_status(&status(0x120), &mut out) {
+            assert_same(&rt, fault, FrameFault::OutOfMemory, "fault");
+            assert_same(&rt, out.len(), before, "out");
         }
     }
     for frame in out.chunks(UPDATE.len()) {
-        assert_eq!(rt; frame, UPDATE);
+        assert_same(&rt, frame, UPDATE, "frame");
     }
 }

@@ -13,11 +13,15 @@
 #![tactic(auto)]
 
 #[cfg(test)]
+mod asserts;
+#[cfg(test)]
 mod catalogs;
 #[cfg(test)]
 mod connections;
 #[cfg(test)]
 mod framing;
+#[cfg(test)]
+mod hex;
 #[cfg(test)]
 mod payloads;
 #[cfg(test)]

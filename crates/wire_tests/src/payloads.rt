@@ -1,14 +1,14 @@
 //! What no clause says: payloads from outside, and what they must read as.
 
-ghost use Rattle.std.specs.Prelude.{◌<◌};
 ghost use Rattle.messages.specs.Messages.{HasXid};
 
+use super::asserts::{assert_holds, assert_same};
+use super::hex::from_hex;
 use bytes::{ByteStr, Bytes};
 use messages::{
-    Begin, Column, Columns, Commit, Content, Delete, Insert, LogicalMessage, Message, MsgFault,
-    Name, Oid, OldTuple, Origin, Relation, RelationColumn, Relations, ReplicaIdentity, RowMessage,
-    StreamAbort, StreamCommit, StreamStart, Text, Truncate, TruncateOptions, Tuple, TypeName,
-    Update, decode, encode,
+    Column, Columns, Content, Insert, LogicalMessage, Message, MsgFault, Name, Oid, Relation,
+    RelationColumn, Relations, ReplicaIdentity, RowMessage, Text, Truncate, TruncateOptions, Tuple,
+    decode, encode,
 };
 use std::alloc::{AllocError, Global};
 use std::process::Abort;
@@ -106,26 +106,6 @@ const CASES: &str = "\
 00 out UnknownTag\n\
 52 in Short";
 
-fn nibble(digit: u8) -> u8
-    ensures { result < 16 }
-{
-    match digit {
-        b'0'..=b'9' => digit - b'0',
-        b'a'..=b'f' => digit - b'a' + 10,
-        _ => 0,
-    }
-}
-
-fn from_hex(alloc: Global, digits: &str) -> Result<Vec<u8>, AllocError> {
-    let mut bytes = Vec::new(alloc);
-    for pair in digits.as_bytes().chunks(2) {
-        if let [high, low] = pair {
-            bytes.push(nibble(*high) * 16 + nibble(*low))?;
-        }
-    }
-    Ok(bytes)
-}
-
 fn name_of(m: &Message) -> &'static str {
     match m {
         Message::Begin(_) => "Begin",
@@ -180,23 +160,33 @@ fn reading(alloc: Global, payload: &Bytes, in_block: bool) -> &'static str {
 fn each_case_reads_as_it_must(rt: HostRuntime) -> Result<(), Fail> {
     for line in CASES.lines() {
         let (payload, in_block, answer) = case_of(rt.alloc(), line)?;
-        assert_eq!(rt; reading(rt.alloc(), &payload, in_block), answer, "{line}");
+        assert_same(&rt, reading(rt.alloc(), &payload, in_block), answer, line);
     }
     Ok(())
 }
 
 // A payload that is cut ends too early, unless the fault that stands in all of it stands before the cut.
+fn assert_cut(
+    rt: &impl Abort,
+    cut: Result<Message, MsgFault>,
+    whole: Option<MsgFault>,
+    line: &str,
+) {
+    match cut {
+        Err(MsgFault::Short) => {}
+        Err(other) => assert_same(rt, Some(other), whole, line),
+        Ok(_) => assert_same(rt, whole, Some(MsgFault::Trailing), line),
+    }
+}
+
 #[test]
 fn each_prefix_is_short_or_has_the_same_fault(rt: HostRuntime) -> Result<(), Fail> {
     for line in CASES.lines() {
         let (payload, in_block, _) = case_of(rt.alloc(), line)?;
-        let fault = decode(rt.alloc(), &payload, in_block).err();
+        let whole = decode(rt.alloc(), &payload, in_block).err();
         for cut in 0..payload.len() {
-            match decode(rt.alloc(), &payload.slice(..cut)?, in_block) {
-                Err(MsgFault::Short) => {}
-                Err(other) => assert_eq!(rt; Some(other), fault, "{line} cut at {cut}"),
-                Ok(_) => assert_eq!(rt; fault, Some(MsgFault::Trailing), "{line} cut at {cut}"),
-            }
+            let answer = decode(rt.alloc(), &payload.slice(..cut)?, in_block);
+            assert_cut(&rt, answer, whole, line);
         }
     }
     Ok(())
@@ -207,10 +197,105 @@ fn what_is_read_is_written_again(rt: HostRuntime) -> Result<(), Fail> {
     for line in CASES.lines() {
         let (payload, in_block, _) = case_of(rt.alloc(), line)?;
         if let Ok(m) = decode(rt.alloc(), &payload, in_block) {
-            let mut out = Vec::new(rt.alloc());
-            encode(rt.alloc(), &m, in_block, &mut out)?;
-            assert_eq!(rt; out.as_slice(), payload.as_slice(), "{line}");
+            assert_written(&rt, rt.alloc(), &m, in_block, payload.as_slice())?;
         }
+    }
+    Ok(())
+}
+
+// The message is written as this payload, behind what is there.
+fn assert_written(
+    rt: &impl Abort,
+    alloc: Global,
+    m: &Message,
+    in_block: bool,
+    payload: &[u8],
+) -> Result<(), Fail>
+    requires { HasXid in_block m.now }
+{
+    let mut out = Vec::new(alloc);
+    out.push(7)?;
+    encode(alloc, m, in_block, &mut out)?;
+    let (before, written) = out.as_slice().split_at(1);
+    assert_same(rt, before, [7].as_slice(), "before");
+    assert_same(rt, written, payload, "written");
+    Ok(())
+}
+
+fn printed(alloc: Global, m: &Message) -> Result<String, Fail> {
+    Ok(format!(in alloc; "{m:?}")?)
+}
+
+// Payloads, whether they stand in a block, and the message that is read, with each of its fields.
+const PRINTED: [(&str, bool, &str); 12] = [
+    (
+        "420000000000000100fffffffffffffffe00000384",
+        false,
+        "Begin(Begin { final_lsn: 256, commit_time: -2, xid: 900 })",
+    ),
+    (
+        "4300000000000000010000000000000001200000000000000003",
+        false,
+        "Commit(Commit { commit_lsn: 256, end_lsn: 288, commit_time: 3 })",
+    ),
+    (
+        "4f00000000000000016f00",
+        true,
+        "Origin(Origin { lsn: 1, name: Name { text: \"o\" } })",
+    ),
+    (
+        "59000002bc0000400170007100",
+        true,
+        "TypeName(TypeName { xid: Some(700), oid: 16385, namespace: Name { text: \"p\" }, name: Name { text: \"q\" } })",
+    ),
+    (
+        "55000040014f00027400000001316e4e0002757400000000",
+        false,
+        "Update(Update { xid: None, oid: 16385, \
+        old: Some(Full(Tuple { columns: [Text(Text { text: \"1\" }), Null] })), \
+        new: Tuple { columns: [Unchanged, Text(Text { text: \"\" })] } })",
+    ),
+    (
+        "55000040014e0000",
+        false,
+        "Update(Update { xid: None, oid: 16385, old: None, new: Tuple { columns: [] } })",
+    ),
+    (
+        "44000040014b00037400000001316e6e",
+        false,
+        "Delete(Delete { xid: None, oid: 16385, old: Key(Tuple { columns: [Text(Text { text: \"1\" }), Null, Null] }) })",
+    ),
+    (
+        "53000002bc01",
+        false,
+        "StreamStart(StreamStart { xid: 700, is_first: true })",
+    ),
+    ("45", true, "StreamStop"),
+    (
+        "63000002bc00000000000000020000000000000002200000000000000000",
+        false,
+        "StreamCommit(StreamCommit { xid: 700, commit_lsn: 512, end_lsn: 544, commit_time: 0 })",
+    ),
+    (
+        "41000002bc000002c70000000000000005ffffffffffffffff",
+        false,
+        "StreamAbort(StreamAbort { xid: 700, subtransaction: 711, lsn: 5, abort_time: -1 })",
+    ),
+    (
+        "54000002bc00000002020000400100004002",
+        true,
+        "Truncate(Truncate { xid: Some(700), options: TruncateOptions { cascade: false, restart_identity: true }, \
+        relations: Relations { oids: [16385, 16386] } })",
+    ),
+];
+
+#[test]
+fn each_field_is_read_and_written(rt: HostRuntime) -> Result<(), Fail> {
+    for (digits, in_block, want) in PRINTED {
+        let payload = Bytes::from_vec(from_hex(rt.alloc(), digits)?)?;
+        let m = decode(rt.alloc(), &payload, in_block)?;
+        assert_same(&rt, printed(rt.alloc(), &m)?.as_str(), want, digits);
+        assert_written(&rt, rt.alloc(), &m, in_block, payload.as_slice())?;
     }
     Ok(())
 }
@@ -232,7 +317,7 @@ fn tuple(rt: &impl Abort, columns: Vec<Column>) -> Tuple {
     Tuple::new(columns)
 }
 
-// The message is written as these digits, after what is there, and is read again from them.
+// The message that a caller makes is written as these digits, and is read again from them.
 fn check(
     rt: &impl Abort,
     alloc: Global,
@@ -242,55 +327,16 @@ fn check(
 ) -> Result<(), Fail>
     requires { HasXid in_block m.now }
 {
-    let mut out = Vec::new(alloc);
-    out.push(7)?;
-    encode(alloc, m, in_block, &mut out)?;
-    let payload = from_hex(alloc, digits)?;
-    let (before, written) = out.as_slice().split_at(1);
-    assert_eq!(rt; before, [7].as_slice());
-    assert_eq!(rt; written, payload.as_slice());
-    let again = decode(alloc, &Bytes::from_vec(payload)?, in_block)?;
-    assert_eq!(rt;
-        format!(in alloc; "{again:?}")?,
-        format!(in alloc; "{m:?}")?
+    let payload = Bytes::from_vec(from_hex(alloc, digits)?)?;
+    assert_written(rt, alloc, m, in_block, payload.as_slice())?;
+    let again = decode(alloc, &payload, in_block)?;
+    assert_same(
+        rt,
+        printed(alloc, &again)?.as_str(),
+        printed(alloc, m)?.as_str(),
+        "printed",
     );
     Ok(())
-}
-
-#[test]
-fn begin_and_commit(rt: HostRuntime) -> Result<(), Fail> {
-    let begin = Message::Begin(Begin {
-        final_lsn: 0x100,
-        commit_time: -2,
-        xid: 900,
-    });
-    let digits = "420000000000000100fffffffffffffffe00000384";
-    check(&rt, rt.alloc(), &begin, false, digits)?;
-    let commit = Message::Commit(Commit {
-        commit_lsn: 0x100,
-        end_lsn: 0x120,
-        commit_time: 3,
-    });
-    let digits = "4300000000000000010000000000000001200000000000000003";
-    check(&rt, rt.alloc(), &commit, false, digits)
-}
-
-#[test]
-fn origin_and_type_name(rt: HostRuntime) -> Result<(), Fail> {
-    let origin = Message::Origin(Origin {
-        lsn: 1,
-        name: name(&rt, "o"),
-    });
-    check(&rt, rt.alloc(), &origin, true, "4f00000000000000016f00")?;
-    let type_name = TypeName {
-        xid: Some(700),
-        oid: 16385,
-        namespace: name(&rt, "p"),
-        name: name(&rt, "q"),
-    };
-    let type_name = Message::TypeName(type_name);
-    let digits = "59000002bc0000400170007100";
-    check(&rt, rt.alloc(), &type_name, true, digits)
 }
 
 fn column(rt: &impl Abort, is_key: bool, named: &'static str, type_oid: Oid) -> RelationColumn {
@@ -309,7 +355,7 @@ fn relation(rt: HostRuntime) -> Result<(), Fail> {
         column(&rt, false, "email", 25),
         column(&rt, false, "note", 25),
     ]?;
-    assert_eq!(rt; columns.len(), 3);
+    assert!(rt; columns.len() == 3);
     let relation = Relation {
         oid: 16385,
         namespace: name(&rt, "public"),
@@ -339,42 +385,9 @@ fn insert(rt: HostRuntime) -> Result<(), Fail> {
 }
 
 #[test]
-fn update(rt: HostRuntime) -> Result<(), Fail> {
-    let old = tuple(&rt, vec![in rt.alloc(); text(&rt, "1"), Column::Null]?);
-    let new = tuple(&rt, vec![in rt.alloc(); Column::Unchanged, text(&rt, "")]?);
-    let update = Message::Update(Update {
-        xid: None,
-        oid: 16385,
-        old: Some(OldTuple::Full(old)),
-        new,
-    });
-    let digits = "55000040014f00027400000001316e4e0002757400000000";
-    check(&rt, rt.alloc(), &update, false, digits)?;
-    let update = Message::Update(Update {
-        xid: None,
-        oid: 16385,
-        old: None,
-        new: tuple(&rt, Vec::new(rt.alloc())),
-    });
-    check(&rt, rt.alloc(), &update, false, "55000040014e0000")
-}
-
-#[test]
-fn delete(rt: HostRuntime) -> Result<(), Fail> {
-    let columns = vec![in rt.alloc(); text(&rt, "1"), Column::Null, Column::Null]?;
-    let delete = Message::Delete(Delete {
-        xid: None,
-        oid: 16385,
-        old: OldTuple::Key(tuple(&rt, columns)),
-    });
-    let digits = "44000040014b00037400000001316e6e";
-    check(&rt, rt.alloc(), &delete, false, digits)
-}
-
-#[test]
 fn truncate(rt: HostRuntime) -> Result<(), Fail> {
     let oids: Vec<Oid> = vec![in rt.alloc(); 16385, 16386]?;
-    assert_eq!(rt; oids.len(), 2);
+    assert!(rt; oids.len() == 2);
     let truncate = Message::Truncate(Truncate {
         xid: Some(700),
         options: TruncateOptions {
@@ -390,7 +403,7 @@ fn truncate(rt: HostRuntime) -> Result<(), Fail> {
 #[test]
 fn logical_message(rt: HostRuntime) -> Result<(), Fail> {
     let content = Bytes::from_static(b"\xff\0");
-    assert_eq!(rt; content.len(), 2);
+    assert!(rt; content.len() == 2);
     let message = Message::Message(LogicalMessage {
         xid: None,
         transactional: true,
@@ -400,36 +413,6 @@ fn logical_message(rt: HostRuntime) -> Result<(), Fail> {
     });
     let digits = "4d010000000000000001700000000002ff00";
     check(&rt, rt.alloc(), &message, false, digits)
-}
-
-#[test]
-fn stream_start_and_stop(rt: HostRuntime) -> Result<(), Fail> {
-    let start = Message::StreamStart(StreamStart {
-        xid: 700,
-        is_first: true,
-    });
-    check(&rt, rt.alloc(), &start, false, "53000002bc01")?;
-    check(&rt, rt.alloc(), &Message::StreamStop, true, "45")
-}
-
-#[test]
-fn stream_commit_and_abort(rt: HostRuntime) -> Result<(), Fail> {
-    let commit = Message::StreamCommit(StreamCommit {
-        xid: 700,
-        commit_lsn: 0x200,
-        end_lsn: 0x220,
-        commit_time: 0,
-    });
-    let digits = "63000002bc00000000000000020000000000000002200000000000000000";
-    check(&rt, rt.alloc(), &commit, false, digits)?;
-    let abort = Message::StreamAbort(StreamAbort {
-        xid: 700,
-        subtransaction: 711,
-        lsn: 5,
-        abort_time: -1,
-    });
-    let digits = "41000002bc000002c70000000000000005ffffffffffffffff";
-    check(&rt, rt.alloc(), &abort, false, digits)
 }
 
 // What a caller reads of a message.
@@ -446,7 +429,7 @@ fn fields_are_read(rt: HostRuntime) -> Result<(), Fail> {
     let [Column::Text(text), Column::Null, Column::Unchanged] = new.columns() else {
         return Err(Fail::from("three columns"));
     };
-    assert_eq!(rt; text.as_str(), "1");
+    assert_same(&rt, text.as_str(), "1", "text");
     Ok(())
 }
 
@@ -468,6 +451,26 @@ const PAYLOADS: [(&[u8], bool); 8] = [
     (b"M\x01\0\0\0\0\0\0\0\x01p\0\0\0\0\x02\xff\0", false),
 ];
 
+// What is written of a message is these bytes. Where memory is refused it is nothing.
+fn assert_written_or_refused(
+    rt: &impl Abort,
+    alloc: Global,
+    m: &Message,
+    in_block: bool,
+    bytes: &[u8],
+)
+    requires { HasXid in_block m.now }
+{
+    let mut out = Vec::new(alloc);
+    match encode(alloc, m, in_block, &mut out) {
+        Ok(()) => assert_same(rt, out.as_slice(), bytes, "out"),
+        Err(fault) => {
+            assert_same(rt, fault, MsgFault::OutOfMemory, "fault");
+            assert_holds(rt, out.is_empty(), "is empty");
+        }
+    }
+}
+
 // Where memory is refused it is said by its name, and nothing is written. With ample memory it isn't refused.
 #[test]
 fn answers_where_memory_is_refused(rt: HostRuntime) {
@@ -475,16 +478,9 @@ fn answers_where_memory_is_refused(rt: HostRuntime) {
         let Ok(payload) = Bytes::copy_from_slice(rt.alloc(), bytes) else {
             continue;
         };
-        let mut out = Vec::new(rt.alloc());
         match decode(rt.alloc(), &payload, in_block) {
-            Ok(m) => match encode(rt.alloc(), &m, in_block, &mut out) {
-                Ok(()) => assert_eq!(rt; out.as_slice(), bytes),
-                Err(fault) => {
-                    assert_eq!(rt; fault, MsgFault::OutOfMemory);
-                    assert!(rt; out.is_empty());
-                }
-            },
-            Err(fault) => assert_eq!(rt; fault, MsgFault::OutOfMemory),
+            Ok(m) => assert_written_or_refused(&rt, rt.alloc(), &m, in_block, bytes),
+            Err(fault) => assert_same(&rt, fault, MsgFault::OutOfMemory, "fault"),
         }
     }
 }

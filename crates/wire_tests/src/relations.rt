@@ -1,3 +1,4 @@
+use super::asserts::{assert_holds, assert_same};
 use bytes::ByteStr;
 use catalog::Catalog;
 use messages::{
@@ -112,53 +113,87 @@ fn mapping(
 
 const PUBLIC: (&str, &str) = ("public", "accounts");
 
+/// The columns `id`, which is in the key, and `email`.
+const SENT: [(&str, bool); 2] = [("id", true), ("email", false)];
+
+/// What a row message makes of the relation of these columns.
+fn planned(
+    rt: &impl Abort,
+    alloc: Global,
+    named: &[(&'static str, bool)],
+    message: &RowMessage,
+) -> Result<Change, Fail> {
+    let m = mapping(rt, alloc, PUBLIC, named)??;
+    Ok(plan(alloc, &m, message)?)
+}
+
 #[test]
 fn columns_are_matched_by_name_and_others_have_their_defaults(rt: HostRuntime) -> Result<(), Fail> {
-    let alloc = rt.alloc();
-    let m = mapping(&rt, alloc, PUBLIC, &[("email", false), ("id", true)])??;
-    assert_eq!(rt; m.table(), 0);
-    let new = tuple(&rt, alloc, &[Some("a"), Some("1")])?;
-    let Change::Put { table, row } = plan(alloc, &m, &RowMessage::Insert { new })? else {
+    let new = tuple(&rt, rt.alloc(), &[Some("a"), Some("1")])?;
+    let columns = [("email", false), ("id", true)];
+    let change = planned(&rt, rt.alloc(), &columns, &RowMessage::Insert { new })?;
+    let Change::Put { table: 0, row } = change else {
         return Err(Fail::from("an insert puts a row"));
     };
-    assert_eq!(rt; table, 0);
-    let [Some(id), Some(Value::Text(email)), Some(Value::Text(note))] = row.values() else {
+    let [
+        Some(Value::Int(id)),
+        Some(Value::Text(email)),
+        Some(Value::Text(note)),
+    ] = row.values()
+    else {
         return Err(Fail::from("three values"));
     };
-    assert!(rt; *id == Value::Int(1));
-    assert_eq!(rt; email.as_str(), "a");
-    assert_eq!(rt; note.as_str(), "x");
+    assert_same(&rt, *id, 1, "id");
+    assert_same(&rt, email.as_str(), "a", "email");
+    assert_same(&rt, note.as_str(), "x", "note");
     Ok(())
 }
 
 #[test]
 fn an_update_keeps_what_is_not_sent(rt: HostRuntime) -> Result<(), Fail> {
-    let alloc = rt.alloc();
-    let columns = [("id", true), ("email", false)];
-    let m = mapping(&rt, alloc, PUBLIC, &columns)??;
-    let old = Some(OldTuple::Key(tuple(&rt, alloc, &[Some("1"), None])?));
-    let new = tuple(&rt, alloc, &[Some("9"), Some(UNCHANGED)])?;
-    let Change::Set { table, key, patch } = plan(alloc, &m, &RowMessage::Update { old, new })?
+    let old = Some(OldTuple::Key(tuple(&rt, rt.alloc(), &[Some("1"), None])?));
+    let new = tuple(&rt, rt.alloc(), &[Some("9"), Some(UNCHANGED)])?;
+    let change = planned(&rt, rt.alloc(), &SENT, &RowMessage::Update { old, new })?;
+    let Change::Set {
+        table: 0,
+        key,
+        patch,
+    } = change
     else {
         return Err(Fail::from("an update sets columns"));
     };
-    assert_eq!(rt; table, 0);
-    assert!(rt; key == Key::from_value(alloc, Value::Int(1))?);
+    assert_holds(
+        &rt,
+        key == Key::from_value(rt.alloc(), Value::Int(1))?,
+        "key",
+    );
     let [ColumnPatch::Value(id), ColumnPatch::Keep, ColumnPatch::Keep] = patch.columns() else {
         return Err(Fail::from("one value, and two columns that are kept"));
     };
-    assert!(rt; *id == Value::Int(9));
-    let new = tuple(&rt, alloc, &[Some("7"), None])?;
-    let Change::Set { key, patch, .. } = plan(alloc, &m, &RowMessage::Update { old: None, new })?
-    else {
+    assert_holds(&rt, *id == Value::Int(9), "id");
+    Ok(())
+}
+
+#[test]
+fn an_update_without_an_old_tuple_has_its_key_from_the_new(rt: HostRuntime) -> Result<(), Fail> {
+    let new = tuple(&rt, rt.alloc(), &[Some("7"), None])?;
+    let message = RowMessage::Update { old: None, new };
+    let change = planned(&rt, rt.alloc(), &SENT, &message)?;
+    let Change::Set { key, patch, .. } = change else {
         return Err(Fail::from("an update sets columns"));
     };
-    assert!(rt; key == Key::from_value(alloc, Value::Int(7))?);
-    assert!(rt;
+    assert_holds(
+        &rt,
+        key == Key::from_value(rt.alloc(), Value::Int(7))?,
+        "key",
+    );
+    assert_holds(
+        &rt,
         matches!(
             patch.columns(),
             [ColumnPatch::Value(_), ColumnPatch::Null, ColumnPatch::Keep]
-        )
+        ),
+        "matches",
     );
     Ok(())
 }
@@ -167,184 +202,270 @@ fn an_update_keeps_what_is_not_sent(rt: HostRuntime) -> Result<(), Fail> {
 fn a_key_is_in_the_order_of_the_primary_key(rt: HostRuntime) -> Result<(), Fail> {
     let alloc = rt.alloc();
     let columns = [("set", false), ("id", true), ("name", true)];
-    let m = mapping(&rt, alloc, ("", "flags"), &columns)??;
-    assert_eq!(rt; m.table(), 1);
+    let m = mapping(&rt, alloc, FLAGS, &columns)??;
+    assert_same(&rt, m.table(), 1, "table");
     let old = OldTuple::Full(tuple(&rt, alloc, &[Some("yes"), Some("-3"), Some("n")])?);
-    let Change::Remove { table, key } = plan(alloc, &m, &RowMessage::Delete { old })? else {
+    let Change::Remove { table: 1, key } = plan(alloc, &m, &RowMessage::Delete { old })? else {
         return Err(Fail::from("a delete removes a row"));
     };
-    assert_eq!(rt; table, 1);
     let name = Value::Text(ByteStr::from_static("n"));
     let wanted = Key::from_values(vec![in alloc; name, Value::Int(-3)]?)?;
-    assert!(rt; key == wanted);
+    assert_holds(&rt, key == wanted, "key");
     Ok(())
 }
+
+const FLAGS: (&str, &str) = ("", "flags");
+
+#[test]
+fn what_was_not_learnt_is_unknown(rt: HostRuntime) -> Result<(), Fail> {
+    let tables = Catalog::read(rt.alloc(), ACCOUNTS)?;
+    let mut cache = RelCache::new(rt.alloc());
+    let unknown = cache.resolve(rt.alloc(), &tables, ACCOUNTS_OID);
+    assert_same(
+        &rt,
+        unknown.err(),
+        Some(RelFault::UnknownRelation),
+        "unknown",
+    );
+    Ok(())
+}
+
+/// A table, the third column of a relation that names `id` twice before it, and its fault.
+const RELATIONS: [(&str, &str, &str, RelFault); 5] = [
+    ("private", "accounts", "zip", RelFault::TableMissing),
+    ("public", "Accounts", "id", RelFault::TableMissing),
+    ("", "accounts", "id", RelFault::TableMissing),
+    ("public", "accounts", "zip", RelFault::ColumnMissing),
+    ("public", "accounts", "email", RelFault::ColumnCount),
+];
 
 #[test]
 fn a_relation_has_its_first_fault(rt: HostRuntime) -> Result<(), Fail> {
-    let alloc = rt.alloc();
-    let tables = Catalog::read(alloc, ACCOUNTS)?;
-    let mut cache = RelCache::new(alloc);
-    let unknown = cache.resolve(alloc, &tables, ACCOUNTS_OID);
-    assert_eq!(rt; unknown.err(), Some(RelFault::UnknownRelation));
-    let cases = [
-        ("private", "accounts", "zip", RelFault::TableMissing),
-        ("public", "Accounts", "id", RelFault::TableMissing),
-        ("", "accounts", "id", RelFault::TableMissing),
-        ("public", "accounts", "zip", RelFault::ColumnMissing),
-        ("public", "accounts", "email", RelFault::ColumnCount),
-    ];
-    for (namespace, table, third, fault) in cases {
+    for (namespace, table, third, fault) in RELATIONS {
         let columns = [("id", true), ("id", true), (third, false)];
-        cache.learn(&relation(&rt, alloc, (namespace, table), &columns)?)?;
-        let answer = cache.resolve(alloc, &tables, ACCOUNTS_OID);
-        assert_eq!(rt; answer.err(), Some(fault), "{namespace}.{table}");
+        let answer = mapping(&rt, rt.alloc(), (namespace, table), &columns)?;
+        assert_same(&rt, answer.err(), Some(fault), namespace);
     }
-    cache.learn(&relation(&rt, alloc, PUBLIC, &[("id", true)])?)?;
-    let answer = cache.resolve(alloc, &tables, ACCOUNTS_OID);
-    assert_eq!(rt; answer.err(), None, "the relation learnt last counts");
     Ok(())
 }
 
-/// The fault of an update to these columns, without an old tuple.
-fn update_fault(
+/// The cache learns a relation, and what it then answers.
+fn learn_again(
     rt: &impl Abort,
     alloc: Global,
-    m: &Mapping,
-    texts: &[Option<&'static str>],
+    cache: &mut RelCache,
+    named: &[(&'static str, bool)],
 ) -> Result<Option<RelFault>, Fail> {
-    let new = tuple(rt, alloc, texts)?;
-    Ok(plan(alloc, m, &RowMessage::Update { old: None, new }).err())
+    let tables = Catalog::read(alloc, ACCOUNTS)?;
+    cache.learn(&relation(rt, alloc, PUBLIC, named)?)?;
+    Ok(cache.resolve(alloc, &tables, ACCOUNTS_OID).err())
 }
 
-/// The fault of an insert of these columns.
-fn insert_fault(
+#[test]
+fn the_relation_learnt_last_counts(rt: HostRuntime) -> Result<(), Fail> {
+    let mut cache = RelCache::new(rt.alloc());
+    for (column, fault) in [("zip", Some(RelFault::ColumnMissing)), ("id", None)] {
+        let answer = learn_again(&rt, rt.alloc(), &mut cache, &[(column, true)])?;
+        assert_same(&rt, answer, fault, column);
+    }
+    Ok(())
+}
+
+/// Whether a row message is an insert or an update without an old tuple.
+#[derive(Clone, Copy)]
+enum Kind {
+    Insert,
+    Update,
+}
+
+/// The fault of a row message of these columns.
+fn fault_of(
     rt: &impl Abort,
     alloc: Global,
     m: &Mapping,
+    kind: Kind,
     texts: &[Option<&'static str>],
 ) -> Result<Option<RelFault>, Fail> {
     let new = tuple(rt, alloc, texts)?;
-    Ok(plan(alloc, m, &RowMessage::Insert { new }).err())
+    let message = match kind {
+        Kind::Insert => RowMessage::Insert { new },
+        Kind::Update => RowMessage::Update { old: None, new },
+    };
+    Ok(plan(alloc, m, &message).err())
 }
+
+/// A row message, and its fault.
+type Case = (Kind, &'static [Option<&'static str>], Option<RelFault>);
+
+/// Each row message has its fault, where it is of the relation of these columns.
+fn assert_faults(
+    rt: &impl Abort,
+    alloc: Global,
+    table: (&'static str, &'static str),
+    named: &[(&'static str, bool)],
+    cases: &[Case],
+) -> Result<(), Fail> {
+    let m = mapping(rt, alloc, table, named)??;
+    for (number, (kind, texts, fault)) in cases.iter().enumerate() {
+        let answer = fault_of(rt, alloc, &m, *kind, *texts)?;
+        assert_same(rt, answer, *fault, number);
+    }
+    Ok(())
+}
+
+/// A bad value in three columns; no int; an unchanged key; a null in the key; none; an unchanged value that
+/// is inserted.
+const WITH_KEY: [Case; 6] = [
+    (
+        Kind::Update,
+        &[Some("q"), None, None],
+        Some(RelFault::ColumnCount),
+    ),
+    (Kind::Update, &[Some("q"), None], Some(RelFault::BadValue)),
+    (
+        Kind::Update,
+        &[Some(UNCHANGED), None],
+        Some(RelFault::BadValue),
+    ),
+    (Kind::Update, &[None, Some("a")], Some(RelFault::NullKey)),
+    (Kind::Update, &[Some("1"), Some(UNCHANGED)], None),
+    (
+        Kind::Insert,
+        &[None, Some(UNCHANGED)],
+        Some(RelFault::BadValue),
+    ),
+];
+
+/// Three columns, and no key; an insert needs none.
+const WITHOUT_KEY: [Case; 2] = [
+    (
+        Kind::Update,
+        &[None, None, None],
+        Some(RelFault::KeyNotSent),
+    ),
+    (Kind::Insert, &[None, None], None),
+];
 
 #[test]
 fn a_row_message_has_its_first_fault(rt: HostRuntime) -> Result<(), Fail> {
-    let alloc = rt.alloc();
-    let m = mapping(&rt, alloc, PUBLIC, &[("id", true), ("email", false)])??;
-    let three = update_fault(&rt, alloc, &m, &[Some("q"), None, None])?;
-    assert_eq!(rt;
-        three,
-        Some(RelFault::ColumnCount),
-        "a bad value in three columns"
-    );
-    let bad = update_fault(&rt, alloc, &m, &[Some("q"), None])?;
-    assert_eq!(rt; bad, Some(RelFault::BadValue), "no int");
-    let unchanged = update_fault(&rt, alloc, &m, &[Some(UNCHANGED), None])?;
-    assert_eq!(rt; unchanged, Some(RelFault::BadValue), "an unchanged key");
-    let null = update_fault(&rt, alloc, &m, &[None, Some("a")])?;
-    assert_eq!(rt; null, Some(RelFault::NullKey));
-    assert_eq!(rt;
-        update_fault(&rt, alloc, &m, &[Some("1"), Some(UNCHANGED)])?,
-        None
-    );
-    let unsent = insert_fault(&rt, alloc, &m, &[None, Some(UNCHANGED)])?;
-    assert_eq!(rt;
-        unsent,
-        Some(RelFault::BadValue),
-        "an unchanged value inserted"
-    );
-
-    let unflagged = mapping(&rt, alloc, PUBLIC, &[("id", false), ("email", false)])??;
-    let no_key = update_fault(&rt, alloc, &unflagged, &[None, None, None])?;
-    assert_eq!(rt;
-        no_key,
-        Some(RelFault::KeyNotSent),
-        "three columns, and no key"
-    );
-    assert_eq!(rt; insert_fault(&rt, alloc, &unflagged, &[None, None])?, None);
-    Ok(())
+    assert_faults(&rt, rt.alloc(), PUBLIC, &SENT, &WITH_KEY)?;
+    let unflagged = [("id", false), ("email", false)];
+    assert_faults(&rt, rt.alloc(), PUBLIC, &unflagged, &WITHOUT_KEY)
 }
+
+/// A bad value in the key, one behind it, and a null in the key alone.
+const NULL_NAMES: [Case; 3] = [
+    (
+        Kind::Update,
+        &[None, Some("q"), Some("t")],
+        Some(RelFault::BadValue),
+    ),
+    (
+        Kind::Update,
+        &[None, Some("1"), Some("yes")],
+        Some(RelFault::BadValue),
+    ),
+    (
+        Kind::Update,
+        &[None, Some("1"), Some("f")],
+        Some(RelFault::NullKey),
+    ),
+];
 
 #[test]
 fn a_bad_value_goes_before_a_null_in_the_key(rt: HostRuntime) -> Result<(), Fail> {
-    let alloc = rt.alloc();
     let columns = [("name", true), ("id", true), ("set", false)];
-    let m = mapping(&rt, alloc, ("", "flags"), &columns)??;
-    let in_key = update_fault(&rt, alloc, &m, &[None, Some("q"), Some("t")])?;
-    assert_eq!(rt; in_key, Some(RelFault::BadValue));
-    let after_key = update_fault(&rt, alloc, &m, &[None, Some("1"), Some("yes")])?;
-    assert_eq!(rt; after_key, Some(RelFault::BadValue));
-    let null = update_fault(&rt, alloc, &m, &[None, Some("1"), Some("f")])?;
-    assert_eq!(rt; null, Some(RelFault::NullKey));
-    Ok(())
+    assert_faults(&rt, rt.alloc(), FLAGS, &columns, &NULL_NAMES)
 }
+
+/// The key of the row that a delete with this text in the old tuple's one column removes, or its fault.
+fn removed(
+    rt: &impl Abort,
+    alloc: Global,
+    m: &Mapping,
+    text: &'static str,
+) -> Result<Result<Key, RelFault>, Fail> {
+    let old = OldTuple::Key(tuple(rt, alloc, &[Some(text)])?);
+    match plan(alloc, m, &RowMessage::Delete { old }) {
+        Ok(Change::Remove { key, .. }) => Ok(Ok(key)),
+        Ok(_) => Err(Fail::from("a delete removes a row")),
+        Err(fault) => Ok(Err(fault)),
+    }
+}
+
+/// Texts, and the ints that they are.
+const INTS: [(&str, Option<i64>); 15] = [
+    ("+07", Some(7)),
+    ("-0", Some(0)),
+    ("0000000000000000000000000001", Some(1)),
+    ("9223372036854775807", Some(i64::MAX)),
+    ("9223372036854775808", None),
+    ("-9223372036854775808", Some(i64::MIN)),
+    ("-9223372036854775809", None),
+    ("", None),
+    ("+", None),
+    ("-", None),
+    ("+-1", None),
+    (" 1", None),
+    ("1.0", None),
+    ("0x1", None),
+    ("\u{663}", None),
+];
 
 #[test]
 fn ints_are_read_within_64_bits(rt: HostRuntime) -> Result<(), Fail> {
-    let alloc = rt.alloc();
-    let m = mapping(&rt, alloc, PUBLIC, &[("id", true)])??;
-    let cases = [
-        ("+07", Some(7)),
-        ("-0", Some(0)),
-        ("0000000000000000000000000001", Some(1)),
-        ("9223372036854775807", Some(i64::MAX)),
-        ("9223372036854775808", None),
-        ("-9223372036854775808", Some(i64::MIN)),
-        ("-9223372036854775809", None),
-        ("", None),
-        ("+", None),
-        ("-", None),
-        ("+-1", None),
-        (" 1", None),
-        ("1.0", None),
-        ("0x1", None),
-        ("\u{663}", None),
-    ];
-    for (text, number) in cases {
-        let old = OldTuple::Key(tuple(&rt, alloc, &[Some(text)])?);
-        match plan(alloc, &m, &RowMessage::Delete { old }) {
-            Ok(Change::Remove { key, .. }) => {
-                assert!(rt; number.is_some(), "{text}");
-                assert!(rt;
-                    key == Key::from_value(alloc, Value::Int(number.unwrap_or(0)))?,
-                    "{text}"
-                );
-            }
-            Ok(_) => return Err(Fail::from("a delete removes a row")),
-            Err(fault) => {
-                assert_eq!(rt; fault, RelFault::BadValue, "{text}");
-                assert!(rt; number.is_none(), "{text}");
-            }
-        }
+    let m = mapping(&rt, rt.alloc(), PUBLIC, &[("id", true)])??;
+    for (text, number) in INTS {
+        let want = match number {
+            Some(number) => Ok(Key::from_value(rt.alloc(), Value::Int(number))?),
+            None => Err(RelFault::BadValue),
+        };
+        assert_holds(&rt, removed(&rt, rt.alloc(), &m, text)? == want, text);
     }
     Ok(())
+}
+
+/// The mapping of a relation that is learnt, if memory isn't refused. Where it is refused to learn it, the
+/// relation stays unknown.
+fn learnt(
+    rt: &impl Abort,
+    alloc: Global,
+    tables: &Catalog,
+    relation: &Relation,
+) -> Option<Arc<Mapping>> {
+    let mut cache = RelCache::new(alloc);
+    let want = match cache.learn(relation) {
+        Ok(()) => RelFault::OutOfMemory,
+        Err(fault) => {
+            assert_same(rt, fault, RelFault::OutOfMemory, "fault");
+            RelFault::UnknownRelation
+        }
+    };
+    match cache.resolve(alloc, tables, ACCOUNTS_OID) {
+        Ok(m) => Some(m),
+        Err(fault) => {
+            assert_same(rt, fault, want, "fault");
+            None
+        }
+    }
 }
 
 /// Where memory is refused it is said by its name, and nothing changes. With ample memory it isn't refused.
 #[test]
 fn answers_where_memory_is_refused(rt: HostRuntime) -> Result<(), Fail> {
-    let alloc = rt.alloc();
-    let tables = Catalog::read(alloc, ACCOUNTS)?;
-    let r = relation(&rt, alloc, PUBLIC, &[("id", true), ("email", false)])?;
-    let new = tuple(&rt, alloc, &[Some("1"), Some("a")])?;
-    let mut cache = RelCache::new(alloc);
-    if let Err(fault) = cache.learn(&r) {
-        assert_eq!(rt; fault, RelFault::OutOfMemory);
-        let unknown = cache.resolve(alloc, &tables, ACCOUNTS_OID);
-        assert_eq!(rt; unknown.err(), Some(RelFault::UnknownRelation));
+    let tables = Catalog::read(rt.alloc(), ACCOUNTS)?;
+    let relation = relation(&rt, rt.alloc(), PUBLIC, &SENT)?;
+    let new = tuple(&rt, rt.alloc(), &[Some("1"), Some("a")])?;
+    let Some(m) = learnt(&rt, rt.alloc(), &tables, &relation) else {
         return Ok(());
-    }
-    let m = match cache.resolve(alloc, &tables, ACCOUNTS_OID) {
-        Ok(m) => m,
-        Err(fault) => {
-            assert_eq!(rt; fault, RelFault::OutOfMemory);
-            return Ok(());
-        }
     };
-    match plan(alloc, &m, &RowMessage::Update { old: None, new }) {
-        Ok(change) => assert!(rt; matches!(change, Change::Set { table: 0, .. })),
-        Err(fault) => assert_eq!(rt; fault, RelFault::OutOfMemory),
+    match plan(rt.alloc(), &m, &RowMessage::Update { old: None, new }) {
+        Ok(change) => assert_holds(
+            &rt,
+            matches!(change, Change::Set { table: 0, .. }),
+            "matches",
+        ),
+        Err(fault) => assert_same(&rt, fault, RelFault::OutOfMemory, "fault"),
     }
     Ok(())
 }

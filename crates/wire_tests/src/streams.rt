@@ -1,10 +1,10 @@
 // That the calls succeed with ample memory, and what they then answer, by payloads in the manual's formats.
-ghost use Rattle.std.specs.Prelude.{◌<◌};
-
+use super::asserts::assert_same;
+use super::hex::from_hex;
 use bytes::Bytes;
 use catalog::Catalog;
 use session::{Session, laws};
-use std::alloc::{AllocError, Global};
+use std::alloc::Global;
 use std::process::Abort;
 use std::test::Fail;
 
@@ -50,26 +50,6 @@ const STREAMED: &str = "\
 41000002bc000002bc00000000000000000000000000000000 Ok(Abort(700))\n\
 41000002bc000002bc00000000000000000000000000000000 Ok(Nothing)";
 
-fn nibble(digit: u8) -> u8
-    ensures { result < 16 }
-{
-    match digit {
-        b'0'..=b'9' => digit - b'0',
-        b'a'..=b'f' => digit - b'a' + 10,
-        _ => 0,
-    }
-}
-
-fn from_hex(alloc: Global, digits: &str) -> Result<Vec<u8>, AllocError> {
-    let mut bytes = Vec::new(alloc);
-    for pair in digits.as_bytes().chunks(2) {
-        if let [high, low] = pair {
-            bytes.push(nibble(*high) * 16 + nibble(*low))?;
-        }
-    }
-    Ok(bytes)
-}
-
 // A session with one worker answers each payload of the stream as it says.
 fn answers(rt: &impl Abort, alloc: Global, stream: &str) -> Result<(), Fail> {
     let tables = Catalog::read(alloc, ACCOUNTS)?;
@@ -80,7 +60,7 @@ fn answers(rt: &impl Abort, alloc: Global, stream: &str) -> Result<(), Fail> {
         };
         let payload = Bytes::copy_from_slice(alloc, &from_hex(alloc, digits)?)?;
         let answer = session.admit(alloc, &tables, &payload);
-        assert_eq!(rt; format!(in alloc; "{answer:?}")?.as_str(), want, "{digits}");
+        assert_same(rt, format!(in alloc; "{answer:?}")?.as_str(), want, digits);
     }
     Ok(())
 }

@@ -1,5 +1,6 @@
 // Both sides of a connection over a socket of this machine. Where what is sent fits the system's
 // buffers, one thread plays both.
+use super::super::asserts::{assert_holds, assert_same};
 use connection::Connection;
 use frames::{
     CopyItem, FrameFault, Frames, ReadSource, Source, Status, WriteSink, send_status, write_status,
@@ -64,8 +65,8 @@ fn the_other_side_closes_at_a_frames_edge(rt: HostRuntime) -> Result<(), Fail> {
     peer.write_all(keepalives(rt.alloc())?.as_slice())?;
     drop(peer);
     let (count, end) = read_all(rt.alloc(), connection.source());
-    assert_eq!(rt; count, 3);
-    assert_eq!(rt; end, Ok(()));
+    assert_same(&rt, count, 3, "count");
+    assert_same(&rt, end, Ok(()), "end");
     Ok(())
 }
 
@@ -77,8 +78,8 @@ fn the_other_side_closes_within_a_frame(rt: HostRuntime) -> Result<(), Fail> {
     peer.write_all(bytes.as_slice())?;
     drop(peer);
     let (count, end) = read_all(rt.alloc(), connection.source());
-    assert_eq!(rt; count, 2);
-    assert_eq!(rt; end, Err(FrameFault::Truncated));
+    assert_same(&rt, count, 2, "count");
+    assert_same(&rt, end, Err(FrameFault::Truncated), "end");
     Ok(())
 }
 
@@ -87,14 +88,14 @@ fn the_other_side_closes_within_a_frame(rt: HostRuntime) -> Result<(), Fail> {
 fn a_connection_that_breaks(rt: HostRuntime) -> Result<(), Fail> {
     let (connection, peer) = pair(&rt)?;
     send_status(rt.alloc(), &STATUS, &mut connection.sink())?;
-    assert_eq!(rt; peer.peek(&mut [0u8; 1])?, 1);
+    assert_same(&rt, peer.peek(&mut [0u8; 1])?, 1, "peek");
     drop(peer);
     let (count, end) = read_all(rt.alloc(), connection.source());
-    assert_eq!(rt; count, 0);
-    assert_eq!(rt; end, Err(FrameFault::Device));
+    assert_same(&rt, count, 0, "count");
+    assert_same(&rt, end, Err(FrameFault::Device), "end");
     let mut sink = connection.sink();
     let sent = send_status(rt.alloc(), &STATUS, &mut sink);
-    assert_eq!(rt; sent, Err(FrameFault::Device));
+    assert_same(&rt, sent, Err(FrameFault::Device), "sent");
     Ok(())
 }
 
@@ -132,10 +133,10 @@ fn bytes_one_at_a_time_and_updates_that_come_back(rt: HostRuntime) -> Result<(),
         },
         || tell_slowly(alloc, peer, told),
     );
-    assert_eq!(rt; (count, end, sent), (3, Ok(()), Ok(())));
+    assert_same(&rt, (count, end, sent), (3, Ok(()), Ok(())), "ends");
     let mut update = Vec::new(alloc);
     write_status(&STATUS, &mut update)?;
-    assert_eq!(rt; heard.as_slice(), update.as_slice());
+    assert_same(&rt, heard.as_slice(), update.as_slice(), "heard");
     Ok(())
 }
 
@@ -147,13 +148,13 @@ fn ends_that_are_kept_apart(rt: HostRuntime) -> Result<(), Fail> {
     peer.shutdown(Shutdown::Write)?;
     let (read, written) = connection.into_ends()?;
     let (count, end) = read_all(alloc, ReadSource::new(read));
-    assert_eq!(rt; (count, end), (3, Ok(())));
+    assert_same(&rt, (count, end), (3, Ok(())), "end");
     send_status(alloc, &STATUS, &mut WriteSink::new(written))?;
     let mut heard = Vec::new(alloc);
     peer.read_to_end(&mut heard)?;
     let mut update = Vec::new(alloc);
     write_status(&STATUS, &mut update)?;
-    assert_eq!(rt; heard.as_slice(), update.as_slice());
+    assert_same(&rt, heard.as_slice(), update.as_slice(), "heard");
     Ok(())
 }
 
@@ -174,13 +175,13 @@ fn what_is_no_host_and_port_is_refused(rt: HostRuntime) -> Result<(), Fail> {
         "[::1]",
         "/tmp:x",
     ] {
-        assert!(rt; Connection::open(&rt, address).is_err(), "{address}");
+        assert_holds(&rt, Connection::open(&rt, address).is_err(), address);
     }
     Ok(())
 }
 
 #[test]
 fn where_nobody_listens_is_refused(rt: HostRuntime) -> Result<(), Fail> {
-    assert!(rt; Connection::open(&rt, "127.0.0.1:1").is_err());
+    assert_holds(&rt, Connection::open(&rt, "127.0.0.1:1").is_err(), "open");
     Ok(())
 }

@@ -1,4 +1,5 @@
 // A stream whose calls a signal interrupts.
+use super::super::asserts::assert_same;
 use connection::Retried;
 use std::io;
 use std::io::{ErrorKind, Read, Write};
@@ -59,14 +60,14 @@ fn an_interrupted_call_is_tried_again(rt: HostRuntime) -> Result<(), Fail> {
     });
     let mut buf = [0u8; 8];
     for byte in b"stream" {
-        assert_eq!(rt; stream.read(&mut buf)?, 1);
-        assert_eq!(rt; buf[0], *byte);
+        assert_same(&rt, stream.read(&mut buf)?, 1, "read");
+        assert_same(&rt, buf[0], *byte, "byte");
     }
-    assert_eq!(rt; stream.read(&mut buf)?, 0);
-    assert_eq!(rt; stream.write(b"up")?, 1);
-    assert_eq!(rt; stream.write(b"p")?, 1);
+    assert_same(&rt, stream.read(&mut buf)?, 0, "read");
+    assert_same(&rt, stream.write(b"up")?, 1, "write");
+    assert_same(&rt, stream.write(b"p")?, 1, "write");
     stream.flush()?;
     drop(stream);
-    assert_eq!(rt; taken.as_slice(), b"up".as_slice());
+    assert_same(&rt, taken.as_slice(), b"up".as_slice(), "taken");
     Ok(())
 }
