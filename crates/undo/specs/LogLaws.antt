@@ -311,7 +311,7 @@ IsNarrow (Uniq table number values) = Unit {0}
 IsNarrow (Whole table) = ⊥
 
 -- what overlaps it is the cell itself, or the whole of its table
-pub overlap_cases : (cell other : Cell) → IsNarrow cell → overlaps cell other ≡ true → (cell ≡ other) ⊎ (Whole (table_of cell) ≡ other)
+overlap_cases : (cell other : Cell) → IsNarrow cell → overlaps cell other ≡ true → (cell ≡ other) ⊎ (Whole (table_of cell) ≡ other)
 overlap_cases (Row t k) (Row u l) narrow is =
     let same : k ≡ l = tells_apart key_cmp_exact k l (second_true _ _ is) in
     inl (ap (λ (n : ℕ). Row n k) (number_is t u (first_true _ _ is)) ∙ ap (Row u) same)
