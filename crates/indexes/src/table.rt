@@ -13,7 +13,7 @@ use crate::unique::{
     Unique, agree_in_each, copy_each, copy_numbers, put_each, reserve_each, set_each, settle_each,
 };
 use model::{Key, OutOfMemory, Row, TableDef};
-use rows::{OrderedRows, RowView, Walk};
+use rows::{HashedRows, RowView, Walk};
 use std::alloc::Global;
 use std::marker::Model;
 use std::mem;
@@ -24,7 +24,7 @@ use std::mem;
 pub struct Table {
     primary: Vec<usize>,
     uniques: Vec<Unique>,
-    rows: OrderedRows,
+    rows: HashedRows<Row, Seed>,
     seed: Seed,
     alloc: Global,
 }
@@ -129,7 +129,7 @@ impl Table {
         Table {
             primary,
             uniques,
-            rows: OrderedRows::new(alloc),
+            rows: HashedRows::with_hasher(alloc, seed),
             seed,
             alloc,
         }
@@ -277,7 +277,7 @@ impl Table {
     {
         let number = self.rows.reserve(key)?;
         put_each(self.alloc, &mut self.uniques, &row, number)?;
-        self.rows.restore(key, row);
+        self.rows.replace_at(number, row);
         Ok(())
     }
 

@@ -3,6 +3,6 @@ pub mod Names
 pub mod Walking
 pub mod Making
 pub mod Blocks
-pub mod BlockSlots
-pub mod BlockMaking
-pub mod BlockCopies
+pub mod HashedSlots
+pub mod HashedMaking
+pub mod HashedCopies

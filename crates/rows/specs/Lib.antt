@@ -1,4 +1,5 @@
 pub mod KeyLaws
+pub mod KeyedSlot
 pub mod Kept
 pub mod KeptCode
 pub mod View
@@ -6,5 +7,5 @@ pub mod Block
 pub mod Hashing
 pub mod Slots
 pub mod Ordered
-pub mod Blocked
+pub mod Hashed
 pub mod Walking

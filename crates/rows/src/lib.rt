@@ -12,15 +12,15 @@
 // number, and needs no memory to do so.
 //
 //   store      the trait `RowStore`: what an index asks of a store, whichever way rows are kept
-//   ordered    `OrderedRows`, the first form: an ordered map of lists of values; tables use it
-//   block_rows `BlockRows`, the second form: blocks in slots that are found by a hash of the key,
-//              beside the keys in key order; tables don't use it yet
-//   block      `Block`: a row as one block of texts, and a cut for each column
+//   ordered    `OrderedRows`, the first form: lists of values in an ordered map
+//   hashed     `HashedRows`, the second form: slots that are found by a hash of the key, beside the
+//              keys in key order; tables use it
+//   block      `Block`: a row as one block of texts, and a cut for each column; tables keep lists
 //   hashing    keys as a table of hashes sees them, here and in the layers above
 //   view       a row as it is read: column by column
 //   walk       `Walk`: the rows one after another
 pub mod block;
-pub mod block_rows;
+pub mod hashed;
 pub mod hashing;
 pub mod ordered;
 pub mod store;
@@ -28,7 +28,7 @@ pub mod view;
 pub mod walk;
 
 pub use block::Block;
-pub use block_rows::BlockRows;
+pub use hashed::HashedRows;
 pub use ordered::OrderedRows;
 pub use store::{RowStore, StoredRow};
 pub use view::{RowView, ValueRef};

@@ -7,7 +7,7 @@ ghost use Rattle.model.specs.declared.row.Row.{Row as List};
 ghost use Rattle.rows.specs.Kept.{Kept, KeepsSlots, IsNumbered, IsSlotted};
 
 use crate::block::Block;
-use crate::block_rows::BlockRows;
+use crate::hashed::HashedRows;
 use crate::ordered::OrderedRows;
 use crate::view::RowView;
 use crate::walk::Walk;
@@ -132,7 +132,7 @@ pub trait RowStore: Drop {
         ensures slots { (kept self.new).slots ≡ (if is_some (map.get (kept self.old).rows key.now) then (kept self.old).slots else map.remove (kept self.old).slots key.now) };
 
     /// The rows, in key order.
-    fn walk(&self) -> Walk<'_>
+    fn walk(&self) -> Walk<'_, Self::Stored>
         ensures rows { result ≡ map.values (kept self.now).rows }
         ensures fits { length result < 2 ^ 63 };
 
@@ -194,52 +194,52 @@ impl RowStore for OrderedRows {
     }
 }
 
-impl<H: BuildHasher + Drop + Copy> RowStore for BlockRows<H> {
-    type Stored = Block;
+impl<S: StoredRow, H: BuildHasher + Drop + Copy> RowStore for HashedRows<S, H> {
+    type Stored = S;
 
     ghost kept = { λ rows. rows };
 
     fn get(&self, key: &Key) -> Option<RowView<'_>> {
-        BlockRows::get(self, key)
+        HashedRows::get(self, key)
     }
 
     fn slot(&self, key: &Key) -> Option<usize> {
-        BlockRows::slot(self, key)
+        HashedRows::slot(self, key)
     }
 
     fn key_at(&self, number: usize) -> Option<&Key> {
-        BlockRows::key_at(self, number)
+        HashedRows::key_at(self, number)
     }
 
     fn reserve(&mut self, key: &Key) -> Result<usize, OutOfMemory> {
-        BlockRows::reserve(self, key)
+        HashedRows::reserve(self, key)
     }
 
-    fn put(&mut self, key: &Key, row: Block) -> Result<(), OutOfMemory> {
-        BlockRows::put(self, key, row)
+    fn put(&mut self, key: &Key, row: S) -> Result<(), OutOfMemory> {
+        HashedRows::put(self, key, row)
     }
 
-    fn replace(&mut self, key: &Key, row: Block) -> Option<Block> {
-        BlockRows::replace(self, key, row)
+    fn replace(&mut self, key: &Key, row: S) -> Option<S> {
+        HashedRows::replace(self, key, row)
     }
 
-    fn take(&mut self, key: &Key) -> Option<Block> {
-        BlockRows::take(self, key)
+    fn take(&mut self, key: &Key) -> Option<S> {
+        HashedRows::take(self, key)
     }
 
-    fn restore(&mut self, key: &Key, row: Block) {
-        BlockRows::restore(self, key, row);
+    fn restore(&mut self, key: &Key, row: S) {
+        HashedRows::restore(self, key, row);
     }
 
     fn settle(&mut self, key: &Key) {
-        BlockRows::settle(self, key);
+        HashedRows::settle(self, key);
     }
 
-    fn walk(&self) -> Walk<'_> {
-        BlockRows::walk(self)
+    fn walk(&self) -> Walk<'_, S> {
+        HashedRows::walk(self)
     }
 
-    fn wipe(&mut self) -> BlockRows<H> {
-        BlockRows::wipe(self)
+    fn wipe(&mut self) -> HashedRows<S, H> {
+        HashedRows::wipe(self)
     }
 }

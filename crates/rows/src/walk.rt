@@ -1,14 +1,15 @@
 // The rows of a store, one after another.
 ghost use Rattle.std.specs.Prelude.{◌≡◌, map};
 ghost use Rattle.std.specs.Iterator.{YieldsFirst, item_count};
-ghost use Rattle.rows.specs.Blocked.{slot_by};
+ghost use Rattle.rows.specs.Hashed.{slot_by};
 ghost use Rattle.rows.specs.Slots.{rows_among};
 ghost use Rattle.rows.specs.Walking.{YieldsRow, rows_by};
 
-use crate::block_rows::{BlockSlot, view_at};
+use crate::hashed::{HashedSlot, view_at};
 use crate::ordered::Slot;
+use crate::store::StoredRow;
 use crate::view::RowView;
-use model::Key;
+use model::{Key, Row};
 use slab::Slab;
 use std::collections::btree_map::Values;
 use std::iter::FusedIterator;
@@ -17,25 +18,25 @@ use std::marker::Model;
 /// The rows of a store, in key order. It takes no memory. A clause sees the list of the rows that
 /// are left.
 #[derive(Debug, Drop)]
-pub struct Walk<'a> {
-    left: Left<'a>,
+pub struct Walk<'a, S: StoredRow = Row> {
+    left: Left<'a, S>,
 }
 
 // The slots that are left, or their numbers.
 #[derive(Debug, Drop)]
-pub(crate) enum Left<'a> {
+pub(crate) enum Left<'a, S: StoredRow> {
     Slots(Values<'a, Key, Slot>),
-    Numbers(Numbers<'a>),
+    Numbers(Numbers<'a, S>),
 }
 
 // The numbers that are left, and the slots that have them.
 #[derive(Debug, Drop)]
-pub(crate) struct Numbers<'a> {
+pub(crate) struct Numbers<'a, S: StoredRow> {
     numbers: Values<'a, Key, usize>,
-    slots: &'a Slab<BlockSlot>,
+    slots: &'a Slab<HashedSlot<S>>,
 }
 
-impl<'a> Model for Walk<'a> {
+impl<'a, S: StoredRow> Model for Walk<'a, S> {
     ghost use Rattle.std.specs.Prelude.{List};
     ghost use Rattle.model.specs.declared.row.Row.{Row};
 
@@ -46,9 +47,9 @@ impl<'a> Model for Walk<'a> {
     ghost view = { λ w. rows_left w.left };
 }
 
-impl<'a> Walk<'a> {
+impl<'a, S: StoredRow> Walk<'a, S> {
     // Over the slots of a store.
-    pub(crate) fn over(slots: Values<'a, Key, Slot>) -> Walk<'a>
+    pub(crate) fn over(slots: Values<'a, Key, Slot>) -> Walk<'a, S>
         ensures { result ≡ rows_among slots.entry }
     {
         Walk {
@@ -59,8 +60,8 @@ impl<'a> Walk<'a> {
     // Over the slots with these numbers.
     pub(crate) fn over_numbers(
         numbers: Values<'a, Key, usize>,
-        slots: &'a Slab<BlockSlot>,
-    ) -> Walk<'a>
+        slots: &'a Slab<HashedSlot<S>>,
+    ) -> Walk<'a, S>
         ensures { result ≡ rows_among (map (slot_by slots.now) numbers.entry) }
     {
         Walk {
@@ -69,7 +70,7 @@ impl<'a> Walk<'a> {
     }
 }
 
-impl<'a> Iterator for Walk<'a> {
+impl<'a, S: StoredRow> Iterator for Walk<'a, S> {
     type Item = RowView<'a>;
 
     ghost next_gives = { YieldsFirst (λ rows. rows) };
@@ -84,14 +85,14 @@ impl<'a> Iterator for Walk<'a> {
     }
 }
 
-impl<'a> FusedIterator for Walk<'a> {}
+impl<'a, S: StoredRow> FusedIterator for Walk<'a, S> {}
 
-impl<'a> Numbers<'a> {
+impl<'a, S: StoredRow> Numbers<'a, S> {
     // The row of the next number whose slot is filled.
     fn next_row(&mut self) -> Option<RowView<'a>>
         ensures { YieldsRow (rows_by self.old) result (rows_by self.new) }
     {
-        next_block(&mut self.numbers, self.slots)
+        next_numbered(&mut self.numbers, self.slots)
     }
 }
 
@@ -108,9 +109,9 @@ fn next_row<'a>(slots: &mut Values<'a, Key, Slot>) -> Option<RowView<'a>>
 }
 
 // The row of the next number whose slot is filled.
-fn next_block<'a>(
+fn next_numbered<'a, S: StoredRow>(
     numbers: &mut Values<'a, Key, usize>,
-    slots: &'a Slab<BlockSlot>,
+    slots: &'a Slab<HashedSlot<S>>,
 ) -> Option<RowView<'a>>
     ensures { YieldsRow (rows_among (map (slot_by slots.now) numbers.old)) result (rows_among (map (slot_by slots.now) numbers.new)) }
 {

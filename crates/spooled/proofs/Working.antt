@@ -1,9 +1,10 @@
 -- What a change leaves of the work that is open.
-use Rattle.std.specs.Prelude.{◌≡◌, ℕ, List, [], ◌∷◌, ◌++◌, map, refl, Result, Ok, Err, IsErrAnd, IfErr}
+use Rattle.std.specs.Prelude.{◌≡◌, ℕ, ◌+◌, take, drop, List, [], ◌∷◌, ◌++◌, map, refl, Result, Ok, Err, IsErrAnd, IfErr}
 use Rattle.std.specs.Iterator.{Yields}
 use Rattle.std.specs.Vec.Iter.{into_iter_items, into_iter_steps}
 use Rattle.std.specs.declared.vec.IntoIter.{IntoIter}
 use Rattle.std.proofs.Common.{sym, ◌∙◌, ap, subst, append_assoc}
+use Rattle.std.proofs.lemmas.List.{take-append-drop}
 use Rattle.model.specs.declared.change.Change.{Change}
 use Rattle.model.specs.Rows.{Rows, Schema}
 use Rattle.model.specs.Effect.{effect, inverse, back, all_back, serial}
@@ -72,6 +73,10 @@ ClashesIn-before schema rows cs ds clash r = record {
 pub ClashesIn-one : (schema : Schema) (rows : Rows) (c : Change) (clash : Clash) → ClashesAs schema rows c clash → ClashesIn schema rows (c ∷ []) clash
 ClashesIn-one schema rows c clash r = record { before = []; change = c; after = []; split = refl; clear = tt; refused = r }
 
+pub one_refused : {T : Type 0} (schema : Schema) (rows : Rows) (c : Change) (r : Result T Clash) → IfErr r (ClashesAs schema rows c) → IfErr r (ClashesIn schema rows (c ∷ []))
+one_refused schema rows c (Ok x) refused = tt
+one_refused schema rows c (Err clash) refused = ClashesIn-one schema rows c clash refused
+
 -- the rows with one change more, kept in other words
 pub rows_kept : (schema new_schema : Schema) (rows new_rows base new_base : Rows) (cs new_cs : List Change) (c : Change) → new_schema ≡ schema → new_base ≡ base → new_cs ≡ cs ++ c ∷ [] → rows ≡ serial schema base cs → new_rows ≡ effect schema rows c → new_rows ≡ serial new_schema new_base new_cs
 rows_kept schema new_schema rows new_rows base new_base cs new_cs c s b e done more =
@@ -114,6 +119,35 @@ item_refused w v items more item clash first clear here =
     (ap (λ (cs : List Change). changes_of items ++ cs) (sym (changes_of_both (item ∷ []) more)) ∙ sym (changes_of_both items (item ∷ more)))
     (ClashesIn-behind w.schema (rows_now w) (changes_of items) (changes_of (item ∷ []) ++ changes_of more) clash clear
     (ClashesIn-before w.schema (serial w.schema (rows_now w) (changes_of items)) (changes_of (item ∷ [])) (changes_of more) clash at_rows))
+
+-- ---- items of a list in turn, by how many of them were applied
+
+module _ (schema : Schema) (rows at new : Rows) (items : List Item) (n : ℕ) (item : Item)
+    (more : take (n + 1) items ≡ take n items ++ item ∷ []) (done : at ≡ serial schema rows (changes_of (take n items))) where
+  changes_more : changes_of (take (n + 1) items) ≡ changes_of (take n items) ++ changes_of (item ∷ [])
+  changes_more = ap changes_of more ∙ changes_of_both (take n items) (item ∷ [])
+
+  pub list_done : new ≡ serial schema at (changes_of (item ∷ [])) → new ≡ serial schema rows (changes_of (take (n + 1) items))
+  list_done here =
+      here
+      ∙ ap (λ (r : Rows). serial schema r (changes_of (item ∷ []))) done
+      ∙ sym (serial_append schema rows (changes_of (take n items)) (changes_of (item ∷ [])))
+      ∙ ap (serial schema rows) (sym changes_more)
+
+  pub list_clear : IsClear schema rows (changes_of (take n items)) → IsClear schema at (changes_of (item ∷ [])) → IsClear schema rows (changes_of (take (n + 1) items))
+  list_clear clear here =
+      subst (IsClear schema rows) (sym changes_more)
+      (IsClear-append schema rows (changes_of (take n items)) (changes_of (item ∷ [])) clear
+      (subst (λ (r : Rows). IsClear schema r (changes_of (item ∷ []))) done here))
+
+  -- one of them was refused
+  pub list_refused : (clash : Clash) → IsClear schema rows (changes_of (take n items)) → ClashesIn schema at (changes_of (item ∷ [])) clash → ClashesIn schema rows (changes_of items) clash
+  list_refused clash clear here =
+      let there = subst (λ (r : Rows). ClashesIn schema r (changes_of (item ∷ [])) clash) done here in
+      let front = ClashesIn-behind schema rows (changes_of (take n items)) (changes_of (item ∷ [])) clash clear there in
+      let whole = ap changes_of (sym (take-append-drop (n + 1) items)) ∙ changes_of_both (take (n + 1) items) (drop (n + 1) items) ∙ ap (λ (cs : List Change). cs ++ changes_of (drop (n + 1) items)) changes_more in
+      subst (λ (cs : List Change). ClashesIn schema rows cs clash) (sym whole)
+      (ClashesIn-before schema rows (changes_of (take n items) ++ changes_of (item ∷ [])) (changes_of (drop (n + 1) items)) clash front)
 
 -- ---- answers
 

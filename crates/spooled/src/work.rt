@@ -1,6 +1,6 @@
 // The tables while work is open in them.
 ghost use Rattle.std.specs.Prelude.{◌≡◌, ◌<◌, [], ◌∷◌, ◌++◌, OnOk, OnErr, IfErr, All, length, map};
-ghost use Rattle.model.specs.Effect.{effect, all_back};
+ghost use Rattle.model.specs.Effect.{effect, all_back, serial};
 ghost use Rattle.change.specs.Inverse.{edits_of};
 ghost use Rattle.undo.specs.Undo.{CanUndo};
 ghost use Rattle.model.specs.Survivors.{changes_of};
@@ -91,9 +91,29 @@ impl Work {
         ensures base { self.new.base ≡ self.old.base }
         ensures schema { self.new.schema ≡ self.old.schema }
     {
+        if self.items.is_empty() {
+            return self.take_list(alloc, items);
+        }
         for item in items {
             self.take(alloc, item)?;
         }
+        Ok(())
+    }
+
+    // The same where no work is open: the list becomes the open work's own. A refusal leaves none open.
+    fn take_list(&mut self, alloc: Global, items: Vec<Item>) -> Result<(), Clash>
+        requires of_tables { All (IsOfTables (length self.old.schema)) items.items }
+        requires none { self.old.changes ≡ [] }
+        ensures clear { OnOk result (IsClear self.old.schema (rows_now self.old) (changes_of items.items)) }
+        ensures ok { OnOk result (self.new ≡ record self.old { changes = changes_of items.items }) }
+        ensures refused { IfErr result (ClashesIn self.old.schema (rows_now self.old) (changes_of items.items)) }
+        ensures err { OnErr result (self.new ≡ self.old) }
+    {
+        if let Err(clash) = apply_each(alloc, &mut self.tables, &mut self.undo, &items) {
+            self.undo.undo_to(&mut self.tables, 0);
+            return Err(clash);
+        }
+        self.items = items;
         Ok(())
     }
 
@@ -119,6 +139,51 @@ impl Work {
         } = self;
         undo.undo_to(&mut tables, 0);
         tables
+    }
+}
+
+/// Applies the changes of items in turn, and logs what takes each back. A refusal leaves those before
+/// the refused one.
+fn apply_each(
+    alloc: Global,
+    tables: &mut Tables,
+    undo: &mut UndoLog,
+    items: &[Item],
+) -> Result<(), Clash>
+    requires tables { All (IsOfTables (length tables.old.schema)) items.now }
+    requires can_undo { CanUndo tables.old undo.old.inverses }
+    ensures clear { OnOk result (IsClear tables.old.schema tables.old.rows (changes_of items.now)) }
+    ensures ok { OnOk result (tables.new.rows ≡ serial tables.old.schema tables.old.rows (changes_of items.now)) }
+    ensures refused { IfErr result (ClashesIn tables.old.schema tables.old.rows (changes_of items.now)) }
+    ensures base { all_back tables.new.rows (map edits_of undo.new.inverses) ≡ all_back tables.old.rows (map edits_of undo.old.inverses) }
+    ensures schema { tables.new.schema ≡ tables.old.schema }
+    ensures can_undo { CanUndo tables.new undo.new.inverses }
+{
+    for item in items {
+        apply_item(alloc, tables, undo, item)?;
+    }
+    Ok(())
+}
+
+/// Applies an item's change, if it has one, and logs what takes it back. A refusal changes no row.
+fn apply_item(
+    alloc: Global,
+    tables: &mut Tables,
+    undo: &mut UndoLog,
+    item: &Item,
+) -> Result<(), Clash>
+    requires tables { IsOfTables (length tables.old.schema) item.now }
+    requires can_undo { CanUndo tables.old undo.old.inverses }
+    ensures clear { OnOk result (IsClear tables.old.schema tables.old.rows (changes_of (item.now ∷ []))) }
+    ensures ok { OnOk result (tables.new.rows ≡ serial tables.old.schema tables.old.rows (changes_of (item.now ∷ []))) }
+    ensures refused { IfErr result (ClashesIn tables.old.schema tables.old.rows (changes_of (item.now ∷ []))) }
+    ensures base { all_back tables.new.rows (map edits_of undo.new.inverses) ≡ all_back tables.old.rows (map edits_of undo.old.inverses) }
+    ensures schema { tables.new.schema ≡ tables.old.schema }
+    ensures can_undo { CanUndo tables.new undo.new.inverses }
+{
+    match item {
+        Item::Change { change, .. } => apply_logged(alloc, tables, undo, change),
+        Item::Touch(_) | Item::BackTo(_) | Item::Last => Ok(()),
     }
 }
 

@@ -1,7 +1,7 @@
-// That the calls succeed with ample memory, and that both forms of a store answer alike.
+// That the calls succeed with ample memory, and that all forms of a store answer alike.
 use bytes::ByteStr;
 use model::{Key, OutOfMemory, Row, Value};
-use rows::{Block, BlockRows, OrderedRows, RowStore, StoredRow};
+use rows::{Block, HashedRows, OrderedRows, RowStore, StoredRow};
 use std::alloc::Global;
 use std::collections::hash_map::RandomState;
 use std::fmt::Write;
@@ -80,14 +80,19 @@ fn run<S: RowStore>(alloc: Global, store: &mut S) -> Result<String, OutOfMemory>
 }
 
 #[test]
-fn both_forms_answer_alike(rt: HostRuntime) -> Result<(), Fail> {
+fn all_stores_answer_alike(rt: HostRuntime) -> Result<(), Fail> {
     let alloc = rt.alloc();
-    let listed = run(alloc, &mut OrderedRows::new(alloc))?;
-    let blocks = run(alloc, &mut BlockRows::new(alloc))?;
-    assert!(rt; listed.as_str() == blocks.as_str());
-    let mut hashed = BlockRows::with_hasher(alloc, RandomState::new(&rt)?);
-    let others = run(alloc, &mut hashed)?;
-    assert!(rt; listed.as_str() == others.as_str(), "whatever the hasher");
+    let ordered = run(alloc, &mut OrderedRows::new(alloc))?;
+    let mut lists: HashedRows<Row> = HashedRows::new(alloc);
+    let hashed = run(alloc, &mut lists)?;
+    assert!(rt; ordered.as_str() == hashed.as_str());
+    let mut blocks: HashedRows<Block> = HashedRows::new(alloc);
+    let packed = run(alloc, &mut blocks)?;
+    assert!(rt; ordered.as_str() == packed.as_str(), "whatever a row is kept as");
+    let mut seeded: HashedRows<Row, RandomState> =
+        HashedRows::with_hasher(alloc, RandomState::new(&rt)?);
+    let others = run(alloc, &mut seeded)?;
+    assert!(rt; ordered.as_str() == others.as_str(), "whatever the hasher");
     Ok(())
 }
 

@@ -7,8 +7,8 @@ use Rattle.indexes.proofs.table.Table.empty.Goals as goal
 
 pub invariant_of-result : goal.invariant_of-result
 invariant_of-result c =
-    subst (λ (k : Kept). IsIndexed c.args.primary.items k c.args.uniques.items) (sym c.new.ensures) (indexed_empty c.args.primary.items c.args.uniques.items c.requires)
+    subst (λ (k : Kept). IsIndexed c.args.primary.items k c.args.uniques.items) (sym c.with_hasher.ensures) (indexed_empty c.args.primary.items c.args.uniques.items c.requires)
 
 pub returns-clause-sound : goal.returns-clause-sound
 returns-clause-sound c =
-    sound (record { primary = c.args.primary.items; uniques = columns_of c.args.uniques.items }) c.new.result c.args.uniques.items refl (invariant_of-result c)
+    sound (record { primary = c.args.primary.items; uniques = columns_of c.args.uniques.items }) c.with_hasher.result c.args.uniques.items refl (invariant_of-result c)

@@ -53,6 +53,9 @@ pub returns-in_err-put_each-clause-sound : goal.returns-in_err-put_each-clause-s
 returns-in_err-put_each-clause-sound c =
     sound (record { primary = c.self.inside.primary.items; uniques = columns_of c.put_each.new.uniques.items }) c.reserve.new.self c.put_each.new.uniques.items refl (invariant_of-self-in_err-put_each c)
 
+pub replace_at-requires : goal.replace_at-requires
+replace_at-requires c = (c.args.key.now, c.in_ok-number.ensures.ok)
+
 -- the row came
 pub invariant_of-self-2 : goal.invariant_of-self-2
 invariant_of-self-2 c =
@@ -67,7 +70,7 @@ invariant_of-self-2 c =
     let absent = subst (λ (t : TableContent). get t.rows c.args.key.now ≡ None) (sym c.self.view_is) c.requires.free in
     let was = indexed_kept primary old kept us us c.self.invariant c.reserve.ensures.rows c.reserve.ensures.slots c.reserve.ensures.numbered (itself us) in
     subst (λ (k : Kept). IsIndexed primary k vs)
-    (sym (kept_is c.restore.new.self (insert kept.rows c.args.key.now c.args.row) kept.slots c.restore.ensures.rows c.restore.ensures.slots))
+    (sym (kept_is c.replace_at.new.self (insert kept.rows c.args.key.now c.args.row) kept.slots (c.replace_at.ensures.rows c.args.key.now c.in_ok-number.ensures.ok) c.replace_at.ensures.slots))
     (indexed_filled primary kept us vs c.args.key.now c.args.row c.in_ok-number.number was own c.in_ok-number.ensures.ok (ap (λ m. get m c.args.key.now) c.reserve.ensures.rows ∙ absent)
     (free_values keys primary old us c.args.row refl c.self.invariant clash) c.in_ok-put_each.ensures.ok)
 
@@ -80,18 +83,18 @@ returns-clause-keys c =
 pub returns-clause-kept : goal.returns-clause-kept
 returns-clause-kept c = λ s has.
     let steps = c.in_ok-put_each.ensures.ok in
-    room_kept c.self.inside.rows c.restore.new.self c.self.inside.uniques.items c.put_each.new.uniques.items
-    (λ key number at. ap (λ m. get m key) c.restore.ensures.slots ∙ c.reserve.ensures.slots key number at) steps.long (λ k d l values some. (steps.each k d l).entries.entries values some) s
+    room_kept c.self.inside.rows c.replace_at.new.self c.self.inside.uniques.items c.put_each.new.uniques.items
+    (λ key number at. ap (λ m. get m key) c.replace_at.ensures.slots ∙ c.reserve.ensures.slots key number at) steps.long (λ k d l values some. (steps.each k d l).entries.entries values some) s
     (subst (λ (t : TableContent). Contains t.room s) (sym c.self.view_is) has)
 
 pub returns-clause-room : goal.returns-clause-room
 returns-clause-room c =
     let us = c.self.inside.uniques.items in
     let vs = c.put_each.new.uniques.items in
-    room_for (record { primary = c.self.inside.primary.items; uniques = columns_of vs }) c.restore.new.self vs c.args.row c.args.key.now c.in_ok-number.number refl
+    room_for (record { primary = c.self.inside.primary.items; uniques = columns_of vs }) c.replace_at.new.self vs c.args.row c.args.key.now c.in_ok-number.number refl
     (subst (λ (t : TableContent). values_in t.keys.primary c.args.row ≡ Some c.args.key.now) (sym c.self.view_is) c.requires.own_key)
-    (ap (λ m. get m c.args.key.now) c.restore.ensures.slots ∙ c.in_ok-number.ensures.ok) (entries_of_puts c.args.row c.in_ok-number.number us vs c.in_ok-put_each.ensures.ok)
+    (ap (λ m. get m c.args.key.now) c.replace_at.ensures.slots ∙ c.in_ok-number.ensures.ok) (entries_of_puts c.args.row c.in_ok-number.number us vs c.in_ok-put_each.ensures.ok)
 
 pub returns-clause-sound : goal.returns-clause-sound
 returns-clause-sound c =
-    sound (record { primary = c.self.inside.primary.items; uniques = columns_of c.put_each.new.uniques.items }) c.restore.new.self c.put_each.new.uniques.items refl (invariant_of-self-2 c)
+    sound (record { primary = c.self.inside.primary.items; uniques = columns_of c.put_each.new.uniques.items }) c.replace_at.new.self c.put_each.new.uniques.items refl (invariant_of-self-2 c)

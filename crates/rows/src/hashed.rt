@@ -1,0 +1,420 @@
+// Rows in slots that are found by a hash of the key.
+ghost use Rattle.std.specs.Prelude.{◌≡◌, ◌≢◌, ℕ, OnOk, OnErr, IfOk, IfSome, IfNone, IsSome, Some, None, is_some, if◌then◌else◌, length, ◌<◌, ◌^◌};
+ghost use Rattle.std.specs.FinMap as map;
+ghost use Rattle.std.specs.HashMap as hash;
+ghost use Rattle.std.specs.Ordering.{eq_by_cmp};
+ghost use Rattle.std.specs.Option.{option_copied, option_map};
+ghost use Rattle.slab.specs.Slab as slab;
+ghost use Rattle.slab.specs.Slab.{SameValues};
+ghost use Rattle.model.specs.Key.{key_cmp};
+ghost use Rattle.model.specs.declared.key.Key.{Key as Values};
+ghost use Rattle.rows.specs.Kept.{HasNumber, KeepsSlots, IsNumbered, IsSlotted};
+ghost use Rattle.rows.specs.Hashed.{row_for, key_of, number_for, number_to_drop, SetsRow, AddsSlot, DropsSlot, Renumbers, SameNumbers, Unnumbers};
+
+use crate::hashing::{HashedKey, SoughtKey};
+use crate::store::StoredRow;
+use crate::view::RowView;
+use crate::walk::Walk;
+use model::{Key, OutOfMemory};
+use slab::Slab;
+use std::alloc::{AllocError, Global};
+use std::collections::{BTreeMap, HashMap};
+use std::hash::{BuildHasher, BuildHasherDefault, FoldHasher};
+use std::marker::Model;
+use std::mem;
+
+/// A place for a row, with its key. It keeps its number while it is there, filled or empty. A clause
+/// sees its key and the row's values.
+#[derive(Debug, Drop)]
+pub(crate) struct HashedSlot<S: StoredRow> {
+    key: Key,
+    row: Option<S>,
+}
+
+/// The rows of one table by primary key, each in a slot that is found by a hash of its key.
+///
+/// Beside the slots lie the keys in key order, so that `walk` needs no memory. Whatever the hasher,
+/// the answers are the same; one with a fixed seed, as the default, is not for keys that somebody
+/// else chooses.
+#[derive(Debug, Drop)]
+pub struct HashedRows<S: StoredRow, H: BuildHasher = BuildHasherDefault<FoldHasher>> {
+    // The number of each key's slot, by the key's hash, and in key order.
+    numbers: HashMap<HashedKey, usize, H>,
+    order: BTreeMap<Key, usize>,
+    slots: Slab<HashedSlot<S>>,
+    alloc: Global,
+}
+
+impl<S: StoredRow> Model for HashedSlot<S> {
+    ghost use Rattle.rows.specs.KeyedSlot.{KeyedSlot};
+
+    ghost Value = { KeyedSlot };
+
+    ghost use Rattle.std.specs.Option.{option_map};
+
+    ghost view = { λ s. record { key = s.key; row = option_map S.values s.row } };
+}
+
+impl<S: StoredRow, H: BuildHasher> Model for HashedRows<S, H> {
+    ghost use Rattle.rows.specs.Kept.{Kept};
+
+    ghost Value = { Kept };
+
+    ghost use Rattle.rows.specs.KeptCode.{kept_code};
+
+    ghost coded = { kept_code };
+
+    ghost use Rattle.rows.specs.Hashed.{kept_by, IsFound};
+
+    ghost view = { λ a. kept_by a.slots a.order.entries };
+
+    ghost invariant = { λ a. IsFound a.numbers a.order.entries a.slots };
+}
+
+impl<S: StoredRow> HashedSlot<S> {
+    // The empty slot of a key.
+    fn of_key(key: Key) -> HashedSlot<S>
+        ensures { result ≡ record { key = key; row = None } }
+    {
+        HashedSlot { key, row: None }
+    }
+
+    // Its key.
+    fn key(&self) -> &Key
+        ensures { result.now ≡ self.now.key }
+    {
+        &self.key
+    }
+
+    // The row in it, as it is read.
+    fn view(&self) -> Option<RowView<'_>>
+        ensures { result ≡ self.now.row }
+    {
+        match &self.row {
+            Some(row) => Some(row.view()),
+            None => None,
+        }
+    }
+
+    // Puts a row or none in. The answer is what was in it.
+    fn replace(&mut self, row: Option<S>) -> Option<S>
+        ensures stood { option_map S.values result ≡ self.old.row }
+        ensures set { self.new ≡ record self.old { row = option_map S.values row } }
+    {
+        mem::replace(&mut self.row, row)
+    }
+}
+
+impl<S: StoredRow, H: BuildHasher + Drop> HashedRows<S, H> {
+    /// No rows, and no slots.
+    pub fn with_hasher(alloc: Global, hasher: H) -> HashedRows<S, H>
+        ensures { result ≡ record { rows = map.empty; slots = map.empty } }
+    {
+        HashedRows {
+            numbers: HashMap::with_hasher(alloc, hasher),
+            order: BTreeMap::new(alloc),
+            slots: Slab::new(alloc),
+            alloc,
+        }
+    }
+
+    /// The row at a key.
+    pub fn get(&self, key: &Key) -> Option<RowView<'_>>
+        ensures { result ≡ map.get self.now.rows key.now }
+    {
+        view_at(&self.slots, number_of(&self.numbers, key))
+    }
+
+    /// The number of a key's slot, if it has one.
+    pub fn slot(&self, key: &Key) -> Option<usize>
+        ensures number { result ≡ map.get self.now.slots key.now }
+
+        // No two slots have one number, and each row lies in a slot.
+        ensures numbered { IsNumbered self.now.slots }
+        ensures slotted { IsSlotted self.now }
+    {
+        number_of(&self.numbers, key)
+    }
+
+    /// The key whose slot has this number.
+    pub fn key_at(&self, number: usize) -> Option<&Key>
+        ensures found { IfSome result (λ key. map.get self.now.slots key.now ≡ Some number) }
+        ensures missed { IfNone result ((key : Values) → map.get self.now.slots key ≢ Some number) }
+    {
+        key_in(&self.slots, number)
+    }
+
+    /// The row in the slot of a number, if one is in it.
+    pub fn row_at(&self, number: usize) -> Option<RowView<'_>>
+        ensures { (key : Values) → map.get self.now.slots key ≡ Some number → result ≡ map.get self.now.rows key }
+    {
+        view_at(&self.slots, Some(number))
+    }
+
+    /// Puts a row into the slot of a number, and answers the one that was there. It takes no
+    /// memory, and looks for no key.
+    pub fn replace_at(&mut self, number: usize, row: S) -> Option<S>
+        requires { HasNumber self.old.slots number }
+        ensures stood { (key : Values) → map.get self.old.slots key ≡ Some number → option_map S.values result ≡ map.get self.old.rows key }
+        ensures rows { (key : Values) → map.get self.old.slots key ≡ Some number → self.new.rows ≡ map.insert self.old.rows key (S.values row) }
+        ensures slots { self.new.slots ≡ self.old.slots }
+    {
+        set_row(&mut self.slots, Some(number), Some(row))
+    }
+
+    /// Takes the row out of the slot of a number. The slot stays. It takes no memory, and looks for
+    /// no key.
+    pub fn take_at(&mut self, number: usize) -> Option<S>
+        requires { HasNumber self.old.slots number }
+        ensures row { (key : Values) → map.get self.old.slots key ≡ Some number → option_map S.values result ≡ map.get self.old.rows key }
+        ensures rows { (key : Values) → map.get self.old.slots key ≡ Some number → self.new.rows ≡ map.remove self.old.rows key }
+        ensures slots { self.new.slots ≡ self.old.slots }
+    {
+        set_row(&mut self.slots, Some(number), None)
+    }
+
+    /// Puts a row into its key's slot. It takes no memory.
+    pub fn restore(&mut self, key: &Key, row: S)
+        requires { IsSome (map.get self.old.slots key.now) }
+        ensures rows { self.new.rows ≡ map.insert self.old.rows key.now (S.values row) }
+        ensures slots { self.new.slots ≡ self.old.slots }
+    {
+        self.replace(key, row);
+    }
+
+    /// Puts a row into its key's slot, and answers the one that was there. It takes no memory.
+    pub fn replace(&mut self, key: &Key, row: S) -> Option<S>
+        requires { IsSome (map.get self.old.slots key.now) }
+        ensures stood { option_map S.values result ≡ map.get self.old.rows key.now }
+        ensures rows { self.new.rows ≡ map.insert self.old.rows key.now (S.values row) }
+        ensures slots { self.new.slots ≡ self.old.slots }
+    {
+        let number = number_of(&self.numbers, key);
+        set_row(&mut self.slots, number, Some(row))
+    }
+
+    /// Takes the row out of its slot. The slot stays, and it takes no memory.
+    pub fn take(&mut self, key: &Key) -> Option<S>
+        ensures row { option_map S.values result ≡ map.get self.old.rows key.now }
+        ensures rows { self.new.rows ≡ map.remove self.old.rows key.now }
+        ensures slots { self.new.slots ≡ self.old.slots }
+    {
+        let number = number_of(&self.numbers, key);
+        set_row(&mut self.slots, number, None)
+    }
+
+    /// Makes a slot for a key that has none. A refusal changes no row and no slot.
+    pub fn reserve(&mut self, key: &Key) -> Result<usize, OutOfMemory>
+        ensures rows { self.new.rows ≡ self.old.rows }
+        ensures slots { KeepsSlots self.old.slots self.new.slots }
+        ensures ok { IfOk result (λ number. map.get self.new.slots key.now ≡ Some number) }
+        ensures numbered { IsNumbered self.new.slots }
+    {
+        match self.slot(key) {
+            Some(number) => Ok(number),
+            None => self.make_slot(key),
+        }
+    }
+
+    // The slot of a key that has none.
+    fn make_slot(&mut self, key: &Key) -> Result<usize, OutOfMemory>
+        requires { map.get self.old.slots key.now ≡ None }
+        ensures rows { self.new.rows ≡ self.old.rows }
+        ensures slots { KeepsSlots self.old.slots self.new.slots }
+        ensures ok { IfOk result (λ number. map.get self.new.slots key.now ≡ Some number) }
+        ensures numbered { IsNumbered self.new.slots }
+    {
+        add_slot(&mut self.numbers, &mut self.order, &mut self.slots, key)
+    }
+
+    /// Puts a row at a key. A refusal changes no row and no slot.
+    pub fn put(&mut self, key: &Key, row: S) -> Result<(), OutOfMemory>
+        ensures ok { OnOk result (self.new.rows ≡ map.insert self.old.rows key.now (S.values row)) }
+        ensures slots { KeepsSlots self.old.slots self.new.slots }
+        ensures slot { OnOk result (IsSome (map.get self.new.slots key.now)) }
+        ensures err { OnErr result (self.new.rows ≡ self.old.rows) }
+    {
+        let number = self.reserve(key)?;
+        self.replace_at(number, row);
+        Ok(())
+    }
+
+    /// Drops the slot of a key where no row is in it. It takes no memory.
+    pub fn settle(&mut self, key: &Key)
+        ensures rows { self.new.rows ≡ self.old.rows }
+        ensures slots { self.new.slots ≡ (if is_some (map.get self.old.rows key.now) then self.old.slots else map.remove self.old.slots key.now) }
+    {
+        drop_slot(&mut self.numbers, &mut self.order, &mut self.slots, key);
+    }
+
+    /// The rows, in key order. It takes no memory.
+    pub fn walk(&self) -> Walk<'_, S>
+        ensures rows { result ≡ map.values self.now.rows }
+        ensures fits { length result < 2 ^ 63 }
+    {
+        Walk::over_numbers(self.order.values(), &self.slots)
+    }
+}
+
+impl<S: StoredRow, H: BuildHasher + Drop + Copy> HashedRows<S, H> {
+    /// The same rows in the same slots. What a row keeps is shared, and not copied.
+    pub fn copy(&self) -> Result<HashedRows<S, H>, OutOfMemory>
+        ensures { IfOk result (λ copy. copy ≡ self.now) }
+    {
+        Ok(HashedRows {
+            numbers: self.numbers.clone()?,
+            order: self.order.clone()?,
+            slots: self.slots.clone()?,
+            alloc: self.alloc,
+        })
+    }
+
+    /// Moves all rows and slots out. No row is copied, and it takes no memory.
+    pub fn wipe(&mut self) -> HashedRows<S, H>
+        ensures out { result ≡ self.old }
+        ensures left { self.new ≡ record { rows = map.empty; slots = map.empty } }
+    {
+        let alloc = self.alloc;
+        let hasher = *self.numbers.hasher();
+        mem::replace(self, HashedRows::with_hasher(alloc, hasher))
+    }
+}
+
+impl<S: StoredRow> HashedRows<S> {
+    /// No rows, and no slots, with the hasher of fixed seed.
+    pub fn new(alloc: Global) -> HashedRows<S>
+        ensures { result ≡ record { rows = map.empty; slots = map.empty } }
+    {
+        HashedRows::with_hasher(alloc, BuildHasherDefault::new())
+    }
+}
+
+impl<S: StoredRow> Clone for HashedSlot<S> {
+    ghost is_clone = { λ slot other. other ≡ slot };
+
+    fn clone(&self) -> Result<HashedSlot<S>, AllocError> {
+        Ok(HashedSlot {
+            key: self.key.clone()?,
+            row: copy_stored(&self.row)?,
+        })
+    }
+}
+
+// The row in a slot again, if one is in it.
+fn copy_stored<S: StoredRow>(row: &Option<S>) -> Result<Option<S>, AllocError>
+    ensures { IfOk result (λ copy. option_map S.values copy ≡ option_map S.values row.now) }
+{
+    match row {
+        None => Ok(None),
+        Some(row) => match row.copy() {
+            Ok(copy) => Ok(Some(copy)),
+            Err(OutOfMemory) => Err(AllocError),
+        },
+    }
+}
+
+// The number of a key's slot, if it has one.
+fn number_of<H: BuildHasher + Drop>(
+    numbers: &HashMap<HashedKey, usize, H>,
+    key: &Key,
+) -> Option<usize>
+    ensures { result ≡ hash.get (eq_by_cmp key_cmp) numbers.now key.now }
+{
+    numbers.get(SoughtKey::of(key)).copied()
+}
+
+// The key of the slot of a number, if there is one.
+fn key_in<S: StoredRow>(slots: &Slab<HashedSlot<S>>, number: usize) -> Option<&Key>
+    ensures { option_copied result ≡ key_of (slab.get slots.now number) }
+{
+    match slots.get(number) {
+        Some(slot) => Some(slot.key()),
+        None => None,
+    }
+}
+
+// The row in the slot of a number, as it is read.
+pub(crate) fn view_at<S: StoredRow>(
+    slots: &Slab<HashedSlot<S>>,
+    number: Option<usize>,
+) -> Option<RowView<'_>>
+    ensures { result ≡ row_for slots.now number }
+{
+    slots.get(number?)?.view()
+}
+
+// A row or none into the slot of a number, if there is one. The answer is what was in it.
+fn set_row<S: StoredRow>(
+    slots: &mut Slab<HashedSlot<S>>,
+    number: Option<usize>,
+    row: Option<S>,
+) -> Option<S>
+    ensures row { option_map S.values result ≡ row_for slots.old number }
+    ensures set { SetsRow slots.old slots.new number (option_map S.values row) }
+{
+    match slots.get_mut(number?) {
+        Some(slot) => slot.replace(row),
+        None => None,
+    }
+}
+
+// An empty slot for a key that has none. The answer is its number, which no slot had.
+fn add_slot<S: StoredRow, H: BuildHasher + Drop>(
+    numbers: &mut HashMap<HashedKey, usize, H>,
+    order: &mut BTreeMap<Key, usize>,
+    slots: &mut Slab<HashedSlot<S>>,
+    key: &Key,
+) -> Result<usize, OutOfMemory>
+    ensures slots { IfOk result (λ number. AddsSlot slots.old slots.new number key.now) }
+    ensures order { IfOk result (λ number. Renumbers (number_for order.old.entries) (number_for order.new.entries) key.now (Some number)) }
+    ensures hashed { IfOk result (λ number. Renumbers (hash.get (eq_by_cmp key_cmp) numbers.old) (hash.get (eq_by_cmp key_cmp) numbers.new) key.now (Some number)) }
+    ensures same_slots { OnErr result ((number : ℕ) → slab.get slots.new number ≡ slab.get slots.old number) }
+    ensures same_order { OnErr result (SameNumbers (number_for order.old.entries) (number_for order.new.entries)) }
+    ensures same_hashed { OnErr result (SameNumbers (hash.get (eq_by_cmp key_cmp) numbers.old) (hash.get (eq_by_cmp key_cmp) numbers.new)) }
+{
+    let own = key.copy()?;
+    let name = HashedKey::of(key.copy()?);
+    let slot = HashedSlot::of_key(key.copy()?);
+    numbers.reserve(1)?;
+    slots.reserve(1)?;
+    let number = slots.vacant_key();
+    order.insert(own, number)?;
+    // There is room for it, so it is not refused.
+    let _stood = numbers.insert(name, number);
+    slots.insert_reserved(slot);
+    Ok(number)
+}
+
+// No slot of a key, where no row is in it.
+fn drop_slot<S: StoredRow, H: BuildHasher + Drop>(
+    numbers: &mut HashMap<HashedKey, usize, H>,
+    order: &mut BTreeMap<Key, usize>,
+    slots: &mut Slab<HashedSlot<S>>,
+    key: &Key,
+)
+    ensures slots { DropsSlot slots.old slots.new (number_to_drop slots.old (hash.get (eq_by_cmp key_cmp) numbers.old key.now)) }
+    ensures order { Unnumbers (number_for order.old.entries) (number_for order.new.entries) key.now (number_to_drop slots.old (hash.get (eq_by_cmp key_cmp) numbers.old key.now)) }
+    ensures hashed { Unnumbers (hash.get (eq_by_cmp key_cmp) numbers.old) (hash.get (eq_by_cmp key_cmp) numbers.new) key.now (number_to_drop slots.old (hash.get (eq_by_cmp key_cmp) numbers.old key.now)) }
+{
+    let Some(number) = number_of_empty(numbers, slots, key) else {
+        return;
+    };
+    numbers.remove(SoughtKey::of(key));
+    order.remove(key);
+    slots.try_remove(number);
+}
+
+// The number of a key's slot, if no row is in it.
+fn number_of_empty<S: StoredRow, H: BuildHasher + Drop>(
+    numbers: &HashMap<HashedKey, usize, H>,
+    slots: &Slab<HashedSlot<S>>,
+    key: &Key,
+) -> Option<usize>
+    ensures { result ≡ number_to_drop slots.now (hash.get (eq_by_cmp key_cmp) numbers.now key.now) }
+{
+    let number = number_of(numbers, key);
+    match view_at(slots, number) {
+        Some(_) => None,
+        None => number,
+    }
+}

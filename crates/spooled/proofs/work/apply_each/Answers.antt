@@ -1,0 +1,42 @@
+use Rattle.std.proofs.Common.{◌≡◌, ◌+◌, ◌++◌, ◌∷◌, [], take, sym, ◌∙◌, ap, subst, arith}
+use Rattle.std.proofs.lemmas.List.{take_more}
+use Rattle.model.specs.Effect.{serial}
+use Rattle.model.specs.Rows.{Schema}
+use Rattle.model.specs.Survivors.{changes_of}
+use Rattle.model.specs.declared.item.Item.{Item}
+use Rattle.spooled.specs.Work.{IsClear, ClashesIn}
+use Rattle.spooled.proofs.Working.{if_err, list_done, list_clear, list_refused}
+use Rattle.spooled.proofs.work.apply_each.Goals as goal
+
+pub loop-item-preserved : goal.loop-item-preserved
+loop-item-preserved c =
+    let before = c.loop-item.invariant in
+    let schema = c.args.tables.now.schema in
+    let rows = c.args.tables.now.rows in
+    let items = c.args.items.now in
+    let n = c.loop-item.item-index in
+    let item = c.item-item.result in
+    let more : take (n + 1) items ≡ take n items ++ item ∷ [] = take_more items n item (omega (arith, c.loop-item-test.true, c.loop-item.auto)) ∙ ap (λ (x : Item). take n items ++ x ∷ []) (sym c.item-item.is) in
+    record {
+      schema = c.apply_item.ensures.schema ∙ before.schema;
+      done = list_done schema rows c.loop-item.tables.rows c.apply_item.new.tables.rows items n item more before.done
+          (c.in_ok-apply_item.ensures.ok ∙ ap (λ (s : Schema). serial s c.loop-item.tables.rows (changes_of (item ∷ []))) before.schema);
+      clear = list_clear schema rows c.loop-item.tables.rows c.apply_item.new.tables.rows items n item more before.done before.clear
+          (subst (λ (s : Schema). IsClear s c.loop-item.tables.rows (changes_of (item ∷ []))) before.schema c.in_ok-apply_item.ensures.clear);
+      base = c.apply_item.ensures.base ∙ before.base;
+      can_undo = c.apply_item.ensures.can_undo;
+    }
+
+pub returns-in_err-apply_item-clause-refused : goal.returns-in_err-apply_item-clause-refused
+returns-in_err-apply_item-clause-refused c =
+    let before = c.loop-item.invariant in
+    let schema = c.args.tables.now.schema in
+    let rows = c.args.tables.now.rows in
+    let items = c.args.items.now in
+    let n = c.loop-item.item-index in
+    let item = c.item-item.result in
+    let clash = c.in_err-apply_item.field-0.0 in
+    let more : take (n + 1) items ≡ take n items ++ item ∷ [] = take_more items n item (omega (arith, c.loop-item-test.true, c.loop-item.auto)) ∙ ap (λ (x : Item). take n items ++ x ∷ []) (sym c.item-item.is) in
+    if_err c.from_residual.result clash _ c.from_residual.ensures.1
+    (list_refused schema rows c.loop-item.tables.rows c.apply_item.new.tables.rows items n item more before.done clash before.clear
+    (subst (λ (s : Schema). ClashesIn s c.loop-item.tables.rows (changes_of (item ∷ [])) clash) before.schema c.in_err-apply_item.ensures.refused))
