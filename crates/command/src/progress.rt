@@ -1,4 +1,6 @@
 // What `--progress` says: a line about once a second, and one at the end.
+use std::fmt;
+use std::fmt::{Debug, Formatter};
 use std::rt::Clock;
 use std::time::Instant;
 use trace::{Trace, Watcher};
@@ -15,6 +17,12 @@ pub struct Progress<H: Clock + Eprint> {
     began: Option<Instant>,
     /// When a line was last said: milliseconds since it began.
     said: u64,
+}
+
+impl<H: Clock + Eprint> Debug for Progress<H> {
+    fn fmt<W: fmt::Write>(&self, f: &mut Formatter<W>) -> fmt::Result {
+        f.debug_struct("Progress").finish_non_exhaustive()
+    }
 }
 
 impl<H: Clock + Eprint> Progress<H> {

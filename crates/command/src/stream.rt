@@ -6,7 +6,7 @@ use std::io::{Read, Write};
 use std::net::TcpStream;
 
 /// What a stream is read from.
-#[derive(Drop)]
+#[derive(Debug, Drop)]
 pub enum Stream {
     File(File),
     Connection(Retried<TcpStream>),
@@ -22,7 +22,7 @@ impl Read for Stream {
 }
 
 /// Where status updates go.
-#[derive(Drop)]
+#[derive(Debug, Drop)]
 pub enum Updates {
     /// They are dropped: nobody reads those of a stream that comes from a file.
     Nowhere,

@@ -1,5 +1,7 @@
 // What a command needs of the system beside what it opens: a clock.
 use leader::Clock;
+use std::fmt;
+use std::fmt::{Debug, Formatter};
 use std::rt::Clock as Host;
 use std::time::{Duration, SystemTime};
 
@@ -10,6 +12,12 @@ const POSTGRES_EPOCH_SECONDS: u64 = 946_684_800;
 #[derive(Drop)]
 pub struct SystemClock<'a, H: Host> {
     host: &'a H,
+}
+
+impl<'a, H: Host> Debug for SystemClock<'a, H> {
+    fn fmt<W: fmt::Write>(&self, f: &mut Formatter<W>) -> fmt::Result {
+        f.debug_struct("SystemClock").finish_non_exhaustive()
+    }
 }
 
 impl<'a, H: Host> SystemClock<'a, H> {
