@@ -46,8 +46,6 @@ pub enum Job<'a> {
     },
 }
 
-const DEFAULT_SECONDS: u64 = 30;
-
 const MOST_SECONDS: u64 = 1_000_000_000;
 
 /// An option of a command: its name, what its value is called, and its help.
@@ -57,6 +55,8 @@ enum Choice {
     Required(&'static str, &'static str, &'static str),
     /// One that has a value.
     Named(&'static str, &'static str, &'static str),
+    /// One that has a value, and the value that it has where none is given.
+    Defaulted(&'static str, &'static str, &'static str, &'static str),
     /// One without a value.
     Flag(&'static str, &'static str),
 }
@@ -72,10 +72,11 @@ static COMMON: [Choice; 6] = [
     Choice::Named("port", "N", "Port [PGPORT]"),
     Choice::Named("user", "U", "User [PGUSER]"),
     Choice::Named("dbname", "D", "Database [PGDATABASE]"),
-    Choice::Named(
+    Choice::Defaulted(
         "timeout",
         "N",
-        "Seconds that the server may be silent [default: 30]",
+        "Seconds that the server may be silent",
+        "30",
     ),
 ];
 
@@ -152,6 +153,9 @@ fn argument<'a>(alloc: Global, choice: Choice) -> Arg<'a> {
             value_argument(alloc, name, value, help).required(true)
         }
         Choice::Named(name, value, help) => value_argument(alloc, name, value, help),
+        Choice::Defaulted(name, value, help, default) => {
+            value_argument(alloc, name, value, help).default_value(default)
+        }
         Choice::Flag(name, help) => Arg::new(alloc, name)
             .long(name)
             .help(help)
@@ -171,13 +175,30 @@ fn value_argument<'a>(alloc: Global, name: &'a str, value: &'a str, help: &'a st
 pub fn parse<'a>(alloc: Global, words: &'a [String]) -> Result<Options<'a>, Error> {
     let mut program = command(alloc)?;
     let matches = program.try_get_matches_from_mut(words)?;
+    if let Some((option, text, wanted)) = first_refused(&matches) {
+        let message = format!(in alloc; "invalid value '{text}' for '--{option}': {wanted}")?;
+        return Err(program.error(ErrorKind::ValueValidation, message.as_str())?);
+    }
     match given_options(&matches) {
         Some(options) => Ok(options),
-        None => Err(program.error(
-            ErrorKind::InvalidValue,
-            "a number is not decimal, is 0 or is past its limit, or an LSN is not H/L",
-        )?),
+        None => Err(program.error(ErrorKind::MissingRequiredArgument, "an option is missing")?),
     }
+}
+
+/// The first option whose value is not one of its own, the value, and what it should be.
+fn first_refused<'a>(matches: &ArgMatches<'a>) -> Option<(&'static str, &'a str, &'static str)> {
+    let (_, given) = matches.subcommand()?;
+    for option in ["timeout", "seconds"] {
+        if seconds(given.get_str(option)).is_none() {
+            let wanted = "a number from 1 to 1000000000";
+            return Some((option, given.get_str(option)?, wanted));
+        }
+    }
+    if place(given.get_str("until")).is_none() {
+        let wanted = "an LSN as 1/2A";
+        return Some(("until", given.get_str("until")?, wanted));
+    }
+    None
 }
 
 fn given_options<'a>(matches: &ArgMatches<'a>) -> Option<Options<'a>> {
@@ -189,7 +210,7 @@ fn given_options<'a>(matches: &ArgMatches<'a>) -> Option<Options<'a>> {
         port: given.get_str("port"),
         user: given.get_str("user"),
         database: given.get_str("dbname"),
-        limit: seconds(given.get_str("timeout"))?.unwrap_or(DEFAULT_SECONDS * 1000),
+        limit: seconds(given.get_str("timeout"))??,
     })
 }
 

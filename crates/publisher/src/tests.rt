@@ -43,6 +43,19 @@ fn values_within_their_limits(rt: HostRuntime) -> Result<(), Fail> {
     Ok(())
 }
 
+#[test]
+fn a_usage_fault_names_option_and_value(rt: HostRuntime) -> Result<(), Fail> {
+    let line = "publisher capture --publication p --slot s --out f --until 1/G";
+    let words = words(rt.alloc(), line)?;
+    let text = match settings::parse(rt.alloc(), words.as_slice()) {
+        Ok(_) => format!(in rt.alloc(); "read")?,
+        Err(error) => format!(in rt.alloc(); "{error}")?,
+    };
+    let first = "error: invalid value '1/G' for '--until': an LSN as 1/2A\n";
+    assert!(rt; text.as_str().starts_with(first), "{text}");
+    Ok(())
+}
+
 const CAPTURE: &str =
     "publisher capture --publication p --slot s --out f --until 1/2A --create --seconds 7";
 

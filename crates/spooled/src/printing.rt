@@ -31,6 +31,10 @@ pub fn report(
 {
     let mut text = Vec::new(alloc);
     push_report(&mut text, outcome, catalog)?;
+    if out.is_empty() {
+        *out = text;
+        return Ok(());
+    }
     out.extend_from_slice(text.as_slice())?;
     Ok(())
 }
