@@ -88,9 +88,14 @@ fn all_stores_answer_alike(rt: HostRuntime) -> Result<(), Fail> {
     assert!(rt; ordered.as_str() == hashed.as_str());
     let mut blocks: HashedRows<Block> = HashedRows::new(alloc);
     let packed = run(alloc, &mut blocks)?;
-    assert!(rt; ordered.as_str() == packed.as_str(), "whatever a row is kept as");
-    let mut seeded: HashedRows<Row, RandomState> =
-        HashedRows::with_hasher(alloc, RandomState::new(&rt)?);
+    assert!(rt;
+        ordered.as_str() == packed.as_str(),
+        "whatever a row is kept as"
+    );
+    let mut seeded: HashedRows<Row, RandomState> = HashedRows::with_hasher(
+        alloc,
+        RandomState::new(&rt)?,
+    );
     let others = run(alloc, &mut seeded)?;
     assert!(rt; ordered.as_str() == others.as_str(), "whatever the hasher");
     Ok(())
