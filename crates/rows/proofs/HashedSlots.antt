@@ -41,6 +41,10 @@ get-numbers s es q = get-numbers_in (seen s es) q ∙ ap number_at (found-seen s
 pub get-rows : (s : Slab KeyedSlot) (es : List (Key × ℕ)) (q : Key) → get (rows_in (seen s es)) q ≡ row_for s (number_for es q)
 get-rows s es q = get-rows_in (seen s es) q ∙ ap row_at (found-seen s es q) ∙ row_of_slot s (number_for es q)
 
+-- the row at a key is the one in the slot of its number
+pub row_by_number : (s : Slab KeyedSlot) (es : List (Key × ℕ)) (q : Key) (number : ℕ) → get (numbers_in (seen s es)) q ≡ Some number → get (rows_in (seen s es)) q ≡ row_of (slab.get s number)
+row_by_number s es q number has = get-rows s es q ∙ ap (row_for s) (sym (get-numbers s es q) ∙ has)
+
 key_of_listed : (xs : List (Option KeyedSlot)) (n : ℕ) → slice_index_or (map key_of xs) n None ≡ key_of (slice_index_or xs n None)
 key_of_listed [] n = refl
 key_of_listed (x ∷ xs) zero = refl
@@ -54,11 +58,6 @@ same_keys s t n same = get-keys t n ∙ same ∙ sym (get-keys s n)
 
 same_or_not : (n m : ℕ) → (n ≡ m) ⊎ (n ≢ m)
 same_or_not n m = grind arith
-
--- a number is that of an option or not
-is_or_not : (o : Option ℕ) (n : ℕ) → (o ≡ Some n) ⊎ (o ≢ Some n)
-is_or_not None n = inr (λ e. cc)
-is_or_not (Some m) n = elim (same_or_not m n) [ inl e ↦ inl (ap Some e) | inr differs ↦ inr (λ e. differs (cc)) ]
 
 module _ (s : Slab KeyedSlot) (es : List (Key × ℕ)) (named : IsNamed (numbers_in (seen s es)) (keys_in s)) where
   -- the slot of a key's number has that key
@@ -96,27 +95,25 @@ key_of_set : (row : Option Row) (o : Option KeyedSlot) → key_of (with_row_of r
 key_of_set row None = refl
 key_of_set row (Some b) = refl
 
-slot_set : (s t : Slab KeyedSlot) (row : Option Row) (key : Key) (o : Option ℕ) → ((n : ℕ) → o ≡ Some n → key_of (slab.get s n) ≡ Some key)
-    → ((n : ℕ) → o ≡ Some n → slab.get t n ≡ with_row_of row (slab.get s n)) → option_map (slot_by t) o ≡ with_row_at row (option_map (slot_by s) o)
-slot_set s t row key None has here = refl
-slot_set s t row key (Some n) has here =
-    ap (λ (r : Option Row). Some (record { number = n; row = r })) (ap row_of (here n refl) ∙ row_of_set row (slab.get s n) key (has n refl))
+module _ (s t : Slab KeyedSlot) (es : List (Key × ℕ)) (key : Key) (number : ℕ) (row : Option Row)
+    (named : IsNamed (numbers_in (seen s es)) (keys_in s)) (has : get (numbers_in (seen s es)) key ≡ Some number) (sets : SetsRow s t number row) where
+  at : number_for es key ≡ Some number
+  at = sym (get-numbers s es key) ∙ has
 
-module _ (s t : Slab KeyedSlot) (es : List (Key × ℕ)) (key : Key) (row : Option Row)
-    (named : IsNamed (numbers_in (seen s es)) (keys_in s)) (sets : SetsRow s t (number_for es key) row) where
   pub set_here : found (seen t es) key ≡ with_row_at row (found (seen s es) key)
   set_here =
-      found-seen t es key ∙ slot_set s t row key (number_for es key) (λ n e. key_of_number s es named key n e) sets.here
-      ∙ ap (with_row_at row) (sym (found-seen s es key))
+      found-seen t es key ∙ ap (option_map (slot_by t)) at
+      ∙ ap (λ (r : Option Row). Some (record { number = number; row = r })) (ap row_of sets.here ∙ row_of_set row (slab.get s number) key (key_of_number s es named key number at))
+      ∙ sym (ap (with_row_at row) (found-seen s es key ∙ ap (option_map (slot_by s)) at))
 
   pub set_beside : SameBeside (seen s es) (seen t es) key
   set_beside =
       seen_beside s t es es key (λ q apart. refl)
-      (λ q n apart e. sets.beside n (λ f. numbers_differ s es named key q n apart f e))
+      (λ q n apart e. sets.beside n (λ same. numbers_differ s es named key q n apart (at ∙ sym (ap Some same)) e))
 
   pub set_keys : SameValues (keys_in s) (keys_in t)
-  set_keys = λ n. same_keys s t n (elim (is_or_not (number_for es key) n) [
-    | inl e ↦ ap key_of (sets.here n e) ∙ key_of_set row (slab.get s n)
+  set_keys = λ n. same_keys s t n (elim (same_or_not n number) [
+    | inl same ↦ ap (λ m. key_of (slab.get t m)) same ∙ ap key_of sets.here ∙ key_of_set row (slab.get s number) ∙ sym (ap (λ m. key_of (slab.get s m)) same)
     | inr differs ↦ ap key_of (sets.beside n differs)
   ])
 

@@ -7,6 +7,7 @@ use Rattle.model.specs.declared.key.Key.{Key}
 use Rattle.model.specs.declared.row.Row.{Row}
 use Rattle.model.specs.Key.{key_cmp, key_cmp_total}
 use Rattle.rows.specs.declared.ordered.Slot.{Slot}
+use Rattle.rows.specs.Kept.{Kept, IsSlotted}
 use Rattle.rows.specs.Slots.{with_row, with_row_at, rows_in, numbers_in, row_at, number_at, found, SameBeside, kept_if_filled, without_empty, number_if_empty, number_of_empty}
 use Rattle.rows.specs.KeyLaws.{one_or_apart, get_inserted, get_beside_insert, get_removed, get_beside_remove, same_at_and_beside}
 
@@ -122,6 +123,15 @@ row_of_absent (Some s) n row is e = (s.number, is)
 -- each row lies in a slot
 pub row_has_slot : (es : List (Key × Slot)) (key : Key) (row : Row) → get (rows_in es) key ≡ Some row → (number : ℕ) × (get (numbers_in es) key ≡ Some number)
 row_has_slot es key row e = row_of_absent (found es key) (get (numbers_in es) key) row (get-numbers_in es key) (sym (get-rows_in es key) ∙ e)
+
+-- a key with no slot has no row, and none is taken away there
+pub none_taken : (kept : Kept) (key : Key) → IsSlotted kept → get kept.slots key ≡ None → kept.rows ≡ remove kept.rows key
+none_taken kept key slotted none =
+    same_at_and_beside _ _ key (absent (get kept.rows key) refl ∙ sym (get_removed kept.rows key)) (λ q apart. sym (get_beside_remove kept.rows key q apart))
+  where
+    absent : (row : Option Row) → get kept.rows key ≡ row → row ≡ None
+    absent None e = refl
+    absent (Some row) e = absurd (let has = slotted key row e in let some = has.1 in cc)
 
 absent_of_number : (o : Option Slot) → number_at o ≡ None → o ≡ None
 absent_of_number None e = refl

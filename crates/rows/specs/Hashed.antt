@@ -63,9 +63,9 @@ abbrev pub kept_by : Slab KeyedSlot → List (Key × ℕ) → Kept
 kept_by slots es = record { rows = rows_in (seen slots es); slots = numbers_in (seen slots es) }
 
 -- a row or none was put into the slot of a number, if there is one, and nothing else changed
-pub record SetsRow (old new : Slab KeyedSlot) (number : Option ℕ) (row : Option Row) : Type 0 where
-  pub here : (n : ℕ) → number ≡ Some n → slab.get new n ≡ with_row_of row (slab.get old n)
-  pub beside : (n : ℕ) → number ≢ Some n → slab.get new n ≡ slab.get old n
+pub record SetsRow (old new : Slab KeyedSlot) (number : ℕ) (row : Option Row) : Type 0 where
+  pub here : slab.get new number ≡ with_row_of row (slab.get old number)
+  pub beside : (other : ℕ) → other ≢ number → slab.get new other ≡ slab.get old other
 
 -- a key has another number, or none, and each other key the one that it had
 abbrev pub Renumbers : (Key → Option ℕ) → (Key → Option ℕ) → Key → Option ℕ → Type 0

@@ -9,7 +9,8 @@ ghost use Rattle.slab.specs.Slab.{SameValues};
 ghost use Rattle.model.specs.Key.{key_cmp};
 ghost use Rattle.model.specs.declared.key.Key.{Key as Values};
 ghost use Rattle.rows.specs.Kept.{HasNumber, KeepsSlots, IsNumbered, IsSlotted};
-ghost use Rattle.rows.specs.Hashed.{row_for, key_of, number_for, number_to_drop, SetsRow, AddsSlot, DropsSlot, Renumbers, SameNumbers, Unnumbers};
+ghost use Rattle.rows.specs.Hashed.{row_for, row_of, key_of, number_for, number_to_drop, SetsRow, AddsSlot, DropsSlot, Renumbers, SameNumbers, Unnumbers};
+ghost use Rattle.rows.specs.Slots.{with_row};
 
 use crate::hashing::{HashedKey, SoughtKey};
 use crate::store::StoredRow;
@@ -159,7 +160,7 @@ impl<S: StoredRow, H: BuildHasher + Drop> HashedRows<S, H> {
         ensures rows { (key : Values) → map.get self.old.slots key ≡ Some number → self.new.rows ≡ map.insert self.old.rows key (S.values row) }
         ensures slots { self.new.slots ≡ self.old.slots }
     {
-        set_row(&mut self.slots, Some(number), Some(row))
+        self.set_at(number, Some(row))
     }
 
     /// Takes the row out of the slot of a number. The slot stays. It takes no memory, and looks for
@@ -170,7 +171,17 @@ impl<S: StoredRow, H: BuildHasher + Drop> HashedRows<S, H> {
         ensures rows { (key : Values) → map.get self.old.slots key ≡ Some number → self.new.rows ≡ map.remove self.old.rows key }
         ensures slots { self.new.slots ≡ self.old.slots }
     {
-        set_row(&mut self.slots, Some(number), None)
+        self.set_at(number, None)
+    }
+
+    // Puts a row or none into the slot of a number. The answer is what was in it.
+    fn set_at(&mut self, number: usize, row: Option<S>) -> Option<S>
+        requires { HasNumber self.old.slots number }
+        ensures stood { (key : Values) → map.get self.old.slots key ≡ Some number → option_map S.values result ≡ map.get self.old.rows key }
+        ensures rows { (key : Values) → map.get self.old.slots key ≡ Some number → self.new.rows ≡ with_row self.old.rows key (option_map S.values row) }
+        ensures slots { self.new.slots ≡ self.old.slots }
+    {
+        set_row(&mut self.slots, number, row)
     }
 
     /// Puts a row into its key's slot. It takes no memory.
@@ -189,8 +200,8 @@ impl<S: StoredRow, H: BuildHasher + Drop> HashedRows<S, H> {
         ensures rows { self.new.rows ≡ map.insert self.old.rows key.now (S.values row) }
         ensures slots { self.new.slots ≡ self.old.slots }
     {
-        let number = number_of(&self.numbers, key);
-        set_row(&mut self.slots, number, Some(row))
+        let number = self.slot(key)?;
+        self.replace_at(number, row)
     }
 
     /// Takes the row out of its slot. The slot stays, and it takes no memory.
@@ -199,8 +210,8 @@ impl<S: StoredRow, H: BuildHasher + Drop> HashedRows<S, H> {
         ensures rows { self.new.rows ≡ map.remove self.old.rows key.now }
         ensures slots { self.new.slots ≡ self.old.slots }
     {
-        let number = number_of(&self.numbers, key);
-        set_row(&mut self.slots, number, None)
+        let number = self.slot(key)?;
+        self.take_at(number)
     }
 
     /// Makes a slot for a key that has none. A refusal changes no row and no slot.
@@ -346,13 +357,13 @@ pub(crate) fn view_at<S: StoredRow>(
 // A row or none into the slot of a number, if there is one. The answer is what was in it.
 fn set_row<S: StoredRow>(
     slots: &mut Slab<HashedSlot<S>>,
-    number: Option<usize>,
+    number: usize,
     row: Option<S>,
 ) -> Option<S>
-    ensures row { option_map S.values result ≡ row_for slots.old number }
+    ensures row { option_map S.values result ≡ row_of (slab.get slots.old number) }
     ensures set { SetsRow slots.old slots.new number (option_map S.values row) }
 {
-    match slots.get_mut(number?) {
+    match slots.get_mut(number) {
         Some(slot) => slot.replace(row),
         None => None,
     }
