@@ -1,21 +1,25 @@
 -- The search for a key that clashes, against what is taken.
-use Rattle.std.specs.Prelude.{◌≡◌, ℕ, suc, ◌+◌, ◌-◌, ◌<◌, ◌≤◌, Bool, true, false, not, if◌then◌else◌, List, [], ◌∷◌, Option, Some, None, length, drop, slice_get, unwrap_or, refl, is_some}
+use Rattle.std.specs.Prelude.{◌≡◌, ℕ, suc, ◌+◌, ◌-◌, ◌<◌, ◌≤◌, Bool, true, false, not, if◌then◌else◌, List, [], ◌∷◌, Option, Some, None, length, drop, slice_get, unwrap_or, refl, is_some, IfSome}
 use Rattle.std.proofs.Common.{zero, sym, ◌∙◌, ap, true≢false, inl, inr, arith, drop-cons, drop_of_length-le, add-one}
 use Rattle.std.specs.Ordering.{eq_by_cmp}
-use Rattle.std.specs.Borrow.{Bor}
 use Rattle.std.specs.FinMap.{get, remove}
 use Rattle.std.proofs.lemmas.Bool.{cases_Bool}
+use Rattle.std.proofs.lemmas.Map.Views.{tells_apart}
 use Rattle.std.proofs.lemmas.Option.{unwrap_or-slice_get}
 use Rattle.model.specs.declared.key.Key.{Key}
 use Rattle.model.specs.declared.row.Row.{Row}
 use Rattle.model.specs.Key.{key_cmp}
+use Rattle.model.specs.Exact.{key_cmp_exact}
+use Rattle.model.specs.Footprint.{both_have}
 use Rattle.model.specs.Rows.{Place, Rows, Schema, keys_at, values_in, are_taken, IsValid}
 use Rattle.model.specs.Effect.{are_taken_unless_null, first_taken}
 use Rattle.model.specs.EditLaws.{is_place, place_is, place_cases, same_place, get_remove_same, get_remove_other}
 use Rattle.model.specs.TakenLaws.{taken_by_row, row_of_taken}
 use Rattle.model.specs.ValidLaws.{part_remove}
+use Rattle.rows.specs.KeyLaws.{same_key}
 use Rattle.indexes.specs.Content.{unique_columns}
-use Rattle.change.specs.Applied.{without}
+use Rattle.change.specs.declared.outcome.Standing.{Standing}
+use Rattle.change.specs.Clashing.{without, KeepsValues}
 use Rattle.change.specs.EditsLaws.{place_in_table}
 
 -- ---- all rows but one
@@ -112,11 +116,30 @@ pub not_found : {X : Type 0} (found : Option X) (b : Bool) → is_some found ≡
 not_found found b tells is = sym tells ∙ ap is_some is
 
 -- none of all rows has them, so none of the rest
-pub free_without : (rows : Rows) (table : ℕ) (cs : List ℕ) (values : Option Key) (except : Option (Bor Key)) → are_taken_unless_null rows table cs values ≡ false
-    → are_taken_unless_null (without rows table except) table cs values ≡ false
+pub free_without : (rows : Rows) (table : ℕ) (cs : List ℕ) (values : Option Key) (stood : Option Standing) → are_taken_unless_null rows table cs values ≡ false
+    → are_taken_unless_null (without rows table stood) table cs values ≡ false
 free_without rows table cs values None free = free
-free_without rows table cs None (Some key) free = refl
-free_without rows table cs (Some values) (Some key) free = free_in_rest rows table cs values key.now free
+free_without rows table cs None (Some standing) free = refl
+free_without rows table cs (Some values) (Some standing) free = free_in_rest rows table cs values standing.key.now free
+
+-- where two rows have the same values, these are the values of each
+have_values : (old new : Option Key) → both_have old new ≡ true → (values : Key) × (old ≡ Some values) × (new ≡ Some values)
+have_values old None both = absurd cc
+have_values None (Some values) both = absurd cc
+have_values (Some found) (Some values) both = (values, ap Some (tells_apart key_cmp_exact found values both), refl)
+
+-- a row that keeps the values of the one that it takes the place of finds nobody else with them
+pub kept_is_free : (schema : Schema) (rows : Rows) → IsValid schema rows → (table number : ℕ) → (1 ≤ number) × (number ≤ length (keys_at schema table).uniques)
+    → (stood : Option Standing) → IfSome stood (λ s. get rows (table, s.key.now) ≡ Some s.row.now)
+    → (row : Row) → KeepsValues (unique_columns schema table number) stood row
+    → are_taken_unless_null (without rows table stood) table (unique_columns schema table number) (values_in (unique_columns schema table number) row) ≡ false
+kept_is_free schema rows valid table number within None at row keeps = absurd keeps
+kept_is_free schema rows valid table number within (Some standing) at row keeps =
+    let columns = unique_columns schema table number in
+    let has = have_values (values_in columns standing.row.now) (values_in columns row) keeps in
+    ap (are_taken_unless_null (remove rows (table, standing.key.now)) table columns) has.2
+    ∙ taken_in_rest schema rows valid table number has.0 standing.key.now standing.key.now standing.row.now within at has.1
+    ∙ ap not (same_key standing.key.now)
 
 -- the columns of the unique key after the first i
 pub columns_at : (schema : Schema) (table i : ℕ) → unique_columns schema table (i + 1) ≡ unwrap_or (slice_get (keys_at schema table).uniques i) []

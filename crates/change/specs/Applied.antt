@@ -2,15 +2,13 @@
 --     IsSound      what the tables keep
 --     Answers      an answer tells the outcome
 --     IfDone, room_after      what holds of the inverse, if the change was done; the room that is there once it is put back
---     without      the rows but the one at a key
-use Rattle.std.specs.Prelude.{◌≡◌, ℕ, List, Option, Some, None, Result, Ok, Err}
-use Rattle.std.specs.Borrow.{Bor}
-use Rattle.std.specs.FinMap.{get, remove}
+use Rattle.std.specs.Prelude.{◌≡◌, ℕ, List, Some, Result, Ok, Err}
+use Rattle.std.specs.FinMap.{get}
 use Rattle.model.specs.declared.row.Row.{Row}
 use Rattle.indexes.specs.Content.{Content, HasRoom}
 use Rattle.model.specs.declared.key.Key.{Key}
 use Rattle.model.specs.declared.cell.Cell.{Cell}
-use Rattle.model.specs.Rows.{Rows, IsValid}
+use Rattle.model.specs.Rows.{IsValid}
 use Rattle.model.specs.Effect.{Outcome, Done, Skip, Clashes, Unique, NullKey}
 use Rattle.change.specs.declared.inverse.Inverse.{Inverse}
 use Rattle.change.specs.declared.outcome.Applied.{Applied}
@@ -49,8 +47,3 @@ abbrev pub room_after : List Cell → Result Applied Clash → List Cell
 room_after room (Ok (DoneWith inverse)) = room_back room inverse
 room_after room (Ok Skipped) = room
 room_after room (Err e) = room
-
--- the rows of all tables but the one at this key
-abbrev pub without : Rows → ℕ → Option (Bor Key) → Rows
-without rows table None = rows
-without rows table (Some key) = remove rows (table, key.now)

@@ -3,6 +3,7 @@ pub mod Inverse
 pub mod EditsLaws
 pub mod InverseLaws
 pub mod Applied
+pub mod Clashing
 pub mod Altered
 pub mod Footprint
 pub mod Reading

@@ -1,5 +1,5 @@
 // What a change does to the tables.
-ghost use Rattle.std.specs.Prelude.{◌≡◌, ◌+◌, ◌-◌, ◌<◌, ◌≤◌, length, IfOk, IfSome, IsSome, is_some, OnOk, OnErr, Some, None};
+ghost use Rattle.std.specs.Prelude.{◌≡◌, ◌+◌, ◌-◌, ◌<◌, ◌≤◌, length, true, IfOk, IfSome, IsSome, is_some, OnOk, OnErr, Some, None};
 ghost use Rattle.std.specs.FinMap.{get, remove};
 ghost use Rattle.model.specs.declared.change.Change.TheVariants.{Put, Set, Remove, Wipe};
 ghost use Rattle.model.specs.Rows.{IsValid, keys_at, values_in};
@@ -9,9 +9,11 @@ ghost use Rattle.model.specs.Footprint.{footprint};
 ghost use Rattle.change.specs.Altered.{cells_altered};
 ghost use Rattle.change.specs.Inverse.{edits_of, CanPutBack};
 ghost use Rattle.model.specs.Named.{NamesTables};
-ghost use Rattle.change.specs.Applied.{Answers, IsSound, IfDone, room_after, without};
+ghost use Rattle.change.specs.Applied.{Answers, IsSound, IfDone, room_after};
+ghost use Rattle.change.specs.Clashing.{without, KeepsValues};
 
 use crate::inverse::{Inverse, Wiped, unwipe_all};
+use crate::reading::{PatchedRow, has_same};
 use indexes::Tables;
 use model::{Change, ColumnPatch, Key, OutOfMemory, Patch, Row, TableId, Value};
 use rows::RowView;
@@ -133,17 +135,17 @@ fn set(
     ensures room { Keeps t.old.room (room_after t.new.room result) }
     ensures schema { t.new.schema ≡ t.old.schema }
 {
-    let row = match t.get(table, key) {
-        None => return Ok(Applied::Skipped),
-        Some(old) => patched_row(alloc, &old, patch)?,
+    let Some(old) = t.get(table, key) else {
+        return Ok(Applied::Skipped);
     };
+    let row = patched_row(alloc, &old, patch)?;
     let Some(new_key) = t.key_of(table, &row)? else {
         return Err(Clash::NullKey { table });
     };
     if is_key_held(t, table, &new_key, key) {
         return Err(Clash::Unique { table, key: 0 });
     }
-    if let Some(number) = first_clash(t, table, &row, Some(key)) {
+    if let Some(number) = first_clash(t, table, &row, Some(Standing { key, row: &old })) {
         return Err(Clash::Unique { table, key: number });
     }
     let stands_at = new_key.copy()?;
@@ -247,15 +249,23 @@ fn copy_value(old: &Option<Value>) -> Result<Option<Value>, OutOfMemory>
     }
 }
 
-/// The least unique key in which the row agrees with one that stands at another key than `except`.
-fn first_clash(t: &Tables, table: TableId, row: &Row, except: Option<&Key>) -> Option<usize>
+/// A row that an update takes the place of, and its key.
+#[derive(Clone, Copy)]
+struct Standing<'a> {
+    key: &'a Key,
+    row: &'a RowView<'a>,
+}
+
+/// The least unique key in which the row agrees with another than the one that it takes the place of.
+fn first_clash(t: &Tables, table: TableId, row: &Row, stood: Option<Standing<'_>>) -> Option<usize>
     requires known { table < length t.now.schema }
     requires sound { IsSound t.now }
-    ensures { result ≡ first_taken (without t.now.rows table except.entry) table row.now 1 (keys_at t.now.schema table).uniques }
+    requires stands { IfSome stood (λ s. get t.now.rows (table, s.key.now) ≡ Some s.row.now) }
+    ensures { result ≡ first_taken (without t.now.rows table stood.entry) table row.now 1 (keys_at t.now.schema table).uniques }
 {
     for index in 0..t.unique_count(table) {
         let number = index + 1;
-        if has_twin(t, table, number, row, except) {
+        if has_twin(t, table, number, row, stood) {
             return Some(number);
         }
     }
@@ -270,18 +280,63 @@ fn is_key_held(t: &Tables, table: TableId, key: &Key, except: &Key) -> bool
     *key != *except && t.get(table, key).is_some()
 }
 
-/// Whether the row agrees in a unique key with one that stands at another key than `except`.
-fn has_twin(t: &Tables, table: TableId, number: usize, row: &Row, except: Option<&Key>) -> bool
+/// Whether the row agrees in a unique key with another than the one that it takes the place of.
+/// Values that it keeps of that nobody else has, and they aren't looked up.
+fn has_twin(
+    t: &Tables,
+    table: TableId,
+    number: usize,
+    row: &Row,
+    stood: Option<Standing<'_>>,
+) -> bool
     requires known { table < length t.now.schema }
     requires sound { IsSound t.now }
     requires number { (1 ≤ number) × (number ≤ length (keys_at t.now.schema table).uniques) }
-    ensures { result ≡ are_taken_unless_null (without t.now.rows table except.entry) table (unique_columns t.now.schema table number) (values_in (unique_columns t.now.schema table number) row.now) }
+    requires stands { IfSome stood (λ s. get t.now.rows (table, s.key.now) ≡ Some s.row.now) }
+    ensures { result ≡ are_taken_unless_null (without t.now.rows table stood.entry) table (unique_columns t.now.schema table number) (values_in (unique_columns t.now.schema table number) row.now) }
+{
+    if keeps_values(t.unique_columns(table, number), stood, row) {
+        return false;
+    }
+    is_held_elsewhere(t, table, number, row, stood)
+}
+
+/// Whether a row has the values in these columns of the one that it takes the place of, none of them
+/// null.
+fn keeps_values(columns: &[usize], stood: Option<Standing<'_>>, row: &Row) -> bool
+    ensures { result ≡ true → KeepsValues columns.now stood.entry row.now }
+{
+    match stood {
+        None => false,
+        Some(standing) => {
+            let row = RowView::of_row(row);
+            has_same(
+                columns,
+                PatchedRow::of_row(standing.row),
+                PatchedRow::of_row(&row),
+            )
+        }
+    }
+}
+
+/// Whether another than the row that stood has a row's values in a unique key.
+fn is_held_elsewhere(
+    t: &Tables,
+    table: TableId,
+    number: usize,
+    row: &Row,
+    stood: Option<Standing<'_>>,
+) -> bool
+    requires known { table < length t.now.schema }
+    requires sound { IsSound t.now }
+    requires number { (1 ≤ number) × (number ≤ length (keys_at t.now.schema table).uniques) }
+    ensures { result ≡ are_taken_unless_null (without t.now.rows table stood.entry) table (unique_columns t.now.schema table number) (values_in (unique_columns t.now.schema table number) row.now) }
 {
     match t.find_twin(table, number, row) {
         None => false,
-        Some(holder) => match except {
+        Some(holder) => match stood {
             None => true,
-            Some(key) => *holder != *key,
+            Some(standing) => *holder != *standing.key,
         },
     }
 }

@@ -120,7 +120,7 @@ pub(crate) fn key_of(
             None => Ok(None),
         };
     }
-    let mut values = Vec::new(alloc);
+    let mut values = Vec::with_capacity(alloc, columns.len())?;
     for column in columns {
         match row.column(*column) {
             Some(value) => values.push(own_value(alloc, value)?)?,

@@ -64,7 +64,7 @@ pub(crate) fn values_of(
             None => Ok(None),
         };
     }
-    let mut values = Vec::new(alloc);
+    let mut values = Vec::with_capacity(alloc, columns.len())?;
     for column in columns {
         match value_of(row, *column) {
             Some(value) => values.push(value.copy()?)?,

@@ -1,0 +1,21 @@
+use Rattle.std.proofs.Common.{Some, sym, ◌∙◌, ap}
+use Rattle.indexes.specs.Content.{unique_columns}
+use Rattle.change.specs.Clashing.{without}
+use Rattle.model.specs.Rows.{values_in}
+use Rattle.model.specs.Effect.{are_taken_unless_null}
+use Rattle.change.proofs.Clashes.{taken_in_rest, free_without, not_found}
+use Rattle.change.proofs.outcome.is_held_elsewhere.Goals as goal
+
+pub returns-in-None : goal.returns-in-None
+returns-in-None c =
+    let columns = unique_columns c.args.t.now.schema c.args.table c.args.number in
+    sym (free_without c.args.t.now.rows c.args.table columns (values_in columns c.args.row.now) c.args.stood
+    (not_found _ _ c.find_twin.ensures.taken c.in-None.is))
+
+pub returns-in-Some-stood : goal.returns-in-Some-stood
+returns-in-Some-stood c =
+    let columns = unique_columns c.args.t.now.schema c.args.table c.args.number in
+    let twin = c.in-Some.ensures.key in
+    c.ne.ensures ∙ sym (taken_in_rest c.args.t.now.schema c.args.t.now.rows c.requires.sound.valid c.args.table c.args.number twin.0 c.in-Some.holder.now c.in-Some-stood.standing.key.now twin.2 c.requires.number twin.3 twin.4)
+    ∙ ap (are_taken_unless_null (without c.args.t.now.rows c.args.table (Some c.in-Some-stood.standing)) c.args.table columns) (sym twin.1)
+    ∙ ap (λ e. are_taken_unless_null (without c.args.t.now.rows c.args.table e) c.args.table columns (values_in columns c.args.row.now)) (sym c.in-Some-stood.is)
