@@ -11,7 +11,7 @@ use Rattle.model.specs.declared.change.Change as change_type
 use Rattle.relcache.specs.declared.fault.RelFault.{RelFault}
 use Rattle.relcache.specs.declared.fault.RelFault.TheVariants as faults
 use Rattle.relcache.specs.Answer.{IsFaultOf}
-use Rattle.relcache.specs.Published.{learnt}
+use Rattle.relcache.specs.Published.{Relations, learnt}
 use Rattle.model.specs.declared.item.Item.{Item}
 use Rattle.model.specs.declared.item.Item.TheVariants.{Change, Touch, BackTo}
 use Rattle.session.specs.declared.phase.Phase.{Phase}
@@ -34,7 +34,7 @@ use Rattle.session.specs.KnownRelations.{Knows}
 use Rattle.session.specs.Represents.{Represents}
 use Rattle.session.specs.Answers.{Says, NextRefuses, IsOfTables, IsWithin, AnswersMessage, AdmitsMessage, RefusesMessage, IsChangeOf}
 use Rattle.session.proofs.Totals.{same_key}
-use Rattle.session.proofs.Steps.{alone_insert, alone_remove, alone_at, none_begun, nothing_begun, stays}
+use Rattle.session.proofs.Steps.{alone_insert, alone_remove, alone_at, none_begun, nothing_begun, moves-admitted, stays}
 use Rattle.session.proofs.Kept.{present}
 
 -- ---- an open transaction
@@ -199,26 +199,10 @@ fault_of_relation faults.BadValue planned next is e = e (is (λ no. cc))
 fault_of_relation faults.NullKey planned next is e = e (is (λ no. cc))
 fault_of_relation faults.OutOfMemory planned next is e = tt
 
--- a refusal after which the relations are known as before
-pub relation_refused : (g : Setting) (v w : session_type.Session) (h : State) (next : Next) (result : Result Step Refused) (fault : RelFault) → Represents g v h → Knows g w.relations h.relations
-    → w.phase ≡ v.phase → w.transactions ≡ v.transactions → w.position ≡ v.position → IsErrAnd result (λ r. r ≡ of_relation fault) → NextRefuses next (of_relation fault)
-    → AnswersMessage g w h next result
-relation_refused g v w h next (Ok s) fault represents known phase transactions position is cause = absurd is
-relation_refused g v w h next (Err r) fault represents known phase transactions position is cause = record {
-  represents = record {
-    phase = phase ∙ represents.phase;
-    here = represents.here;
-    alone = represents.alone;
-    transactions = rw transactions represents.transactions;
-    relations = known;
-    position = position ∙ represents.position;
-  };
-  cause = rw is cause;
-}
-
--- the session once the relations are known anew
-pub stands_known : (g : Setting) (v w : session_type.Session) (h : State) → Represents g v h → Knows g w.relations h.relations → w.phase ≡ v.phase → w.transactions ≡ v.transactions → w.position ≡ v.position → Represents g w h
-stands_known g v w h represents known phase transactions position = record {
+-- the session once it knows these relations, with the rest of before
+stands_learnt : (g : Setting) (v w : session_type.Session) (h : State) (relations : Relations) → Represents g v h → Knows g w.relations relations → w.phase ≡ v.phase → w.transactions ≡ v.transactions → w.position ≡ v.position
+    → Represents g w (record h { relations = relations })
+stands_learnt g v w h relations represents known phase transactions position = record {
   phase = phase ∙ represents.phase;
   here = represents.here;
   alone = represents.alone;
@@ -226,6 +210,17 @@ stands_known g v w h represents known phase transactions position = record {
   relations = known;
   position = position ∙ represents.position;
 }
+
+-- the session once the relations are known anew
+pub stands_known : (g : Setting) (v w : session_type.Session) (h : State) → Represents g v h → Knows g w.relations h.relations → w.phase ≡ v.phase → w.transactions ≡ v.transactions → w.position ≡ v.position → Represents g w h
+stands_known g v w h = stands_learnt g v w h h.relations
+
+-- a refusal after which the relations are known as before
+pub relation_refused : (g : Setting) (v w : session_type.Session) (h : State) (next : Next) (result : Result Step Refused) (fault : RelFault) → Represents g v h → Knows g w.relations h.relations
+    → w.phase ≡ v.phase → w.transactions ≡ v.transactions → w.position ≡ v.position → IsErrAnd result (λ r. r ≡ of_relation fault) → NextRefuses next (of_relation fault)
+    → AnswersMessage g w h next result
+relation_refused g v w h next (Ok s) fault represents known phase transactions position is cause = absurd is
+relation_refused g v w h next (Err r) fault represents known phase transactions position is cause = record { represents = stands_known g v w h represents known phase transactions position; cause = rw is cause }
 
 -- ---- relations
 
@@ -254,14 +249,7 @@ learns-admitted g v w h r next represents e known phase transactions position = 
   state = learns h r;
   told = Nothing;
   stepped = e;
-  represents = record {
-    phase = phase ∙ represents.phase;
-    here = represents.here;
-    alone = represents.alone;
-    transactions = rw transactions represents.transactions;
-    relations = known;
-    position = position ∙ represents.position;
-  };
+  represents = stands_learnt g v w h (learnt h.relations r) represents known phase transactions position;
   tells = record { transactions = refl; position = refl; past = refl };
   says = refl;
   within = tt;
@@ -330,14 +318,7 @@ relation_taken g v w h r xid sub size next step line taken known phase transacti
           line
           ∙ touches-taken g (learns h r) xid sub size touched.o touched.present touched.room
           ∙ sym (ap (λ s. Ok (learns s r)) touched.is);
-      represents = record {
-        phase = phase ∙ taken.represents.phase;
-        here = taken.represents.here;
-        alone = taken.represents.alone;
-        transactions = rw transactions taken.represents.transactions;
-        relations = rw touched.is known;
-        position = position ∙ taken.represents.position;
-      };
+      represents = stands_learnt g v w taken.state (learnt taken.state.relations r) taken.represents (rw touched.is known) phase transactions position;
       tells = tells_learnt h taken.state r taken.told taken.tells;
       says = taken.says;
       within = taken.within;
@@ -422,19 +403,4 @@ goes_on-admitted g v w h xid represents outside is_open phase transactions relat
     let o = present h.transactions xid is_open in
     let streamed : o.0.way ≢ Direct = λ direct. let no : None ≡ Some xid = sym (none_begun h.phase outside) ∙ represents.alone xid o.0 o.1 direct in cc in
     let P : Option Open → Type 0 = λ f. IsSomeAnd f (λ p. p.way ≢ Direct) in
-    record {
-      state = record h { phase = Block xid };
-      told = Nothing;
-      stepped = rw is_open;
-      represents = record {
-        phase = phase;
-        here = subst P (sym o.1) streamed;
-        alone = alone_at h.phase (Block xid) h.transactions represents.alone (none_begun h.phase outside);
-        transactions = rw transactions represents.transactions;
-        relations = rw relations represents.relations;
-        position = position ∙ represents.position;
-      };
-      tells = record { transactions = refl; position = refl; past = refl };
-      says = refl;
-      within = tt;
-    }
+    moves-admitted g v w h (Block xid) (goes_on h xid) represents (subst P (sym o.1) streamed) (none_begun h.phase outside) (rw is_open) phase transactions relations position

@@ -14,7 +14,7 @@ use Rattle.session.specs.declared.session.Session as session_type
 use Rattle.session.specs.declared.step.Step.{Step}
 use Rattle.session.specs.declared.step.Step.TheVariants as steps
 use Rattle.messages.specs.declared.message.Begin.{Begin}
-use Rattle.session.specs.State.{Open, OpenTransactions, State, Setting, Way, Direct, Worker, Spooled, Committed, GoesAlone, begun_at, worker_count}
+use Rattle.session.specs.State.{Open, OpenTransactions, State, Setting, Way, Direct, Worker, Spooled, Committed, IsHere, GoesAlone, begun_at, worker_count}
 use Rattle.session.specs.Table.{Next, refuse, at, begins, new_open, room_fault, unless_fault, leaves_block, opens, next_way, commits, closes, of_open}
 use Rattle.std.proofs.lemmas.Bool.{ltb-true}
 use Rattle.session.specs.Told.{Nothing, Opens, Commits, items_handed_out}
@@ -96,6 +96,44 @@ nothing_begun p xid e x begun = let no : None ≡ Some x = sym (none_begun p e) 
 pub only_begun : (p : Phase) (xid final : ℕ) → p ≡ Begun xid final → (x : ℕ) → begun_at p ≡ Some x → x ≡ xid
 only_begun p xid final e x begun = let same : Some xid ≡ Some x = sym (ap begun_at e) ∙ begun in cc
 
+-- the session once it is in this phase and has these transactions, with the relations and the position of before
+stands_moved : (g : Setting) (v w : session_type.Session) (h : State) (phase : Phase) (m : OpenTransactions) → Represents g v h → IsHere phase m → GoesAlone phase m → Keeps g w.transactions m
+    → w.phase ≡ phase → w.relations ≡ v.relations → w.position ≡ v.position → Represents g w (record h { phase = phase; transactions = m })
+stands_moved g v w h phase m represents here alone kept is relations position = record {
+  phase = is;
+  here = here;
+  alone = alone;
+  transactions = kept;
+  relations = rw relations represents.relations;
+  position = position ∙ represents.position;
+}
+
+-- a message that changes no more than the phase, by which the same transaction is begun: nothing is told
+pub moves-admitted : (g : Setting) (v w : session_type.Session) (h : State) (phase : Phase) (next : Next) → Represents g v h → IsHere phase h.transactions → begun_at h.phase ≡ begun_at phase → next ≡ Ok (record h { phase = phase })
+    → w.phase ≡ phase → w.transactions ≡ v.transactions → w.relations ≡ v.relations → w.position ≡ v.position → AdmitsMessage g w h next steps.Nothing
+moves-admitted g v w h phase next represents here same stepped is transactions relations position = record {
+  state = record h { phase = phase };
+  told = Nothing;
+  stepped = stepped;
+  represents = stands_moved g v w h phase h.transactions represents here (alone_at h.phase phase h.transactions represents.alone same) (rw transactions represents.transactions) is relations position;
+  tells = record { transactions = refl; position = refl; past = refl };
+  says = refl;
+  within = tt;
+}
+
+-- a transaction that was not opened: the session represents the state of before, and the table has the fault of its room, unless memory was refused
+opening_refused : (g : Setting) (v w : session_type.Session) (h t : State) (xid : ℕ) (next : Next) (result : Result Step Refused) (r : Refused) → Represents g v h
+    → Keeps g w.transactions h.transactions × IsFault (room_fault h.transactions xid) r → next ≡ unless_fault (room_fault h.transactions xid) t
+    → w.phase ≡ v.phase → w.relations ≡ v.relations → w.position ≡ v.position → result ≡ Err r
+    → AnswersMessage g w h next result
+opening_refused g v w h t xid next (Ok s) r represents kept line phase relations position is = cc
+opening_refused g v w h t xid next (Err e) r represents kept line phase relations position is =
+    let same : e ≡ r = cc in
+    record {
+      represents = stands_moved g v w h h.phase h.transactions represents represents.here represents.alone kept.0 (phase ∙ represents.phase) relations position;
+      cause = rw same (fault_is_cause (room_fault h.transactions xid) t next r line kept.1);
+    }
+
 -- the state once the transaction has begun
 abbrev pub begun : State → Begin → State
 begun h m = record h { phase = Begun m.xid m.final_lsn; transactions = map.insert h.transactions m.xid (new_open Direct) }
@@ -127,42 +165,18 @@ pub begins-refused : (g : Setting) (v w : session_type.Session) (h : State) (m :
     → Keeps g w.transactions h.transactions × IsFault (room_fault h.transactions m.xid) r
     → w.phase ≡ v.phase → w.relations ≡ v.relations → w.position ≡ v.position → result ≡ Err r
     → AnswersMessage g w h (at h.phase (begins h m) b c) result
-begins-refused g v w h m b c (Ok s) r represents outside kept phase relations position is = cc
-begins-refused g v w h m b c (Err e) r represents outside kept phase relations position is =
-    let same : e ≡ r = cc in
-    record {
-      represents = record {
-        phase = phase ∙ represents.phase;
-        here = represents.here;
-        alone = represents.alone;
-        transactions = kept.0;
-        relations = rw relations represents.relations;
-        position = position ∙ represents.position;
-      };
-      cause = rw same (fault_is_cause (room_fault h.transactions m.xid) (begun h m) (at h.phase (begins h m) b c) r (at_outside h.phase (begins h m) b c (sym represents.phase ∙ outside)) kept.1);
-    }
+begins-refused g v w h m b c result r represents outside kept phase relations position is =
+    let line = at_outside h.phase (begins h m) b c (sym represents.phase ∙ outside) in
+    opening_refused g v w h (begun h m) m.xid (at h.phase (begins h m) b c) result r represents kept line phase relations position is
 
 -- ---- in a block
 
 pub stops-admitted : (g : Setting) (v w : session_type.Session) (h : State) (xid : ℕ) (a : Next) (b : ℕ → ℕ → Next) → Represents g v h → v.phase ≡ Block xid
     → w.phase ≡ Outside → w.transactions ≡ v.transactions → w.relations ≡ v.relations → w.position ≡ v.position
     → AdmitsMessage g w h (at h.phase a b (λ _. Ok (leaves_block h))) steps.Nothing
-stops-admitted g v w h xid a b represents block phase transactions relations position = record {
-  state = leaves_block h;
-  told = Nothing;
-  stepped = ap (λ p. at p a b (λ _. Ok (leaves_block h))) (sym represents.phase ∙ block);
-  represents = record {
-    phase = phase;
-    here = tt;
-    alone = alone_at h.phase Outside h.transactions represents.alone (ap begun_at (sym represents.phase ∙ block));
-    transactions = rw transactions represents.transactions;
-    relations = rw relations represents.relations;
-    position = position ∙ represents.position;
-  };
-  tells = record { transactions = refl; position = refl; past = refl };
-  says = refl;
-  within = tt;
-}
+stops-admitted g v w h xid a b represents block phase transactions relations position =
+    let was : h.phase ≡ Block xid = sym represents.phase ∙ block in
+    moves-admitted g v w h Outside (at h.phase a b (λ _. Ok (leaves_block h))) represents tt (ap begun_at was) (ap (λ p. at p a b (λ _. Ok (leaves_block h))) was) phase transactions relations position
 
 -- ---- a streamed transaction
 
@@ -219,20 +233,8 @@ pub opens-refused : (g : Setting) (v w : session_type.Session) (h : State) (xid 
     → Keeps g w.transactions h.transactions × IsFault (room_fault h.transactions xid) r
     → w.phase ≡ v.phase → w.relations ≡ v.relations → w.position ≡ v.position → result ≡ Err r
     → AnswersMessage g w h (opens h xid (next_way g h) (Block xid)) result
-opens-refused g v w h xid (Ok s) r represents kept phase relations position is = cc
-opens-refused g v w h xid (Err e) r represents kept phase relations position is =
-    let same : e ≡ r = cc in
-    record {
-      represents = record {
-        phase = phase ∙ represents.phase;
-        here = represents.here;
-        alone = represents.alone;
-        transactions = kept.0;
-        relations = rw relations represents.relations;
-        position = position ∙ represents.position;
-      };
-      cause = rw same (fault_is_cause (room_fault h.transactions xid) (streamed h xid (next_way g h)) (opens h xid (next_way g h) (Block xid)) r refl kept.1);
-    }
+opens-refused g v w h xid result r represents kept phase relations position is =
+    opening_refused g v w h (streamed h xid (next_way g h)) xid (opens h xid (next_way g h) (Block xid)) result r represents kept refl phase relations position is
 
 -- ---- commits
 
