@@ -3,4 +3,5 @@ mod TableRows
 mod MergedLaws
 mod MergeSteps
 mod Standing
+mod StoreTickets
 pub mod LettingGo

@@ -1,7 +1,7 @@
 -- The steps of a merge of a table's rows with what stands at some keys.
 --     GoesOn      what stands at the keys so far is behind the rows
 --     OwnKeys, IsMerging      rows stand at their own keys; the rows that a walk has left are to be merged
-use Rattle.std.specs.Prelude.{◌≡◌, ℕ, true, false, cond, List, [], ◌∷◌, ◌++◌, Option, Some, None, refl, T, length, ◌<◌, slice_get}
+use Rattle.std.specs.Prelude.{◌≡◌, ℕ, Bool, true, false, cond, if◌then◌else◌, List, [], ◌∷◌, ◌++◌, Option, Some, None, refl, T, length, ◌<◌, slice_get}
 use Rattle.std.proofs.Common.{sym, ◌∙◌, ap, subst, arith, true≢false, is_gt}
 use Rattle.std.specs.Ordering.{eq_by_cmp, is_eq}
 use Rattle.std.specs.Cmp.{tied_itself}
@@ -169,29 +169,18 @@ module _ (schema : Schema) (table : ℕ) (all rows : List Row) (left : List (Key
       by (e ∷ es) is same = absurd cc
 
   module _ (row : Row) (next : List Row) (split : walk ≡ row ∷ next) where
-    -- what stands at its key is put in its place
-    pub merges_other : (now : List Row) (later : List (Key × Option Row)) → ((key : Key) → key_of schema table row ≡ Some key → PutsUpTo key rows left true now later)
-        → IsMerging schema table all now later next
-    merges_other now later put = by was.rest (was.its ∙ split) was.own was.same
+    -- what stands at the keys up to its own is put, and the row itself where nothing stands there
+    pub merges_next : (found : Bool) (now : List Row) (later : List (Key × Option Row)) → ((key : Key) → key_of schema table row ≡ Some key → PutsUpTo key rows left found now later)
+        → (new : List Row) → new ≡ (if found then now else now ++ row ∷ []) → IsMerging schema table all new later next
+    merges_next found now later put new pushed = by was.rest (was.its ∙ split) was.own was.same
       where
-        by : (rest : List (Key × Row)) → values_of rest ≡ row ∷ next → OwnKeys schema table rest → all ≡ rows ++ values_of (merged rest left)
-            → IsMerging schema table all now later next
-        by [] its own same = absurd cc
-        by (e ∷ es) its own same =
-            let row_is : e.1 ≡ row = cc in
-            let rest_is : values_of es ≡ next = cc in
-            record {
-              rest = es;
-              its = rest_is;
-              own = own.1;
-              same = same ∙ put e.0 (ap (key_of schema table) (sym row_is) ∙ own.0) e (merged es) refl;
-            }
+        -- the row before others, unless something was found, is behind what was put
+        puts : (b : Bool) (e : Key × Row) (es : List (Key × Row)) → e.1 ≡ row → new ≡ (if b then now else now ++ row ∷ []) → now ++ values_of (if b then es else e ∷ es) ≡ new ++ values_of es
+        puts true e es row_is is = ap (λ (l : List Row). l ++ values_of es) (sym is)
+        puts false e es row_is is =
+            ap (λ (r : Row). now ++ r ∷ values_of es) row_is
+            ∙ sym (append_assoc now (row ∷ []) (values_of es)) ∙ ap (λ (l : List Row). l ++ values_of es) (sym is)
 
-    -- nothing stands there, and the row itself is put
-    pub merges_row : (now : List Row) (later : List (Key × Option Row)) → ((key : Key) → key_of schema table row ≡ Some key → PutsUpTo key rows left false now later)
-        → (new : List Row) → new ≡ now ++ row ∷ [] → IsMerging schema table all new later next
-    merges_row now later put new pushed = by was.rest (was.its ∙ split) was.own was.same
-      where
         by : (rest : List (Key × Row)) → values_of rest ≡ row ∷ next → OwnKeys schema table rest → all ≡ rows ++ values_of (merged rest left)
             → IsMerging schema table all new later next
         by [] its own same = absurd cc
@@ -202,10 +191,7 @@ module _ (schema : Schema) (table : ℕ) (all rows : List Row) (left : List (Key
               rest = es;
               its = rest_is;
               own = own.1;
-              same =
-                  same ∙ put e.0 (ap (key_of schema table) (sym row_is) ∙ own.0) e (merged es) refl
-                  ∙ ap (λ (r : Row). now ++ r ∷ values_of (merged es later)) row_is
-                  ∙ sym (append_assoc now (row ∷ []) (values_of (merged es later))) ∙ ap (λ (l : List Row). l ++ values_of (merged es later)) (sym pushed);
+              same = same ∙ put e.0 (ap (key_of schema table) (sym row_is) ∙ own.0) e (merged es) refl ∙ puts found e (merged es later) row_is pushed;
             }
 
 -- rows that have at each key what stands there, or else the table's row, are those of the merge

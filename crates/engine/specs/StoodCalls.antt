@@ -1,7 +1,7 @@
 -- What lies beside the cells that are held, through each call of a store. Each law has the statement of its name.
-use Rattle.std.proofs.Common.{◌≡◌, ℕ, ◌≤◌, true, List, [], ◌∷◌, ◌++◌, length, take, Option, Some, None, refl, sym, ap, subst, ◌∙◌, arith, inl, inr}
+use Rattle.std.proofs.Common.{◌≡◌, ◌≢◌, ℕ, ◌≤◌, true, false, List, [], ◌∷◌, ◌++◌, length, take, Option, Some, None, refl, sym, ap, subst, ◌∙◌, arith, inl, inr}
 use Rattle.std.specs.Prelude.{slice_get, unwrap_or}
-use Rattle.std.specs.List.{Contains}
+use Rattle.std.specs.List.{Contains, list_any}
 use Rattle.std.specs.Map.{keys_of}
 use Rattle.std.specs.Ordering.{nat_cmp}
 use Rattle.std.specs.FinMap.{get, get-empty}
@@ -18,6 +18,7 @@ use Rattle.model.specs.declared.item.Item.TheVariants.{Change, Touch, BackTo}
 use Rattle.model.specs.Rows.{Rows, Schema}
 use Rattle.model.specs.Effect.{Done, Skip, wipe_edits, outcome, inverse}
 use Rattle.model.specs.EffectLaws.{is_named, row_before_wipe, get_inverse_wipe}
+use Rattle.model.specs.Cells.{overlaps}
 use Rattle.model.specs.CellContents.{SameAt}
 use Rattle.model.specs.Footprint.{footprint}
 use Rattle.model.specs.SerialLaws.{leaves_free_cell}
@@ -86,35 +87,35 @@ row_of_wipe schema rows tables i is table key named =
 
 module _ (schema : Schema) (t : Content) (w : World) (records : ℕ → Option Record) (kept : IsKept schema t w records) (held : ℕ → List (Cell × Stood))
     (are : AreHolds schema w (cells_of_each held)) (xid : ℕ) (o : Opened) (is : get w.opened xid ≡ Some o) (c : change_type.Change) (free : IsFreeLive schema t w xid c) where
-  -- the live row at a place of the change that the transaction didn't hold yet is the committed one
+  -- the live row at a place that the transaction didn't hold yet, and no other holds, is the committed one
+  row_unheld : (table : ℕ) (key : Key) → ¬ Contains (keys_of (held xid)) (Row table key) → ¬ Contains (keys_of (held xid)) (Whole table)
+      → ((other : ℕ) (p : Opened) → other ≢ xid → get w.opened other ≡ Some p → list_any (overlaps (Row table key)) (holds schema w other p) ≡ false)
+      → get t.rows (table, key) ≡ get w.committed (table, key)
+  row_unheld table key no_row no_table apart =
+      unheld_row schema t w records kept table key
+      (λ other p at.
+      elim (xid_cases other xid) [
+        | inl same ↦
+            free_by_cells table key (keys_of (held other)) (holds schema w other p) (are.its other p at)
+            (subst (λ (n : ℕ). ¬ Contains (keys_of (held n)) (Row table key)) (sym same) no_row)
+            (subst (λ (n : ℕ). ¬ Contains (keys_of (held n)) (Whole table)) (sym same) no_table)
+        | inr differs ↦ apart other p differs at
+      ])
+
+  -- so it is at a place of the change
   row_first_held : (table : ℕ) (key : Key) → Contains (footprint schema t.rows c) (Row table key) → ¬ Contains (keys_of (held xid)) (Row table key)
       → ¬ Contains (keys_of (held xid)) (Whole table) → get t.rows (table, key) ≡ get w.committed (table, key)
   row_first_held table key its no_row no_table =
-      unheld_row schema t w records kept table key
-      (λ other p at.
-      elim (xid_cases other xid) [
-        | inl same ↦
-            free_by_cells table key (keys_of (held other)) (holds schema w other p) (are.its other p at)
-            (subst (λ (n : ℕ). ¬ Contains (keys_of (held n)) (Row table key)) (sym same) no_row)
-            (subst (λ (n : ℕ). ¬ Contains (keys_of (held n)) (Whole table)) (sym same) no_table)
-        | inr differs ↦ free_by_first (footprint schema t.rows c) (holds schema w other p) (free.1 other p differs at) (Row table key) its
-      ])
+      row_unheld table key no_row no_table
+      (λ other p differs at. free_by_first (footprint schema t.rows c) (holds schema w other p) (free.1 other p differs at) (Row table key) its)
 
-  -- so it is at each place of a table that the change meets as a whole
+  -- and at each place of a table that the change meets as a whole
   row_first_emptied : (table : ℕ) (key : Key) → Contains (footprint schema t.rows c) (Whole table) → ¬ Contains (keys_of (held xid)) (Row table key)
       → ¬ Contains (keys_of (held xid)) (Whole table) → get t.rows (table, key) ≡ get w.committed (table, key)
   row_first_emptied table key its no_row no_table =
-      unheld_row schema t w records kept table key
-      (λ other p at.
-      elim (xid_cases other xid) [
-        | inl same ↦
-            free_by_cells table key (keys_of (held other)) (holds schema w other p) (are.its other p at)
-            (subst (λ (n : ℕ). ¬ Contains (keys_of (held n)) (Row table key)) (sym same) no_row)
-            (subst (λ (n : ℕ). ¬ Contains (keys_of (held n)) (Whole table)) (sym same) no_table)
-        | inr differs ↦
-            free_in_table table key (holds schema w other p)
-            (free_by_first (footprint schema t.rows c) (holds schema w other p) (free.1 other p differs at) (Whole table) its)
-      ])
+      row_unheld table key no_row no_table
+      (λ other p differs at.
+      free_in_table table key (holds schema w other p) (free_by_first (footprint schema t.rows c) (holds schema w other p) (free.1 other p differs at) (Whole table) its))
 
   module _ (log inverses : List Inverse)
       (has : (tables : List ℕ) → c ≡ Wipe tables → (i : Inverse) × (inverses ≡ i ∷ []) × (edits_of i ≡ inverse schema t.rows c))

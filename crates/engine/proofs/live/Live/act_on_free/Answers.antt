@@ -1,4 +1,4 @@
-use Rattle.std.proofs.Common.{◌≡◌, ◌<◌, ℕ, true, false, Bool, Some, length, refl, sym, ap, subst, ◌∙◌}
+use Rattle.std.proofs.Common.{rules, ◌≡◌, ◌<◌, ℕ, if◌then◌else◌, true, false, Bool, Some, length, refl, sym, ap, subst, ◌∙◌}
 use Rattle.std.specs.Prelude.{All, Result, Ok, Err}
 use Rattle.std.specs.Result.{IsErrAnd}
 use Rattle.std.specs.FinMap.{get}
@@ -22,6 +22,7 @@ use Rattle.engine.specs.Tied.{IsTied}
 use Rattle.engine.specs.TiedBasics.{its_names, writes_by_borrow, released_again}
 use Rattle.engine.specs.TiedActs.{free_again, tied_taken, tied_refused}
 use Rattle.engine.proofs.live.Live.act_on_free.Goals as goal
+use Rattle.engine.proofs.live.Live.act_on_free.Goals.{After-apply}
 
 pub with_what_stood-requires : goal.with_what_stood-requires
 with_what_stood-requires c = record {
@@ -59,11 +60,13 @@ apply-requires-clause-named c =
 
 -- ---- it is an item
 
-done : (c : goal.In-Ok-true) (w : World) (o : Opened) → IsTied w c.args.self.now → get w.opened c.args.xid ≡ Some o
-    → Acts c.args.self.now.tables.schema w c.args.xid o c.args.tried.sub c.args.tried.change (Ok IsDone) (done_with w c.args.xid o (Change c.args.tried.sub c.args.tried.change))
+-- the change was done, or it was skipped: the world took it as an item, and the store is tied to what it became
+taken : (c : After-apply) (done : Bool) → HasApplied done c.args.tried.sub c.args.tried.change c.mark-mark.result c.args.self.now.tables c.apply.new.tables c.in-Some.transaction.now c.apply.new.self
+    → (w : World) (o : Opened) → IsTied w c.args.self.now → get w.opened c.args.xid ≡ Some o
+    → Acts c.args.self.now.tables.schema w c.args.xid o c.args.tried.sub c.args.tried.change (Ok (if done then IsDone else IsSkipped)) (done_with w c.args.xid o (Change c.args.tried.sub c.args.tried.change))
     × IsTied (done_with w c.args.xid o (Change c.args.tried.sub c.args.tried.change))
     (record { tables = c.apply.new.tables; holds = c.take.new.self; transactions = c.get_mut.follows.lender c.apply.new.self; stopped = c.args.self.now.stopped })
-done c w o tied is =
+taken c done applied w o tied is =
     tied_taken w c.args.self.now tied c.args.xid o is c.in-Some.transaction.now c.apply.new.self
     (record { tables = c.apply.new.tables; holds = c.take.new.self; transactions = c.get_mut.follows.lender c.apply.new.self; stopped = c.args.self.now.stopped })
     (writes_by_borrow c.args.xid c.in-Some.transaction.now c.apply.new.self c.args.self.now.transactions (c.get_mut.follows.lender c.apply.new.self) (sym c.in-Some.ensures.value)
@@ -72,38 +75,17 @@ done c w o tied is =
     (subst (λ (count : ℕ). AreToStand c.args.self.now.tables.rows count (cells_held c.args.self.now.holds c.args.xid) c.in_ok-cells.cells.items)
     (c.inverse_count-count.ensures c.in-Some.transaction.now (sym c.in-Some.ensures.value))
     (c.in_ok-cells.ensures.stand c.args.xid (subst (All (IsFree (cells_held c.args.self.now.holds) c.args.xid)) (sym c.requires.cells) c.requires.free.all)))
-    c.in_ok-take.ensures.ok c.in_ok-take.ensures.others true
-    (subst (λ (done : Bool). HasApplied done c.args.tried.sub c.args.tried.change c.mark-mark.result c.args.self.now.tables c.apply.new.tables c.in-Some.transaction.now c.apply.new.self)
-    c.in-Ok-true.field-0-test c.in-Ok-true.ensures.ok) refl
+    c.in_ok-take.ensures.ok c.in_ok-take.ensures.others done applied refl
 
-pub returns-in-Ok-true-clause-acts : goal.returns-in-Ok-true-clause-acts
-returns-in-Ok-true-clause-acts c = λ w o tied is. (done c w o tied is).0
+pub returns-in-Ok-true : goal.returns-in-Ok-true
+returns-in-Ok-true c =
+    let done = taken (goal.at.returns-in-Ok-true c).After-apply true (rw c.in-Ok-true.field-0-test at c.in-Ok-true.ensures.ok) in
+    record { acts = λ w o tied is. (done w o tied is).0; tied = λ w o tied is. (done w o tied is).1; cause = search rules; schema = search rules }
 
-pub returns-in-Ok-true-clause-tied : goal.returns-in-Ok-true-clause-tied
-returns-in-Ok-true-clause-tied c = λ w o tied is. (done c w o tied is).1
-
-skipped : (c : goal.In-Ok-false) (w : World) (o : Opened) → IsTied w c.args.self.now → get w.opened c.args.xid ≡ Some o
-    → Acts c.args.self.now.tables.schema w c.args.xid o c.args.tried.sub c.args.tried.change (Ok IsSkipped) (done_with w c.args.xid o (Change c.args.tried.sub c.args.tried.change))
-    × IsTied (done_with w c.args.xid o (Change c.args.tried.sub c.args.tried.change))
-    (record { tables = c.apply.new.tables; holds = c.take.new.self; transactions = c.get_mut.follows.lender c.apply.new.self; stopped = c.args.self.now.stopped })
-skipped c w o tied is =
-    tied_taken w c.args.self.now tied c.args.xid o is c.in-Some.transaction.now c.apply.new.self
-    (record { tables = c.apply.new.tables; holds = c.take.new.self; transactions = c.get_mut.follows.lender c.apply.new.self; stopped = c.args.self.now.stopped })
-    (writes_by_borrow c.args.xid c.in-Some.transaction.now c.apply.new.self c.args.self.now.transactions (c.get_mut.follows.lender c.apply.new.self) (sym c.in-Some.ensures.value)
-    (c.get_mut.follows.holds c.apply.new.self))
-    c.args.tried.sub c.args.tried.change c.requires.names c.requires.running c.requires.free c.mark-mark.result c.in_ok-cells.cells.items c.mark-mark.ensures.count (c.in_ok-cells.ensures.cells ∙ c.requires.cells)
-    (subst (λ (count : ℕ). AreToStand c.args.self.now.tables.rows count (cells_held c.args.self.now.holds c.args.xid) c.in_ok-cells.cells.items)
-    (c.inverse_count-count.ensures c.in-Some.transaction.now (sym c.in-Some.ensures.value))
-    (c.in_ok-cells.ensures.stand c.args.xid (subst (All (IsFree (cells_held c.args.self.now.holds) c.args.xid)) (sym c.requires.cells) c.requires.free.all)))
-    c.in_ok-take.ensures.ok c.in_ok-take.ensures.others false
-    (subst (λ (done : Bool). HasApplied done c.args.tried.sub c.args.tried.change c.mark-mark.result c.args.self.now.tables c.apply.new.tables c.in-Some.transaction.now c.apply.new.self)
-    c.in-Ok-false.field-0-test c.in-Ok-false.ensures.ok) refl
-
-pub returns-in-Ok-false-clause-acts : goal.returns-in-Ok-false-clause-acts
-returns-in-Ok-false-clause-acts c = λ w o tied is. (skipped c w o tied is).0
-
-pub returns-in-Ok-false-clause-tied : goal.returns-in-Ok-false-clause-tied
-returns-in-Ok-false-clause-tied c = λ w o tied is. (skipped c w o tied is).1
+pub returns-in-Ok-false : goal.returns-in-Ok-false
+returns-in-Ok-false c =
+    let skipped = taken (goal.at.returns-in-Ok-false c).After-apply false (rw c.in-Ok-false.field-0-test at c.in-Ok-false.ensures.ok) in
+    record { acts = λ w o tied is. (skipped w o tied is).0; tied = λ w o tied is. (skipped w o tied is).1; cause = search rules; schema = search rules }
 
 -- ---- it was refused
 

@@ -1,4 +1,4 @@
-use Rattle.std.proofs.Common.{ap, is_some, refl, subst, sym, true≢false, ℕ, ◌∙◌}
+use Rattle.std.proofs.Common.{ap, is_some, refl, rules, subst, sym, true≢false, ℕ, ◌∙◌}
 use Rattle.std.specs.Prelude.{Result, Ok, Err, OnOk, OnErr}
 use Rattle.std.proofs.lemmas.Map.Entries.{length-keys_of}
 use Rattle.keyholds.specs.Holds.{holds_of}
@@ -26,27 +26,25 @@ touch-requires c =
     let (w, o, tied, is) = c.requires in
     record { named = its_names w c.args.self.now tied c.args.xid o is c.in-Some.transaction.now (sym c.in-Some.ensures.value) }
 
-pub returns-clause-ok : goal.returns-clause-ok
-returns-clause-ok c =
+pub returns : goal.returns
+returns c =
     let old = c.in-Some.transaction.now in
     let store = c.args.self.now in
     let after = c.get_mut.follows.lender c.touch.new.self in
     let writes = writes_by_borrow c.args.xid old c.touch.new.self store.transactions after (sym c.in-Some.ensures.value) (c.get_mut.follows.holds c.touch.new.self) in
     let count = c.mark-mark.ensures.count ∙ sym (length-keys_of (holds_of store.holds c.args.xid)) in
-    on_ok c.touch.result _ _
-    (λ touched w o tied is.
-    tied_touched w store tied c.args.xid o is old c.touch.new.self (record store { transactions = after }) writes c.args.sub
-    (subst (λ (held : ℕ). HasTouched c.args.sub held old c.touch.new.self) count touched) refl refl refl)
-    c.touch.ensures.ok
-
-pub returns-clause-err : goal.returns-clause-err
-returns-clause-err c =
-    let old = c.in-Some.transaction.now in
-    let store = c.args.self.now in
-    let after = c.get_mut.follows.lender c.touch.new.self in
-    let writes = writes_by_borrow c.args.xid old c.touch.new.self store.transactions after (sym c.in-Some.ensures.value) (c.get_mut.follows.holds c.touch.new.self) in
-    on_err c.touch.result _ _
-    (λ before w o tied is.
-    tied_refused w store tied c.args.xid o is old c.touch.new.self (record store { transactions = after }) writes
-    (record { schema_is = refl; rows = refl; room = λ cell has. has }) before refl refl)
-    c.touch.ensures.err
+    record {
+      ok =
+          on_ok c.touch.result _ _
+          (λ touched w o tied is.
+          tied_touched w store tied c.args.xid o is old c.touch.new.self (record store { transactions = after }) writes c.args.sub
+          (subst (λ (held : ℕ). HasTouched c.args.sub held old c.touch.new.self) count touched) refl refl refl)
+          c.touch.ensures.ok;
+      err =
+          on_err c.touch.result _ _
+          (λ before w o tied is.
+          tied_refused w store tied c.args.xid o is old c.touch.new.self (record store { transactions = after }) writes
+          (record { schema_is = refl; rows = refl; room = λ cell has. has }) before refl refl)
+          c.touch.ensures.err;
+      schema = search rules;
+    }

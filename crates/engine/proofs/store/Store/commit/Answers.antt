@@ -12,18 +12,12 @@ use Rattle.engine.specs.declared.store.Store.TheInside.{Inside}
 use Rattle.engine.specs.declared.events.LineEvent.{LineEvent}
 use Rattle.engine.specs.Events.{opened_by, last_end}
 use Rattle.engine.specs.Engine.{Engine, entry_in, world_in, IsStore}
-use Rattle.engine.specs.StoreLaws.{stands, has_room, store_committed}
-use Rattle.engine.specs.Tied.{IsTied}
+use Rattle.engine.specs.StoreLaws.{has_room, store_committed}
+use Rattle.engine.proofs.StoreTickets.{IsTicket, its_ticket, open_under, may_call, seen_open, tied_after}
 use Rattle.engine.proofs.store.Store.commit.Goals as goal
 
 pub commit-items-requires : goal.commit-items-requires
-commit-items-requires c =
-    let number : c.number-xid.result ≡ c.args.t.number = c.number-xid.ensures ∙ ap (λ (t : OpenList Event). t.number) c.t.view_is in
-    let listed = subst (λ (t : OpenList Event). get c.self.inside.book.lists t.number ≡ Some t.list) c.into_slip.ensures c.close.ensures.listed in
-    let there : get (world_in c.self.inside).opened c.number-xid.result ≡ Some (opened_by c.args.t.list) =
-    subst (λ (n : ℕ). get (world_in c.self.inside).opened n ≡ Some (opened_by c.args.t.list)) (sym number)
-    (stands c.self.inside c.self.invariant c.args.t.number c.args.t.list listed) in
-    (world_in c.self.inside, opened_by c.args.t.list, c.self.invariant.tied, there)
+commit-items-requires c = may_call c.self.invariant (its_ticket c.t.view_is c.number-xid.ensures c.into_slip.ensures c.close.ensures.listed)
 
 pub push_reserved-requires : goal.push_reserved-requires
 push_reserved-requires c =
@@ -31,20 +25,9 @@ push_reserved-requires c =
     (subst (λ (t : OpenList Event). get c.self.inside.book.lists t.number ≡ Some t.list) c.into_slip.ensures c.close.ensures.listed)
 
 module _ (c : goal.After-push_reserved) where
-  -- the number that was read is its ticket's
-  number : c.number-xid.result ≡ c.args.t.number
-  number = c.number-xid.ensures ∙ ap (λ (t : OpenList Event). t.number) c.t.view_is
-
-  listed : get c.self.inside.book.lists c.args.t.number ≡ Some c.args.t.list
-  listed = subst (λ (t : OpenList Event). get c.self.inside.book.lists t.number ≡ Some t.list) c.into_slip.ensures c.close.ensures.listed
-
-  -- its transaction is open in the world
-  is_open : get (world_in c.self.inside).opened c.args.t.number ≡ Some (opened_by c.args.t.list)
-  is_open = stands c.self.inside c.self.invariant c.args.t.number c.args.t.list listed
-
-  -- under the number that was read
-  is_open_there : get (world_in c.self.inside).opened c.number-xid.result ≡ Some (opened_by c.args.t.list)
-  is_open_there = subst (λ (n : ℕ). get (world_in c.self.inside).opened n ≡ Some (opened_by c.args.t.list)) (sym number) is_open
+  -- its ticket, whose number was read
+  its : IsTicket c.self.inside c.args.t c.number-xid.result
+  its = its_ticket c.t.view_is c.number-xid.ensures c.into_slip.ensures c.close.ensures.listed
 
   -- the entry of the journal, which tells the commit
   abbrev entry : Entry
@@ -55,12 +38,12 @@ module _ (c : goal.After-push_reserved) where
 
   survived : c.commit-items.result.items ≡ survivors c.args.t.number (opened_by c.args.t.list).items
   survived =
-      c.commit-items.ensures.items (world_in c.self.inside) (opened_by c.args.t.list) c.self.invariant.tied is_open_there
-      ∙ ap (λ (n : ℕ). survivors n (opened_by c.args.t.list).items) number
+      c.commit-items.ensures.items (world_in c.self.inside) (opened_by c.args.t.list) c.self.invariant.tied (open_under c.self.invariant its)
+      ∙ ap (λ (n : ℕ). survivors n (opened_by c.args.t.list).items) its.number
 
   entry_tells : entry_in entry ≡ entry_of past
   entry_tells = λ i. record {
-    xid = number i;
+    xid = its.number i;
     changes = (c.of_items.ensures ∙ ap (λ (items : List Item). changes_of items) survived) i;
     commit = c.args.info.commit;
     end = c.args.info.end;
@@ -72,12 +55,11 @@ module _ (c : goal.After-push_reserved) where
 
   moved : (world_in parts ≡ committed_with c.self.inside.live.tables.schema (world_in c.self.inside) c.args.t.number (opened_by c.args.t.list) c.args.info) × IsStore parts
   moved =
-      store_committed c.self.inside c.self.invariant c.args.t.number c.args.t.list listed c.commit-items.new.self c.push_reserved.new.self c.close.new.self c.tell_commit.new.kept
+      store_committed c.self.inside c.self.invariant c.args.t.number c.args.t.list its.listed c.commit-items.new.self c.push_reserved.new.self c.close.new.self c.tell_commit.new.kept
       c.args.info entry c.commit-items.ensures.schema
       (c.close.ensures.book ∙ (λ i. without_list c.self.inside.book (c.into_slip.ensures i).number))
       c.tell_commit.ensures.kept
-      (subst (λ (n : ℕ). IsTied (committed_with c.self.inside.live.tables.schema (world_in c.self.inside) n (opened_by c.args.t.list) c.args.info) c.commit-items.new.self) number
-      (c.commit-items.ensures.tied (world_in c.self.inside) (opened_by c.args.t.list) c.args.info c.self.invariant.tied is_open_there))
+      (tied_after c.self.invariant its (λ w n o. committed_with c.self.inside.live.tables.schema w n o c.args.info) c.commit-items.new.self (λ w o. c.commit-items.ensures.tied w o c.args.info))
       c.push_reserved.ensures.items c.push_reserved.ensures.len c.push_reserved.ensures.capacity entry_tells
       (subst (λ (l : Half LineEvent). last_end l.list < c.args.info.end) (sym c.line.view_is ∙ c.tell_commit.ensures.met) c.requires.rising)
 
@@ -85,7 +67,7 @@ pub invariant_of-self : goal.invariant_of-self
 invariant_of-self c = (moved c).1
 
 pub returns-clause-stood : goal.returns-clause-stood
-returns-clause-stood c = subst (λ (e : Engine). get e.world.opened c.args.t.number ≡ Some (opened_by c.args.t.list)) c.self.view_is (is_open c)
+returns-clause-stood c = seen_open c.self.invariant (its c) c.args.self.now c.self.view_is
 
 pub returns-clause-commits : goal.returns-clause-commits
 returns-clause-commits c =
