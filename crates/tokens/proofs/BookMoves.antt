@@ -1,12 +1,13 @@
 -- Each step of a book keeps its rule.
 use Rattle.std.proofs.Common.{◌≡◌, ◌≢◌, ℕ, List, [], ◌∷◌, ◌++◌, length, set, Option, Some, None, cond, eqb, eq-eqb, ne_eqb, refl, sym, ap, ◌∙◌, subst}
 use Rattle.std.specs.FinMap as map
+use Rattle.atomic_table.specs.declared.badge.Badge.{Badge}
 use Rattle.atomic_table.specs.Table.{Me, keeps, Allows, Splits, Joins}
 use Rattle.tokens.specs.declared.slips.Row.{Row}
 use Rattle.tokens.specs.Lists.{ListMap}
 use Rattle.tokens.specs.ListLaws.{get_insert_same, get_insert_other, get_remove_other}
 use Rattle.tokens.specs.ManyLists.{book_row, slip_row, blank_row, both_row, number_in, list_in, lists_in, joint_row, keeper_share, slip_share, longer_row, FitsIn, IsManyLists, Opens, Appends, Meets, Closes}
-use Rattle.tokens.proofs.Places.{AtEach, each_set, each_one, each_end, each_other}
+use Rattle.tokens.proofs.Places.{AtEach, each_set, each_one, each_cut, each_joined, each_other, taken_view, allows_at}
 
 none_is_some : {A : Type 0} (a : A) → {P : Type 0} → None ≡ Some a → P
 none_is_some a e = absurd (cc)
@@ -39,6 +40,31 @@ module _ {X : Type 0} where
       subst (λ (p : ℕ × List X). (by ≡ seat_of p.0) × (map.get lists p.0 ≡ Some p.1))
       (λ i. (ap number_in e i, ap list_in e i)) (is, is_open)
 
+  -- a row in a seat that is not the number's, whose seat becomes another
+  moved_fits :
+      (lists : ListMap X) (keeper : ℕ) (seat_of : ℕ → ℕ) (number was new by : ℕ) (r : Row X) → was ≡ seat_of number → by ≢ was
+      → FitsIn lists keeper seat_of by r → FitsIn lists keeper (moved_seat number new seat_of) by r
+  moved_fits lists keeper seat_of number was new by r is apart fits = record {
+    kept = fits.kept;
+    held = λ n l e.
+        let its = fits.held n l e in
+        let other : n ≢ number = λ same. apart (its.0 ∙ ap seat_of same ∙ sym is) in
+        (its.0 ∙ moved_other number new seat_of n other, its.1);
+  }
+
+  -- a row in a seat that is not the keeper's or the number's, as the number's list in the kept lists becomes another or goes
+  other_fits :
+      (all lists next : ListMap X) (keeper : ℕ) (seat_of : ℕ → ℕ) (number id by : ℕ) (r : Row X) → id ≡ keeper → lists ≡ all
+      → id ≡ seat_of number → by ≢ id → ((n : ℕ) → n ≢ number → map.get next n ≡ map.get lists n) → FitsIn all keeper seat_of by r
+      → FitsIn next keeper seat_of by r
+  other_fits all lists next keeper seat_of number id by r is same holds apart others fits = record {
+    kept = λ m e. absurd (apart ((fits.kept m e).0 ∙ sym is));
+    held = λ n l e.
+        let its = fits.held n l e in
+        let other : n ≢ number = λ equal. apart (its.0 ∙ ap seat_of equal ∙ sym holds) in
+        (its.0, others n other ∙ ap (λ m. map.get m n) same ∙ its.1);
+  }
+
   -- the table at the start
   pub starts : AtEach (FitsIn {X = X} map.empty 0 (λ _. 0)) (book_row map.empty ∷ [])
   starts = each_one (FitsIn {X = X} map.empty 0 (λ _. 0)) (book_row map.empty) (keeper_fits map.empty 0 (λ _. 0) 0 refl)
@@ -47,29 +73,17 @@ module _ {X : Type 0} where
   pub cuts :
       (id : ℕ) (lists : ListMap X) (number : ℕ) (list : List X)
       → Splits IsManyLists id (both_row lists number list) (book_row lists) (slip_row number list)
-  cuts id lists number list s h at =
-      let all = h.0 in
-      let keeper = h.1 in
-      let seat_of = h.2 in
-      let each = h.3 in
+  cuts id lists number list s (all, keeper, seat_of, each) at =
       let mine = each id (both_row lists number list) at in
       let holds_mine = mine.held number list refl in
-      let views = set s.views id (book_row lists) in
-      let new = length views in
+      let new = length (set s.views id (book_row lists)) in
       let moved = moved_seat number new seat_of in (
         all,
         keeper,
         moved,
-        each_end (FitsIn all keeper moved) views (slip_row number list)
-            (each_set (FitsIn all keeper moved) s.views id (book_row lists)
-            (λ j u apart e. record {
-              kept = (each j u e).kept;
-              held = λ n l is.
-                  let theirs = (each j u e).held n l is in
-                  let other : n ≢ number = λ same. apart (theirs.0 ∙ ap seat_of same ∙ sym holds_mine.0) in
-                  (theirs.0 ∙ moved_other number new seat_of n other, theirs.1);
-            })
-            (record { kept = λ m e. mine.kept m e; held = λ n l e. none_is_some (n, l) e }))
+        each_cut (FitsIn all keeper moved) s.views id (book_row lists) (slip_row number list)
+            (λ j u apart e. moved_fits all keeper seat_of number id new j u holds_mine.0 apart (each j u e))
+            (record { kept = λ m e. mine.kept m e; held = λ n l e. none_is_some (n, l) e })
             (record {
               kept = λ m e. none_is_some m e;
               held = slip_holds all moved new number list (moved_same number new seat_of number refl) holds_mine.1;
@@ -80,11 +94,7 @@ module _ {X : Type 0} where
   pub joins :
       (id : ℕ) (lists : ListMap X) (other number : ℕ) (list : List X)
       → Joins IsManyLists id (book_row lists) other (slip_row number list) (both_row lists number list) blank_row
-  joins id lists other number list s h at apart there =
-      let all = h.0 in
-      let keeper = h.1 in
-      let seat_of = h.2 in
-      let each = h.3 in
+  joins id lists other number list s (all, keeper, seat_of, each) at apart there =
       let both : Row X = both_row lists number list in
       let mine = each id (book_row lists) at in
       let theirs = each other (slip_row number list) (each_other (FitsIn all keeper seat_of) s.views id both other (slip_row number list) apart there) in
@@ -93,20 +103,12 @@ module _ {X : Type 0} where
         all,
         keeper,
         moved,
-        each_set (FitsIn all keeper moved) (set s.views id both) other blank_row
-            (λ j u far e. each_set (λ k v. k ≢ other → FitsIn all keeper moved k v) s.views id both
-            (λ k v elsewhere f not_other. record {
-              kept = (each k v f).kept;
-              held = λ n l is.
-                  let its = (each k v f).held n l is in
-                  let apart_from : n ≢ number = λ same. not_other (its.0 ∙ ap seat_of same ∙ sym holds_theirs.0) in
-                  (its.0 ∙ moved_other number id seat_of n apart_from, its.1);
-            })
-            (λ _. record {
+        each_joined (FitsIn all keeper moved) s.views id both other blank_row
+            (λ j u _ not_other e. moved_fits all keeper seat_of number other id j u holds_theirs.0 not_other (each j u e))
+            (record {
               kept = λ m is. mine.kept m is;
               held = slip_holds all moved id number list (moved_same number id seat_of number refl) holds_theirs.1;
             })
-            j u e far)
             (blank_fits all keeper moved other),
       )
 
@@ -114,11 +116,7 @@ module _ {X : Type 0} where
   pub opens :
       (slots id : ℕ) (lists : ListMap X) (number : ℕ) → map.get lists number ≡ None
       → Allows IsManyLists slots id (book_row lists, []) 0 (λ _. number) (λ _ next. Opens number (book_row lists, []) next)
-  opens slots id lists number absent s h _ at _ =
-      let all = h.0 in
-      let keeper = h.1 in
-      let seat_of = h.2 in
-      let each = h.3 in
+  opens slots id lists number absent s (all, keeper, seat_of, each) _ at _ =
       let mine = (each id (book_row lists) at).kept lists refl in
       let now = map.insert lists number [] in
       let moved = moved_seat number id seat_of in
@@ -151,11 +149,7 @@ module _ {X : Type 0} where
   pub appends :
       (slots id : ℕ) (lists : ListMap X) (number : ℕ) (list items : List X)
       → Allows IsManyLists slots id (both_row lists number list, []) 0 (λ n. n) (λ _ next. Appends items (both_row lists number list, []) next)
-  appends slots id lists number list items s h _ at _ =
-      let all = h.0 in
-      let keeper = h.1 in
-      let seat_of = h.2 in
-      let each = h.3 in
+  appends slots id lists number list items s (all, keeper, seat_of, each) _ at _ =
       let mine = (each id (both_row lists number list) at).kept lists refl in
       let holds = (each id (both_row lists number list) at).held number list refl in
       let longer = list ++ items in
@@ -170,13 +164,8 @@ module _ {X : Type 0} where
           keeper,
           seat_of,
           each_set (FitsIn now keeper seat_of) s.views id w
-              (λ j u apart e. record {
-                kept = λ m is. absurd (apart (((each j u e).kept m is).0 ∙ sym mine.0));
-                held = λ n l is.
-                    let its = (each j u e).held n l is in
-                    let other : n ≢ number = λ same. apart (its.0 ∙ ap seat_of same ∙ sym holds.0) in
-                    (its.0, get_insert_other lists number longer n other ∙ subst (λ (m : ListMap X). map.get m n ≡ Some l) (sym mine.1) its.1);
-              })
+              (λ j u apart e. other_fits all lists now keeper seat_of number id j u mine.0 mine.1 holds.0 apart
+              (λ n other. get_insert_other lists number longer n other) (each j u e))
               (record {
                 kept = λ m is. (mine.0, kept_all now m is);
                 held = slip_holds now seat_of id number longer holds.0 (get_insert_same lists number longer);
@@ -188,11 +177,7 @@ module _ {X : Type 0} where
   pub meets :
       (slots id : ℕ) (lists : ListMap X) (number : ℕ) (list : List X)
       → Allows IsManyLists slots id (both_row lists number list, []) 0 (λ n. n) (λ _ next. Meets (both_row lists number list, []) next)
-  meets slots id lists number list s h _ at _ =
-      let all = h.0 in
-      let keeper = h.1 in
-      let seat_of = h.2 in
-      let each = h.3 in
+  meets slots id lists number list s (all, keeper, seat_of, each) _ at _ =
       let v : Row X = both_row lists number list in
       let mine = each id v at in
       let same = (mine.kept lists refl).1 in (
@@ -206,11 +191,7 @@ module _ {X : Type 0} where
   pub closes :
       (slots id : ℕ) (lists : ListMap X) (number : ℕ) (list : List X)
       → Allows IsManyLists slots id (both_row lists number list, []) 0 (λ n. n) (λ _ next. Closes (both_row lists number list, []) next)
-  closes slots id lists number list s h _ at _ =
-      let all = h.0 in
-      let keeper = h.1 in
-      let seat_of = h.2 in
-      let each = h.3 in
+  closes slots id lists number list s (all, keeper, seat_of, each) _ at _ =
       let mine = (each id (both_row lists number list) at).kept lists refl in
       let holds = (each id (both_row lists number list) at).held number list refl in
       let now = map.remove lists number in
@@ -223,13 +204,8 @@ module _ {X : Type 0} where
           keeper,
           seat_of,
           each_set (FitsIn now keeper seat_of) s.views id (book_row now)
-              (λ j u apart e. record {
-                kept = λ m is. absurd (apart (((each j u e).kept m is).0 ∙ sym mine.0));
-                held = λ n l is.
-                    let its = (each j u e).held n l is in
-                    let other : n ≢ number = λ same. apart (its.0 ∙ ap seat_of same ∙ sym holds.0) in
-                    (its.0, get_remove_other lists number n other ∙ subst (λ (m : ListMap X). map.get m n ≡ Some l) (sym mine.1) its.1);
-              })
+              (λ j u apart e. other_fits all lists now keeper seat_of number id j u mine.0 mine.1 holds.0 apart
+              (λ n other. get_remove_other lists number n other) (each j u e))
               (keeper_fits now keeper seat_of id mine.0),
         ),
         (is_open, refl),
@@ -242,46 +218,44 @@ module _ {X : Type 0} where
   cuts_as id v lists number list is =
       subst (λ (u : Row X). Splits IsManyLists id u (keeper_share u) (slip_share u)) (sym is) (cuts id lists number list)
 
+  -- the keeper's seat takes in the seat that a slip's badge was made of
   pub joins_as :
-      (id : ℕ) (v : Row X) (lists : ListMap X) (other : ℕ) (w : Row X) (number : ℕ) (list : List X) → v ≡ book_row lists
-      → w ≡ slip_row number list → Joins IsManyLists id v other w (joint_row v w) blank_row
-  joins_as id v lists other w number list is theirs =
+      (id : ℕ) (me : Me (Unit {0}) (Row X)) (lists : ListMap X) (other : ℕ) (badge taken : Badge (Row X)) (w : Row X) (number : ℕ) (list : List X)
+      → me ≡ (book_row lists, []) → badge.views ≡ slip_row number list ∷ [] → taken ≡ badge → taken.views ≡ w ∷ []
+      → Joins IsManyLists id me.0 other w (joint_row me.0 w) blank_row
+  joins_as id me lists other badge taken w number list mine is moved was =
+      let theirs = taken_view badge taken (slip_row number list) w is moved was in
       subst (λ (u : Row X × Row X). Joins IsManyLists id u.0 other u.1 (joint_row u.0 u.1) blank_row)
-      (λ i. (sym is i, sym theirs i)) (joins id lists other number list)
+      (λ i. ((sym mine i).0, sym theirs i)) (joins id lists other number list)
 
   pub opens_as :
       (slots id : ℕ) (me : Me (Unit {0}) (Row X)) (lists : ListMap X) (number : ℕ) → me ≡ (book_row lists, []) → map.get lists number ≡ None
       → Allows IsManyLists slots id me 0 (λ _. number) (λ _ next. Opens number me next)
-  opens_as slots id me lists number is absent =
-      subst (λ (m : Me (Unit {0}) (Row X)). Allows IsManyLists slots id m 0 (λ _. number) (λ _ next. Opens number m next)) (sym is)
-      (opens slots id lists number absent)
+  opens_as slots id me lists number is absent = allows_at IsManyLists slots id (λ _. number) (Opens number) me _ is (opens slots id lists number absent)
 
   pub appends_as :
       (slots id : ℕ) (me : Me (Unit {0}) (Row X)) (lists : ListMap X) (number : ℕ) (list items : List X)
       → me ≡ (both_row lists number list, []) → Allows IsManyLists slots id me 0 (λ n. n) (λ _ next. Appends items me next)
-  appends_as slots id me lists number list items is =
-      subst (λ (m : Me (Unit {0}) (Row X)). Allows IsManyLists slots id m 0 (λ n. n) (λ _ next. Appends items m next)) (sym is)
-      (appends slots id lists number list items)
+  appends_as slots id me lists number list items is = allows_at IsManyLists slots id (λ n. n) (Appends items) me _ is (appends slots id lists number list items)
 
   pub meets_as :
       (slots id : ℕ) (me : Me (Unit {0}) (Row X)) (lists : ListMap X) (number : ℕ) (list : List X)
       → me ≡ (both_row lists number list, []) → Allows IsManyLists slots id me 0 (λ n. n) (λ _ next. Meets me next)
-  meets_as slots id me lists number list is =
-      subst (λ (m : Me (Unit {0}) (Row X)). Allows IsManyLists slots id m 0 (λ n. n) (λ _ next. Meets m next)) (sym is)
-      (meets slots id lists number list)
+  meets_as slots id me lists number list is = allows_at IsManyLists slots id (λ n. n) Meets me _ is (meets slots id lists number list)
 
   pub closes_as :
       (slots id : ℕ) (me : Me (Unit {0}) (Row X)) (lists : ListMap X) (number : ℕ) (list : List X)
       → me ≡ (both_row lists number list, []) → Allows IsManyLists slots id me 0 (λ n. n) (λ _ next. Closes me next)
-  closes_as slots id me lists number list is =
-      subst (λ (m : Me (Unit {0}) (Row X)). Allows IsManyLists slots id m 0 (λ n. n) (λ _ next. Closes m next)) (sym is)
-      (closes slots id lists number list)
+  closes_as slots id me lists number list is = allows_at IsManyLists slots id (λ n. n) Closes me _ is (closes slots id lists number list)
 
   -- what the seats know after each step
   pub joined_me :
-      (me next : Me (Unit {0}) (Row X)) (lists : ListMap X) (w : Row X) (number : ℕ) (list : List X) → me ≡ (book_row lists, [])
-      → w ≡ slip_row number list → next ≡ (joint_row me.0 w, me.1) → next ≡ (both_row lists number list, [])
-  joined_me me next lists w number list mine theirs is = is ∙ (λ i. (joint_row (mine i).0 (theirs i), (mine i).1))
+      (me next : Me (Unit {0}) (Row X)) (lists : ListMap X) (badge taken : Badge (Row X)) (w : Row X) (number : ℕ) (list : List X)
+      → me ≡ (book_row lists, []) → badge.views ≡ slip_row number list ∷ [] → taken ≡ badge → taken.views ≡ w ∷ []
+      → next ≡ (joint_row me.0 w, me.1) → next ≡ (both_row lists number list, [])
+  joined_me me next lists badge taken w number list mine badge_is moved was is =
+      let theirs = taken_view badge taken (slip_row number list) w badge_is moved was in
+      is ∙ (λ i. (joint_row (mine i).0 (theirs i), (mine i).1))
 
   pub grown_me :
       (items : List X) (me next : Me (Unit {0}) (Row X)) (lists : ListMap X) (number : ℕ) (list : List X)
