@@ -90,21 +90,36 @@ first_taken_next rows table row uniques i below columns is =
     ∙ ap (λ n. if are_taken_unless_null rows table columns (values_in columns row) then Some (i + 1) else first_taken rows table row n (drop (suc i) uniques)) (sym (add-one (i + 1)))
     ∙ ap (λ n. if are_taken_unless_null rows table columns (values_in columns row) then Some (i + 1) else first_taken rows table row ((i + 1) + 1) (drop n uniques)) (sym (add-one i))
 
--- a row that has them is the least that clashes
-pub first_taken_found : (rows : Rows) (table : ℕ) (row : Row) (uniques : List (List ℕ)) (i : ℕ) → i < length uniques
-    → (columns : List ℕ) → columns ≡ unwrap_or (slice_get uniques i) [] → are_taken_unless_null rows table columns (values_in columns row) ≡ true
-    → first_taken rows table row (i + 1) (drop i uniques) ≡ Some (i + 1)
-first_taken_found rows table row uniques i below columns is found =
-    first_taken_next rows table row uniques i below columns is
-    ∙ ap (λ b. if b then Some (i + 1) else first_taken rows table row ((i + 1) + 1) (drop (i + 1) uniques)) found
+-- the columns of the unique key after the first i
+pub columns_at : (schema : Schema) (table i : ℕ) → unique_columns schema table (i + 1) ≡ unwrap_or (slice_get (keys_at schema table).uniques i) []
+columns_at schema table i = let e : (i + 1) - 1 ≡ i = omega arith in ap (λ n. unwrap_or (slice_get (keys_at schema table).uniques n) []) e
 
--- none has them, so the rest of the unique keys decide
-pub first_taken_passed : (rows : Rows) (table : ℕ) (row : Row) (uniques : List (List ℕ)) (i : ℕ) → i < length uniques
-    → (columns : List ℕ) → columns ≡ unwrap_or (slice_get uniques i) [] → are_taken_unless_null rows table columns (values_in columns row) ≡ false
-    → first_taken rows table row (i + 1) (drop i uniques) ≡ first_taken rows table row ((i + 1) + 1) (drop (i + 1) uniques)
-first_taken_passed rows table row uniques i below columns is none =
-    first_taken_next rows table row uniques i below columns is
-    ∙ ap (λ b. if b then Some (i + 1) else first_taken rows table row ((i + 1) + 1) (drop (i + 1) uniques)) none
+module _ (schema : Schema) (rows : Rows) (table : ℕ) (row : Row) (i : ℕ) where
+  -- whether rows have the values of the unique key after the first i
+  abbrev are_next_taken : Bool
+  are_next_taken = are_taken_unless_null rows table (unique_columns schema table (i + 1)) (values_in (unique_columns schema table (i + 1)) row)
+
+  -- what the unique keys after the first i tell
+  abbrev told : Option ℕ
+  told = first_taken rows table row (i + 1) (drop i (keys_at schema table).uniques)
+
+  -- the same of those behind the next one
+  abbrev told_later : Option ℕ
+  told_later = first_taken rows table row ((i + 1) + 1) (drop (i + 1) (keys_at schema table).uniques)
+
+  -- the next one decides, or those behind it
+  first_told : i < length (keys_at schema table).uniques → (taken : Bool) → are_next_taken ≡ taken → told ≡ (if taken then Some (i + 1) else told_later)
+  first_told below taken is =
+      first_taken_next rows table row (keys_at schema table).uniques i below (unique_columns schema table (i + 1)) (columns_at schema table i)
+      ∙ ap (λ b. if b then Some (i + 1) else told_later) is
+
+  -- a row that has them is the least that clashes
+  pub first_taken_found : i < length (keys_at schema table).uniques → (whole : Option ℕ) → are_next_taken ≡ true → told ≡ whole → Some (i + 1) ≡ whole
+  first_taken_found below whole found far = sym (first_told below true found) ∙ far
+
+  -- none has them, so the rest of the unique keys decide
+  pub first_taken_passed : i < length (keys_at schema table).uniques → (whole : Option ℕ) → are_next_taken ≡ false → told ≡ whole → told_later ≡ whole
+  first_taken_passed below whole none far = sym (first_told below false none) ∙ far
 
 -- past the last there is none
 pub first_taken_end : (rows : Rows) (table : ℕ) (row : Row) (uniques : List (List ℕ)) (i : ℕ) → length uniques ≤ i → first_taken rows table row (i + 1) (drop i uniques) ≡ None
@@ -140,10 +155,6 @@ kept_is_free schema rows valid table number within (Some standing) at row keeps 
     ap (are_taken_unless_null (remove rows (table, standing.key.now)) table columns) has.2
     ∙ taken_in_rest schema rows valid table number has.0 standing.key.now standing.key.now standing.row.now within at has.1
     ∙ ap not (same_key standing.key.now)
-
--- the columns of the unique key after the first i
-pub columns_at : (schema : Schema) (table i : ℕ) → unique_columns schema table (i + 1) ≡ unwrap_or (slice_get (keys_at schema table).uniques i) []
-columns_at schema table i = let e : (i + 1) - 1 ≡ i = omega arith in ap (λ n. unwrap_or (slice_get (keys_at schema table).uniques n) []) e
 
 -- ---- the row at a key, but for one
 

@@ -12,11 +12,14 @@ use Rattle.model.specs.Rows.{Place, Rows, Schema, keys_at, key_of, IsValid}
 use Rattle.model.specs.Effect.{Edits, one_edit, Done, Clashes, Unique, row_outcome, row_outcome_at, unless_taken, patch_row, set_outcome, remove_outcome, outcome, effect, inverse, back, first_taken}
 use Rattle.model.specs.EditLaws.{same_edits, is_place, same_place, place_is, place_cases, get_insert_same, get_insert_other, get_remove_same, get_remove_other, get_edit, get_one_edit, overlay_one, overlay_two, rows_under_one, rows_under_two}
 use Rattle.model.specs.EffectLaws.{row_outcome_free, effect_of, inverse_of, back_of_inverse}
+use Rattle.model.specs.Footprint.{footprint}
 use Rattle.indexes.specs.Content.{Content, Keeps}
-use Rattle.change.specs.Applied.{IsSound}
+use Rattle.change.specs.Applied.{IsSound, IsDone}
+use Rattle.change.specs.Altered.{cells_altered}
 use Rattle.change.specs.declared.inverse.Inverse.{Inverse}
 use Rattle.change.specs.declared.inverse.Inverse.TheVariants.{Take, Put, Replace}
-use Rattle.change.specs.Inverse.{edits_of, IsKnown, AsLeft, HasItsRoom, CanPutBack}
+use Rattle.change.specs.Inverse.{edits_of, room_back, IsKnown, AsLeft, HasItsRoom, CanPutBack}
+use Rattle.change.proofs.Altering.{put_alters, set_alters, remove_alters}
 
 -- once it is put back the rows are as before, so they are valid
 pub back_is_old : (old new : Content) (c : Change) (i : Inverse)
@@ -24,15 +27,39 @@ pub back_is_old : (old new : Content) (c : Change) (i : Inverse)
 back_is_old old new c i rows edits =
     ap (λ (e : Edits). back new.rows e) edits ∙ ap (λ (r : Rows). back r (inverse old.schema old.rows c)) rows ∙ back_of_inverse old.schema old.rows c
 
-pub can_put_back : (old new : Content) (c : Change) (i : Inverse) → IsValid old.schema old.rows → new.schema ≡ old.schema
-    → new.rows ≡ effect old.schema old.rows c → edits_of i ≡ inverse old.schema old.rows c
-    → IsKnown old.schema i → AsLeft new.rows i → HasItsRoom old.schema new.room i → CanPutBack new i
-can_put_back old new c i valid schema rows edits known left room = record {
-  known = subst (λ (s : Schema). IsKnown s i) (sym schema) known;
-  as_left = left;
-  valid = subst (λ (s : Schema). IsValid s (back new.rows (edits_of i))) (sym schema)
-      (subst (λ (r : Rows). IsValid old.schema r) (sym (back_is_old old new c i rows edits)) valid);
-  room = subst (λ (s : Schema). HasItsRoom s new.room i) (sym schema) room;
+-- what a change that is done leaves: the rows, and an inverse that gives them back
+abbrev pub Leaves : Content → Content → Change → Inverse → Type 0
+Leaves old new c i = record {
+  answer : IsDone (outcome old.schema old.rows c);
+  ok : new.rows ≡ effect old.schema old.rows c;
+  err : Unit {0};
+  inverse : edits_of i ≡ inverse old.schema old.rows c;
+  altered : Keeps (cells_altered i) (footprint old.schema old.rows c);
+  can_put_back : CanPutBack new i;
+  room : Keeps old.room (room_back new.room i);
+  schema : new.schema ≡ old.schema;
+}
+
+-- so a change leaves it that is done, and whose inverse is known, as left and with its room
+pub leaves : (old new : Content) (c : Change) (i : Inverse) → IsValid old.schema old.rows → IsDone (outcome old.schema old.rows c)
+    → new.schema ≡ old.schema → new.rows ≡ effect old.schema old.rows c → edits_of i ≡ inverse old.schema old.rows c
+    → Keeps (cells_altered i) (footprint old.schema old.rows c) → IsKnown old.schema i → AsLeft new.rows i → HasItsRoom old.schema new.room i
+    → Keeps old.room (room_back new.room i) → Leaves old new c i
+leaves old new c i valid answer schema rows edits altered known left its_room room = record {
+  answer = answer;
+  ok = rows;
+  err = tt;
+  inverse = edits;
+  altered = altered;
+  can_put_back = record {
+    known = subst (λ (s : Schema). IsKnown s i) (sym schema) known;
+    as_left = left;
+    valid = subst (λ (s : Schema). IsValid s (back new.rows (edits_of i))) (sym schema)
+        (subst (λ (r : Rows). IsValid old.schema r) (sym (back_is_old old new c i rows edits)) valid);
+    room = subst (λ (s : Schema). HasItsRoom s new.room i) (sym schema) its_room;
+  };
+  room = room;
+  schema = schema;
 }
 
 -- ---- a row is removed
@@ -49,39 +76,40 @@ module _ (old new : Content) (table : ℕ) (key copy : Key) (row : Row) (same : 
   remove_done : outcome old.schema old.rows asked ≡ Done (one_edit (table, key) None)
   remove_done = ap (remove_outcome (table, key)) remove_there
 
-  pub remove_ok : new.rows ≡ effect old.schema old.rows asked
+  remove_ok : new.rows ≡ effect old.schema old.rows asked
   remove_ok =
       rows ∙ ap (λ (k : Key). remove old.rows (table, k)) same ∙ sym (overlay_one old.rows (table, key) None)
       ∙ sym (effect_of old.schema old.rows asked (Done (one_edit (table, key) None)) remove_done)
 
-  pub remove_inverse : edits_of (Put table copy row) ≡ inverse old.schema old.rows asked
+  remove_inverse : edits_of (Put table copy row) ≡ inverse old.schema old.rows asked
   remove_inverse =
       ap (λ (k : Key). one_edit (table, k) (Some row)) same ∙ ap (one_edit (table, key)) (sym remove_there) ∙ sym (rows_under_one old.rows (table, key) None)
       ∙ sym (inverse_of old.schema old.rows asked (Done (one_edit (table, key) None)) remove_done)
 
-  pub remove_can : CanPutBack new (Put table copy row)
-  remove_can =
-      can_put_back old new asked (Put table copy row) sound.valid schema remove_ok remove_inverse known
-      (ap (λ (r : Rows). get r (table, copy)) rows ∙ get_remove_same old.rows (table, copy)) (λ cell is. kept cell (sound.room table copy row at_copy cell is))
+  pub remove_leaves : Leaves old new asked (Put table copy row)
+  remove_leaves =
+      leaves old new asked (Put table copy row) sound.valid (subst IsDone (sym remove_done) tt) schema remove_ok remove_inverse
+      (remove_alters old.schema old.rows table key copy same) known (ap (λ (r : Rows). get r (table, copy)) rows ∙ get_remove_same old.rows (table, copy))
+      (λ cell is. kept cell (sound.room table copy row at_copy cell is)) kept
 
 -- ---- a row comes into its table
 
 module _ (old new : Content) (table : ℕ) (row : Row) (key copy : Key) (same : copy ≡ key) (valid : IsValid old.schema old.rows) (known : table < length old.schema)
     (own : key_of old.schema table row ≡ Some key) (free : get old.rows (table, key) ≡ None)
     (none : first_taken old.rows table row 1 (keys_at old.schema table).uniques ≡ None)
-    (schema : new.schema ≡ old.schema) (rows : new.rows ≡ insert old.rows (table, key) row) where
+    (schema : new.schema ≡ old.schema) (rows : new.rows ≡ insert old.rows (table, key) row) (kept : Keeps old.room new.room) where
   abbrev asked_put : Change
   asked_put = PutRow table row
 
-  pub put_done : outcome old.schema old.rows asked_put ≡ Done (one_edit (table, key) (Some row))
+  put_done : outcome old.schema old.rows asked_put ≡ Done (one_edit (table, key) (Some row))
   put_done = row_outcome_free old.schema old.rows map_of.empty table row key own free none
 
-  pub put_ok : new.rows ≡ effect old.schema old.rows asked_put
+  put_ok : new.rows ≡ effect old.schema old.rows asked_put
   put_ok =
       rows ∙ sym (overlay_one old.rows (table, key) (Some row))
       ∙ sym (effect_of old.schema old.rows asked_put (Done (one_edit (table, key) (Some row))) put_done)
 
-  pub put_inverse : edits_of (Take table copy) ≡ inverse old.schema old.rows asked_put
+  put_inverse : edits_of (Take table copy) ≡ inverse old.schema old.rows asked_put
   put_inverse =
       ap (λ (k : Key). one_edit (table, k) None) same ∙ ap (one_edit (table, key)) (sym free) ∙ sym (rows_under_one old.rows (table, key) (Some row))
       ∙ sym (inverse_of old.schema old.rows asked_put (Done (one_edit (table, key) (Some row))) put_done)
@@ -89,8 +117,10 @@ module _ (old new : Content) (table : ℕ) (row : Row) (key copy : Key) (same : 
   stands : IsSome (get new.rows (table, copy))
   stands = ap is_some (ap (λ (r : Rows). get r (table, copy)) rows ∙ ap (λ (k : Key). get (insert old.rows (table, key) row) (table, k)) same ∙ get_insert_same old.rows (table, key) row)
 
-  pub put_can : CanPutBack new (Take table copy)
-  put_can = can_put_back old new asked_put (Take table copy) valid schema put_ok put_inverse known stands tt
+  pub put_leaves : Leaves old new asked_put (Take table copy)
+  put_leaves =
+      leaves old new asked_put (Take table copy) valid (subst IsDone (sym put_done) tt) schema put_ok put_inverse
+      (put_alters old.schema old.rows table key copy row same own) known stands tt kept
 
 -- ---- a row is replaced
 
@@ -152,12 +182,12 @@ module _ (old new : Content) (table : ℕ) (key stood_at : Key) (new_key stands_
   abbrev set_edits : Edits
   set_edits = insert (one_edit (table, key) None) (table, new_key) (Some row)
 
-  pub set_done : outcome old.schema old.rows asked_set ≡ Done set_edits
+  set_done : outcome old.schema old.rows asked_set ≡ Done set_edits
   set_done =
       set_as_placed old.schema old.rows table key patch was row there row_is
       ∙ row_outcome_free old.schema (remove old.rows (table, key)) (one_edit (table, key) None) table row new_key own free none
 
-  pub set_ok : new.rows ≡ effect old.schema old.rows asked_set
+  set_ok : new.rows ≡ effect old.schema old.rows asked_set
   set_ok =
       rows ∙ sym (overlay_two old.rows (table, key) (table, new_key) None (Some row))
       ∙ sym (effect_of old.schema old.rows asked_set (Done set_edits) set_done)
@@ -187,7 +217,7 @@ module _ (old new : Content) (table : ℕ) (key stood_at : Key) (new_key stands_
   edits_found : insert (one_edit new_place None) old_place (Some was) ≡ insert (one_edit old_place (get old.rows old_place)) new_place (get old.rows new_place)
   edits_found = elim (place_cases new_place old_place) [ inl is ↦ at_old_place is | inr other ↦ at_other_place other ]
 
-  pub set_inverse : edits_of (Replace table stands_at stood_at was) ≡ inverse old.schema old.rows asked_set
+  set_inverse : edits_of (Replace table stands_at stood_at was) ≡ inverse old.schema old.rows asked_set
   set_inverse =
       ap (λ (k : Key). insert (one_edit (table, k) None) (table, stood_at) (Some was)) same_new
       ∙ ap (λ (k : Key). insert (one_edit new_place None) (table, k) (Some was)) same_key
@@ -212,11 +242,14 @@ module _ (old new : Content) (table : ℕ) (key stood_at : Key) (new_key stands_
             ∙ get_remove_same old.rows old_place
       ]
 
-  pub set_can : CanPutBack new (Replace table stands_at stood_at was)
-  set_can =
-      can_put_back old new asked_set (Replace table stands_at stood_at was) sound.valid schema set_ok set_inverse known
+  pub set_leaves : Leaves old new asked_set (Replace table stands_at stood_at was)
+  set_leaves =
+      leaves old new asked_set (Replace table stands_at stood_at was) sound.valid (subst IsDone (sym set_done) tt) schema set_ok set_inverse
+      (set_alters old.schema old.rows table key stood_at new_key stands_at patch was same_key same_new there
+      (ap (λ (r : Row). key_of old.schema table r) (sym row_is) ∙ own))
+      known
       (set_stands, ap (λ (k : Key). get (remove new.rows (table, k)) (table, stood_at)) same_new ∙ ap (λ (k : Key). get (remove new.rows new_place) (table, k)) same_key ∙ old_is_free)
-      (λ cell is. kept cell (sound.room table key was there cell is))
+      (λ cell is. kept cell (sound.room table key was there cell is)) kept
 
 -- ---- nothing is there
 

@@ -1,5 +1,5 @@
 -- A test of cells over those of a change, as a search goes through them.
-use Rattle.std.specs.Prelude.{◌≡◌, ℕ, suc, ◌+◌, ◌<◌, Bool, true, false, ◌||◌, List, [], ◌∷◌, ◌++◌, Option, Some, None, is_some, length, drop, slice_get, unwrap_or, refl}
+use Rattle.std.specs.Prelude.{◌≡◌, ℕ, ◌+◌, ◌<◌, Bool, true, false, ◌||◌, List, Option, Some, None, is_some, length, drop, refl}
 use Rattle.std.specs.List.{list_any}
 use Rattle.std.specs.Ordering.{is_eq}
 use Rattle.std.proofs.Common.{sym, ◌∙◌, ap}
@@ -9,11 +9,12 @@ use Rattle.model.specs.declared.row.Row.{Row as Record}
 use Rattle.model.specs.declared.cell.Cell.{Cell}
 use Rattle.model.specs.declared.cell.Cell.TheVariants.{Row, Uniq}
 use Rattle.model.specs.Key.{key_cmp}
-use Rattle.model.specs.Rows.{values_in, is_key}
+use Rattle.model.specs.Rows.{Schema, keys_at, values_in, is_key}
 use Rattle.model.specs.Cells.{row_cell, unique_cell}
 use Rattle.indexes.specs.Columns.{present}
+use Rattle.indexes.specs.Content.{unique_columns}
 use Rattle.indexes.proofs.Entries.{present_is}
-use Rattle.change.proofs.Numbered.{next_key}
+use Rattle.change.proofs.Numbered.{Series, next_key}
 
 -- ---- a key that is there
 
@@ -47,25 +48,29 @@ module _ (columns : List ℕ) (row : Record) (there : is_some (values_in columns
 
 -- ---- the unique keys, one after another
 
-module _ (P : Cell → Bool) (of_key : ℕ → List ℕ → List Cell) (of_keys : ℕ → List (List ℕ) → List Cell)
-    (of_none : (n : ℕ) → of_keys n [] ≡ [])
-    (of_first : (n : ℕ) (columns : List ℕ) (uniques : List (List ℕ)) → of_keys n (columns ∷ uniques) ≡ of_key n columns ++ of_keys (suc n) uniques)
-    (uniques : List (List ℕ)) (i : ℕ) where
-  both : i < length uniques → (columns : List ℕ) → columns ≡ unwrap_or (slice_get uniques i) []
-      → list_any P (of_keys (i + 1) (drop i uniques)) ≡ (list_any P (of_key (i + 1) columns) || list_any P (of_keys ((i + 1) + 1) (drop (i + 1) uniques)))
-  both below columns is =
-      ap (list_any P) (next_key of_key of_keys of_none of_first uniques i below columns is)
-      ∙ list_any-append P (of_key (i + 1) columns) (of_keys ((i + 1) + 1) (drop (i + 1) uniques))
+module _ (P : Cell → Bool) (s : Series) (schema : Schema) (table i : ℕ) where
+  -- whether one of the cells of the unique keys after the first i passes
+  abbrev left : Bool
+  left = list_any P (s.of_keys (i + 1) (drop i (keys_at schema table).uniques))
+
+  -- the same without those of the next one
+  abbrev behind : Bool
+  behind = list_any P (s.of_keys ((i + 1) + 1) (drop (i + 1) (keys_at schema table).uniques))
+
+  -- one of the next one passes, or one behind it
+  both : i < length (keys_at schema table).uniques → (columns : List ℕ) → columns ≡ unique_columns schema table (i + 1) → (found : Bool)
+      → found ≡ list_any P (s.of_key (i + 1) columns) → left ≡ (found || behind)
+  both below columns is found tells =
+      ap (list_any P) (next_key s schema table i below columns is)
+      ∙ list_any-append P (s.of_key (i + 1) columns) (s.of_keys ((i + 1) + 1) (drop (i + 1) (keys_at schema table).uniques))
+      ∙ ap (λ b. b || behind) (sym tells)
 
   -- one that passes is found
-  pub passes_here : i < length uniques → (columns : List ℕ) → columns ≡ unwrap_or (slice_get uniques i) [] → (found whole : Bool)
-      → found ≡ list_any P (of_key (i + 1) columns) → found ≡ true → list_any P (of_keys (i + 1) (drop i uniques)) ≡ whole → true ≡ whole
-  passes_here below columns is found whole tells so far =
-      sym (both below columns is ∙ ap (λ b. b || list_any P (of_keys ((i + 1) + 1) (drop (i + 1) uniques))) (sym tells ∙ so)) ∙ far
+  pub passes_here : i < length (keys_at schema table).uniques → (columns : List ℕ) → columns ≡ unique_columns schema table (i + 1)
+      → (found whole : Bool) → found ≡ list_any P (s.of_key (i + 1) columns) → found ≡ true → left ≡ whole → true ≡ whole
+  passes_here below columns is found whole tells so far = sym (both below columns is found tells ∙ ap (λ b. b || behind) so) ∙ far
 
   -- none of this key passes, so those behind it decide
-  pub passes_later : i < length uniques → (columns : List ℕ) → columns ≡ unwrap_or (slice_get uniques i) [] → (found whole : Bool)
-      → found ≡ list_any P (of_key (i + 1) columns) → found ≡ false → list_any P (of_keys (i + 1) (drop i uniques)) ≡ whole
-      → list_any P (of_keys ((i + 1) + 1) (drop (i + 1) uniques)) ≡ whole
-  passes_later below columns is found whole tells so far =
-      sym (both below columns is ∙ ap (λ b. b || list_any P (of_keys ((i + 1) + 1) (drop (i + 1) uniques))) (sym tells ∙ so)) ∙ far
+  pub passes_later : i < length (keys_at schema table).uniques → (columns : List ℕ) → columns ≡ unique_columns schema table (i + 1)
+      → (found whole : Bool) → found ≡ list_any P (s.of_key (i + 1) columns) → found ≡ false → left ≡ whole → behind ≡ whole
+  passes_later below columns is found whole tells so far = sym (both below columns is found tells ∙ ap (λ b. b || behind) so) ∙ far

@@ -20,13 +20,11 @@ use Rattle.change.specs.declared.inverse.Wiped.{Wiped}
 use Rattle.change.specs.declared.inverse.Inverse.TheVariants.{Unwipe}
 use Rattle.change.specs.Edits.{laid_together}
 use Rattle.change.specs.EditsLaws.{or_else, get_over, as_edit, get_rows_held_at, get_rows_held_other, back_rows_held, number_is, number_is_not}
-use Rattle.change.specs.Inverse.{rows_held, HasNoRows, is_elsewhere, room_with, room_unwiped, AreKnown, AreEmpty, CanUnwipe, CanPutBack}
+use Rattle.change.specs.Inverse.{rows_held, HasNoRows, is_elsewhere, room_with, room_unwiped, AreKnown, AreEmpty, CanUnwipe}
 use Rattle.change.specs.InverseLaws.{rows_held_last, unwiped_last, room_unwiped_last, known_more, empty_more, contains_filter, room_unwiped_keeps}
 use Rattle.change.specs.Applied.{IsSound}
-use Rattle.change.proofs.Outcomes.{can_put_back}
+use Rattle.change.proofs.Outcomes.{Leaves, leaves}
 use Rattle.change.proofs.Altering.{wipe_alters}
-use Rattle.change.specs.Altered.{cells_altered}
-use Rattle.model.specs.Footprint.{footprint}
 
 -- ---- the edits of one more
 
@@ -180,18 +178,16 @@ module _ (start t : Content) (tables : List ℕ) (i : ℕ) (wiped : Vec Wiped Gl
   all_named : take i tables ≡ tables
   all_named = take_all i tables past
 
-  pub wipe_ok : t.rows ≡ effect start.schema start.rows (Wipe tables)
+  wipe_ok : t.rows ≡ effect start.schema start.rows (Wipe tables)
   wipe_ok = same_rows _ _ (λ p.
       far.rows p ∙ ap (λ ts. cond (is_named ts p.0) None (get start.rows p)) all_named ∙ sym (get_effect_wipe start.schema start.rows tables p))
 
-  pub wipe_inverse : laid_together (map rows_held wiped.items) ≡ inverse start.schema start.rows (Wipe tables)
+  wipe_inverse : laid_together (map rows_held wiped.items) ≡ inverse start.schema start.rows (Wipe tables)
   wipe_inverse = same_edits _ _ (λ p.
       far.edits p ∙ ap (λ ts. row_before_wipe (is_named ts p.0) (get start.rows p)) all_named ∙ sym (get_inverse_wipe start.schema start.rows tables p))
 
-  pub wipe_altered : Keeps (cells_altered (Unwipe wiped)) (footprint start.schema start.rows (Wipe tables))
-  wipe_altered = wipe_alters start.schema start.rows tables wiped.items (far.tables ∙ all_named)
-
-  pub wipe_can : CanPutBack t (Unwipe wiped)
-  wipe_can =
-      can_put_back start t (Wipe tables) (Unwipe wiped) sound.valid far.schema wipe_ok wipe_inverse
-      (subst (λ (s : Schema). AreKnown s wiped.items) far.schema far.can.known) far.can.empty tt
+  pub wipe_leaves : Leaves start t (Wipe tables) (Unwipe wiped)
+  wipe_leaves =
+      leaves start t (Wipe tables) (Unwipe wiped) sound.valid tt far.schema wipe_ok wipe_inverse
+      (wipe_alters start.schema start.rows tables wiped.items (far.tables ∙ all_named)) (subst (λ (s : Schema). AreKnown s wiped.items) far.schema far.can.known)
+      far.can.empty tt far.room

@@ -1,34 +1,15 @@
 use Rattle.std.proofs.Common.{sym, ◌∙◌, ap}
 use Rattle.std.proofs.lemmas.Result.{err_from_is_err_and}
 use Rattle.std.specs.FinMap.{insert}
-use Rattle.change.proofs.Outcomes.{none_is_some, put_ok, put_inverse, put_can}
-use Rattle.change.proofs.Altering.{put_alters}
+use Rattle.change.proofs.Outcomes.{none_is_some, put_leaves}
 use Rattle.change.proofs.outcome.put.Goals as goal
 
 pub returns-in_err-put-clause-room : goal.returns-in_err-put-clause-room
-returns-in_err-put-clause-room c =
-    let p = err_from_is_err_and c.from_residual-in_err-put.result c.from_residual-in_err-put.ensures.1 in
-    rw (p.1) c.put.ensures.kept
+returns-in_err-put-clause-room c = rw ((err_from_is_err_and c.from_residual-in_err-put.result c.from_residual-in_err-put.ensures.1).1) c.put.ensures.kept
 
-pub returns-clause-ok : goal.returns-clause-ok
-returns-clause-ok c =
-    put_ok c.args.t.now c.put.new.self c.args.table c.args.row.now c.in-Some.key c.in_ok-stands_at.stands_at c.in_ok-stands_at.ensures c.requires.sound.valid c.requires.known
-    (sym c.in_ok-key.ensures ∙ c.in-Some.is) (none_is_some _ _ _ c.get.ensures c.is_some.ensures c.if-is_some.false) (sym c.first_clash.ensures ∙ c.in_default-first_clash.is)
-    c.put.ensures.schema (c.in_ok-put.ensures.ok ∙ ap (insert c.args.t.now.rows (c.args.table, c.in-Some.key)) c.in_ok-copy.ensures)
-
-pub returns-clause-inverse : goal.returns-clause-inverse
-returns-clause-inverse c =
-    put_inverse c.args.t.now c.put.new.self c.args.table c.args.row.now c.in-Some.key c.in_ok-stands_at.stands_at c.in_ok-stands_at.ensures c.requires.sound.valid c.requires.known
-    (sym c.in_ok-key.ensures ∙ c.in-Some.is) (none_is_some _ _ _ c.get.ensures c.is_some.ensures c.if-is_some.false) (sym c.first_clash.ensures ∙ c.in_default-first_clash.is)
-    c.put.ensures.schema (c.in_ok-put.ensures.ok ∙ ap (insert c.args.t.now.rows (c.args.table, c.in-Some.key)) c.in_ok-copy.ensures)
-
-pub returns-clause-can_put_back : goal.returns-clause-can_put_back
-returns-clause-can_put_back c =
-    put_can c.args.t.now c.put.new.self c.args.table c.args.row.now c.in-Some.key c.in_ok-stands_at.stands_at c.in_ok-stands_at.ensures c.requires.sound.valid c.requires.known
-    (sym c.in_ok-key.ensures ∙ c.in-Some.is) (none_is_some _ _ _ c.get.ensures c.is_some.ensures c.if-is_some.false) (sym c.first_clash.ensures ∙ c.in_default-first_clash.is)
-    c.put.ensures.schema (c.in_ok-put.ensures.ok ∙ ap (insert c.args.t.now.rows (c.args.table, c.in-Some.key)) c.in_ok-copy.ensures)
-
-pub returns-clause-altered : goal.returns-clause-altered
-returns-clause-altered c =
-    put_alters c.args.t.now.schema c.args.t.now.rows c.args.table c.in-Some.key c.in_ok-stands_at.stands_at c.args.row.now c.in_ok-stands_at.ensures
-    (sym c.in_ok-key.ensures ∙ c.in-Some.is)
+pub returns : goal.returns
+returns c =
+    put_leaves c.args.t.now c.put.new.self c.args.table c.args.row.now c.in-Some.key c.in_ok-stands_at.stands_at c.in_ok-stands_at.ensures c.requires.sound.valid
+    c.requires.known (sym c.in_ok-key.ensures ∙ c.in-Some.is) (none_is_some _ _ _ c.get.ensures c.is_some.ensures c.if-is_some.false)
+    (sym c.first_clash.ensures ∙ c.in_default-first_clash.is) c.put.ensures.schema
+    (c.in_ok-put.ensures.ok ∙ ap (insert c.args.t.now.rows (c.args.table, c.in-Some.key)) c.in_ok-copy.ensures) c.put.ensures.kept

@@ -1,8 +1,8 @@
-use Rattle.std.proofs.Common.{◌+◌, ◌<◌, ◌≤◌, length, take, [], sym, subst, arith, get_or}
+use Rattle.std.proofs.Common.{◌+◌, ◌<◌, length, take, [], sym, subst, arith, get_or}
 use Rattle.indexes.specs.Content.{Content, Keeps}
 use Rattle.model.specs.Rows.{Schema}
 use Rattle.change.specs.Inverse.{room_unwiped}
-use Rattle.change.proofs.Wiping.{IsWiped, nothing_wiped, read_again, one_more_wiped, wipe_ok, wipe_inverse, wipe_altered, wipe_can}
+use Rattle.change.proofs.Wiping.{IsWiped, nothing_wiped, read_again, one_more_wiped, wipe_leaves}
 use Rattle.change.proofs.outcome.wipe.Goals as goal
 
 pub loop-table-init : goal.loop-table-init
@@ -31,22 +31,6 @@ loop-table-preserved c =
       room = omega (arith, c.push_reserved.ensures.capacity, c.loop-table.invariant.room);
     }
 
-pub returns-clause-ok : goal.returns-clause-ok
-returns-clause-ok c =
-    let past : length c.args.tables.now ≤ c.loop-table.table-index = omega arith in
-    wipe_ok c.args.t.now c.loop-table.t c.args.tables.now c.loop-table.table-index c.loop-table.wiped c.loop-table.invariant.far past c.requires.sound
-
-pub returns-clause-inverse : goal.returns-clause-inverse
-returns-clause-inverse c =
-    let past : length c.args.tables.now ≤ c.loop-table.table-index = omega arith in
-    wipe_inverse c.args.t.now c.loop-table.t c.args.tables.now c.loop-table.table-index c.loop-table.wiped c.loop-table.invariant.far past c.requires.sound
-
-pub returns-clause-can_put_back : goal.returns-clause-can_put_back
-returns-clause-can_put_back c =
-    let past : length c.args.tables.now ≤ c.loop-table.table-index = omega arith in
-    wipe_can c.args.t.now c.loop-table.t c.args.tables.now c.loop-table.table-index c.loop-table.wiped c.loop-table.invariant.far past c.requires.sound
-
-pub returns-clause-altered : goal.returns-clause-altered
-returns-clause-altered c =
-    let past : length c.args.tables.now ≤ c.loop-table.table-index = omega arith in
-    wipe_altered c.args.t.now c.loop-table.t c.args.tables.now c.loop-table.table-index c.loop-table.wiped c.loop-table.invariant.far past c.requires.sound
+pub returns : goal.returns
+returns c =
+    wipe_leaves c.args.t.now c.loop-table.t c.args.tables.now c.loop-table.table-index c.loop-table.wiped c.loop-table.invariant.far (omega arith) c.requires.sound
