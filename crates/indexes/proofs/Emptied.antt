@@ -1,5 +1,5 @@
 -- What a table gave up is in no room of all tables.
-use Rattle.std.specs.Prelude.{◌≡◌, ℕ, suc, ◌+◌, false, List, Some, None, refl, slice_get, slice_set, ◌<◌, length, slice_index_or}
+use Rattle.std.specs.Prelude.{◌≡◌, ◌≢◌, ℕ, suc, ◌+◌, false, List, Some, None, refl, slice_get, slice_set, ◌<◌, length, slice_index_or}
 use Rattle.std.proofs.Common.{zero, sym, ◌∙◌, ap, subst, inl, inr, arith}
 use Rattle.std.specs.List.{Contains}
 use Rattle.std.specs.FinMap.{get}
@@ -8,15 +8,16 @@ use Rattle.model.specs.declared.row.Row.{Row as Record}
 use Rattle.model.specs.declared.cell.Cell.{Cell}
 use Rattle.model.specs.declared.cell.Cell.TheVariants.{Row, Uniq}
 use Rattle.model.specs.Rows.{values_in, keys_at, are_taken, TableKeys}
+use Rattle.model.specs.Cells.{cells_of}
 use Rattle.model.specs.TakenLaws.{taken_by_row}
-use Rattle.indexes.specs.Table.{Spot, TableContent, unique_spots, IsOfSettled, IsFilled, cell_of_key, cell_at, cells_in}
-use Rattle.indexes.specs.Content.{Content}
-use Rattle.indexes.specs.Gathered.{cells_from, gathered, AllSound}
+use Rattle.indexes.specs.Table.{Spot, TableContent, KeepsSpots, spots_of, unique_spots, IsOfSettled, IsFilled, cell_of_key, cell_at, cells_in}
+use Rattle.indexes.specs.Content.{Content, Keeps}
+use Rattle.indexes.specs.Gathered.{schema_of, rows_of, cells_from, gathered, AllSound}
 use Rattle.indexes.proofs.Elements.{contains_elem, elem_contains, elem_of_map}
 use Rattle.indexes.proofs.Room.{spot_of, unique_values_spot}
 use Rattle.indexes.proofs.Gather.{set_there}
 use Rattle.indexes.proofs.Cells.{room_of_table}
-use Rattle.indexes.proofs.Seen.{at, seen_keys, seen_get, free}
+use Rattle.indexes.proofs.Seen.{at, seen_keys, seen_get, free, schema_stays, unchanged, fewer, settled}
 
 row_spot : (table number : ℕ) (values key : Key) → cell_of_key table number values ≡ Row table key → ◌≡◌ {A = Spot} (number, values) (0, key)
 row_spot table zero values key e = let same : values ≡ key = cc in ap (λ (k : Key). (0, k)) same
@@ -47,7 +48,7 @@ module _ (ts : List TableContent) (seen : Content) (v : gathered ts ≡ seen) (i
     | inr o ↦ let e = o.number in omega arith
   ]
 
-  pub slot_gone : get seen.rows (i, key) ≡ None → Contains (cells_from 0 (slice_set ts i new)) (Row i key) → ⊥
+  slot_gone : get seen.rows (i, key) ≡ None → Contains (cells_from 0 (slice_set ts i new)) (Row i key) → ⊥
   slot_gone none h =
       let p = own_spot (Row i key) (room_of_table (slice_set ts i new) i new (set_there ts i t new (at ts seen v i known t value_is)) (Row i key) refl h) in
       let is = row_spot i p.0.0 p.0.1 key p.2 in
@@ -65,7 +66,7 @@ module _ (ts : List TableContent) (seen : Content) (v : gathered ts ≡ seen) (i
         cc
   ]
 
-  pub values_gone : (j : ℕ) (columns : List ℕ) (values : Key) → slice_get (keys_at seen.schema i).uniques j ≡ Some columns → values_in columns row ≡ Some values
+  values_gone : (j : ℕ) (columns : List ℕ) (values : Key) → slice_get (keys_at seen.schema i).uniques j ≡ Some columns → values_in columns row ≡ Some values
       → are_taken seen.rows i columns values ≡ false → Contains (cells_from 0 (slice_set ts i new)) (Uniq i (j + 1) values) → ⊥
   values_gone j columns values there has none h =
       let number_is : j + 1 ≡ suc j = omega arith in
@@ -75,3 +76,24 @@ module _ (ts : List TableContent) (seen : Content) (v : gathered ts ≡ seen) (i
       let is = uniq_spot i p.0.0 j p.0.1 values p.2 in
       gone p.0 (inr (subst (λ (s : Spot). Contains (unique_spots row 1 t.keys.uniques) s) (sym is) (unique_values_spot t.keys row j columns values own has)))
       (λ filled. values_free j columns values own none (subst (λ (s : Spot). IsFilled t.keys t.rows s) is filled)) p.1
+
+  -- what a settled table leaves among all
+  pub left_settled : new.keys ≡ t.keys → new.rows ≡ t.rows → KeepsSpots new.room t.room
+      → ((s : Spot) → ¬ Contains (spots_of t.keys row) s → s ≢ (0, key) → Contains t.room s → Contains new.room s)
+      → record {
+        schema : schema_of (slice_set ts i new) ≡ seen.schema;
+        rows : rows_of (slice_set ts i new) ≡ seen.rows;
+        slot : get seen.rows (i, key) ≡ None → ¬ Contains (cells_from 0 (slice_set ts i new)) (Row i key);
+        values : (j : ℕ) (columns : List ℕ) (values : Key) → slice_get (keys_at seen.schema i).uniques j ≡ Some columns → values_in columns row ≡ Some values
+            → are_taken seen.rows i columns values ≡ false → ¬ Contains (cells_from 0 (slice_set ts i new)) (Uniq i (j + 1) values);
+        fewer : Keeps (cells_from 0 (slice_set ts i new)) seen.room;
+        others : (c : Cell) → ¬ Contains (cells_of seen.schema i row) c → c ≢ Row i key → Contains seen.room c → Contains (cells_from 0 (slice_set ts i new)) c;
+      }
+  left_settled keys rows room others = record {
+    schema = schema_stays ts seen v i known t value_is new keys;
+    rows = unchanged ts seen v i known t value_is new rows;
+    slot = slot_gone;
+    values = values_gone;
+    fewer = fewer ts seen v i known t value_is new room;
+    others = settled ts seen v i known t value_is new row key others;
+  }

@@ -1,16 +1,17 @@
 -- One table among all as callers see them: what it needs of a requirement, and what its change does.
-use Rattle.std.specs.Prelude.{◌≡◌, ◌≢◌, ℕ, suc, ◌<◌, true, false, List, [], ◌∷◌, ◌++◌, length, map, Option, Some, None, refl, slice_get, slice_set, slice_index_or, IsSome, is_some, IfSome, IfNone}
+use Rattle.std.specs.Prelude.{◌≡◌, ◌≢◌, ℕ, suc, ◌<◌, true, false, List, [], ◌∷◌, ◌++◌, length, map, Option, Some, None, refl, slice_get, slice_set, slice_index_or, IsSome, is_some, IfSome, IfNone, Result, OnOk, OnErr}
 use Rattle.std.proofs.Common.{zero, sym, ◌∙◌, ap, subst, arith}
 use Rattle.std.specs.List.{Contains, AllByRecursion}
 use Rattle.std.specs.Borrow.{Bor}
 use Rattle.std.specs.FinMap.{FinMap, get, insert, remove, empty, from_entries, entries, values, len-empty, len-entries}
 use Rattle.std.proofs.lemmas.Option.{slice_get-get_or}
+use Rattle.std.proofs.lemmas.Result.{on_ok_weaker, on_err_weaker}
 use Rattle.model.specs.declared.key.Key.{Key}
 use Rattle.model.specs.declared.row.Row.{Row as Record}
 use Rattle.model.specs.declared.cell.Cell.{Cell}
 use Rattle.model.specs.declared.cell.Cell.TheVariants.{Row}
 use Rattle.model.specs.Key.{key_cmp}
-use Rattle.model.specs.Rows.{TableKeys, place_cmp, values_in, key_of, keys_at, are_taken, IsValid}
+use Rattle.model.specs.Rows.{Rows, TableKeys, place_cmp, values_in, key_of, keys_at, are_taken, IsValid}
 use Rattle.model.specs.Cells.{cells_of, table_of}
 use Rattle.model.specs.Effect.{first_taken, are_taken_unless_null}
 use Rattle.model.specs.TableRows.{rows_of_table}
@@ -69,6 +70,28 @@ module _ (ts : List TableContent) (seen : Content) (v : gathered ts ≡ seen) (i
 
   pub own_room : (row : Record) → HasRoom seen.room seen.schema i row → KeepsSpots (spots_of t.keys row) t.room
   own_room row e = has_room ts i t row at (subst (λ (s : Content). HasRoom s.room s.schema i row) (sym v) e)
+
+  -- what the table asks of a row that comes, where it is asked of the row among all
+  pub may_come : (row : Record) (key : Key) → key_of seen.schema i row ≡ Some key → get seen.rows (i, key) ≡ None
+      → first_taken seen.rows i row 1 (keys_at seen.schema i).uniques ≡ None
+      → record { own_key : values_in t.keys.primary row ≡ Some key; free : get t.rows key ≡ None; unique : NoClash t.keys t.rows row }
+  may_come row key own absent none = record { own_key = own_key row key own; free = free key absent; unique = clash row none }
+
+  -- the same of a row that takes the place of another
+  pub may_replace : (old : Key) (row : Record) (key : Key) → IsSome (get seen.rows (i, old)) → key_of seen.schema i row ≡ Some key
+      → get (remove seen.rows (i, old)) (i, key) ≡ None → first_taken (remove seen.rows (i, old)) i row 1 (keys_at seen.schema i).uniques ≡ None
+      → record {
+        there : IsSome (get t.rows old);
+        own_key : values_in t.keys.primary row ≡ Some key;
+        free : get (remove t.rows old) key ≡ None;
+        unique : NoClash t.keys (remove t.rows old) row;
+      }
+  may_replace old row key stands own absent none = record {
+    there = there old stands;
+    own_key = own_key row key own;
+    free = free_without old key absent;
+    unique = clash_without old row none;
+  }
 
   pub unique_is : (number : ℕ) → unique_at t.keys number ≡ unique_columns seen.schema i number
   unique_is number = ap (λ (k : TableKeys). unique_at k number) (sym seen_keys)
@@ -144,6 +167,55 @@ module _ (ts : List TableContent) (seen : Content) (v : gathered ts ≡ seen) (i
 
     pub made : (row : Record) → KeepsSpots (spots_of new.keys row) new.room → HasRoom (cells_from 0 (slice_set ts i new)) (schema_of (slice_set ts i new)) i row
     made row e = room_has (slice_set ts i new) i new row (set_there ts i t new at) e
+
+    abbrev after : Content
+    after = gathered (slice_set ts i new)
+
+    -- what a call leaves that takes no memory: these are the rows now, and no room goes
+    abbrev Left : Rows → Type 0
+    Left rows = record { schema : after.schema ≡ seen.schema; rows : after.rows ≡ rows; kept : Keeps seen.room after.room }
+
+    pub left_put : (key : Key) (row : Record) → new.keys ≡ t.keys → new.rows ≡ insert t.rows key row → KeepsSpots t.room new.room → Left (insert seen.rows (i, key) row)
+    left_put key row keys rows room = record { schema = schema_stays keys; rows = inserted key row rows; kept = kept room }
+
+    pub left_replace : (old key : Key) (row : Record) → new.keys ≡ t.keys → new.rows ≡ insert (remove t.rows old) key row → KeepsSpots t.room new.room
+        → Left (insert (remove seen.rows (i, old)) (i, key) row)
+    left_replace old key row keys rows room = record { schema = schema_stays keys; rows = replaced old key row rows; kept = kept room }
+
+    pub left_remove : (key : Key) → new.keys ≡ t.keys → new.rows ≡ remove t.rows key → KeepsSpots t.room new.room → Left (remove seen.rows (i, key))
+    left_remove key keys rows room = record { schema = schema_stays keys; rows = removed key rows; kept = kept room }
+
+    -- what a call leaves that may be refused memory: these are the rows now, with room for the row, or all are as before
+    abbrev Tried : {A E : Type 0} → Result A E → Record → Rows → Type 0
+    Tried r row rows = record {
+      schema : after.schema ≡ seen.schema;
+      ok : OnOk r (after.rows ≡ rows);
+      err : OnErr r (after.rows ≡ seen.rows);
+      kept : Keeps seen.room after.room;
+      room : OnOk r (HasRoom after.room after.schema i row);
+    }
+
+    tried : {A E : Type 0} (r : Result A E) (row : Record) (mine : FinMap key_cmp Record) (rows : Rows) → (new.rows ≡ mine → after.rows ≡ rows)
+        → new.keys ≡ t.keys → OnOk r (new.rows ≡ mine) → OnErr r (new.rows ≡ t.rows) → KeepsSpots t.room new.room
+        → OnOk r (KeepsSpots (spots_of new.keys row) new.room) → Tried r row rows
+    tried r row mine rows same keys ok err stays room = record {
+      schema = schema_stays keys;
+      ok = on_ok_weaker r same ok;
+      err = on_err_weaker r unchanged err;
+      kept = kept stays;
+      room = on_ok_weaker r (made row) room;
+    }
+
+    pub tried_put : {A E : Type 0} (r : Result A E) (row : Record) (key : Key) → new.keys ≡ t.keys → OnOk r (new.rows ≡ insert t.rows key row)
+        → OnErr r (new.rows ≡ t.rows) → KeepsSpots t.room new.room → OnOk r (KeepsSpots (spots_of new.keys row) new.room)
+        → Tried r row (insert seen.rows (i, key) row)
+    tried_put r row key = tried r row (insert t.rows key row) (insert seen.rows (i, key) row) (inserted key row)
+
+    pub tried_replace : {A E : Type 0} (r : Result A E) (row : Record) (old key : Key) → new.keys ≡ t.keys
+        → OnOk r (new.rows ≡ insert (remove t.rows old) key row) → OnErr r (new.rows ≡ t.rows) → KeepsSpots t.room new.room
+        → OnOk r (KeepsSpots (spots_of new.keys row) new.room) → Tried r row (insert (remove seen.rows (i, old)) (i, key) row)
+    tried_replace r row old key =
+        tried r row (insert (remove t.rows old) key row) (insert (remove seen.rows (i, old)) (i, key) row) (replaced old key row)
 
     pub new_get : (key : Key) → get (rows_of (slice_set ts i new)) (i, key) ≡ get new.rows key
     new_get key = get_there ts i t at new key
