@@ -96,7 +96,7 @@ module _ (ts : List TableContent) (seen : Content) (v : gathered ts ≡ seen) (i
   pub unique_is : (number : ℕ) → unique_at t.keys number ≡ unique_columns seen.schema i number
   unique_is number = ap (λ (k : TableKeys). unique_at k number) (sym seen_keys)
 
-  pub taken_found : (number : ℕ) (values : Key) (r : Option (Bor Key)) → IfSome r (λ key. HasValues t.rows (unique_at t.keys number) key.now values)
+  taken_found : (number : ℕ) (values : Key) (r : Option (Bor Key)) → IfSome r (λ key. HasValues t.rows (unique_at t.keys number) key.now values)
       → IfNone r ((key : Key) → ¬ HasValues t.rows (unique_at t.keys number) key values) → is_some r ≡ are_taken seen.rows i (unique_columns seen.schema i number) values
   taken_found number values None found missed =
       elim (are_taken seen.rows i (unique_columns seen.schema i number) values) as (λ b. are_taken seen.rows i (unique_columns seen.schema i number) values ≡ b → false ≡ b) [
@@ -108,13 +108,13 @@ module _ (ts : List TableContent) (seen : Content) (v : gathered ts ≡ seen) (i
   taken_found number values (Some key) found missed =
       sym (taken_by_row seen.rows i (unique_columns seen.schema i number) values key.now found.0 (seen_get key.now ∙ found.1) (ap (λ cs. values_in cs found.0) (sym (unique_is number)) ∙ found.2))
 
-  pub key_found : (number : ℕ) (values : Key) (r : Option (Bor Key)) → IfSome r (λ key. HasValues t.rows (unique_at t.keys number) key.now values)
+  key_found : (number : ℕ) (values : Key) (r : Option (Bor Key)) → IfSome r (λ key. HasValues t.rows (unique_at t.keys number) key.now values)
       → IfSome r (λ key. (row : Record) × (get seen.rows (i, key.now) ≡ Some row) × (values_in (unique_columns seen.schema i number) row ≡ Some values))
   key_found number values None found = tt
   key_found number values (Some key) found = (found.0, seen_get key.now ∙ found.1, ap (λ cs. values_in cs found.0) (sym (unique_is number)) ∙ found.2)
 
   -- a row's values, of a row that has them or not
-  pub taken_twin : (number : ℕ) (row : Record) (r : Option (Bor Key)) → IfSome r (λ key. IsTwin t.rows (unique_at t.keys number) key.now row)
+  taken_twin : (number : ℕ) (row : Record) (r : Option (Bor Key)) → IfSome r (λ key. IsTwin t.rows (unique_at t.keys number) key.now row)
       → IfNone r ((key : Key) → ¬ IsTwin t.rows (unique_at t.keys number) key row)
       → is_some r ≡ are_taken_unless_null seen.rows i (unique_columns seen.schema i number) (values_in (unique_columns seen.schema i number) row)
   taken_twin number row None found missed =
@@ -126,13 +126,37 @@ module _ (ts : List TableContent) (seen : Content) (v : gathered ts ≡ seen) (i
       let has : values_in (unique_columns seen.schema i number) row ≡ Some found.0 = ap (λ cs. values_in cs row) (sym (unique_is number)) ∙ found.1 in
       taken_found number found.0 (Some key) found.2 tt ∙ ap (are_taken_unless_null seen.rows i (unique_columns seen.schema i number)) (sym has)
 
-  pub twin_found : (number : ℕ) (row : Record) (r : Option (Bor Key)) → IfSome r (λ key. IsTwin t.rows (unique_at t.keys number) key.now row)
+  twin_found : (number : ℕ) (row : Record) (r : Option (Bor Key)) → IfSome r (λ key. IsTwin t.rows (unique_at t.keys number) key.now row)
       → IfSome r (λ key. (values : Key) × (values_in (unique_columns seen.schema i number) row ≡ Some values)
       × (twin : Record) × (get seen.rows (i, key.now) ≡ Some twin) × (values_in (unique_columns seen.schema i number) twin ≡ Some values))
   twin_found number row None found = tt
   twin_found number row (Some key) found =
       let own = key_found number found.0 (Some key) found.2 in
       (found.0, ap (λ cs. values_in cs row) (sym (unique_is number)) ∙ found.1, own.0, own.1, own.2)
+
+  -- what a search by values tells of all tables, and one by a row
+  pub sought_values : (number : ℕ) (values : Key) (r : Option (Bor Key))
+      → record {
+        found : IfSome r (λ key. HasValues t.rows (unique_at t.keys number) key.now values);
+        missed : IfNone r ((key : Key) → ¬ HasValues t.rows (unique_at t.keys number) key values);
+      }
+      → record {
+        taken : is_some r ≡ are_taken seen.rows i (unique_columns seen.schema i number) values;
+        key : IfSome r (λ key. (row : Record) × (get seen.rows (i, key.now) ≡ Some row) × (values_in (unique_columns seen.schema i number) row ≡ Some values));
+      }
+  sought_values number values r told = record { taken = taken_found number values r told.found told.missed; key = key_found number values r told.found }
+
+  pub sought_twin : (number : ℕ) (row : Record) (r : Option (Bor Key))
+      → record {
+        found : IfSome r (λ key. IsTwin t.rows (unique_at t.keys number) key.now row);
+        missed : IfNone r ((key : Key) → ¬ IsTwin t.rows (unique_at t.keys number) key row);
+      }
+      → record {
+        taken : is_some r ≡ are_taken_unless_null seen.rows i (unique_columns seen.schema i number) (values_in (unique_columns seen.schema i number) row);
+        key : IfSome r (λ key. (values : Key) × (values_in (unique_columns seen.schema i number) row ≡ Some values)
+            × (twin : Record) × (get seen.rows (i, key.now) ≡ Some twin) × (values_in (unique_columns seen.schema i number) twin ≡ Some values));
+      }
+  sought_twin number row r told = record { taken = taken_twin number row r told.found told.missed; key = twin_found number row r told.found }
 
   pub is_table : IsTable seen.rows i t.rows
   is_table key = seen_get key

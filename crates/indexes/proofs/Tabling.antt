@@ -15,7 +15,7 @@ use Rattle.rows.specs.KeyLaws.{one_or_apart, get_inserted, get_beside_insert, ge
 use Rattle.indexes.specs.declared.unique.Unique.{Unique}
 use Rattle.indexes.specs.Unique as step
 use Rattle.indexes.specs.Unique.{Entries, entry_at, held, held_by, with_number, number_in, HasEntry, SetsEntry, Sets, Puts, EachStep, EachHasSlot, EachAgrees}
-use Rattle.indexes.specs.Table.{Spot, spots_of, KeepsSpots, NoClash, HasValues, IsTwin, IsSound}
+use Rattle.indexes.specs.Table.{Spot, spots_of, KeepsSpots, TableContent, NoClash, HasValues, IsTwin, IsSound, unique_at}
 use Rattle.indexes.specs.Indexed.{IsIndex, IsIndexed, room_of, columns_of}
 use Rattle.indexes.proofs.Entries.{sets_keep}
 use Rattle.indexes.proofs.Indexing.{index_kept, index_filled, index_swapped, index_cleared}
@@ -161,18 +161,24 @@ entries_of_puts row number us vs steps k d l values has =
     let s = steps.each k d within in
     held_entry (slice_index_or vs k d).entries values number (s.entries.here values (ap (λ cs. values_in cs row) (sym s.columns) ∙ has))
 
+-- each row stands at its key, also where one came
+own_inserted : (primary : List ℕ) (rows : FinMap key_cmp Row) → ((other : Key) (there : Row) → get rows other ≡ Some there → values_in primary there ≡ Some other)
+    → (key : Key) (row : Row) → values_in primary row ≡ Some key → (other : Key) (there : Row) → get (insert rows key row) other ≡ Some there
+    → values_in primary there ≡ Some other
+own_inserted primary rows was key row own other there at = elim (one_or_apart key other) [
+  | inl same ↦
+      let now : get (insert rows key row) other ≡ Some row = subst (λ (k : Key). get (insert rows key row) k ≡ Some row) same (get_inserted rows key row) in
+      let row_is : row ≡ there = cc in
+      ap (values_in primary) (sym row_is) ∙ own ∙ ap Some same
+  | inr apart ↦ was other there (sym (get_beside_insert rows key row other apart) ∙ at)
+]
+
 pub indexed_filled : (primary : List ℕ) (kept : Kept) (us vs : List Unique) (key : Key) (row : Row) (number : ℕ) → IsIndexed primary kept us
     → values_in primary row ≡ Some key → get kept.slots key ≡ Some number → get kept.rows key ≡ None
     → ((k : ℕ) (d : Unique) → k < length us → (values : Key) → values_in (slice_index_or us k d).columns.items row ≡ Some values → held (slice_index_or us k d).entries values ≡ None)
     → EachStep (Puts row number) us vs → IsIndexed primary (record { rows = insert kept.rows key row; slots = kept.slots }) vs
 indexed_filled primary kept us vs key row number was own slot absent free steps = record {
-  own_key = λ other there at. elim (one_or_apart key other) [
-    | inl same ↦
-        let now : get (insert kept.rows key row) other ≡ Some row = subst (λ (k : Key). get (insert kept.rows key row) k ≡ Some row) same (get_inserted kept.rows key row) in
-        let row_is : row ≡ there = cc in
-        ap (values_in primary) (sym row_is) ∙ own ∙ ap Some same
-    | inr apart ↦ was.own_key other there (sym (get_beside_insert kept.rows key row other apart) ∙ at)
-  ];
+  own_key = own_inserted primary kept.rows was.own_key key row own;
   each = λ k d l.
       let within : k < length us = let e = steps.long in omega arith in
       let s = steps.each k d within in
@@ -207,13 +213,7 @@ pub indexed_swapped : (primary : List ℕ) (kept : Kept) (us : List Unique) (key
     → values_in primary row ≡ Some key → get kept.rows key ≡ Some stood → EachAgrees row stood us
     → IsIndexed primary (record { rows = insert kept.rows key row; slots = kept.slots }) us
 indexed_swapped primary kept us key row stood was own there agrees = record {
-  own_key = λ other found at. elim (one_or_apart key other) [
-    | inl same ↦
-        let now : get (insert kept.rows key row) other ≡ Some row = subst (λ (k : Key). get (insert kept.rows key row) k ≡ Some row) same (get_inserted kept.rows key row) in
-        let row_is : row ≡ found = cc in
-        ap (values_in primary) (sym row_is) ∙ own ∙ ap Some same
-    | inr apart ↦ was.own_key other found (sym (get_beside_insert kept.rows key row other apart) ∙ at)
-  ];
+  own_key = own_inserted primary kept.rows was.own_key key row own;
   each = λ k d l. index_swapped (slice_index_or us k d).columns.items kept (slice_index_or us k d).entries (slice_index_or us k d).entries (was.each k d l) key row stood there (agrees k d l);
   numbered = was.numbered;
   slotted = λ other found at. elim (one_or_apart key other) [
@@ -265,9 +265,60 @@ kept_is kept rows slots e f = λ i. record { rows = e i; slots = f i }
 pub itself : (us : List Unique) → EachStep step.KeepsSlots us us
 itself us = record { long = refl; each = λ k d l. record { columns = refl; entries = record { numbers = λ values. refl; entries = λ values some. some } } }
 
+-- ---- parts, as callers see them
+
+-- a table of these parts
+abbrev pub table_of : List ℕ → Kept → List Unique → TableContent
+table_of primary kept us = record { keys = record { primary = primary; uniques = columns_of us }; rows = kept.rows; room = room_of kept us }
+
+module _ (primary : List ℕ) (old new : Kept) (us vs : List Unique) (t : TableContent) (v : table_of primary old us ≡ t) where
+  pub keys_stay : length vs ≡ length us
+      → ((k : ℕ) (d : Unique) → k < length us → (slice_index_or vs k d).columns.items ≡ (slice_index_or us k d).columns.items)
+      → (table_of primary new vs).keys ≡ t.keys
+  keys_stay long columns =
+      ap (λ (cs : List (List ℕ)). let keys : TableKeys = record { primary = primary; uniques = cs } in keys) (same_columns us vs long columns) ∙ ap (λ (s : TableContent). s.keys) v
+
+  room_stays : KeepsSlots old.slots new.slots → length vs ≡ length us
+      → ((k : ℕ) (d : Unique) → k < length us → (values : Key) → IsSome (entry_at (slice_index_or us k d).entries values) → IsSome (entry_at (slice_index_or vs k d).entries values))
+      → KeepsSpots t.room (room_of new vs)
+  room_stays slots long entries s has = room_kept old new us vs slots long entries s (subst (λ (t : TableContent). Contains t.room s) (sym v) has)
+
+  -- what a call leaves that sets entries of a row: no key changes, no room goes, and the table is sound
+  pub left_set : (row : Row) (number : Option ℕ) → new.slots ≡ old.slots → EachStep (Sets row number) us vs → IsIndexed primary new vs
+      → record { keys : (table_of primary new vs).keys ≡ t.keys; kept : KeepsSpots t.room (room_of new vs); sound : IsSound (table_of primary new vs) }
+  left_set row number slots steps indexed = record {
+    keys = keys_stay steps.long (λ k d l. (steps.each k d l).columns);
+    kept = room_stays (λ key number at. ap (λ m. get m key) slots ∙ at) steps.long (entries_after_set row number us vs steps);
+    sound = sound (table_of primary new vs).keys new vs refl indexed;
+  }
+
+  -- the same of one that puts a row in its entries
+  pub left_put : (row : Row) (number : ℕ) → KeepsSlots old.slots new.slots → EachStep (Puts row number) us vs → IsIndexed primary new vs
+      → record { keys : (table_of primary new vs).keys ≡ t.keys; kept : KeepsSpots t.room (room_of new vs); sound : IsSound (table_of primary new vs) }
+  left_put row number slots steps indexed = record {
+    keys = keys_stay steps.long (λ k d l. (steps.each k d l).columns);
+    kept = room_stays slots steps.long (λ k d l. (steps.each k d l).entries.entries);
+    sound = sound (table_of primary new vs).keys new vs refl indexed;
+  }
+
+  -- the same of one that makes slots and entries, which no row comes into
+  pub left_made : new.rows ≡ old.rows → KeepsSlots old.slots new.slots → EachStep step.KeepsSlots us vs → IsIndexed primary new vs
+      → record {
+        keys : (table_of primary new vs).keys ≡ t.keys;
+        rows : new.rows ≡ t.rows;
+        kept : KeepsSpots t.room (room_of new vs);
+        sound : IsSound (table_of primary new vs);
+      }
+  left_made rows slots steps indexed = record {
+    keys = keys_stay steps.long (λ k d l. (steps.each k d l).columns);
+    rows = rows ∙ ap (λ (s : TableContent). s.rows) v;
+    kept = room_stays slots steps.long (λ k d l. (steps.each k d l).entries.entries);
+    sound = sound (table_of primary new vs).keys new vs refl indexed;
+  }
+
 -- ---- look-ups
 
-pub found_values : (primary : List ℕ) (kept : Kept) (us : List Unique) → IsIndexed primary kept us → (k : ℕ) (d : Unique) → k < length us → (columns : List ℕ) → columns ≡ (slice_index_or us k d).columns.items
+found_values : (primary : List ℕ) (kept : Kept) (us : List Unique) → IsIndexed primary kept us → (k : ℕ) (d : Unique) → k < length us → (columns : List ℕ) → columns ≡ (slice_index_or us k d).columns.items
     → (values : Key) (number : ℕ) → Some number ≡ held (slice_index_or us k d).entries values
     → (r : Option (Bor Key)) → IfSome r (λ key. get kept.slots key.now ≡ Some number) → IfSome r (λ key. HasValues kept.rows columns key.now values)
 found_values primary kept us was k d l columns is values number e None at = tt
@@ -276,14 +327,14 @@ found_values primary kept us was k d l columns is values number e (Some key) at 
     let same = was.numbered h.key key.now number h.slot at in
     (h.row, ap (get kept.rows) (sym same) ∙ h.at, ap (λ cs. values_in cs h.row) is ∙ h.has)
 
-pub missed_slot : (primary : List ℕ) (kept : Kept) (us : List Unique) → IsIndexed primary kept us → (k : ℕ) (d : Unique) → k < length us
+missed_slot : (primary : List ℕ) (kept : Kept) (us : List Unique) → IsIndexed primary kept us → (k : ℕ) (d : Unique) → k < length us
     → (values : Key) (number : ℕ) → Some number ≡ held (slice_index_or us k d).entries values
     → (P : Type 0) (r : Option (Bor Key)) → IfNone r ((key : Key) → get kept.slots key ≢ Some number) → IfNone r P
 missed_slot primary kept us was k d l values number e P None none =
     let h = (was.each k d l).only values number (sym e) in absurd (none h.key h.slot)
 missed_slot primary kept us was k d l values number e P (Some key) none = tt
 
-pub missed_values : (primary : List ℕ) (kept : Kept) (us : List Unique) → IsIndexed primary kept us → (k : ℕ) (d : Unique) → k < length us → (columns : List ℕ) → columns ≡ (slice_index_or us k d).columns.items
+missed_values : (primary : List ℕ) (kept : Kept) (us : List Unique) → IsIndexed primary kept us → (k : ℕ) (d : Unique) → k < length us → (columns : List ℕ) → columns ≡ (slice_index_or us k d).columns.items
     → (values : Key) → None ≡ held (slice_index_or us k d).entries values → (key : Key) → ¬ HasValues kept.rows columns key values
 missed_values primary kept us was k d l columns is values e key has =
     let place = was.slotted key has.0 has.1 in
@@ -309,30 +360,90 @@ module _ (primary : List ℕ) (kept : Kept) (us : List Unique) (was : IsIndexed 
   has_twin values has (Some key) at = (values, has, at)
 
   module _ (number : ℕ) (e : Some number ≡ held_by (slice_index_or us k d).entries (values_in (slice_index_or us k d).columns.items row)) (r : Option (Bor Key)) where
-    pub found_twin : IfSome r (λ key. get kept.slots key.now ≡ Some number) → IfSome r (λ key. IsTwin kept.rows columns key.now row)
+    found_twin : IfSome r (λ key. get kept.slots key.now ≡ Some number) → IfSome r (λ key. IsTwin kept.rows columns key.now row)
     found_twin at =
         let v = values_of_twin (slice_index_or us k d).entries (values_in (slice_index_or us k d).columns.items row) number e in
         has_twin v.0 (own_values v.0 v.1) r (found_values primary kept us was k d below columns is v.0 number v.2 r at)
 
-    pub missed_twin : (P : Type 0) → IfNone r ((key : Key) → get kept.slots key ≢ Some number) → IfNone r P
+    missed_twin : (P : Type 0) → IfNone r ((key : Key) → get kept.slots key ≢ Some number) → IfNone r P
     missed_twin P none =
         let v = values_of_twin (slice_index_or us k d).entries (values_in (slice_index_or us k d).columns.items row) number e in
         missed_slot primary kept us was k d below v.0 number v.2 P r none
 
-  pub no_twin : None ≡ held_by (slice_index_or us k d).entries (values_in (slice_index_or us k d).columns.items row) → (key : Key) → ¬ IsTwin kept.rows columns key row
+  no_twin : None ≡ held_by (slice_index_or us k d).entries (values_in (slice_index_or us k d).columns.items row) → (key : Key) → ¬ IsTwin kept.rows columns key row
   no_twin e key twin =
       let has : values_in (slice_index_or us k d).columns.items row ≡ Some twin.0 = ap (λ cs. values_in cs row) (sym is) ∙ twin.1 in
       missed_values primary kept us was k d below columns is twin.0 (no_twin_held (slice_index_or us k d).entries (values_in (slice_index_or us k d).columns.items row) twin.0 has e) key twin.2
 
-pub columns_is : (us : List Unique) (number : ℕ) (d : Unique) → 1 ≤ number → number ≤ length us → unwrap_or (slice_get (columns_of us) (number - 1)) [] ≡ (slice_index_or us (number - 1) d).columns.items
+columns_is : (us : List Unique) (number : ℕ) (d : Unique) → 1 ≤ number → number ≤ length us → unwrap_or (slice_get (columns_of us) (number - 1)) [] ≡ (slice_index_or us (number - 1) d).columns.items
 columns_is us number d low high = ap (λ o. unwrap_or o []) (columns_at us (number - 1) d (omega arith))
 
 columns_length : (us : List Unique) → length (columns_of us) ≡ length us
 columns_length [] = refl
 columns_length (u ∷ us) = ap suc (columns_length us)
 
-pub within_columns : (us : List Unique) (number : ℕ) → 1 ≤ number → number ≤ length (columns_of us) → (number - 1 < length us) × (number ≤ length us)
+within_columns : (us : List Unique) (number : ℕ) → 1 ≤ number → number ≤ length (columns_of us) → (number - 1 < length us) × (number ≤ length us)
 within_columns us number low high = let e = columns_length us in (omega arith, omega arith)
+
+-- in the unique key of a number, as callers see the table
+module _ (primary : List ℕ) (kept : Kept) (us : List Unique) (was : IsIndexed primary kept us) (t : TableContent) (v : table_of primary kept us ≡ t)
+    (number : ℕ) (asked : (1 ≤ number) × (number ≤ length t.keys.uniques)) (u : Unique) (is : u ≡ slice_index_or us (number - 1) u) where
+  range : (1 ≤ number) × (number ≤ length (columns_of us))
+  range = subst (λ (t : TableContent). (1 ≤ number) × (number ≤ length t.keys.uniques)) (sym v) asked
+
+  below : number - 1 < length us
+  below = (within_columns us number range.0 range.1).0
+
+  own_columns : unique_at (table_of primary kept us).keys number ≡ (slice_index_or us (number - 1) u).columns.items
+  own_columns = columns_is us number u range.0 (within_columns us number range.0 range.1).1
+
+  module _ (values : Key) where
+    own_held : (o : Option ℕ) → o ≡ held u.entries values → o ≡ held (slice_index_or us (number - 1) u).entries values
+    own_held o e = e ∙ ap (λ (w : Unique). held w.entries values) is
+
+    -- the key in a slot that was found is of a row with the values, and there is one
+    pub slot_has_values : (slot : ℕ) → Some slot ≡ held u.entries values → (r : Option (Bor Key))
+        → record { found : IfSome r (λ key. get kept.slots key.now ≡ Some slot); missed : IfNone r ((key : Key) → get kept.slots key ≢ Some slot) }
+        → record {
+          found : IfSome r (λ key. HasValues t.rows (unique_at t.keys number) key.now values);
+          missed : IfNone r ((key : Key) → ¬ HasValues t.rows (unique_at t.keys number) key values);
+        }
+    slot_has_values slot e r told = record {
+      found =
+          subst (λ (t : TableContent). IfSome r (λ (key : Bor Key). HasValues t.rows (unique_at t.keys number) key.now values)) v
+          (found_values primary kept us was (number - 1) u below _ own_columns values slot (own_held (Some slot) e) r told.found);
+      missed = missed_slot primary kept us was (number - 1) u below values slot (own_held (Some slot) e) _ r told.missed;
+    }
+
+    -- where none was found no row has them
+    pub none_has_values : None ≡ held u.entries values → (key : Key) → ¬ HasValues t.rows (unique_at t.keys number) key values
+    none_has_values e key has =
+        missed_values primary kept us was (number - 1) u below _ own_columns values (own_held None e) key
+        (subst (λ (t : TableContent). HasValues t.rows (unique_at t.keys number) key values) (sym v) has)
+
+  -- the same of a row's values
+  module _ (row : Row) where
+    held_of_row : (o : Option ℕ) → o ≡ held_by u.entries (values_in u.columns.items row)
+        → o ≡ held_by (slice_index_or us (number - 1) u).entries (values_in (slice_index_or us (number - 1) u).columns.items row)
+    held_of_row o e = e ∙ ap (λ (w : Unique). held_by w.entries (values_in w.columns.items row)) is
+
+    pub slot_has_twin : (slot : ℕ) → Some slot ≡ held_by u.entries (values_in u.columns.items row) → (r : Option (Bor Key))
+        → record { found : IfSome r (λ key. get kept.slots key.now ≡ Some slot); missed : IfNone r ((key : Key) → get kept.slots key ≢ Some slot) }
+        → record {
+          found : IfSome r (λ key. IsTwin t.rows (unique_at t.keys number) key.now row);
+          missed : IfNone r ((key : Key) → ¬ IsTwin t.rows (unique_at t.keys number) key row);
+        }
+    slot_has_twin slot e r told = record {
+      found =
+          subst (λ (t : TableContent). IfSome r (λ (key : Bor Key). IsTwin t.rows (unique_at t.keys number) key.now row)) v
+          (found_twin primary kept us was (number - 1) u below _ own_columns row slot (held_of_row (Some slot) e) r told.found);
+      missed = missed_twin primary kept us was (number - 1) u below _ own_columns row slot (held_of_row (Some slot) e) r _ told.missed;
+    }
+
+    pub none_is_twin : None ≡ held_by u.entries (values_in u.columns.items row) → (key : Key) → ¬ IsTwin t.rows (unique_at t.keys number) key row
+    none_is_twin e key twin =
+        no_twin primary kept us was (number - 1) u below _ own_columns row (held_of_row None e) key
+        (subst (λ (t : TableContent). IsTwin t.rows (unique_at t.keys number) key row) (sym v) twin)
 
 -- ---- an empty table
 

@@ -1,38 +1,12 @@
-use Rattle.std.specs.Prelude.{◌≤◌, ◌-◌, IfSome, length}
-use Rattle.std.proofs.Common.{sym, ◌∙◌, ap, subst}
-use Rattle.model.specs.declared.key.Key.{Key}
-use Rattle.std.specs.Borrow.{Bor}
-use Rattle.indexes.specs.declared.unique.Unique.{Unique}
-use Rattle.indexes.specs.Unique.{held}
-use Rattle.indexes.specs.Table.{TableContent, HasValues, unique_at}
-use Rattle.indexes.proofs.Tabling.{found_values, missed_slot, missed_values, columns_is, within_columns}
+use Rattle.indexes.proofs.Tabling.{slot_has_values, none_has_values}
 use Rattle.indexes.proofs.table.Table.find_unique.Goals as goal
 
-pub returns-in-Some-clause-found : goal.returns-in-Some-clause-found
-returns-in-Some-clause-found c =
-    let us = c.self.inside.uniques.items in
-    let d = c.index.result.now in
-    let range = subst (λ (t : TableContent). (1 ≤ c.args.number) × (c.args.number ≤ length t.keys.uniques)) (sym c.self.view_is) c.requires in
-    let within = within_columns us c.args.number range.0 range.1 in
-    subst (λ (t : TableContent). IfSome c.key_at.result (λ (key : Bor Key). HasValues t.rows (unique_at t.keys c.args.number) key.now c.args.values.now)) c.self.view_is
-    (found_values c.self.inside.primary.items c.self.inside.rows us c.self.invariant (c.args.number - 1) d within.0 _ (columns_is us c.args.number d range.0 within.1)
-    c.args.values.now c.in-Some.slot (c.in-Some.ensures ∙ ap (λ (u : Unique). held u.entries c.args.values.now) c.index.ensures) c.key_at.result c.key_at.ensures.found)
-
-pub returns-in-Some-clause-missed : goal.returns-in-Some-clause-missed
-returns-in-Some-clause-missed c =
-    let us = c.self.inside.uniques.items in
-    let d = c.index.result.now in
-    let range = subst (λ (t : TableContent). (1 ≤ c.args.number) × (c.args.number ≤ length t.keys.uniques)) (sym c.self.view_is) c.requires in
-    let within = within_columns us c.args.number range.0 range.1 in
-    missed_slot c.self.inside.primary.items c.self.inside.rows us c.self.invariant (c.args.number - 1) d within.0 c.args.values.now c.in-Some.slot
-    (c.in-Some.ensures ∙ ap (λ (u : Unique). held u.entries c.args.values.now) c.index.ensures) _ c.key_at.result c.key_at.ensures.missed
+pub returns-in-Some : goal.returns-in-Some
+returns-in-Some c =
+    slot_has_values c.self.inside.primary.items c.self.inside.rows c.self.inside.uniques.items c.self.invariant _ c.self.view_is c.args.number c.requires c.index.result.now c.index.ensures
+    c.args.values.now c.in-Some.slot c.in-Some.ensures c.key_at.result c.key_at.ensures
 
 pub returns-in-None-clause-missed : goal.returns-in-None-clause-missed
-returns-in-None-clause-missed c = λ key has.
-    let us = c.self.inside.uniques.items in
-    let d = c.index.result.now in
-    let range = subst (λ (t : TableContent). (1 ≤ c.args.number) × (c.args.number ≤ length t.keys.uniques)) (sym c.self.view_is) c.requires in
-    let within = within_columns us c.args.number range.0 range.1 in
-    missed_values c.self.inside.primary.items c.self.inside.rows us c.self.invariant (c.args.number - 1) d within.0 _ (columns_is us c.args.number d range.0 within.1)
-    c.args.values.now (c.in-None.ensures ∙ ap (λ (u : Unique). held u.entries c.args.values.now) c.index.ensures) key
-    (subst (λ (t : TableContent). HasValues t.rows (unique_at t.keys c.args.number) key c.args.values.now) (sym c.self.view_is) has)
+returns-in-None-clause-missed c =
+    none_has_values c.self.inside.primary.items c.self.inside.rows c.self.inside.uniques.items c.self.invariant _ c.self.view_is c.args.number c.requires c.index.result.now c.index.ensures
+    c.args.values.now c.in-None.ensures

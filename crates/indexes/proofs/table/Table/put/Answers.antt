@@ -1,12 +1,11 @@
-use Rattle.std.specs.Prelude.{◌≡◌, ℕ, List, Some, None, refl}
-use Rattle.std.proofs.Common.{sym, ◌∙◌, ap, subst}
-use Rattle.std.specs.List.{Contains}
+use Rattle.std.specs.Prelude.{◌≡◌, Some, None, refl}
+use Rattle.std.proofs.Common.{rules, sym, ◌∙◌, ap, subst}
 use Rattle.std.specs.FinMap.{get, insert}
 use Rattle.model.specs.Rows.{values_in, TableKeys}
 use Rattle.rows.specs.Kept.{Kept}
 use Rattle.indexes.specs.Table.{TableContent, NoClash}
 use Rattle.indexes.specs.Indexed.{IsIndexed, columns_of}
-use Rattle.indexes.proofs.Tabling.{same_columns, room_kept, room_for, indexed_kept, indexed_filled, free_values, entries_of_puts, kept_is, itself, sound}
+use Rattle.indexes.proofs.Tabling.{left_put, left_made, room_for, indexed_kept, indexed_filled, free_values, entries_of_puts, kept_is, itself}
 use Rattle.indexes.proofs.table.Table.put.Goals as goal
 
 -- a slot was made
@@ -15,14 +14,11 @@ invariant_of-self c =
     indexed_kept c.self.inside.primary.items c.self.inside.rows c.reserve.new.self c.self.inside.uniques.items c.self.inside.uniques.items c.self.invariant
     c.reserve.ensures.rows c.reserve.ensures.slots c.reserve.ensures.numbered (itself c.self.inside.uniques.items)
 
-pub returns-in_err-number-clause-kept : goal.returns-in_err-number-clause-kept
-returns-in_err-number-clause-kept c = λ s has.
-    room_kept c.self.inside.rows c.reserve.new.self c.self.inside.uniques.items c.self.inside.uniques.items c.reserve.ensures.slots refl (λ k d l values some. some) s
-    (subst (λ (t : TableContent). Contains t.room s) (sym c.self.view_is) has)
-
-pub returns-in_err-number-clause-sound : goal.returns-in_err-number-clause-sound
-returns-in_err-number-clause-sound c =
-    sound (record { primary = c.self.inside.primary.items; uniques = columns_of c.self.inside.uniques.items }) c.reserve.new.self c.self.inside.uniques.items refl (invariant_of-self c)
+pub returns-in_err-number : goal.returns-in_err-number
+returns-in_err-number c =
+    let left = left_made c.self.inside.primary.items c.self.inside.rows c.reserve.new.self c.self.inside.uniques.items c.self.inside.uniques.items _ c.self.view_is
+    c.reserve.ensures.rows c.reserve.ensures.slots (itself c.self.inside.uniques.items) (invariant_of-self c) in
+    record { keys = left.keys; ok = search rules; err = search rules; kept = left.kept; room = search rules; sound = left.sound }
 
 pub put_each-requires : goal.put_each-requires
 put_each-requires c =
@@ -37,21 +33,11 @@ invariant_of-self-in_err-put_each c =
     indexed_kept c.self.inside.primary.items c.self.inside.rows c.reserve.new.self c.self.inside.uniques.items c.put_each.new.uniques.items c.self.invariant
     c.reserve.ensures.rows c.reserve.ensures.slots c.reserve.ensures.numbered c.in_err-put_each.ensures.err
 
-pub returns-in_err-put_each-clause-keys : goal.returns-in_err-put_each-clause-keys
-returns-in_err-put_each-clause-keys c =
-    let steps = c.in_err-put_each.ensures.err in
-    let same = same_columns c.self.inside.uniques.items c.put_each.new.uniques.items steps.long (λ k d l. (steps.each k d l).columns) in
-    ap (λ (cs : List (List ℕ)). let keys : TableKeys = record { primary = c.self.inside.primary.items; uniques = cs } in keys) same ∙ ap (λ (t : TableContent). t.keys) c.self.view_is
-
-pub returns-in_err-put_each-clause-kept : goal.returns-in_err-put_each-clause-kept
-returns-in_err-put_each-clause-kept c = λ s has.
-    let steps = c.in_err-put_each.ensures.err in
-    room_kept c.self.inside.rows c.reserve.new.self c.self.inside.uniques.items c.put_each.new.uniques.items c.reserve.ensures.slots steps.long (λ k d l values some. (steps.each k d l).entries.entries values some) s
-    (subst (λ (t : TableContent). Contains t.room s) (sym c.self.view_is) has)
-
-pub returns-in_err-put_each-clause-sound : goal.returns-in_err-put_each-clause-sound
-returns-in_err-put_each-clause-sound c =
-    sound (record { primary = c.self.inside.primary.items; uniques = columns_of c.put_each.new.uniques.items }) c.reserve.new.self c.put_each.new.uniques.items refl (invariant_of-self-in_err-put_each c)
+pub returns-in_err-put_each : goal.returns-in_err-put_each
+returns-in_err-put_each c =
+    let left = left_made c.self.inside.primary.items c.self.inside.rows c.reserve.new.self c.self.inside.uniques.items c.put_each.new.uniques.items _ c.self.view_is
+    c.reserve.ensures.rows c.reserve.ensures.slots c.in_err-put_each.ensures.err (invariant_of-self-in_err-put_each c) in
+    record { keys = left.keys; ok = search rules; err = search rules; kept = left.kept; room = search rules; sound = left.sound }
 
 pub replace_at-requires : goal.replace_at-requires
 replace_at-requires c = (c.args.key.now, c.in_ok-number.ensures.ok)
@@ -74,27 +60,20 @@ invariant_of-self-2 c =
     (indexed_filled primary kept us vs c.args.key.now c.args.row c.in_ok-number.number was own c.in_ok-number.ensures.ok (ap (λ m. get m c.args.key.now) c.reserve.ensures.rows ∙ absent)
     (free_values keys primary old us c.args.row refl c.self.invariant clash) c.in_ok-put_each.ensures.ok)
 
-pub returns-clause-keys : goal.returns-clause-keys
-returns-clause-keys c =
-    let steps = c.in_ok-put_each.ensures.ok in
-    let same = same_columns c.self.inside.uniques.items c.put_each.new.uniques.items steps.long (λ k d l. (steps.each k d l).columns) in
-    ap (λ (cs : List (List ℕ)). let keys : TableKeys = record { primary = c.self.inside.primary.items; uniques = cs } in keys) same ∙ ap (λ (t : TableContent). t.keys) c.self.view_is
-
-pub returns-clause-kept : goal.returns-clause-kept
-returns-clause-kept c = λ s has.
-    let steps = c.in_ok-put_each.ensures.ok in
-    room_kept c.self.inside.rows c.replace_at.new.self c.self.inside.uniques.items c.put_each.new.uniques.items
-    (λ key number at. ap (λ m. get m key) c.replace_at.ensures.slots ∙ c.reserve.ensures.slots key number at) steps.long (λ k d l values some. (steps.each k d l).entries.entries values some) s
-    (subst (λ (t : TableContent). Contains t.room s) (sym c.self.view_is) has)
-
-pub returns-clause-room : goal.returns-clause-room
-returns-clause-room c =
-    let us = c.self.inside.uniques.items in
+pub returns : goal.returns
+returns c =
     let vs = c.put_each.new.uniques.items in
-    room_for (record { primary = c.self.inside.primary.items; uniques = columns_of vs }) c.replace_at.new.self vs c.args.row c.args.key.now c.in_ok-number.number refl
-    (subst (λ (t : TableContent). values_in t.keys.primary c.args.row ≡ Some c.args.key.now) (sym c.self.view_is) c.requires.own_key)
-    (ap (λ m. get m c.args.key.now) c.replace_at.ensures.slots ∙ c.in_ok-number.ensures.ok) (entries_of_puts c.args.row c.in_ok-number.number us vs c.in_ok-put_each.ensures.ok)
-
-pub returns-clause-sound : goal.returns-clause-sound
-returns-clause-sound c =
-    sound (record { primary = c.self.inside.primary.items; uniques = columns_of c.put_each.new.uniques.items }) c.replace_at.new.self c.put_each.new.uniques.items refl (invariant_of-self-2 c)
+    let left = left_put c.self.inside.primary.items c.self.inside.rows c.replace_at.new.self c.self.inside.uniques.items vs _ c.self.view_is c.args.row c.in_ok-number.number
+    (λ key number at. ap (λ m. get m key) c.replace_at.ensures.slots ∙ c.reserve.ensures.slots key number at) c.in_ok-put_each.ensures.ok (invariant_of-self-2 c) in
+    record {
+      keys = left.keys;
+      ok = search rules;
+      err = search rules;
+      kept = left.kept;
+      room =
+          room_for (record { primary = c.self.inside.primary.items; uniques = columns_of vs }) c.replace_at.new.self vs c.args.row c.args.key.now c.in_ok-number.number refl
+          (subst (λ (t : TableContent). values_in t.keys.primary c.args.row ≡ Some c.args.key.now) (sym c.self.view_is) c.requires.own_key)
+          (ap (λ m. get m c.args.key.now) c.replace_at.ensures.slots ∙ c.in_ok-number.ensures.ok)
+          (entries_of_puts c.args.row c.in_ok-number.number c.self.inside.uniques.items vs c.in_ok-put_each.ensures.ok);
+      sound = left.sound;
+    }

@@ -1,13 +1,12 @@
-use Rattle.std.specs.Prelude.{◌≡◌, ℕ, List, Option, Some, None, refl, is_some}
-use Rattle.std.proofs.Common.{sym, ◌∙◌, ap, subst}
-use Rattle.std.specs.List.{Contains}
+use Rattle.std.specs.Prelude.{◌≡◌, ℕ, Option, Some, None, refl, is_some}
+use Rattle.std.proofs.Common.{rules, sym, ◌∙◌, ap, subst}
 use Rattle.std.specs.FinMap.{get, insert}
 use Rattle.model.specs.Rows.{values_in, TableKeys}
 use Rattle.rows.specs.Kept.{Kept}
 use Rattle.indexes.specs.Table.{TableContent, KeepsSpots, spots_of, NoClash}
 use Rattle.indexes.specs.Unique.{EachStep, Sets}
 use Rattle.indexes.specs.Indexed.{IsIndexed, columns_of}
-use Rattle.indexes.proofs.Tabling.{same_columns, room_kept, entries_after_set, slot_of_room, entries_of_room, sets_put, indexed_filled, free_values, kept_is, sound}
+use Rattle.indexes.proofs.Tabling.{left_set, slot_of_room, entries_of_room, sets_put, indexed_filled, free_values, kept_is}
 use Rattle.indexes.proofs.table.Table.put_back.Goals as goal
 
 pub restore-requires : goal.restore-requires
@@ -35,19 +34,8 @@ invariant_of-self c =
     (indexed_filled c.self.inside.primary.items kept us vs c.args.key.now c.args.row place.0 c.self.invariant own place.1 absent
     (free_values keys c.self.inside.primary.items kept us c.args.row refl c.self.invariant clash) (sets_put c.args.row place.0 us vs (entries_of_room keys kept us c.args.row refl room) steps))
 
-pub returns-clause-keys : goal.returns-clause-keys
-returns-clause-keys c =
-    let steps = c.set_each.ensures in
-    let same = same_columns c.self.inside.uniques.items c.set_each.new.uniques.items steps.long (λ k d l. (steps.each k d l).columns) in
-    ap (λ (cs : List (List ℕ)). let keys : TableKeys = record { primary = c.self.inside.primary.items; uniques = cs } in keys) same ∙ ap (λ (t : TableContent). t.keys) c.self.view_is
-
-pub returns-clause-kept : goal.returns-clause-kept
-returns-clause-kept c = λ s has.
-    let steps = c.set_each.ensures in
-    room_kept c.self.inside.rows c.restore.new.self c.self.inside.uniques.items c.set_each.new.uniques.items (λ key number at. ap (λ m. get m key) c.restore.ensures.slots ∙ at) steps.long
-    (entries_after_set c.args.row c.slot-number.result c.self.inside.uniques.items c.set_each.new.uniques.items steps) s
-    (subst (λ (t : TableContent). Contains t.room s) (sym c.self.view_is) has)
-
-pub returns-clause-sound : goal.returns-clause-sound
-returns-clause-sound c =
-    sound (record { primary = c.self.inside.primary.items; uniques = columns_of c.set_each.new.uniques.items }) c.restore.new.self c.set_each.new.uniques.items refl (invariant_of-self c)
+pub returns : goal.returns
+returns c =
+    let left = left_set c.self.inside.primary.items c.self.inside.rows c.restore.new.self c.self.inside.uniques.items c.set_each.new.uniques.items _ c.self.view_is
+    c.args.row c.slot-number.result c.restore.ensures.slots c.set_each.ensures (invariant_of-self c) in
+    record { keys = left.keys; rows = search rules; kept = left.kept; sound = left.sound }

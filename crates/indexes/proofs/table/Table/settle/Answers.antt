@@ -1,11 +1,10 @@
-use Rattle.std.specs.Prelude.{ℕ, List, refl}
-use Rattle.std.proofs.Common.{sym, ◌∙◌, ap, subst}
+use Rattle.std.specs.Prelude.{refl}
+use Rattle.std.proofs.Common.{sym, subst}
 use Rattle.std.specs.List.{Contains}
-use Rattle.model.specs.Rows.{TableKeys}
 use Rattle.indexes.specs.Table.{TableContent, KeepsSpots, spots_of, IsOfSettled, IsFilled}
 use Rattle.indexes.specs.Indexed.{columns_of, room_of}
 use Rattle.indexes.proofs.Settled.{settled_gone}
-use Rattle.indexes.proofs.Tabling.{same_columns, indexed_settled, settled_fewer, room_settled, sound}
+use Rattle.indexes.proofs.Tabling.{keys_stay, indexed_settled, settled_fewer, room_settled, sound}
 use Rattle.indexes.proofs.table.Table.settle.Goals as goal
 
 pub invariant_of-self : goal.invariant_of-self
@@ -16,8 +15,8 @@ invariant_of-self c =
 pub returns-clause-keys : goal.returns-clause-keys
 returns-clause-keys c =
     let steps = c.settle_each.ensures in
-    let same = same_columns c.self.inside.uniques.items c.settle_each.new.uniques.items steps.long (λ k d l. (steps.each k d l).columns) in
-    ap (λ (cs : List (List ℕ)). let keys : TableKeys = record { primary = c.self.inside.primary.items; uniques = cs } in keys) same ∙ ap (λ (t : TableContent). t.keys) c.self.view_is
+    keys_stay c.self.inside.primary.items c.self.inside.rows c.settle.new.self c.self.inside.uniques.items c.settle_each.new.uniques.items _ c.self.view_is steps.long
+    (λ k d l. (steps.each k d l).columns)
 
 pub returns-clause-others : goal.returns-clause-others
 returns-clause-others c = λ s not_row not_key has.

@@ -10,8 +10,7 @@ remove-requires c = seen.there c.self.inside.tables.items _ c.self.view_is _ c.r
 
 pub returns : goal.returns
 returns c =
-    let left =
-    seen.left_remove c.self.inside.tables.items _ c.self.view_is _ c.requires.known _ c.index_mut-table.ensures.value c.remove.new.self c.args.key.now
+    let left = seen.left_remove c.self.inside.tables.items _ c.self.view_is _ c.requires.known _ c.index_mut-table.ensures.value c.remove.new.self c.args.key.now
     c.remove.ensures.keys c.remove.ensures.rows c.remove.ensures.kept in
     record {
       schema = left.schema;

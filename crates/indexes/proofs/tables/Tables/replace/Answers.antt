@@ -14,8 +14,7 @@ replace-requires c =
 pub returns : goal.returns
 returns c =
     let told = c.replace.ensures in
-    let tried =
-    seen.tried_replace c.self.inside.tables.items _ c.self.view_is _ c.requires.known _ c.index_mut-table.ensures.value c.replace.new.self c.replace.result
+    let tried = seen.tried_replace c.self.inside.tables.items _ c.self.view_is _ c.requires.known _ c.index_mut-table.ensures.value c.replace.new.self c.replace.result
     c.args.row c.args.key.now c.args.new_key told.keys told.ok told.err told.kept told.room in
     record {
       schema = tried.schema;
