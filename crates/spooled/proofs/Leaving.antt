@@ -16,58 +16,31 @@ use Rattle.spooled.specs.Handler.{IsEnded, IsRunOver}
 use Rattle.spooled.specs.Applier.{IsAt, HasCommits, HasEnded}
 use Rattle.spooled.specs.Progress.{Progress}
 use Rattle.spooled.specs.Run.{IsRun}
+use Rattle.spooled.proofs.Running.{clear_at_send, clear_at_input}
 
 module _ (g : Setting) (rows : Rows) (old new : DeviceState) (handled : List CopyItem) (p : Progress) (times : List ℤ) where
   -- the next item ends the run, where all has gone well
   by_next : (rest : List CopyItem) (end : End) → HasGoneWell g (HasNotClashed g rows old new handled p times) old new handled p times → IsNextCause g rows p.state rest end → IsItemCause g rows old new handled p times rest end
   by_next rest ends.Clean well why = absurd why
   by_next rest (ends.Frame f) well why = absurd why
-  by_next rest (ends.Msg f) well why = inl (well, why)
-  by_next rest (ends.Session f) well why = inl (well, why)
-  by_next rest (ends.Rel f) well why = inl (well, why)
-  by_next rest (ends.Unique table key) well why = inl (well, why)
-  by_next rest (ends.NullKey table) well why = inl (well, why)
   by_next rest (ends.HeldKey xid holder) well why = absurd why
   by_next rest ends.OutOfMemory well why = inl well
+  by_next rest end well why = inl (well, why)
 
   -- the last item does
   by_last : (rest : List CopyItem) (end : End) → LastClashed g rows old new handled p times end → IsItemCause g rows old new handled p times rest end
-  by_last rest ends.Clean clashed = absurd clashed.why
-  by_last rest (ends.Frame f) clashed = absurd clashed.why
-  by_last rest (ends.Msg f) clashed = absurd clashed.why
-  by_last rest (ends.Session f) clashed = absurd clashed.why
-  by_last rest (ends.Rel f) clashed = absurd clashed.why
   by_last rest (ends.Unique table key) clashed = inr clashed
   by_last rest (ends.NullKey table) clashed = inr clashed
-  by_last rest (ends.HeldKey xid holder) clashed = absurd clashed.why
-  by_last rest ends.OutOfMemory clashed = absurd clashed.why
+  by_last rest end clashed = absurd clashed.why
 
   -- an item ended the run
   as_cause : (bytes : List ℕ) (rest : List CopyItem) (end : End) → IsItemCause g rows old new handled p times rest end → IsCause g rows old new handled p times bytes rest end
   as_cause bytes rest ends.Clean (inl (well, why)) = absurd why
   as_cause bytes rest ends.Clean (inr clashed) = absurd clashed.why
-  as_cause bytes rest (ends.Frame frames.UnknownFrame) (inl (well, why)) = absurd why
-  as_cause bytes rest (ends.Frame frames.UnknownFrame) (inr clashed) = absurd clashed.why
-  as_cause bytes rest (ends.Frame frames.BadLength) (inl (well, why)) = absurd why
-  as_cause bytes rest (ends.Frame frames.BadLength) (inr clashed) = absurd clashed.why
-  as_cause bytes rest (ends.Frame frames.TooLarge) (inl (well, why)) = absurd why
-  as_cause bytes rest (ends.Frame frames.TooLarge) (inr clashed) = absurd clashed.why
-  as_cause bytes rest (ends.Frame frames.Truncated) (inl (well, why)) = absurd why
-  as_cause bytes rest (ends.Frame frames.Truncated) (inr clashed) = absurd clashed.why
-  as_cause bytes rest (ends.Frame frames.UnknownCopyTag) (inl (well, why)) = absurd why
-  as_cause bytes rest (ends.Frame frames.UnknownCopyTag) (inr clashed) = absurd clashed.why
-  as_cause bytes rest (ends.Frame frames.ServerError) (inl (well, why)) = absurd why
-  as_cause bytes rest (ends.Frame frames.ServerError) (inr clashed) = absurd clashed.why
   as_cause bytes rest (ends.Frame frames.Device) why = inr why
-  as_cause bytes rest (ends.Frame frames.OutOfMemory) (inl (well, why)) = absurd why
-  as_cause bytes rest (ends.Frame frames.OutOfMemory) (inr clashed) = absurd clashed.why
-  as_cause bytes rest (ends.Msg f) why = why
-  as_cause bytes rest (ends.Session f) why = why
-  as_cause bytes rest (ends.Rel f) why = why
-  as_cause bytes rest (ends.Unique table key) why = why
-  as_cause bytes rest (ends.NullKey table) why = why
-  as_cause bytes rest (ends.HeldKey xid holder) why = why
-  as_cause bytes rest ends.OutOfMemory why = why
+  as_cause bytes rest (ends.Frame f) (inl (well, why)) = absurd why
+  as_cause bytes rest (ends.Frame f) (inr clashed) = absurd clashed.why
+  as_cause bytes rest end why = why
 
   by_item : (a : Applier) (bytes : List ℕ) (rest : List CopyItem) (end : End) → IsEnded g (IsAt g rows) (HasEnded g rows) old new a handled p times rest end → IsCause g rows old new handled p times bytes rest end
   by_item a bytes rest end why = elim why.ended.1 [
@@ -77,22 +50,9 @@ module _ (g : Setting) (rows : Rows) (old new : DeviceState) (handled : List Cop
 
   -- an update that was due did
   by_send : (a : Applier) (bytes : List ℕ) (rest : List CopyItem) (end : End) → IsSendCause g (IsAt g rows a p) old new handled p times end → IsCause g rows old new handled p times bytes rest end
-  by_send a bytes rest ends.Clean why = absurd why
-  by_send a bytes rest (ends.Frame frames.UnknownFrame) why = absurd why
-  by_send a bytes rest (ends.Frame frames.BadLength) why = absurd why
-  by_send a bytes rest (ends.Frame frames.TooLarge) why = absurd why
-  by_send a bytes rest (ends.Frame frames.Truncated) why = absurd why
-  by_send a bytes rest (ends.Frame frames.UnknownCopyTag) why = absurd why
-  by_send a bytes rest (ends.Frame frames.ServerError) why = absurd why
   by_send a bytes rest (ends.Frame frames.Device) why = inr (record { clear = why.clear.clear; read = why.read; failed = why.failed; cut = why.cut })
-  by_send a bytes rest (ends.Frame frames.OutOfMemory) why = absurd why
-  by_send a bytes rest (ends.Msg f) why = absurd why
-  by_send a bytes rest (ends.Session f) why = absurd why
-  by_send a bytes rest (ends.Rel f) why = absurd why
-  by_send a bytes rest (ends.Unique table key) why = absurd why
-  by_send a bytes rest (ends.NullKey table) why = absurd why
-  by_send a bytes rest (ends.HeldKey xid holder) why = absurd why
   by_send a bytes rest ends.OutOfMemory why = inr (record { clear = why.clear.clear; read = why.read; written = why.written; cut = why.cut; nothing = why.nothing })
+  by_send a bytes rest end why = absurd why
 
   -- all has gone well, which without threads means that no change clashed
   well_so : (a : Applier) → HasGoneWell g (IsAt g rows a p) old new handled p times → HasGoneWell g (HasNotClashed g rows old new handled p times) old new handled p times
@@ -101,66 +61,18 @@ module _ (g : Setting) (rows : Rows) (old new : DeviceState) (handled : List Cop
   -- the input did
   by_input : (a : Applier) (bytes : List ℕ) (rest : List CopyItem) (end : End) → IsInputCause g (IsAt g rows a p) old new handled p times bytes rest end → IsCause g rows old new handled p times bytes rest end
   by_input a bytes rest ends.Clean why = record { well = well_so a why.well; all_handled = why.all_handled; fault = why.fault; asked = why.asked }
-  by_input a bytes rest (ends.Frame frames.UnknownFrame) why = record { well = well_so a why.well; all_handled = why.all_handled; fault = why.fault; asked = why.asked }
-  by_input a bytes rest (ends.Frame frames.BadLength) why = record { well = well_so a why.well; all_handled = why.all_handled; fault = why.fault; asked = why.asked }
-  by_input a bytes rest (ends.Frame frames.TooLarge) why = record { well = well_so a why.well; all_handled = why.all_handled; fault = why.fault; asked = why.asked }
-  by_input a bytes rest (ends.Frame frames.Truncated) why = record { well = well_so a why.well; all_handled = why.all_handled; fault = why.fault; asked = why.asked }
-  by_input a bytes rest (ends.Frame frames.UnknownCopyTag) why = record { well = well_so a why.well; all_handled = why.all_handled; fault = why.fault; asked = why.asked }
-  by_input a bytes rest (ends.Frame frames.ServerError) why = record { well = well_so a why.well; all_handled = why.all_handled; fault = why.fault; asked = why.asked }
   by_input a bytes rest (ends.Frame frames.Device) why = inl (record { clear = why.clear.clear; all_handled = why.all_handled; failed = why.failed; sent = why.sent })
-  by_input a bytes rest (ends.Frame frames.OutOfMemory) why = record { well = well_so a why.well; all_handled = why.all_handled; fault = why.fault; asked = why.asked }
-  by_input a bytes rest (ends.Msg f) why = absurd why
-  by_input a bytes rest (ends.Session f) why = absurd why
-  by_input a bytes rest (ends.Rel f) why = absurd why
-  by_input a bytes rest (ends.Unique table key) why = absurd why
-  by_input a bytes rest (ends.NullKey table) why = absurd why
-  by_input a bytes rest (ends.HeldKey xid holder) why = absurd why
+  by_input a bytes rest (ends.Frame f) why = record { well = well_so a why.well; all_handled = why.all_handled; fault = why.fault; asked = why.asked }
   by_input a bytes rest ends.OutOfMemory why = inl (well_so a why)
-
--- what is kept of the commits, where the handler stands and where it ended a run
-kept_send : (g : Setting) (rows : Rows) (old new : DeviceState) (a : Applier) (handled : List CopyItem) (p : Progress) (times : List ℤ) (end : End) → IsSendCause g (IsAt g rows a p) old new handled p times end → HasCommits g rows a p.state
-kept_send g rows old new a handled p times ends.Clean why = absurd why
-kept_send g rows old new a handled p times (ends.Frame frames.UnknownFrame) why = absurd why
-kept_send g rows old new a handled p times (ends.Frame frames.BadLength) why = absurd why
-kept_send g rows old new a handled p times (ends.Frame frames.TooLarge) why = absurd why
-kept_send g rows old new a handled p times (ends.Frame frames.Truncated) why = absurd why
-kept_send g rows old new a handled p times (ends.Frame frames.UnknownCopyTag) why = absurd why
-kept_send g rows old new a handled p times (ends.Frame frames.ServerError) why = absurd why
-kept_send g rows old new a handled p times (ends.Frame frames.Device) why = why.clear.commits
-kept_send g rows old new a handled p times (ends.Frame frames.OutOfMemory) why = absurd why
-kept_send g rows old new a handled p times (ends.Msg f) why = absurd why
-kept_send g rows old new a handled p times (ends.Session f) why = absurd why
-kept_send g rows old new a handled p times (ends.Rel f) why = absurd why
-kept_send g rows old new a handled p times (ends.Unique table key) why = absurd why
-kept_send g rows old new a handled p times (ends.NullKey table) why = absurd why
-kept_send g rows old new a handled p times (ends.HeldKey xid holder) why = absurd why
-kept_send g rows old new a handled p times ends.OutOfMemory why = why.clear.commits
-
-kept_input : (g : Setting) (rows : Rows) (old new : DeviceState) (a : Applier) (handled : List CopyItem) (p : Progress) (times : List ℤ) (bytes : List ℕ) (rest : List CopyItem) (end : End) → IsInputCause g (IsAt g rows a p) old new handled p times bytes rest end → HasCommits g rows a p.state
-kept_input g rows old new a handled p times bytes rest ends.Clean why = why.well.clear.commits
-kept_input g rows old new a handled p times bytes rest (ends.Frame frames.UnknownFrame) why = why.well.clear.commits
-kept_input g rows old new a handled p times bytes rest (ends.Frame frames.BadLength) why = why.well.clear.commits
-kept_input g rows old new a handled p times bytes rest (ends.Frame frames.TooLarge) why = why.well.clear.commits
-kept_input g rows old new a handled p times bytes rest (ends.Frame frames.Truncated) why = why.well.clear.commits
-kept_input g rows old new a handled p times bytes rest (ends.Frame frames.UnknownCopyTag) why = why.well.clear.commits
-kept_input g rows old new a handled p times bytes rest (ends.Frame frames.ServerError) why = why.well.clear.commits
-kept_input g rows old new a handled p times bytes rest (ends.Frame frames.Device) why = why.clear.commits
-kept_input g rows old new a handled p times bytes rest (ends.Frame frames.OutOfMemory) why = why.well.clear.commits
-kept_input g rows old new a handled p times bytes rest (ends.Msg f) why = absurd why
-kept_input g rows old new a handled p times bytes rest (ends.Session f) why = absurd why
-kept_input g rows old new a handled p times bytes rest (ends.Rel f) why = absurd why
-kept_input g rows old new a handled p times bytes rest (ends.Unique table key) why = absurd why
-kept_input g rows old new a handled p times bytes rest (ends.NullKey table) why = absurd why
-kept_input g rows old new a handled p times bytes rest (ends.HeldKey xid holder) why = absurd why
-kept_input g rows old new a handled p times bytes rest ends.OutOfMemory why = why.clear.commits
+  by_input a bytes rest end why = absurd why
 
 pub is_run : (g : Setting) (rows : Rows) (old new : DeviceState) (a : Applier) (o : Outcome) → IsRunOver g (IsAt g rows) (HasEnded g rows) old new a o.end → o.tables.rows ≡ a.work.base → o.tables.schema ≡ a.work.schema → o.journal ≡ a.journal → o.position ≡ a.position
     → IsRun g rows old new o
 is_run g rows old new a o over tables schema journal position =
     let commits : HasCommits g rows a over.progress.state = elim over.why [
       | inl ended ↦ ended.ended.0
-      | inr (inl send) ↦ kept_send g rows old new a over.handled over.progress over.times o.end send
-      | inr (inr input) ↦ kept_input g rows old new a over.handled over.progress over.times over.bytes over.rest o.end input
+      | inr (inl send) ↦ (clear_at_send g (IsAt g rows a over.progress) old new over.handled over.progress over.times o.end send).commits
+      | inr (inr input) ↦ (clear_at_input g (IsAt g rows a over.progress) old new over.handled over.progress over.times over.bytes over.rest o.end input).commits
     ] in
     record {
       bytes = over.bytes;

@@ -1,6 +1,6 @@
 -- What the items of the bytes that were read leave of a run.
-use Rattle.std.proofs.Common.{◌≡◌, ℕ, List, [], ◌∷◌, ◌++◌, Some, None, refl, sym, ap, subst, ◌∙◌, append_assoc, append-nil, inl, inr}
-use Rattle.std.specs.Prelude.{◌≢◌, Result, Ok, Err, IsErrAnd, ◌⊎◌}
+use Rattle.std.proofs.Common.{◌≡◌, ℕ, List, [], ◌∷◌, ◌++◌, length, Some, None, refl, sym, ap, subst, ◌∙◌, append_assoc, append-nil, inl, inr}
+use Rattle.std.specs.Prelude.{◌≢◌, ℤ, Result, Ok, Err, IsErrAnd, ◌⊎◌}
 use Rattle.std.specs.Io.KnownBytes.{Appends, Consumes}
 use Rattle.frames.specs.declared.fault.FrameFault.{FrameFault}
 use Rattle.frames.specs.declared.fault.FrameFault.TheVariants as frames
@@ -12,28 +12,21 @@ use Rattle.session.specs.State.{Setting}
 use Rattle.spooled.specs.declared.end.End.{End}
 use Rattle.spooled.specs.declared.end.End.TheVariants as ends
 use Rattle.spooled.specs.Ends.{end_of_frame}
-use Rattle.spooled.specs.Cause.{IsInputCause, IsOver}
+use Rattle.spooled.specs.Cause.{IsSendCause, IsInputCause, IsOver}
 use Rattle.spooled.specs.Devices.{DeviceState}
-use Rattle.spooled.specs.Handler.{HasCome, StopsAt, Answers, HandlesKept, IsRunOver, end_of}
+use Rattle.spooled.specs.Handler.{IsEnded, HasCome, StopsAt, Answers, HandlesKept, IsRunOver, end_of}
 use Rattle.spooled.proofs.Running.{gone_well, Ticks-nil}
 use Rattle.std.proofs.KnownBytes.{Appends-nil, Consumes-trans}
 use Rattle.spooled.specs.Clock.{Ticks}
-use Rattle.spooled.specs.Progress.{Progress, start_progress, status_bytes}
+use Rattle.spooled.specs.Progress.{Progress, Leads, start_progress, status_bytes}
 
 -- ---- items that are kept
 
 -- items of which it is known that they were read are a beginning of all
 reads_beginning : (bytes : List ℕ) (items : List CopyItem) (ending : Ending) → Reads bytes items ending → (more : List CopyItem) × (items ++ more ≡ copy_items bytes)
-reads_beginning bytes items (Waits rest) read = ([], append-nil items ∙ read.0)
-reads_beginning bytes items Closed read = ([], append-nil items ∙ read.0)
-reads_beginning bytes items (Broken frames.UnknownFrame) read = ([], append-nil items ∙ read.0)
-reads_beginning bytes items (Broken frames.BadLength) read = ([], append-nil items ∙ read.0)
-reads_beginning bytes items (Broken frames.TooLarge) read = ([], append-nil items ∙ read.0)
-reads_beginning bytes items (Broken frames.Truncated) read = ([], append-nil items ∙ read.0)
-reads_beginning bytes items (Broken frames.UnknownCopyTag) read = ([], append-nil items ∙ read.0)
-reads_beginning bytes items (Broken frames.ServerError) read = ([], append-nil items ∙ read.0)
 reads_beginning bytes items (Broken frames.Device) read = ([], append-nil items ∙ read)
 reads_beginning bytes items (Broken frames.OutOfMemory) read = read
+reads_beginning bytes items ending read = ([], append-nil items ∙ read.0)
 
 -- nothing was kept
 pub kept_on : (bytes : List ℕ) (handled : List CopyItem) (old new : Reading) → new ≡ old → HasRead bytes handled old → HasRead bytes handled new
@@ -91,39 +84,36 @@ module _ {H : Type 0} (g : Setting) (IsAt : H → Progress → Type 0) (HasEnded
 
   -- ---- the end of the run
 
-  -- an item, or the update after it, ended the run
-  pub over_by_item : (old new : DeviceState) (a : H) (bytes : List ℕ) (end : End) → Consumes old.unread new.unread bytes
-      → (handled : List CopyItem) × (rest : List CopyItem) × (handled ++ rest ≡ copy_items bytes) × StopsAt g IsAt HasEnded old new a handled rest end → Over old new a end
-  over_by_item old new a bytes end read (handled, rest, items, at) = record {
+  -- it is over, with these items of its bytes left, for this reason
+  over_so : (old new : DeviceState) (a : H) (bytes : List ℕ) (handled rest : List CopyItem) (end : End) → Consumes old.unread new.unread bytes → handled ++ rest ≡ copy_items bytes
+      → (p : Progress) → Leads g start_progress handled p → (times : List ℤ) → Ticks old.times new.times times → length times ≡ length p.updates
+      → IsEnded g IsAt HasEnded old new a handled p times rest end ⊎ (IsSendCause g (IsAt a p) old new handled p times end ⊎ IsInputCause g (IsAt a p) old new handled p times bytes rest end)
+      → Over old new a end
+  over_so old new a bytes handled rest end read items p lawful times told counted why = record {
     bytes = bytes;
     read = read;
     handled = handled;
     rest = rest;
     items = items;
-    progress = at.progress;
-    lawful = at.lawful;
-    times = at.times;
-    told = at.told;
-    counted = at.counted;
-    why = elim at.why [ inl ended ↦ inl ended | inr cut ↦ inr (inl cut) ];
+    progress = p;
+    lawful = lawful;
+    times = times;
+    told = told;
+    counted = counted;
+    why = why;
   }
+
+  -- an item, or the update after it, ended the run
+  pub over_by_item : (old new : DeviceState) (a : H) (bytes : List ℕ) (end : End) → Consumes old.unread new.unread bytes
+      → (handled : List CopyItem) × (rest : List CopyItem) × (handled ++ rest ≡ copy_items bytes) × StopsAt g IsAt HasEnded old new a handled rest end → Over old new a end
+  over_by_item old new a bytes end read (handled, rest, items, at) =
+      over_so old new a bytes handled rest end read items at.progress at.lawful at.times at.told at.counted (elim at.why [ inl ended ↦ inl ended | inr cut ↦ inr (inl cut) ])
 
   -- the run came to the end of what it read
   over_by_end : (old new : DeviceState) (a : H) (bytes : List ℕ) (handled rest : List CopyItem) (end : End) → Consumes old.unread new.unread bytes → (come : Come old new a handled) → handled ++ rest ≡ copy_items bytes
       → IsInputCause g (IsAt a come.progress) old new handled come.progress come.told.times bytes rest end → Over old new a end
-  over_by_end old new a bytes handled rest end read come items cause = record {
-    bytes = bytes;
-    read = read;
-    handled = handled;
-    rest = rest;
-    items = items;
-    progress = come.progress;
-    lawful = come.lawful;
-    times = come.told.times;
-    told = come.told.told;
-    counted = come.told.counted;
-    why = inr (inr cause);
-  }
+  over_by_end old new a bytes handled rest end read come items cause =
+      over_so old new a bytes handled rest end read items come.progress come.lawful come.told.times come.told.told come.told.counted (inr (inr cause))
 
   -- the items were handled, and the stream was refused there
   refused_there : (old new : DeviceState) (a : H) (bytes : List ℕ) (handled : List CopyItem) (f : FrameFault) → Consumes old.unread new.unread bytes → (come : Come old new a handled) → handled ≡ copy_items bytes
@@ -132,40 +122,26 @@ module _ {H : Type 0} (g : Setting) (IsAt : H → Progress → Type 0) (HasEnded
       by f other ample (record { well = gone_well g IsAt HasEnded old new a handled come; all_handled = refl; fault = fault; asked = asked })
     where
       by : (f : FrameFault) → (f ≡ frames.Device → ⊥) → (f ≡ frames.OutOfMemory → ⊥) → IsOver g (IsAt a come.progress) old new handled come.progress come.told.times bytes [] (Some f) → Over old new a (end_of_frame f)
-      by frames.UnknownFrame other ample over = over_by_end old new a bytes handled [] (ends.Frame frames.UnknownFrame) read come (append-nil handled ∙ items) over
-      by frames.BadLength other ample over = over_by_end old new a bytes handled [] (ends.Frame frames.BadLength) read come (append-nil handled ∙ items) over
-      by frames.TooLarge other ample over = over_by_end old new a bytes handled [] (ends.Frame frames.TooLarge) read come (append-nil handled ∙ items) over
-      by frames.Truncated other ample over = over_by_end old new a bytes handled [] (ends.Frame frames.Truncated) read come (append-nil handled ∙ items) over
-      by frames.UnknownCopyTag other ample over = over_by_end old new a bytes handled [] (ends.Frame frames.UnknownCopyTag) read come (append-nil handled ∙ items) over
-      by frames.ServerError other ample over = over_by_end old new a bytes handled [] (ends.Frame frames.ServerError) read come (append-nil handled ∙ items) over
       by frames.Device other ample over = absurd (other refl)
       by frames.OutOfMemory other ample over = absurd (ample refl)
+      by f other ample over = over_by_end old new a bytes handled [] (ends.Frame f) read come (append-nil handled ∙ items) over
 
   -- a read failed: all items of what the reader gave were handled
   over_by_device : (old mid new : DeviceState) (a : H) (bytes : List ℕ) (handled : List CopyItem) → Consumes old.unread new.unread bytes → Come old mid a handled → handled ≡ copy_items bytes
       → HasFailedLast mid.reader new.reader → new.writer ≡ mid.writer → new.sent ≡ mid.sent → new.times ≡ mid.times → Over old new a (ends.Frame frames.Device)
-  over_by_device old mid new a bytes handled read come items failed writer sent times = record {
-    bytes = bytes;
-    read = read;
-    handled = handled;
-    rest = [];
-    items = append-nil handled ∙ items;
-    progress = come.progress;
-    lawful = come.lawful;
-    times = come.told.times;
-    told = subst (λ ts. Ticks old.times ts come.told.times) (sym times) come.told.told;
-    counted = come.told.counted;
-    why = inr (inr
-        (record {
-          clear = come.at;
-          all_handled = refl;
-          failed = (subst (λ n. HasFailed n new.reader.failures) come.read failed.0, failed.1);
-          sent = (
-            subst (HasWorked old.writer) (sym writer) come.told.works,
-            subst (λ to. Appends old.sent to (status_bytes come.progress.updates come.told.times)) (sym sent) come.told.sent,
-          );
-        }));
-  }
+  over_by_device old mid new a bytes handled read come items failed writer sent times =
+      over_so old new a bytes handled [] (ends.Frame frames.Device) read (append-nil handled ∙ items) come.progress come.lawful come.told.times
+      (subst (λ ts. Ticks old.times ts come.told.times) (sym times) come.told.told) come.told.counted
+      (inr (inr
+      (record {
+        clear = come.at;
+        all_handled = refl;
+        failed = (subst (λ n. HasFailed n new.reader.failures) come.read failed.0, failed.1);
+        sent = (
+          subst (HasWorked old.writer) (sym writer) come.told.works,
+          subst (λ to. Appends old.sent to (status_bytes come.progress.updates come.told.times)) (sym sent) come.told.sent,
+        );
+      })))
 
   -- nothing has been handled yet
   pub come_none : (d : DeviceState) (a : H) → IsAt a start_progress → Come d d a []
@@ -229,19 +205,11 @@ module _ {H : Type 0} (g : Setting) (IsAt : H → Progress → Type 0) (HasEnded
   abbrev Ends : End → Type 0
   Ends = IsRunOver g IsAt HasEnded old new a
 
-  refused_at : (f : FrameFault) → (handled ≡ copy_items bytes) × (ending_of bytes ≡ Broken f) → (f ≡ frames.Device → ⊥) → (f ≡ frames.OutOfMemory → ⊥) → Ends (end_of_frame f)
-  refused_at f known other ample = refused_there g IsAt HasEnded old new a bytes handled f read come known.0 (ap fault_at_end known.1) (rw known.1 tt) other ample
-
   pub over_by_fault : (f : FrameFault) → Reads bytes handled (Broken f) → f ≢ frames.Device → Ends (end_of_frame f)
-  over_by_fault frames.UnknownFrame known other = refused_at frames.UnknownFrame known other (λ e. cc)
-  over_by_fault frames.BadLength known other = refused_at frames.BadLength known other (λ e. cc)
-  over_by_fault frames.TooLarge known other = refused_at frames.TooLarge known other (λ e. cc)
-  over_by_fault frames.Truncated known other = refused_at frames.Truncated known other (λ e. cc)
-  over_by_fault frames.UnknownCopyTag known other = refused_at frames.UnknownCopyTag known other (λ e. cc)
-  over_by_fault frames.ServerError known other = refused_at frames.ServerError known other (λ e. cc)
   over_by_fault frames.Device known other = absurd (other refl)
   over_by_fault frames.OutOfMemory known other =
       over_by_end g IsAt HasEnded old new a bytes handled known.0 ends.OutOfMemory read come known.1 (gone_well g IsAt HasEnded old new a handled come)
+  over_by_fault f known other = refused_there g IsAt HasEnded old new a bytes handled f read come known.0 (ap fault_at_end known.1) (rw known.1 tt) other (λ e. cc)
 
   -- a reader that asks for no more: the input ends here, inside a frame
   pub over_inside : (ending : Ending) (f : FrameFault) → Reads bytes handled ending → AtEndOf ending new.unread → fault_of ending ≡ None → fault_at_end ending ≡ Some f → Ends (end_of_frame f)

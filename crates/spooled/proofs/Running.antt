@@ -15,7 +15,7 @@ use Rattle.spooled.specs.declared.end.End.TheVariants as ends
 use Rattle.spooled.specs.Clock.{Ticks}
 use Rattle.spooled.specs.Ends.{end_of_frame}
 use Rattle.spooled.specs.Progress.{Progress, Handles, Leads, start_progress, Update, update, status_bytes}
-use Rattle.spooled.specs.Cause.{LastStep, HasGoneWell, LastIsCut, IsSendCause}
+use Rattle.spooled.specs.Cause.{LastStep, HasGoneWell, LastIsCut, IsSendCause, IsInputCause}
 use Rattle.spooled.specs.Devices.{DeviceState}
 use Rattle.spooled.specs.Handler.{IsUnderWay, EndsByItem, HasHandled, HasTold, HasCome, StopsAt, Answers}
 
@@ -208,3 +208,17 @@ module _ {H : Type 0} (g : Setting) (IsAt : H → Progress → Type 0) (HasEnded
       subst (StopsAt g IsAt HasEnded old new b all more) (sym (is ∙ ap end_of_frame memory))
       (stops_there ends.OutOfMemory more
       (record { clear = h.at; read = read_on; written = was.0 ∙ come.told.works; cut = cut_at [] (frame_at (update h.progress.state h.progress.seen) time) refl (Appends-kept mid.sent mid.sent new.sent [] (Appends-nil mid.sent) was.1); nothing = refl })))
+
+-- what an update that was due, or the input, says is clear where it ended a run
+module _ (g : Setting) (Clear : Type 0) (old new : DeviceState) (handled : List CopyItem) (p : Progress) (times : List ℤ) where
+  pub clear_at_send : (end : End) → IsSendCause g Clear old new handled p times end → Clear
+  clear_at_send (ends.Frame frames.Device) why = why.clear
+  clear_at_send ends.OutOfMemory why = why.clear
+  clear_at_send end why = absurd why
+
+  pub clear_at_input : (bytes : List ℕ) (rest : List CopyItem) (end : End) → IsInputCause g Clear old new handled p times bytes rest end → Clear
+  clear_at_input bytes rest ends.Clean why = why.well.clear
+  clear_at_input bytes rest (ends.Frame frames.Device) why = why.clear
+  clear_at_input bytes rest (ends.Frame f) why = why.well.clear
+  clear_at_input bytes rest ends.OutOfMemory why = why.clear
+  clear_at_input bytes rest end why = absurd why

@@ -7,6 +7,13 @@ use Rattle.model.specs.declared.item.Item.{Item}
 use Rattle.spooled.specs.Work.{IsClear, ClashesIn}
 use Rattle.spooled.proofs.Working.{if_err, list_done, list_clear, list_refused}
 use Rattle.spooled.proofs.work.apply_each.Goals as goal
+use Rattle.spooled.proofs.work.apply_each.Goals.{After-apply_item}
+
+-- the items up to this one are those before it and it
+up_to_item : (c : After-apply_item) → take (c.loop-item.item-index + 1) c.args.items.now ≡ take c.loop-item.item-index c.args.items.now ++ c.item-item.result ∷ []
+up_to_item c =
+    take_more c.args.items.now c.loop-item.item-index c.item-item.result (omega (arith, c.loop-item-test.true, c.loop-item.auto))
+    ∙ ap (λ (x : Item). take c.loop-item.item-index c.args.items.now ++ x ∷ []) (sym c.item-item.is)
 
 pub loop-item-preserved : goal.loop-item-preserved
 loop-item-preserved c =
@@ -16,7 +23,7 @@ loop-item-preserved c =
     let items = c.args.items.now in
     let n = c.loop-item.item-index in
     let item = c.item-item.result in
-    let more : take (n + 1) items ≡ take n items ++ item ∷ [] = take_more items n item (omega (arith, c.loop-item-test.true, c.loop-item.auto)) ∙ ap (λ (x : Item). take n items ++ x ∷ []) (sym c.item-item.is) in
+    let more = up_to_item (goal.at.loop-item-preserved c).After-apply_item in
     record {
       schema = c.apply_item.ensures.schema ∙ before.schema;
       done = list_done schema rows c.loop-item.tables.rows c.apply_item.new.tables.rows items n item more before.done
@@ -30,13 +37,8 @@ loop-item-preserved c =
 pub returns-in_err-apply_item-clause-refused : goal.returns-in_err-apply_item-clause-refused
 returns-in_err-apply_item-clause-refused c =
     let before = c.loop-item.invariant in
-    let schema = c.args.tables.now.schema in
-    let rows = c.args.tables.now.rows in
-    let items = c.args.items.now in
-    let n = c.loop-item.item-index in
-    let item = c.item-item.result in
     let clash = c.in_err-apply_item.field-0.0 in
-    let more : take (n + 1) items ≡ take n items ++ item ∷ [] = take_more items n item (omega (arith, c.loop-item-test.true, c.loop-item.auto)) ∙ ap (λ (x : Item). take n items ++ x ∷ []) (sym c.item-item.is) in
     if_err c.from_residual.result clash _ c.from_residual.ensures.1
-    (list_refused schema rows c.loop-item.tables.rows c.apply_item.new.tables.rows items n item more before.done clash before.clear
-    (subst (λ (s : Schema). ClashesIn s c.loop-item.tables.rows (changes_of (item ∷ [])) clash) before.schema c.in_err-apply_item.ensures.refused))
+    (list_refused c.args.tables.now.schema c.args.tables.now.rows c.loop-item.tables.rows c.apply_item.new.tables.rows c.args.items.now c.loop-item.item-index c.item-item.result
+    (up_to_item (goal.at.returns-in_err-apply_item-clause-refused c).After-apply_item) before.done clash before.clear
+    (subst (λ (s : Schema). ClashesIn s c.loop-item.tables.rows (changes_of (c.item-item.result ∷ [])) clash) before.schema c.in_err-apply_item.ensures.refused))
