@@ -14,7 +14,7 @@ use Rattle.model.specs.SerialLaws.{accepted_append}
 use Rattle.spooled.specs.Work.{IsClear}
 use Rattle.world.specs.CallLaws.{committed_is_serial}
 use Rattle.world.specs.FineLaws.{IsFine, fine_reached, refused_stays}
-use Rattle.world.specs.Steps.{AlreadyOpen, TooManyOpen, Stopped, OutOfMemory, IsDone, IsSkipped, Held, Clashed, Step, opens, acts, touches, goes_back, commits, aborts, stops_held, tells_stop, reads_live, reads_committed, reads_after, tells_journal, closes, watches, looks, Reaches, at_start, by_step}
+use Rattle.world.specs.Steps.{AlreadyOpen, TooManyOpen, Stopped, OutOfMemory, IsDone, IsSkipped, Held, Clashed, Step, opens, acts, touches, goes_back, commits, aborts, stops_held, Reaches, at_start, by_step}
 use Rattle.world.specs.World.{Opened, World, starting, work, work_behind, changes_in}
 
 module _ (schema : Schema) where
@@ -52,14 +52,7 @@ module _ (schema : Schema) where
   accepted_step w _ fine before (aborts xid o new is h) = subst AllAccepted (sym h) before
   accepted_step w _ fine before (stops_held sent waiter (Some holder) new h) = subst AllAccepted (sym h.1) before
   accepted_step w _ fine before (stops_held sent waiter None new h) = subst AllAccepted (sym h.1) before
-  accepted_step w _ fine before (tells_stop answer h) = before
-  accepted_step w _ fine before (reads_live place answer h) = before
-  accepted_step w _ fine before (reads_committed place answer h) = before
-  accepted_step w _ fine before (reads_after table count answer h) = before
-  accepted_step w _ fine before (tells_journal answer h) = before
-  accepted_step w _ fine before (closes rows entries h) = before
-  accepted_step w _ fine before (watches seen h) = before
-  accepted_step w _ fine before (looks seen now h) = before
+  accepted_step w _ fine before step = before
 
   accepted_reached : (rows : Rows) → IsValid schema rows → (w : World) → Reaches schema (starting rows) w → AllAccepted w
   accepted_reached rows valid _ at_start = tt

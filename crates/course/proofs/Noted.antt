@@ -12,7 +12,7 @@ use Rattle.model.specs.declared.item.CommitInfo.{CommitInfo}
 use Rattle.model.specs.Rows.{Rows, Schema, IsValid}
 use Rattle.model.specs.Effect.{ClashCause, NullKey, Unique, Edits, Outcome, Done, Skip, Clashes, outcome}
 use Rattle.world.specs.FineLaws.{IsClashing, StillClashes, put_cases, gone_cases, refused_stays, fine_reached}
-use Rattle.world.specs.Steps.{AlreadyOpen, TooManyOpen, Stopped, OutOfMemory, IsDone, IsSkipped, Held, Clashed, opened_with, done_with, wanting, committed_with, aborted_with, Step, opens, acts, touches, goes_back, commits, aborts, stops_held, tells_stop, reads_live, reads_committed, reads_after, tells_journal, closes, watches, looks, Reaches, at_start, by_step}
+use Rattle.world.specs.Steps.{AlreadyOpen, TooManyOpen, Stopped, OutOfMemory, IsDone, IsSkipped, Held, Clashed, opened_with, done_with, wanting, committed_with, aborted_with, Step, opens, acts, touches, goes_back, commits, aborts, stops_held, Reaches, at_start, by_step}
 use Rattle.model.specs.declared.item.Item.TheVariants.{Change, Touch}
 use Rattle.world.specs.World.{Opened, Stop, ByClash, ByHold, World, starting, own_rows}
 
@@ -101,14 +101,7 @@ wanted_step schema w _ before (aborts xid o new is h) = subst IsWanted (sym h) (
 wanted_step schema w _ before (stops_held sent waiter (Some holder) new h) =
     subst IsWanted (sym h.1) (wanted_held schema w before waiter holder)
 wanted_step schema w _ before (stops_held sent waiter None new h) = subst IsWanted (sym h.1) before
-wanted_step schema w _ before (tells_stop answer h) = before
-wanted_step schema w _ before (reads_live place answer h) = before
-wanted_step schema w _ before (reads_committed place answer h) = before
-wanted_step schema w _ before (reads_after table count answer h) = before
-wanted_step schema w _ before (tells_journal answer h) = before
-wanted_step schema w _ before (closes rows entries h) = before
-wanted_step schema w _ before (watches seen h) = before
-wanted_step schema w _ before (looks seen now h) = before
+wanted_step schema w _ before step = before
 
 wanted_reached : (schema : Schema) (rows : Rows) (w : World) → Reaches schema (starting rows) w → IsWanted w
 wanted_reached schema rows _ at_start = never (starting rows) refl

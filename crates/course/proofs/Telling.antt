@@ -411,47 +411,27 @@ stays s t relations sane e = subst (IsTold s) (ok_is (knowing s relations) t e) 
 by_phase : (g : Setting) (s : State) (p : Phase) (t : State) (size : ℕ) (m : Message)
     → IsSane (in_phase s p) → step g (in_phase s p) size m ≡ Ok t → IsTold (in_phase s p) t
 by_phase g s Outside t size (messages.Begin m) sane e = begins_direct s m.xid m.final_lsn t sane e
-by_phase g s (Begun x f) t size (messages.Begin m) sane e = cc
-by_phase g s (Block x) t size (messages.Begin m) sane e = cc
-by_phase g s Outside t size (messages.Commit m) sane e = cc
 by_phase g s (Begun x f) t size (messages.Commit m) sane e = commits_direct s x f m t sane e
-by_phase g s (Block x) t size (messages.Commit m) sane e = cc
-by_phase g s Outside t size (messages.Origin m) sane e = cc
 by_phase g s (Begun x f) t size (messages.Origin m) sane e = stays (in_phase s (Begun x f)) t s.relations sane e
 by_phase g s (Block x) t size (messages.Origin m) sane e = stays (in_phase s (Block x)) t s.relations sane e
-by_phase g s Outside t size (messages.Message m) sane e = stays (in_phase s Outside) t s.relations sane e
-by_phase g s (Begun x f) t size (messages.Message m) sane e = stays (in_phase s (Begun x f)) t s.relations sane e
-by_phase g s (Block x) t size (messages.Message m) sane e = stays (in_phase s (Block x)) t s.relations sane e
-by_phase g s Outside t size (messages.Relation sub r) sane e = stays (in_phase s Outside) t _ sane e
-by_phase g s (Begun x f) t size (messages.Relation sub r) sane e = stays (in_phase s (Begun x f)) t _ sane e
+by_phase g s p t size (messages.Message m) sane e = stays (in_phase s p) t s.relations sane e
 by_phase g s (Block x) t size (messages.Relation sub r) sane e = touches_block g s _ x (subtransaction_named sub x) size t sane e
-by_phase g s Outside t size (messages.TypeName m) sane e = stays (in_phase s Outside) t s.relations sane e
-by_phase g s (Begun x f) t size (messages.TypeName m) sane e = stays (in_phase s (Begun x f)) t s.relations sane e
+by_phase g s p t size (messages.Relation sub r) sane e = stays (in_phase s p) t _ sane e
 by_phase g s (Block x) t size (messages.TypeName m) sane e = touches_block g s s.relations x (subtransaction_named m.xid x) size t sane e
-by_phase g s Outside t size (messages.Insert m) sane e = cc
+by_phase g s p t size (messages.TypeName m) sane e = stays (in_phase s p) t s.relations sane e
 by_phase g s (Begun x f) t size (messages.Insert m) sane e = changes_begun g s x f size _ t sane e
 by_phase g s (Block x) t size (messages.Insert m) sane e = changes_block g s x (subtransaction_named m.xid x) size _ t sane e
-by_phase g s Outside t size (messages.Update m) sane e = cc
 by_phase g s (Begun x f) t size (messages.Update m) sane e = changes_begun g s x f size _ t sane e
 by_phase g s (Block x) t size (messages.Update m) sane e = changes_block g s x (subtransaction_named m.xid x) size _ t sane e
-by_phase g s Outside t size (messages.Delete m) sane e = cc
 by_phase g s (Begun x f) t size (messages.Delete m) sane e = changes_begun g s x f size _ t sane e
 by_phase g s (Block x) t size (messages.Delete m) sane e = changes_block g s x (subtransaction_named m.xid x) size _ t sane e
-by_phase g s Outside t size (messages.Truncate m) sane e = cc
 by_phase g s (Begun x f) t size (messages.Truncate m) sane e = changes_begun g s x f size _ t sane e
 by_phase g s (Block x) t size (messages.Truncate m) sane e = changes_block g s x (subtransaction_named m.xid x) size _ t sane e
 by_phase g s Outside t size (messages.StreamStart m) sane e = streams_in g s m t sane e
-by_phase g s (Begun x f) t size (messages.StreamStart m) sane e = cc
-by_phase g s (Block x) t size (messages.StreamStart m) sane e = cc
-by_phase g s Outside t size messages.StreamStop sane e = cc
-by_phase g s (Begun x f) t size messages.StreamStop sane e = cc
 by_phase g s (Block x) t size messages.StreamStop sane e = subst (IsTold (in_phase s (Block x))) (ok_is _ t e) (leaves s x sane)
 by_phase g s Outside t size (messages.StreamCommit m) sane e = commits_streamed s m.xid m.commit_lsn m.end_lsn t sane e
-by_phase g s (Begun x f) t size (messages.StreamCommit m) sane e = cc
-by_phase g s (Block x) t size (messages.StreamCommit m) sane e = cc
 by_phase g s Outside t size (messages.StreamAbort m) sane e = subst (IsTold (in_phase s Outside)) (ok_is _ t e) (aborts_outside s m sane)
-by_phase g s (Begun x f) t size (messages.StreamAbort m) sane e = cc
-by_phase g s (Block x) t size (messages.StreamAbort m) sane e = cc
+by_phase g s p t size m sane e = cc
 
 pub told : (g : Setting) (s t : State) (size : ℕ) (m : Message) → IsSane s → step g s size m ≡ Ok t
     → IsTold s t

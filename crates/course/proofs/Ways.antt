@@ -276,47 +276,27 @@ module _ (catalog : List Definition) (some none some_bytes bytes : ℕ) (relatio
   in_phase : (p : Phase) (size : ℕ) (a : Message) (s t : State)
       → step g (one p relations) size a ≡ Ok s → step h (other p relations) size a ≡ Ok t → Alike h s t
   in_phase Outside size (messages.Begin a) s t e f = opens_in Outside (Begun a.xid a.final_lsn) a.xid Direct Direct s t (λ zero works. cc) e f
-  in_phase (Begun x final) size (messages.Begin a) s t e f = cc
-  in_phase (Block x) size (messages.Begin a) s t e f = cc
-  in_phase Outside size (messages.Commit a) s t e f = cc
   in_phase (Begun x final) size (messages.Commit a) s t e f = commits_begun_in (Begun x final) x final a s t e f
-  in_phase (Block x) size (messages.Commit a) s t e f = cc
-  in_phase Outside size (messages.Origin a) s t e f = cc
   in_phase (Begun x final) size (messages.Origin a) s t e f = stays_at (Begun x final) relations s t e f
   in_phase (Block x) size (messages.Origin a) s t e f = stays_at (Block x) relations s t e f
-  in_phase Outside size (messages.Message a) s t e f = stays_at Outside relations s t e f
-  in_phase (Begun x final) size (messages.Message a) s t e f = stays_at (Begun x final) relations s t e f
-  in_phase (Block x) size (messages.Message a) s t e f = stays_at (Block x) relations s t e f
-  in_phase Outside size (messages.Relation sub r) s t e f = stays_at Outside _ s t e f
-  in_phase (Begun x final) size (messages.Relation sub r) s t e f = stays_at (Begun x final) _ s t e f
+  in_phase p size (messages.Message a) s t e f = stays_at p relations s t e f
   in_phase (Block x) size (messages.Relation sub r) s t e f = touches_in (Block x) _ x (subtransaction_named sub x) size s t e f
-  in_phase Outside size (messages.TypeName a) s t e f = stays_at Outside relations s t e f
-  in_phase (Begun x final) size (messages.TypeName a) s t e f = stays_at (Begun x final) relations s t e f
+  in_phase p size (messages.Relation sub r) s t e f = stays_at p _ s t e f
   in_phase (Block x) size (messages.TypeName a) s t e f = touches_in (Block x) relations x (subtransaction_named a.xid x) size s t e f
-  in_phase Outside size (messages.Insert a) s t e f = cc
+  in_phase p size (messages.TypeName a) s t e f = stays_at p relations s t e f
   in_phase (Begun x final) size (messages.Insert a) s t e f = changes_in (Begun x final) x x size _ s t e f
   in_phase (Block x) size (messages.Insert a) s t e f = changes_in (Block x) x (subtransaction_named a.xid x) size _ s t e f
-  in_phase Outside size (messages.Update a) s t e f = cc
   in_phase (Begun x final) size (messages.Update a) s t e f = changes_in (Begun x final) x x size _ s t e f
   in_phase (Block x) size (messages.Update a) s t e f = changes_in (Block x) x (subtransaction_named a.xid x) size _ s t e f
-  in_phase Outside size (messages.Delete a) s t e f = cc
   in_phase (Begun x final) size (messages.Delete a) s t e f = changes_in (Begun x final) x x size _ s t e f
   in_phase (Block x) size (messages.Delete a) s t e f = changes_in (Block x) x (subtransaction_named a.xid x) size _ s t e f
-  in_phase Outside size (messages.Truncate a) s t e f = cc
   in_phase (Begun x final) size (messages.Truncate a) s t e f = changes_in (Begun x final) x x size _ s t e f
   in_phase (Block x) size (messages.Truncate a) s t e f = changes_in (Block x) x (subtransaction_named a.xid x) size _ s t e f
   in_phase Outside size (messages.StreamStart a) s t e f = streams_in Outside a s t e f
-  in_phase (Begun x final) size (messages.StreamStart a) s t e f = cc
-  in_phase (Block x) size (messages.StreamStart a) s t e f = cc
-  in_phase Outside size messages.StreamStop s t e f = cc
-  in_phase (Begun x final) size messages.StreamStop s t e f = cc
   in_phase (Block x) size messages.StreamStop s t e f = stays_at Outside relations s t e f
   in_phase Outside size (messages.StreamCommit a) s t e f = commits_in Outside a.xid a.commit_lsn a.end_lsn s t e f
-  in_phase (Begun x final) size (messages.StreamCommit a) s t e f = cc
-  in_phase (Block x) size (messages.StreamCommit a) s t e f = cc
   in_phase Outside size (messages.StreamAbort a) s t e f = alike_at h _ _ s t (aborts_in Outside a) (ok_is _ s e) (ok_is _ t f)
-  in_phase (Begun x final) size (messages.StreamAbort a) s t e f = cc
-  in_phase (Block x) size (messages.StreamAbort a) s t e f = cc
+  in_phase p size a s t e f = cc
 
 -- ---- a message
 

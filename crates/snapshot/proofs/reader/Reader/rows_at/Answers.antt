@@ -1,16 +1,14 @@
-use Rattle.std.proofs.Common.{◌≡◌, ℕ, List, ◌∷◌, map, take, sym, ap, subst, ◌∙◌, refl, arith}
+use Rattle.std.proofs.Common.{◌≡◌, ℕ, List, map, take, sym, ap, subst, ◌∙◌, refl, arith}
 use Rattle.std.specs.Prelude.{slice_get}
 use Rattle.std.specs.List.{Contains}
-use Rattle.std.specs.List.Sorted.{IsStrictlyIncreasing}
 use Rattle.model.specs.Rows.{Rows}
 use Rattle.model.specs.Effect.{serial}
 use Rattle.model.specs.TableRows.{rows_of_table}
-use Rattle.tokens.specs.Half.{Half, Begins}
 use Rattle.world.specs.World.{journal, changes_in}
-use Rattle.engine.specs.declared.events.LineEvent.{LineEvent}
 use Rattle.engine.specs.Engine.{Engine, entry_in}
-use Rattle.engine.specs.Events.{commits_in, ends_in}
-use Rattle.snapshot.specs.ReadLaws.{positions_told, rows_told, within_line, sees_more}
+use Rattle.engine.specs.Events.{commits_in}
+use Rattle.snapshot.specs.ReadLaws.{positions_told, rows_told, within_line}
+use Rattle.snapshot.proofs.Looks.{sees_looked}
 use Rattle.snapshot.proofs.reader.Reader.rows_at.Goals as goal
 
 pub returns-in_default-clause-refused : goal.returns-in_default-clause-refused
@@ -23,8 +21,7 @@ returns-in_default-clause-refused g c =
     let positions = positions_told c.lock-store.result.value told seen looked entries is in
     rw (← c.self.view_is) (
       omega (arith, c.in_ok-check_table.ensures.known, c.table_count.ensures.count),
-      sees_more c.deref_mut.result.now g.N.StoreNames.line c.self.inside.seen seen _ _ _ c.self.invariant.0 c.look.ensures.name c.look.ensures.begins c.look.ensures.seen
-          (subst (λ (s : Engine). IsStrictlyIncreasing (0 ∷ ends_in s.line.list)) (c.deref.ensures ∙ sym c.deref_mut.ensures.value) c.table_count.ensures.rising),
+      sees_looked refl c.self.invariant.0 c.look.ensures.name c.look.ensures.begins c.look.ensures.seen (c.deref.ensures ∙ sym c.deref_mut.ensures.value) c.table_count.ensures.rising,
       λ has. c.in_default.ensures (subst (λ (ns : List ℕ). Contains ns c.args.position) (sym positions) has),
     )
 
@@ -54,7 +51,4 @@ returns-clause-rows g c =
 
 pub returns-clause-seen : goal.returns-clause-seen
 returns-clause-seen g c =
-    rw (← c.self.view_is)
-    (sees_more c.deref_mut-2.result.now g.N.StoreNames.line c.self.inside.seen c.look-2.new.seen _ _ _ c.self.invariant.0 c.look-2.ensures.name c.look-2.ensures.begins
-    c.look-2.ensures.seen
-    (subst (λ (s : Engine). IsStrictlyIncreasing (0 ∷ ends_in s.line.list)) (c.deref.ensures ∙ sym c.deref_mut-2.ensures.value) c.table_count.ensures.rising))
+    sees_looked c.self.view_is c.self.invariant.0 c.look-2.ensures.name c.look-2.ensures.begins c.look-2.ensures.seen (c.deref.ensures ∙ sym c.deref_mut-2.ensures.value) c.table_count.ensures.rising
