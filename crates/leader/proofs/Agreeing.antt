@@ -159,47 +159,23 @@ direct≢spooled e = absurd cc
 -- one with a worker goes by one lane
 pub by_lane : (o : Open) (i : List (List Item)) (m : Option Opened) (b : Bool) → o.way ≡ Worker → IsAgreed (Some o) i m b → (i ≡ map item_of o.items ∷ []) × (m ≡ None) × (b ≡ true)
 by_lane o [] None false w h = absurd (worker≢spooled (sym w ∙ h))
-by_lane o [] None true w h = absurd h
-by_lane o [] (Some d) false w h = absurd h
 by_lane o [] (Some d) true w h = absurd (worker≢direct (sym w ∙ h.0))
-by_lane o (x ∷ []) None false w h = absurd h
 by_lane o (x ∷ []) None true w h = (ap (λ (y : List Item). y ∷ []) h.1, refl, refl)
-by_lane o (x ∷ []) (Some d) false w h = absurd h
-by_lane o (x ∷ []) (Some d) true w h = absurd h
-by_lane o (x ∷ y ∷ i) None false w h = absurd h
-by_lane o (x ∷ y ∷ i) None true w h = absurd h
-by_lane o (x ∷ y ∷ i) (Some d) false w h = absurd h
-by_lane o (x ∷ y ∷ i) (Some d) true w h = absurd h
+by_lane o i m b w h = absurd h
 
 -- one that goes directly is the leader's own
 pub by_leader : (o : Open) (i : List (List Item)) (m : Option Opened) (b : Bool) → o.way ≡ Direct → IsAgreed (Some o) i m b → (i ≡ []) × (m ≡ Some (record { items = map item_of o.items; wants = None })) × (b ≡ true)
 by_leader o [] None false w h = absurd (direct≢spooled (sym w ∙ h))
-by_leader o [] None true w h = absurd h
-by_leader o [] (Some d) false w h = absurd h
 by_leader o [] (Some d) true w h = (refl, ap (λ (x : Opened). Some x) h.1, refl)
-by_leader o (x ∷ []) None false w h = absurd h
 by_leader o (x ∷ []) None true w h = absurd (worker≢direct (sym h.0 ∙ w))
-by_leader o (x ∷ []) (Some d) false w h = absurd h
-by_leader o (x ∷ []) (Some d) true w h = absurd h
-by_leader o (x ∷ y ∷ i) None false w h = absurd h
-by_leader o (x ∷ y ∷ i) None true w h = absurd h
-by_leader o (x ∷ y ∷ i) (Some d) false w h = absurd h
-by_leader o (x ∷ y ∷ i) (Some d) true w h = absurd h
+by_leader o i m b w h = absurd h
 
 -- of a spooled one there is nothing
 pub by_none : (o : Open) (i : List (List Item)) (m : Option Opened) (b : Bool) → o.way ≡ Spooled → IsAgreed (Some o) i m b → (i ≡ []) × (m ≡ None) × (b ≡ false)
 by_none o [] None false w h = (refl, refl, refl)
-by_none o [] None true w h = absurd h
-by_none o [] (Some d) false w h = absurd h
 by_none o [] (Some d) true w h = absurd (direct≢spooled (sym h.0 ∙ w))
-by_none o (x ∷ []) None false w h = absurd h
 by_none o (x ∷ []) None true w h = absurd (worker≢spooled (sym h.0 ∙ w))
-by_none o (x ∷ []) (Some d) false w h = absurd h
-by_none o (x ∷ []) (Some d) true w h = absurd h
-by_none o (x ∷ y ∷ i) None false w h = absurd h
-by_none o (x ∷ y ∷ i) None true w h = absurd h
-by_none o (x ∷ y ∷ i) (Some d) false w h = absurd h
-by_none o (x ∷ y ∷ i) (Some d) true w h = absurd h
+by_none o i m b w h = absurd h
 
 -- an open one of which there is nothing is spooled
 pub nothing_there : (o : Open) (i : List (List Item)) (m : Option Opened) (b : Bool) → i ≡ [] → m ≡ None → IsAgreed (Some o) i m b → (o.way ≡ Spooled) × (b ≡ false)

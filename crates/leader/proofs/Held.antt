@@ -22,6 +22,7 @@ use Rattle.spooled.specs.Cause.{schema_of, HasGoneWell, IsOver, IsSendCause, IsI
 use Rattle.spooled.specs.Devices.{DeviceState}
 use Rattle.spooled.specs.Handler.{IsRunOver}
 use Rattle.spooled.specs.Progress.{Progress}
+use Rattle.spooled.proofs.Running.{clear_at_send, clear_at_input}
 use Rattle.course.specs.Leading.{Lane, InStep, IsAgreed, AreInStep, AreCounts}
 use Rattle.course.specs.Threads.{work_of, IsWorldOf}
 use Rattle.course.specs.ThreadedRun.{HasConflict, IsStuckBy, Clear, HasWorkedOn, IsThreadedCause}
@@ -200,46 +201,22 @@ module _ (g : Setting) (rows : Rows) (rest : List CopyItem) (line : List LineEve
 
   -- an update that was due did
   by_send : (X : Type 0) (first e : End) → IsSendCause g X old new handled p times first → IsDecided (schema_of g) f.world hand given first e → Cause e
-  by_send X ends.Clean e why decided = absurd why
-  by_send X (ends.Frame frames.UnknownFrame) e why decided = absurd why
-  by_send X (ends.Frame frames.BadLength) e why decided = absurd why
-  by_send X (ends.Frame frames.TooLarge) e why decided = absurd why
-  by_send X (ends.Frame frames.Truncated) e why decided = absurd why
-  by_send X (ends.Frame frames.UnknownCopyTag) e why decided = absurd why
-  by_send X (ends.Frame frames.ServerError) e why decided = absurd why
   by_send X (ends.Frame frames.Device) e why decided =
       subst Cause (sym decided) (inr (record { clear = tt; read = why.read; failed = why.failed; cut = why.cut }))
-  by_send X (ends.Frame frames.OutOfMemory) e why decided = absurd why
-  by_send X (ends.Msg fault) e why decided = absurd why
-  by_send X (ends.Session fault) e why decided = absurd why
-  by_send X (ends.Rel fault) e why decided = absurd why
-  by_send X (ends.Unique table key) e why decided = absurd why
-  by_send X (ends.NullKey table) e why decided = absurd why
-  by_send X (ends.HeldKey xid holder) e why decided = absurd why
   by_send X ends.OutOfMemory e why decided =
       subst Cause (sym decided) (inr (record { clear = tt; read = why.read; written = why.written; cut = why.cut; nothing = why.nothing }))
+  by_send X first e why decided = absurd why
 
   -- the input did
   by_input : (X : Type 0) → AreInHand g p.state rest line hand → (first e : End) → IsInputCause g X old new handled p times bytes rest first
       → IsDecided (schema_of g) f.world hand given first e → Cause e
   by_input X are ends.Clean e why (inl (runs, so)) = subst Cause (sym so) (is_over None why, runs)
   by_input X are ends.Clean e why (inr (stopped, noted)) = by_noted are (goes_well why.well) e noted
-  by_input X are (ends.Frame frames.UnknownFrame) e why decided = subst Cause (sym decided) (is_over (Some frames.UnknownFrame) why)
-  by_input X are (ends.Frame frames.BadLength) e why decided = subst Cause (sym decided) (is_over (Some frames.BadLength) why)
-  by_input X are (ends.Frame frames.TooLarge) e why decided = subst Cause (sym decided) (is_over (Some frames.TooLarge) why)
-  by_input X are (ends.Frame frames.Truncated) e why decided = subst Cause (sym decided) (is_over (Some frames.Truncated) why)
-  by_input X are (ends.Frame frames.UnknownCopyTag) e why decided = subst Cause (sym decided) (is_over (Some frames.UnknownCopyTag) why)
-  by_input X are (ends.Frame frames.ServerError) e why decided = subst Cause (sym decided) (is_over (Some frames.ServerError) why)
   by_input X are (ends.Frame frames.Device) e why decided =
       subst Cause (sym decided) (inl (record { clear = tt; all_handled = why.all_handled; failed = why.failed; sent = why.sent }))
-  by_input X are (ends.Frame frames.OutOfMemory) e why decided = subst Cause (sym decided) (is_over (Some frames.OutOfMemory) why)
-  by_input X are (ends.Msg fault) e why decided = absurd why
-  by_input X are (ends.Session fault) e why decided = absurd why
-  by_input X are (ends.Rel fault) e why decided = absurd why
-  by_input X are (ends.Unique table key) e why decided = absurd why
-  by_input X are (ends.NullKey table) e why decided = absurd why
-  by_input X are (ends.HeldKey xid holder) e why decided = absurd why
+  by_input X are (ends.Frame fault) e why decided = subst Cause (sym decided) (is_over (Some fault) why)
   by_input X are ends.OutOfMemory e why decided = subst Cause (sym decided) (inl (goes_well why))
+  by_input X are first e why decided = absurd why
 
 -- ---- the run
 
@@ -259,42 +236,6 @@ module _ {H : Type 0} (g : Setting) (rows : Rows) (At : H → Progress → Type 
       → (AreInHand g over.progress.state over.rest line hand → IsThreadedCause g old new over.handled over.progress over.times over.bytes over.rest f.world end) → Why
   by_at at why = let are = at_held over.progress over.rest at in (are, why are)
 
-  held_in_send : (e : End) → IsSendCause g (At h over.progress) old new over.handled over.progress over.times e → At h over.progress
-  held_in_send ends.Clean why = absurd why
-  held_in_send (ends.Frame frames.UnknownFrame) why = absurd why
-  held_in_send (ends.Frame frames.BadLength) why = absurd why
-  held_in_send (ends.Frame frames.TooLarge) why = absurd why
-  held_in_send (ends.Frame frames.Truncated) why = absurd why
-  held_in_send (ends.Frame frames.UnknownCopyTag) why = absurd why
-  held_in_send (ends.Frame frames.ServerError) why = absurd why
-  held_in_send (ends.Frame frames.Device) why = why.clear
-  held_in_send (ends.Frame frames.OutOfMemory) why = absurd why
-  held_in_send (ends.Msg fault) why = absurd why
-  held_in_send (ends.Session fault) why = absurd why
-  held_in_send (ends.Rel fault) why = absurd why
-  held_in_send (ends.Unique table key) why = absurd why
-  held_in_send (ends.NullKey table) why = absurd why
-  held_in_send (ends.HeldKey xid holder) why = absurd why
-  held_in_send ends.OutOfMemory why = why.clear
-
-  held_in_input : (e : End) → IsInputCause g (At h over.progress) old new over.handled over.progress over.times over.bytes over.rest e → At h over.progress
-  held_in_input ends.Clean why = why.well.clear
-  held_in_input (ends.Frame frames.UnknownFrame) why = why.well.clear
-  held_in_input (ends.Frame frames.BadLength) why = why.well.clear
-  held_in_input (ends.Frame frames.TooLarge) why = why.well.clear
-  held_in_input (ends.Frame frames.Truncated) why = why.well.clear
-  held_in_input (ends.Frame frames.UnknownCopyTag) why = why.well.clear
-  held_in_input (ends.Frame frames.ServerError) why = why.well.clear
-  held_in_input (ends.Frame frames.Device) why = why.clear
-  held_in_input (ends.Frame frames.OutOfMemory) why = why.well.clear
-  held_in_input (ends.Msg fault) why = absurd why
-  held_in_input (ends.Session fault) why = absurd why
-  held_in_input (ends.Rel fault) why = absurd why
-  held_in_input (ends.Unique table key) why = absurd why
-  held_in_input (ends.NullKey table) why = absurd why
-  held_in_input (ends.HeldKey xid holder) why = absurd why
-  held_in_input ends.OutOfMemory why = why.clear
-
   by_why : Why
   by_why = elim over.why [
     | inl item ↦
@@ -306,11 +247,11 @@ module _ {H : Type 0} (g : Setting) (rows : Rows) (At : H → Progress → Type 
     | inr later ↦
         elim later [
           | inl send ↦
-              by_at (held_in_send proposed send) (λ are.
+              by_at (clear_at_send g (At h over.progress) old new over.handled over.progress over.times proposed send) (λ are.
               by_send g rows over.rest line hand given proposed end old new over.handled over.progress over.times over.bytes valid f
               (At h over.progress) proposed end send f.decided)
           | inr input ↦
-              by_at (held_in_input proposed input) (λ are.
+              by_at (clear_at_input g (At h over.progress) old new over.handled over.progress over.times over.bytes over.rest proposed input) (λ are.
               by_input g rows over.rest line hand given proposed end old new over.handled over.progress over.times over.bytes valid f
               (At h over.progress) are proposed end input f.decided)
         ]

@@ -142,16 +142,12 @@ item_named g (Aborts xid Spooled) x i within says = absurd cc
 -- a message that asks for nothing
 pub nothing_agreed : (g : Setting) (s t : State) (told : Told) (st : Standing) → AreAgreed s.transactions st → Tells s t told → IsWithin g told → Says told steps.Nothing → AreAgreed t.transactions st
 nothing_agreed g s t Nothing st agreed tells within says = subst (λ m. AreAgreed m st) (sym tells.transactions) agreed
-nothing_agreed g s t (Opens xid Direct) st agreed tells within says = absurd cc
-nothing_agreed g s t (Opens xid Worker) st agreed tells within says = absurd cc
 nothing_agreed g s t (Opens xid Spooled) st agreed tells within says = spooled_agreed s t st xid agreed tells
-nothing_agreed g s t (Gives xid Direct item size) st agreed tells within says = absurd cc
-nothing_agreed g s t (Gives xid Worker item size) st agreed tells within says = absurd cc
 nothing_agreed g s t (Gives xid Spooled item size) st agreed tells within says = kept_agreed s t st xid item size tells.0 agreed tells.1 tells.2
 nothing_agreed g s t (Commits c) st agreed tells within says = absurd says
 nothing_agreed g s t (Aborts xid Direct) st agreed tells within says = absurd within
-nothing_agreed g s t (Aborts xid Worker) st agreed tells within says = absurd cc
 nothing_agreed g s t (Aborts xid Spooled) st agreed tells within says = dropped_agreed s t st xid tells.0 agreed tells.1 tells.2
+nothing_agreed g s t told st agreed tells within says = absurd cc
 
 -- one that begins
 pub begin_agreed : (g : Setting) (s t : State) (told : Told) (x : ℕ) (old new : Standing) → AreAgreed s.transactions old → Tells s t told → IsWithin g told → Says told (steps.Begin x) → IsBegun old x new → AreAgreed t.transactions new
@@ -189,10 +185,6 @@ pub record IsHandedOn (s t : State) (xid : ℕ) (item : Item) : Type 0 where
   pub way : transaction.way ≢ Spooled
 
 pub handed_on : (g : Setting) (s t : State) (told : Told) (x : ℕ) (i : Item) → Tells s t told → IsWithin g told → Says told (steps.Item x i) → IsHandedOn s t x i
-handed_on g s t Nothing x i tells within says = absurd cc
-handed_on g s t (Opens xid Direct) x i tells within says = absurd cc
-handed_on g s t (Opens xid Worker) x i tells within says = absurd cc
-handed_on g s t (Opens xid Spooled) x i tells within says = absurd cc
 handed_on g s t (Gives xid Direct item size) x i tells within says =
     let e : xid ≡ x = cc in
     let f : item ≡ i = cc in
@@ -201,11 +193,10 @@ handed_on g s t (Gives xid Worker item size) x i tells within says =
     let e : xid ≡ x = cc in
     let f : item ≡ i = cc in
     record { transaction = tells.0; size = size; gives = subst (λ n. IsGiving s t n i size tells.0) e (subst (λ j. IsGiving s t xid j size tells.0) f tells.2); way = λ is. let no : Worker ≡ Spooled = sym tells.1 ∙ is in absurd cc }
-handed_on g s t (Gives xid Spooled item size) x i tells within says = absurd cc
 handed_on g s t (Commits c) x i tells within says = absurd says
 handed_on g s t (Aborts xid Direct) x i tells within says = absurd within
-handed_on g s t (Aborts xid Worker) x i tells within says = absurd cc
-handed_on g s t (Aborts xid Spooled) x i tells within says = absurd cc
+handed_on g s t (Opens xid Direct) x i tells within says = absurd cc
+handed_on g s t told x i tells within says = absurd cc
 
 pub item_agreed : (s t : State) (xid : ℕ) (item : Item) (old new : Standing) → AreAgreed s.transactions old → IsHandedOn s t xid item → IsTaken old xid item new → AreAgreed t.transactions new
 item_agreed s t xid item old new agreed on is = by_way on.transaction.way refl

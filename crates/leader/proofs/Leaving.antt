@@ -107,40 +107,16 @@ module _ (g : Setting) (rows : Rows) (old new : DeviceState) (l : Led) (handled 
   by_item rest end why = (why.ended.0, inl why.sent, λ clean. absurd (why.ended.1 clean))
 
   by_send : (rest : List CopyItem) (end : End) → IsSendCause g (IsLeadAt g rows l p) old new handled p times end → Follows rest end
-  by_send rest ends.Clean why = absurd why
-  by_send rest (ends.Frame frames.UnknownFrame) why = absurd why
-  by_send rest (ends.Frame frames.BadLength) why = absurd why
-  by_send rest (ends.Frame frames.TooLarge) why = absurd why
-  by_send rest (ends.Frame frames.Truncated) why = absurd why
-  by_send rest (ends.Frame frames.UnknownCopyTag) why = absurd why
-  by_send rest (ends.Frame frames.ServerError) why = absurd why
   by_send rest (ends.Frame frames.Device) why = (why.clear.committed, inr why.cut, λ clean. cc)
-  by_send rest (ends.Frame frames.OutOfMemory) why = absurd why
-  by_send rest (ends.Msg f) why = absurd why
-  by_send rest (ends.Session f) why = absurd why
-  by_send rest (ends.Rel f) why = absurd why
-  by_send rest (ends.Unique table key) why = absurd why
-  by_send rest (ends.NullKey table) why = absurd why
-  by_send rest (ends.HeldKey xid holder) why = absurd why
   by_send rest ends.OutOfMemory why = (why.clear.committed, inr why.cut, λ clean. cc)
+  by_send rest end why = absurd why
 
   by_input : (bytes : List ℕ) (rest : List CopyItem) (end : End) → IsInputCause g (IsLeadAt g rows l p) old new handled p times bytes rest end → Follows rest end
   by_input bytes rest ends.Clean why = (why.well.clear.committed, inl why.well.sent, λ clean. why.all_handled)
-  by_input bytes rest (ends.Frame frames.UnknownFrame) why = (why.well.clear.committed, inl why.well.sent, λ clean. why.all_handled)
-  by_input bytes rest (ends.Frame frames.BadLength) why = (why.well.clear.committed, inl why.well.sent, λ clean. why.all_handled)
-  by_input bytes rest (ends.Frame frames.TooLarge) why = (why.well.clear.committed, inl why.well.sent, λ clean. why.all_handled)
-  by_input bytes rest (ends.Frame frames.Truncated) why = (why.well.clear.committed, inl why.well.sent, λ clean. why.all_handled)
-  by_input bytes rest (ends.Frame frames.UnknownCopyTag) why = (why.well.clear.committed, inl why.well.sent, λ clean. why.all_handled)
-  by_input bytes rest (ends.Frame frames.ServerError) why = (why.well.clear.committed, inl why.well.sent, λ clean. why.all_handled)
   by_input bytes rest (ends.Frame frames.Device) why = (why.clear.committed, inl why.sent, λ clean. why.all_handled)
-  by_input bytes rest (ends.Frame frames.OutOfMemory) why = (why.well.clear.committed, inl why.well.sent, λ clean. why.all_handled)
-  by_input bytes rest (ends.Msg f) why = absurd why
-  by_input bytes rest (ends.Session f) why = absurd why
-  by_input bytes rest (ends.Rel f) why = absurd why
-  by_input bytes rest (ends.Unique table key) why = absurd why
-  by_input bytes rest (ends.NullKey table) why = absurd why
-  by_input bytes rest (ends.HeldKey xid holder) why = absurd why
+  by_input bytes rest (ends.Frame f) why = (why.well.clear.committed, inl why.well.sent, λ clean. why.all_handled)
   by_input bytes rest ends.OutOfMemory why = (why.clear.committed, inl why.sent, λ clean. cc)
+  by_input bytes rest end why = absurd why
 
   leaves : (bytes : List ℕ) (rest : List CopyItem) (end : End)
       → (IsEnded g (IsLeadAt g rows) (HasLedTo g rows) old new l handled p times rest end

@@ -7,35 +7,54 @@ use Rattle.engine.specs.Answers.{TellsWhatStopped}
 use Rattle.leader.specs.Standing.{Own, own_by}
 use Rattle.leader.specs.Ending.{Hand, AreStood, AreGone, TellsNoted}
 use Rattle.leader.proofs.Deciding.{tells_now, tells_still, stood_more, stood_before, tells_before, gone_still, gone_more, less_again}
+use Rattle.leader.proofs.ending.undo_all.Given.{Over}
 use Rattle.leader.proofs.ending.undo_all.Goals as goal
+use Rattle.leader.proofs.ending.undo_all.Goals.{After-undo}
 
 pub undo-requires-clause-stop : goal.undo-requires-clause-stop
 undo-requires-clause-stop g c = subst (TellsWhatStopped c.args.stop) (sym c.loop-slot.invariant.world.stopped) c.requires.stop
+
+-- with one slot more the hand is longer by it; it has stood and is gone as the others are
+undone : (g : Over) (c : After-undo g)
+    → (more : option_map own_by c.args.own ∷ map g.S.Slot.holds (c.loop-slot.yielded ++ c.in-Some.slot ∷ [])
+    ≡ (option_map own_by c.args.own ∷ map g.S.Slot.holds c.loop-slot.yielded) ++ option_map own_by c.into_ticket.result ∷ [])
+    × AreStood c.args.store.now.world (option_map own_by c.args.own ∷ map g.S.Slot.holds (c.loop-slot.yielded ++ c.in-Some.slot ∷ []))
+    × AreGone c.undo.new.store.world (option_map own_by c.args.own ∷ map g.S.Slot.holds (c.loop-slot.yielded ++ c.in-Some.slot ∷ []))
+undone g c =
+    let w = c.args.store.now.world in
+    let came = c.loop-slot.invariant in
+    let before = c.loop-slot.store.world in
+    let slots = map g.S.Slot.holds c.loop-slot.yielded in
+    let hand = option_map own_by c.args.own ∷ slots in
+    let slot = option_map own_by c.into_ticket.result in
+    let did = c.undo in
+    let more : option_map own_by c.args.own ∷ map g.S.Slot.holds (c.loop-slot.yielded ++ c.in-Some.slot ∷ []) ≡ hand ++ slot ∷ [] =
+    ap (λ (h : Hand). option_map own_by c.args.own ∷ h)
+    (map-append g.S.Slot.holds c.loop-slot.yielded (c.in-Some.slot ∷ []) ∙ ap (λ (h : Option Own). slots ++ h ∷ []) c.into_ticket.ensures.holds) in (
+      more,
+      subst (AreStood w) (sym more) (stood_more w hand slot came.stood (stood_before w before came.world (slot ∷ []) did.ensures.stood)),
+      subst (AreGone did.new.store.world) (sym more) (gone_more did.new.store.world hand slot (gone_still before did.new.store.world did.ensures.world hand came.gone) did.ensures.gone),
+    )
 
 pub loop-slot-preserved-in-Some-undo : goal.loop-slot-preserved-in-Some-undo
 loop-slot-preserved-in-Some-undo g c =
     let w = c.args.store.now.world in
     let came = c.loop-slot.invariant in
     let before = c.loop-slot.store.world in
-    let own = option_map own_by c.args.own in
-    let slots = map g.S.Slot.holds c.loop-slot.yielded in
+    let hand = option_map own_by c.args.own ∷ map g.S.Slot.holds c.loop-slot.yielded in
     let slot = option_map own_by c.into_ticket.result in
-    let did = c.undo in
-    let more : own ∷ map g.S.Slot.holds (c.loop-slot.yielded ++ c.in-Some.slot ∷ []) ≡ (own ∷ slots) ++ slot ∷ [] =
-    ap (λ (hand : Hand). own ∷ hand)
-    (map-append g.S.Slot.holds c.loop-slot.yielded (c.in-Some.slot ∷ []) ∙ ap (λ (h : Option Own). slots ++ h ∷ []) c.into_ticket.ensures.holds) in record {
+    let did = undone g (goal.at.loop-slot-preserved-in-Some-undo g c).After-undo in record {
       can_next = came.can_next;
       is_finite = came.is_finite;
-      world = less_again w before did.new.store.world came.world did.ensures.world;
-      name = did.ensures.name;
-      commits = did.ensures.commits ∙ came.commits;
-      stood = subst (AreStood w) (sym more) (stood_more w (own ∷ slots) slot came.stood (stood_before w before came.world (slot ∷ []) did.ensures.stood));
-      gone = subst (AreGone did.new.store.world) (sym more) (gone_more did.new.store.world (own ∷ slots) slot (gone_still before did.new.store.world did.ensures.world (own ∷ slots) came.gone) did.ensures.gone);
+      world = less_again w before c.undo.new.store.world came.world c.undo.ensures.world;
+      name = c.undo.ensures.name;
+      commits = c.undo.ensures.commits ∙ came.commits;
+      stood = did.1;
+      gone = did.2;
       keeps = All-push g.S.Slot.keeps c.loop-slot.yielded c.in-Some.slot came.keeps c.into_ticket.ensures.keeps;
       noted =
-          subst (λ (hand : Hand). TellsNoted w hand (Some c.in-Some-undo.clash)) (sym more)
-          (tells_now w (own ∷ slots) slot c.in-Some-undo.clash
-          (tells_before w before came.world (slot ∷ []) (Some c.in-Some-undo.clash) c.in-Some-undo.ensures.noted));
+          subst (λ (hand : Hand). TellsNoted w hand (Some c.in-Some-undo.clash)) (sym did.0)
+          (tells_now w hand slot c.in-Some-undo.clash (tells_before w before came.world (slot ∷ []) (Some c.in-Some-undo.clash) c.in-Some-undo.ensures.noted));
     }
 
 pub loop-slot-preserved : goal.loop-slot-preserved
@@ -43,24 +62,19 @@ loop-slot-preserved g c =
     let w = c.args.store.now.world in
     let came = c.loop-slot.invariant in
     let before = c.loop-slot.store.world in
-    let own = option_map own_by c.args.own in
-    let slots = map g.S.Slot.holds c.loop-slot.yielded in
+    let hand = option_map own_by c.args.own ∷ map g.S.Slot.holds c.loop-slot.yielded in
     let slot = option_map own_by c.into_ticket.result in
-    let did = c.undo in
-    let more : own ∷ map g.S.Slot.holds (c.loop-slot.yielded ++ c.in-Some.slot ∷ []) ≡ (own ∷ slots) ++ slot ∷ [] =
-    ap (λ (hand : Hand). own ∷ hand)
-    (map-append g.S.Slot.holds c.loop-slot.yielded (c.in-Some.slot ∷ []) ∙ ap (λ (h : Option Own). slots ++ h ∷ []) c.into_ticket.ensures.holds) in record {
+    let did = undone g (goal.at.loop-slot-preserved g c).After-undo in record {
       can_next = came.can_next;
       is_finite = came.is_finite;
-      world = less_again w before did.new.store.world came.world did.ensures.world;
-      name = did.ensures.name;
-      commits = did.ensures.commits ∙ came.commits;
-      stood = subst (AreStood w) (sym more) (stood_more w (own ∷ slots) slot came.stood (stood_before w before came.world (slot ∷ []) did.ensures.stood));
-      gone = subst (AreGone did.new.store.world) (sym more) (gone_more did.new.store.world (own ∷ slots) slot (gone_still before did.new.store.world did.ensures.world (own ∷ slots) came.gone) did.ensures.gone);
+      world = less_again w before c.undo.new.store.world came.world c.undo.ensures.world;
+      name = c.undo.ensures.name;
+      commits = c.undo.ensures.commits ∙ came.commits;
+      stood = did.1;
+      gone = did.2;
       keeps = All-push g.S.Slot.keeps c.loop-slot.yielded c.in-Some.slot came.keeps c.into_ticket.ensures.keeps;
       noted =
-          subst (λ (hand : Hand). TellsNoted w hand c.loop-slot.noted) (sym more)
-          (tells_still w (own ∷ slots) slot c.loop-slot.noted came.noted
-          (tells_before w before came.world (slot ∷ []) None
-          (subst (λ (told : Option Clash). TellsNoted before (slot ∷ []) told) c.in_default.is did.ensures.noted)));
+          subst (λ (hand : Hand). TellsNoted w hand c.loop-slot.noted) (sym did.0)
+          (tells_still w hand slot c.loop-slot.noted came.noted
+          (tells_before w before came.world (slot ∷ []) None (subst (λ (told : Option Clash). TellsNoted before (slot ∷ []) told) c.in_default.is c.undo.ensures.noted)));
     }
