@@ -5,8 +5,9 @@
 
 Each stream is made as a PostgreSQL server sends the same work, and run by turns: `pgapply replay`,
 `pgapply apply`, and the plain applier (plain.rs, built by `rustc -O`), each --runs times. All have to
-print the same report. A line for each prints the best wall-clock time, the most memory held, and the
-ratio of the plain applier's time to it. A timing is no test: nothing fails for it.
+print the same report. A line for each prints the best wall-clock time and processor time (user and
+system), the most memory held, and the ratio of the plain applier's times to these. On a machine with
+other work the processor time is the steadier one. A timing is no test: nothing fails for it.
 
 Needs: python3 (3.11), rustc, and the built program (`rt run` or `rt ci` leave it in
 crates/pgapply/out). The kinds:
@@ -248,12 +249,13 @@ def write_stream(path, messages):
 @dataclass
 class Run:
     seconds: float
+    processor: float
     memory: int
     report: str
 
 
 def run(words, out):
-    """Runs a command whose report goes to a file. Its wall-clock time, and the most memory that it held."""
+    """Runs a command whose report goes to a file. Its wall-clock and processor time, and the most memory that it held."""
     with open(out, "wb") as file:
         begun = time.perf_counter()
         child = subprocess.Popen(words, stdout=file)
@@ -262,7 +264,7 @@ def run(words, out):
     if status:
         sys.exit(f"figures: {' '.join(words)} ended with {os.waitstatus_to_exitcode(status)}")
     with open(out, "rb") as file:
-        return Run(seconds, usage.ru_maxrss * 1024, hashlib.file_digest(file, "sha256").hexdigest())
+        return Run(seconds, usage.ru_utime + usage.ru_stime, usage.ru_maxrss * 1024, hashlib.file_digest(file, "sha256").hexdigest())
 
 
 def measure(kind, count, program, plain, folder, runs):
@@ -280,12 +282,12 @@ def measure(kind, count, program, plain, folder, runs):
             was = best.setdefault(name, now)
             if now.report != was.report or now.report != best["replay"].report:
                 sys.exit(f"figures: {kind} {count}: {name} printed another report")
-            best[name] = Run(min(was.seconds, now.seconds), max(was.memory, now.memory), now.report)
+            best[name] = Run(min(was.seconds, now.seconds), min(was.processor, now.processor), max(was.memory, now.memory), now.report)
     size = os.path.getsize(stream)
     os.remove(stream)
     for name, it in best.items():
-        print(f"| {kind} {count} | {size / 1e6:.0f} MB | {name} | {it.seconds:.2f} | {it.memory / 1e6:.0f} MB "
-              f"| {best['plain'].seconds / it.seconds:.2f} |", flush=True)
+        print(f"| {kind} {count} | {size / 1e6:.0f} MB | {name} | {it.seconds:.2f} | {it.processor:.2f} | {it.memory / 1e6:.0f} MB "
+              f"| {best['plain'].seconds / it.seconds:.2f} | {best['plain'].processor / it.processor:.2f} |", flush=True)
 
 
 def main():
@@ -300,7 +302,7 @@ def main():
         folder = said.keep or temporary
         plain = f"{folder}/plain"
         subprocess.run(["rustc", "-O", "-o", plain, f"{HERE}/plain.rs"], check=True)
-        print("| stream | size | command | seconds | memory | plain / it |\n|---|---|---|---|---|---|")
+        print("| stream | size | command | seconds | processor | memory | plain / it | by processor |\n|---|---|---|---|---|---|---|---|")
         for kind in said.only.split(","):
             for count in said.rows.split(","):
                 measure(kind, int(count), said.program, plain, folder, said.runs)
