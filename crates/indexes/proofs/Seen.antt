@@ -21,6 +21,7 @@ use Rattle.indexes.specs.Content.{Content, Keeps, HasRoom, unique_columns, IsTab
 use Rattle.indexes.specs.Gathered.{placed, rows_of, cells_from, schema_of, gathered, AllSound, IsNew}
 use Rattle.indexes.proofs.Elements.{contains_elem, elem_contains, elem_map}
 use Rattle.indexes.proofs.Gather.{sound_after, get_is, keys_is, get_without, set_there, rows_inserted, rows_removed, rows_replaced, rows_same, get_there, get_elsewhere, no_clash, schema_after, table_at, valid, TableAt}
+use Rattle.indexes.proofs.Tabling.{Finds}
 use Rattle.indexes.proofs.Walking.{rows_of_table-gathered}
 use Rattle.indexes.proofs.Cells.{cells_are, cell_stays, has_room, room_has, room_after, room_fewer, room_elsewhere, room_of_table, room_of_new}
 
@@ -136,10 +137,7 @@ module _ (ts : List TableContent) (seen : Content) (v : gathered ts ≡ seen) (i
 
   -- what a search by values tells of all tables, and one by a row
   pub sought_values : (number : ℕ) (values : Key) (r : Option (Bor Key))
-      → record {
-        found : IfSome r (λ key. HasValues t.rows (unique_at t.keys number) key.now values);
-        missed : IfNone r ((key : Key) → ¬ HasValues t.rows (unique_at t.keys number) key values);
-      }
+      → Finds (λ key. HasValues t.rows (unique_at t.keys number) key values) r
       → record {
         taken : is_some r ≡ are_taken seen.rows i (unique_columns seen.schema i number) values;
         key : IfSome r (λ key. (row : Record) × (get seen.rows (i, key.now) ≡ Some row) × (values_in (unique_columns seen.schema i number) row ≡ Some values));
@@ -147,10 +145,7 @@ module _ (ts : List TableContent) (seen : Content) (v : gathered ts ≡ seen) (i
   sought_values number values r told = record { taken = taken_found number values r told.found told.missed; key = key_found number values r told.found }
 
   pub sought_twin : (number : ℕ) (row : Record) (r : Option (Bor Key))
-      → record {
-        found : IfSome r (λ key. IsTwin t.rows (unique_at t.keys number) key.now row);
-        missed : IfNone r ((key : Key) → ¬ IsTwin t.rows (unique_at t.keys number) key row);
-      }
+      → Finds (λ key. IsTwin t.rows (unique_at t.keys number) key row) r
       → record {
         taken : is_some r ≡ are_taken_unless_null seen.rows i (unique_columns seen.schema i number) (values_in (unique_columns seen.schema i number) row);
         key : IfSome r (λ key. (values : Key) × (values_in (unique_columns seen.schema i number) row ≡ Some values)

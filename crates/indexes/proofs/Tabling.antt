@@ -318,6 +318,10 @@ module _ (primary : List ℕ) (old new : Kept) (us vs : List Unique) (t : TableC
 
 -- ---- look-ups
 
+-- what a look-up finds: a key of which this is true, or there is none
+abbrev pub Finds : (Key → Type 0) → Option (Bor Key) → Type 0
+Finds Has r = record { found : IfSome r (λ key. Has key.now); missed : IfNone r ((key : Key) → ¬ Has key) }
+
 found_values : (primary : List ℕ) (kept : Kept) (us : List Unique) → IsIndexed primary kept us → (k : ℕ) (d : Unique) → k < length us → (columns : List ℕ) → columns ≡ (slice_index_or us k d).columns.items
     → (values : Key) (number : ℕ) → Some number ≡ held (slice_index_or us k d).entries values
     → (r : Option (Bor Key)) → IfSome r (λ key. get kept.slots key.now ≡ Some number) → IfSome r (λ key. HasValues kept.rows columns key.now values)
@@ -403,11 +407,7 @@ module _ (primary : List ℕ) (kept : Kept) (us : List Unique) (was : IsIndexed 
 
     -- the key in a slot that was found is of a row with the values, and there is one
     pub slot_has_values : (slot : ℕ) → Some slot ≡ held u.entries values → (r : Option (Bor Key))
-        → record { found : IfSome r (λ key. get kept.slots key.now ≡ Some slot); missed : IfNone r ((key : Key) → get kept.slots key ≢ Some slot) }
-        → record {
-          found : IfSome r (λ key. HasValues t.rows (unique_at t.keys number) key.now values);
-          missed : IfNone r ((key : Key) → ¬ HasValues t.rows (unique_at t.keys number) key values);
-        }
+        → Finds (λ key. get kept.slots key ≡ Some slot) r → Finds (λ key. HasValues t.rows (unique_at t.keys number) key values) r
     slot_has_values slot e r told = record {
       found =
           subst (λ (t : TableContent). IfSome r (λ (key : Bor Key). HasValues t.rows (unique_at t.keys number) key.now values)) v
@@ -428,11 +428,7 @@ module _ (primary : List ℕ) (kept : Kept) (us : List Unique) (was : IsIndexed 
     held_of_row o e = e ∙ ap (λ (w : Unique). held_by w.entries (values_in w.columns.items row)) is
 
     pub slot_has_twin : (slot : ℕ) → Some slot ≡ held_by u.entries (values_in u.columns.items row) → (r : Option (Bor Key))
-        → record { found : IfSome r (λ key. get kept.slots key.now ≡ Some slot); missed : IfNone r ((key : Key) → get kept.slots key ≢ Some slot) }
-        → record {
-          found : IfSome r (λ key. IsTwin t.rows (unique_at t.keys number) key.now row);
-          missed : IfNone r ((key : Key) → ¬ IsTwin t.rows (unique_at t.keys number) key row);
-        }
+        → Finds (λ key. get kept.slots key ≡ Some slot) r → Finds (λ key. IsTwin t.rows (unique_at t.keys number) key row) r
     slot_has_twin slot e r told = record {
       found =
           subst (λ (t : TableContent). IfSome r (λ (key : Bor Key). IsTwin t.rows (unique_at t.keys number) key.now row)) v
