@@ -4,14 +4,14 @@ use Rattle.std.specs.FinMap.{remove}
 use Rattle.model.specs.declared.row.Row.{Row}
 use Rattle.model.specs.Rows.{Rows, values_in}
 use Rattle.model.specs.Footprint.{both_have}
-use Rattle.change.specs.declared.outcome.Standing.{Standing}
+use Rattle.change.specs.declared.outcome.OldRow.{OldRow}
 
 -- the rows of all tables but the one that stands there
-abbrev pub without : Rows → ℕ → Option Standing → Rows
+abbrev pub without : Rows → ℕ → Option OldRow → Rows
 without rows table None = rows
-without rows table (Some standing) = remove rows (table, standing.key.now)
+without rows table (Some old) = remove rows (table, old.key.now)
 
 -- a row has the values in these columns of the one that it takes the place of, none of them null
-abbrev pub KeepsValues : List ℕ → Option Standing → Row → Type 0
+abbrev pub KeepsValues : List ℕ → Option OldRow → Row → Type 0
 KeepsValues columns None row = ⊥
-KeepsValues columns (Some standing) row = both_have (values_in columns standing.row.now) (values_in columns row) ≡ true
+KeepsValues columns (Some old) row = both_have (values_in columns old.row.now) (values_in columns row) ≡ true

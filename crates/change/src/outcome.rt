@@ -145,7 +145,7 @@ fn set(
     if is_key_held(t, table, &new_key, key) {
         return Err(Clash::Unique { table, key: 0 });
     }
-    if let Some(number) = first_clash(t, table, &row, Some(Standing { key, row: &old })) {
+    if let Some(number) = first_clash(t, table, &row, Some(OldRow { key, row: &old })) {
         return Err(Clash::Unique { table, key: number });
     }
     let stands_at = new_key.copy()?;
@@ -251,13 +251,13 @@ fn copy_value(old: &Option<Value>) -> Result<Option<Value>, OutOfMemory>
 
 /// A row that an update takes the place of, and its key.
 #[derive(Clone, Copy)]
-struct Standing<'a> {
+struct OldRow<'a> {
     key: &'a Key,
     row: &'a RowView<'a>,
 }
 
 /// The least unique key in which the row agrees with another than the one that it takes the place of.
-fn first_clash(t: &Tables, table: TableId, row: &Row, stood: Option<Standing<'_>>) -> Option<usize>
+fn first_clash(t: &Tables, table: TableId, row: &Row, stood: Option<OldRow<'_>>) -> Option<usize>
     requires known { table < length t.now.schema }
     requires sound { IsSound t.now }
     requires stands { IfSome stood (λ s. get t.now.rows (table, s.key.now) ≡ Some s.row.now) }
@@ -282,13 +282,7 @@ fn is_key_held(t: &Tables, table: TableId, key: &Key, except: &Key) -> bool
 
 /// Whether the row agrees in a unique key with another than the one that it takes the place of.
 /// Values that it keeps of that nobody else has, and they aren't looked up.
-fn has_twin(
-    t: &Tables,
-    table: TableId,
-    number: usize,
-    row: &Row,
-    stood: Option<Standing<'_>>,
-) -> bool
+fn has_twin(t: &Tables, table: TableId, number: usize, row: &Row, stood: Option<OldRow<'_>>) -> bool
     requires known { table < length t.now.schema }
     requires sound { IsSound t.now }
     requires number { (1 ≤ number) × (number ≤ length (keys_at t.now.schema table).uniques) }
@@ -298,45 +292,29 @@ fn has_twin(
     if keeps_values(t.unique_columns(table, number), stood, row) {
         return false;
     }
-    is_held_elsewhere(t, table, number, row, stood)
-}
-
-/// Whether a row has the values in these columns of the one that it takes the place of, none of them
-/// null.
-fn keeps_values(columns: &[usize], stood: Option<Standing<'_>>, row: &Row) -> bool
-    ensures { result ≡ true → KeepsValues columns.now stood.entry row.now }
-{
-    match stood {
-        None => false,
-        Some(standing) => {
-            let row = RowView::of_row(row);
-            has_same(
-                columns,
-                PatchedRow::of_row(standing.row),
-                PatchedRow::of_row(&row),
-            )
-        }
-    }
-}
-
-/// Whether another than the row that stood has a row's values in a unique key.
-fn is_held_elsewhere(
-    t: &Tables,
-    table: TableId,
-    number: usize,
-    row: &Row,
-    stood: Option<Standing<'_>>,
-) -> bool
-    requires known { table < length t.now.schema }
-    requires sound { IsSound t.now }
-    requires number { (1 ≤ number) × (number ≤ length (keys_at t.now.schema table).uniques) }
-    ensures { result ≡ are_taken_unless_null (without t.now.rows table stood.entry) table (unique_columns t.now.schema table number) (values_in (unique_columns t.now.schema table number) row.now) }
-{
     match t.find_twin(table, number, row) {
         None => false,
         Some(holder) => match stood {
             None => true,
-            Some(standing) => *holder != *standing.key,
+            Some(old) => *holder != *old.key,
         },
+    }
+}
+
+/// Whether a row has the values in these columns of the one that it takes the place of, none of them
+/// null.
+fn keeps_values(columns: &[usize], stood: Option<OldRow<'_>>, row: &Row) -> bool
+    ensures { result ≡ true → KeepsValues columns.now stood.entry row.now }
+{
+    match stood {
+        None => false,
+        Some(old) => {
+            let row = RowView::of_row(row);
+            has_same(
+                columns,
+                PatchedRow::of_row(old.row),
+                PatchedRow::of_row(&row),
+            )
+        }
     }
 }
