@@ -1,4 +1,4 @@
-// Inserts of three columns, an id, an address and a note: 98 bytes each.
+// Inserts into the accounts, of an id, an email and a note: 98 bytes each.
 
 use crate::LAP;
 use crate::counts::Counts;
@@ -9,28 +9,7 @@ use messages::{Message, MsgFault, decode};
 use relcache::{Mapping, RelCache, plan};
 use std::alloc::{AllocError, Global};
 use std::sync::Arc;
-
-const CATALOG: &str = r#"
-[[table]]
-namespace = "public"
-name = "mail"
-primary = ["id"]
-unique = [["email"]]
-[[table.column]]
-name = "id"
-type = "int"
-[[table.column]]
-name = "email"
-type = "text"
-[[table.column]]
-name = "note"
-type = "text"
-"#;
-
-const RELATION: &[u8] = b"R\0\0\x40\x01public\0mail\0d\0\x03\
-    \x01id\0\0\0\0\x14\xff\xff\xff\xff\
-    \x00email\0\0\0\0\x19\xff\xff\xff\xff\
-    \x00note\0\0\0\0\x19\xff\xff\xff\xff";
+use testing::accounts::{CATALOG, RELATION};
 
 /// The insert of the row with this id.
 fn insert(alloc: Global, id: usize) -> Result<Bytes, AllocError> {
@@ -69,7 +48,9 @@ pub fn decode_all(alloc: Global, laps: u64) -> Result<Counts, MsgFault> {
 fn mapping(alloc: Global) -> anyhow::Result<Arc<Mapping>> {
     let tables = Catalog::read(alloc, CATALOG)?;
     let mut cache = RelCache::new(alloc);
-    let Message::Relation { relation, .. } = decode(alloc, &Bytes::from_static(RELATION), false)?
+    let mut payload = vec![in alloc; b'R']?;
+    payload.extend_from_slice(RELATION)?;
+    let Message::Relation { relation, .. } = decode(alloc, &Bytes::from_vec(payload)?, false)?
     else {
         bail!("the relation is no relation");
     };

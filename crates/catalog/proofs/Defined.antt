@@ -12,13 +12,20 @@ use Rattle.catalog.specs.declared.draft.DefaultDraft.TheVariants.{Missing, Given
 use Rattle.catalog.specs.declared.draft.ColumnDraft.{ColumnDraft}
 use Rattle.catalog.specs.declared.fault.CatalogFault.{CatalogFault}
 use Rattle.catalog.specs.declared.fault.CatalogFault.TheVariants.{KeyColumnUnknown, BadDefault}
-use Rattle.catalog.specs.Draft.{Draft}
+use Rattle.catalog.specs.declared.draft.TableDraft.{TableDraft}
 use Rattle.catalog.specs.Faults.{has_column}
 use Rattle.catalog.specs.Definitions.{column_from, value_given, default_from, column_number, key_from, definition_from}
-use Rattle.catalog.specs.Laws.{IsUnknownKey, IsTablesFault, NamesKey, HasDefault, Defines, DefinesAll}
+use Rattle.catalog.specs.Laws.{IsUnknownKey, IsTablesFault, IsEach, NamesKey, HasDefault, Defines, DefinesAll}
 use Rattle.catalog.proofs.Distinct.{position_or_len-within}
 use Rattle.catalog.proofs.Places.{list_any_finds}
 use Rattle.catalog.proofs.Wrong.{column_named}
+
+-- each element beside what a function makes of it
+each_made : {A B : Type 0} (R : A → B → Type 0) (f : A → B) (xs : List A) → ((place : ℕ) (x : A) → slice_get xs place ≡ Some x → R x (f x)) → IsEach R xs (map f xs)
+each_made R f xs holds = record {
+  count = length-map xs f;
+  each = λ place x at. (f x, slice_get-map f xs place ∙ ap (option_map f) at, holds place x at);
+}
 
 -- ---- keys
 
@@ -34,18 +41,10 @@ module _ (columns : List ColumnDraft) where
       )
 
   pub names_key : (names : List (List ℕ)) → ¬ (IsUnknownKey columns names) → NamesKey (map column_from columns) names (key_from columns names)
-  names_key names known = record {
-    width = length-map names (column_number columns);
-    columns_named = λ k name at.
-        let has = true_from_ne_false (has_column columns name) (λ lacks. known (inl (k, name, at, λ some. false≢true (sym lacks ∙ (column_named columns name).1 some)))) in
-        let column = number_named name has in (
-          column_number columns name,
-          column_from column.0,
-          slice_get-map (column_number columns) names k ∙ ap (option_map (column_number columns)) at,
-          slice_get-map column_from columns (column_number columns name) ∙ ap (option_map column_from) column.1,
-          column.2,
-        );
-  }
+  names_key names known = each_made _ (column_number columns) names (λ k name at.
+      let has = true_from_ne_false (has_column columns name) (λ lacks. known (inl (k, name, at, λ some. false≢true (sym lacks ∙ (column_named columns name).1 some)))) in
+      let column = number_named name has in
+      (column_from column.0, slice_get-map column_from columns (column_number columns name) ∙ ap (option_map column_from) column.1, column.2))
 
 -- ---- defaults
 
@@ -56,30 +55,16 @@ has_default OtherKind own = absurd (own refl)
 
 -- ---- tables
 
-module _ (ts : List Draft) (faultless : (fault : CatalogFault) → ¬ (IsTablesFault ts fault)) where
-  defines : (place : ℕ) (t : Draft) → slice_get ts place ≡ Some t → Defines t (definition_from t)
+module _ (ts : List TableDraft) (faultless : (fault : CatalogFault) → ¬ (IsTablesFault ts fault)) where
+  defines : (place : ℕ) (t : TableDraft) → slice_get ts place ≡ Some t → Defines t (definition_from t)
   defines place t at = record {
     namespace = refl;
     name = refl;
-    width = length-map t.columns column_from;
-    columns = λ number c here. slice_get-map column_from t.columns number ∙ ap (option_map column_from) here;
-    defaults_width = length-map t.columns default_from;
-    defaults = λ number c here. (
-      default_from c,
-      slice_get-map default_from t.columns number ∙ ap (option_map default_from) here,
-      has_default c.default (λ other. faultless BadDefault (place, t, at, (number, c, here, inl other))),
-    );
+    columns = each_made _ column_from t.columns (λ number c here. refl);
+    defaults = each_made _ default_from t.columns (λ number c here. has_default c.default (λ other. faultless BadDefault (place, t, at, (number, c, here, inl other))));
     primary = names_key t.columns t.primary (λ unknown. faultless KeyColumnUnknown (place, t, at, inl unknown));
-    uniques_count = length-map t.uniques (key_from t.columns);
-    uniques = λ k names here. (
-      key_from t.columns names,
-      slice_get-map (key_from t.columns) t.uniques k ∙ ap (option_map (key_from t.columns)) here,
-      names_key t.columns names (λ unknown. faultless KeyColumnUnknown (place, t, at, inr (k, names, here, inr unknown))),
-    );
+    uniques = each_made _ (key_from t.columns) t.uniques (λ k names here. names_key t.columns names (λ unknown. faultless KeyColumnUnknown (place, t, at, inr (k, names, here, inr unknown))));
   }
 
   pub defines_all : DefinesAll ts (map definition_from ts)
-  defines_all = record {
-    count = length-map ts definition_from;
-    each = λ place t at. (definition_from t, slice_get-map definition_from ts place ∙ ap (option_map definition_from) at, defines place t at);
-  }
+  defines_all = each_made Defines definition_from ts defines

@@ -6,11 +6,23 @@ use Rattle.model.specs.declared.table_def.ColumnType.{ColumnType}
 use Rattle.catalog.specs.declared.draft.DefaultDraft.{DefaultDraft}
 use Rattle.catalog.specs.declared.draft.DefaultDraft.TheVariants.{Missing}
 use Rattle.catalog.specs.declared.draft.ColumnDraft.{ColumnDraft}
-use Rattle.catalog.specs.Draft.{Draft}
+use Rattle.catalog.specs.declared.draft.TableDraft.{TableDraft}
 use Rattle.catalog.specs.Document.{◌>>=◌, provided, array_of, required, optional, has_only, name_of, type_of, default_of, given, column_in, column_keys, column_of, fields_of, key_of, table_in, table_keys, table_of, tables_of}
-use Rattle.catalog.specs.Laws.{IsString, Defaults, IsColumn, IsKey, IsTable, Describes}
+use Rattle.catalog.specs.Laws.{HasField, IsName, IsString, Defaults, IsColumn, IsKey, IsTable, Describes}
 use Rattle.catalog.proofs.Named.{provided_some}
 use Rattle.catalog.proofs.Fields.{only_from_test, test_from_only, string_read, string_from, fields_read, fields_from, name_read, name_from, type_read, type_from, given_defaults, defaults_given, array_read, array_from, field_read, field_from, missing_read, present_read, optional_from}
+
+-- ---- names
+
+-- a field that is a name
+name_in : (fields : Members) (field text : List ℕ) → required name_of (get_member field fields) ≡ Some text → HasField fields field (λ d. IsString d text) × IsName text
+name_in fields field text e =
+    let found = field_read name_of fields field text e in
+    let named = name_read found.0 text found.2 in
+    ((found.0, found.1, named.0), named.1)
+
+in_name : (fields : Members) (field text : List ℕ) → HasField fields field (λ d. IsString d text) → IsName text → required name_of (get_member field fields) ≡ Some text
+in_name fields field text (d, at, is) named = field_from name_of fields field d text at (name_from d text is named)
 
 -- ---- columns
 
@@ -34,35 +46,29 @@ parts_column name kind default c named typed is =
     ∙ ap (λ o. o >>= (λ k. Some (record { name = c.name; kind = k; default = default }))) typed
     ∙ ap (λ (d : DefaultDraft). Some (record { name = c.name; kind = c.kind; default = d })) is
 
-column_in_read : (d : Data) (fields : Members) (c : ColumnDraft) → fields_of column_keys d ≡ Some fields → column_in fields ≡ Some c → IsColumn d c
-unfolding column_in
-column_in_read d fields c is e =
-    let own = fields_read column_keys d fields is in
-    let parts = column_parts (required name_of (get_member (codes "name") fields)) (required type_of (get_member (codes "type") fields)) (default_of (get_member (codes "default") fields)) c e in
-    let name = field_read name_of fields (codes "name") c.name parts.0 in
-    let named = name_read name.0 c.name name.2 in
+column_read : (d : Data) (c : ColumnDraft) → column_of d ≡ Some c → IsColumn d c
+unfolding column_of column_in
+column_read d c e =
+    option_and_then_some column_in (fields_of column_keys d) c e (λ fields is made.
+    let parts = column_parts (required name_of (get_member (codes "name") fields)) (required type_of (get_member (codes "type") fields)) (default_of (get_member (codes "default") fields)) c made in
+    let name = name_in fields (codes "name") c.name parts.0 in
     let kind = field_read type_of fields (codes "type") c.kind parts.1 in
     record {
       fields = fields;
-      is_table = own.0;
-      only = own.1;
-      name = (name.0, name.1, named.0);
-      is_name = named.1;
+      has_fields = fields_read column_keys d fields is;
+      name = name.0;
+      is_name = name.1;
       kind = (kind.0, kind.1, type_read kind.0 c.kind kind.2);
       no_default = λ none. sym parts.2 ∙ ap default_of none;
-      default = λ d at. subst (Defaults d) (sym (ap default_of at) ∙ parts.2) (given_defaults d);
-    }
-
-column_read : (d : Data) (c : ColumnDraft) → column_of d ≡ Some c → IsColumn d c
-unfolding column_of
-column_read d c e = option_and_then_some column_in (fields_of column_keys d) c e (λ fields is made. column_in_read d fields c is made)
+      default = λ value at. subst (Defaults value) (sym (ap default_of at) ∙ parts.2) (given_defaults value);
+    })
 
 column_from : (d : Data) (c : ColumnDraft) → IsColumn d c → column_of d ≡ Some c
 unfolding column_of column_in
 column_from d c is =
-    ap (λ o. o >>= column_in) (fields_from column_keys d is.fields is.is_table is.only)
+    ap (λ o. o >>= column_in) (fields_from column_keys d is.fields is.has_fields)
     ∙ parts_column (required name_of (get_member (codes "name") is.fields)) (required type_of (get_member (codes "type") is.fields)) (default_of (get_member (codes "default") is.fields)) c
-    (field_from name_of is.fields (codes "name") is.name.0 c.name is.name.1 (name_from is.name.0 c.name is.name.2 is.is_name))
+    (in_name is.fields (codes "name") c.name is.name is.is_name)
     (field_from type_of is.fields (codes "type") is.kind.0 c.kind is.kind.1 (type_from is.kind.0 c.kind is.kind.2))
     (default_at (get_member (codes "default") is.fields) c.default is.no_default (λ d at. defaults_given d c.default (is.default d at)))
 
@@ -77,7 +83,7 @@ key_from d names is = array_from as_str IsString string_from d names is
 -- ---- tables
 
 -- the parts that make a table
-table_parts : (namespace name : Option (List ℕ)) (columns : Option (List ColumnDraft)) (primary : Option (List (List ℕ))) (uniques : Option (List (List (List ℕ)))) (t : Draft)
+table_parts : (namespace name : Option (List ℕ)) (columns : Option (List ColumnDraft)) (primary : Option (List (List ℕ))) (uniques : Option (List (List (List ℕ)))) (t : TableDraft)
     → (namespace >>= (λ ns. name >>= (λ n. columns >>= (λ cs. primary >>= (λ p. uniques >>= (λ us. Some (record { namespace = ns; name = n; columns = cs; primary = p; uniques = us }))))))) ≡ Some t
     → (namespace ≡ Some t.namespace) × (name ≡ Some t.name) × (columns ≡ Some t.columns) × (primary ≡ Some t.primary) × (uniques ≡ Some t.uniques)
 table_parts None name columns primary uniques t e = cc
@@ -87,9 +93,9 @@ table_parts (Some ns) (Some n) (Some cs) None uniques t e = cc
 table_parts (Some ns) (Some n) (Some cs) (Some p) None t e = cc
 table_parts (Some ns) (Some n) (Some cs) (Some p) (Some us) t e =
     let is : record { namespace = ns; name = n; columns = cs; primary = p; uniques = us } ≡ t = same_Some _ _ e in
-    (ap (λ (x : Draft). Some x.namespace) is, ap (λ (x : Draft). Some x.name) is, ap (λ (x : Draft). Some x.columns) is, ap (λ (x : Draft). Some x.primary) is, ap (λ (x : Draft). Some x.uniques) is)
+    (ap (λ (x : TableDraft). Some x.namespace) is, ap (λ (x : TableDraft). Some x.name) is, ap (λ (x : TableDraft). Some x.columns) is, ap (λ (x : TableDraft). Some x.primary) is, ap (λ (x : TableDraft). Some x.uniques) is)
 
-parts_table : (namespace name : Option (List ℕ)) (columns : Option (List ColumnDraft)) (primary : Option (List (List ℕ))) (uniques : Option (List (List (List ℕ)))) (t : Draft)
+parts_table : (namespace name : Option (List ℕ)) (columns : Option (List ColumnDraft)) (primary : Option (List (List ℕ))) (uniques : Option (List (List (List ℕ)))) (t : TableDraft)
     → namespace ≡ Some t.namespace → name ≡ Some t.name → columns ≡ Some t.columns → primary ≡ Some t.primary → uniques ≡ Some t.uniques
     → (namespace >>= (λ ns. name >>= (λ n. columns >>= (λ cs. primary >>= (λ p. uniques >>= (λ us. Some (record { namespace = ns; name = n; columns = cs; primary = p; uniques = us }))))))) ≡ Some t
 parts_table namespace name columns primary uniques t in_namespace named has_columns has_primary has_uniques =
@@ -99,51 +105,44 @@ parts_table namespace name columns primary uniques t in_namespace named has_colu
     ∙ ap (λ o. o >>= (λ p. uniques >>= (λ us. Some (record { namespace = t.namespace; name = t.name; columns = t.columns; primary = p; uniques = us })))) has_primary
     ∙ ap (λ o. o >>= (λ us. Some (record { namespace = t.namespace; name = t.name; columns = t.columns; primary = t.primary; uniques = us }))) has_uniques
 
-table_in_read : (d : Data) (fields : Members) (t : Draft) → fields_of table_keys d ≡ Some fields → table_in fields ≡ Some t → IsTable d t
-unfolding table_in
-table_in_read d fields t is e =
-    let own = fields_read table_keys d fields is in
+table_read : (d : Data) (t : TableDraft) → table_of d ≡ Some t → IsTable d t
+unfolding table_of table_in
+table_read d t e =
+    option_and_then_some table_in (fields_of table_keys d) t e (λ fields is made.
     let parts = table_parts (required name_of (get_member (codes "namespace") fields)) (required name_of (get_member (codes "name") fields)) (required (array_of column_of) (get_member (codes "column") fields))
-    (optional [] key_of (get_member (codes "primary") fields)) (optional [] (array_of key_of) (get_member (codes "unique") fields)) t e in
-    let namespace = field_read name_of fields (codes "namespace") t.namespace parts.0 in
-    let in_namespace = name_read namespace.0 t.namespace namespace.2 in
-    let name = field_read name_of fields (codes "name") t.name parts.1 in
-    let named = name_read name.0 t.name name.2 in
+    (optional [] key_of (get_member (codes "primary") fields)) (optional [] (array_of key_of) (get_member (codes "unique") fields)) t made in
+    let namespace = name_in fields (codes "namespace") t.namespace parts.0 in
+    let name = name_in fields (codes "name") t.name parts.1 in
     let columns = field_read (array_of column_of) fields (codes "column") t.columns parts.2 in
     record {
       fields = fields;
-      is_table = own.0;
-      only = own.1;
-      namespace = (namespace.0, namespace.1, in_namespace.0);
-      is_namespace = in_namespace.1;
-      name = (name.0, name.1, named.0);
-      is_name = named.1;
+      has_fields = fields_read table_keys d fields is;
+      namespace = namespace.0;
+      is_namespace = namespace.1;
+      name = name.0;
+      is_name = name.1;
       columns = (columns.0, columns.1, array_read column_of IsColumn column_read columns.0 t.columns columns.2);
       no_primary = λ none. missing_read key_of fields (codes "primary") [] t.primary parts.3 none;
       primary = λ d at. key_read d t.primary (present_read key_of fields (codes "primary") [] t.primary d parts.3 at);
       no_unique = λ none. missing_read (array_of key_of) fields (codes "unique") [] t.uniques parts.4 none;
       unique = λ d at. array_read key_of IsKey key_read d t.uniques (present_read (array_of key_of) fields (codes "unique") [] t.uniques d parts.4 at);
-    }
+    })
 
-table_read : (d : Data) (t : Draft) → table_of d ≡ Some t → IsTable d t
-unfolding table_of
-table_read d t e = option_and_then_some table_in (fields_of table_keys d) t e (λ fields is made. table_in_read d fields t is made)
-
-table_from : (d : Data) (t : Draft) → IsTable d t → table_of d ≡ Some t
+table_from : (d : Data) (t : TableDraft) → IsTable d t → table_of d ≡ Some t
 unfolding table_of table_in
 table_from d t is =
-    ap (λ o. o >>= table_in) (fields_from table_keys d is.fields is.is_table is.only)
+    ap (λ o. o >>= table_in) (fields_from table_keys d is.fields is.has_fields)
     ∙ parts_table (required name_of (get_member (codes "namespace") is.fields)) (required name_of (get_member (codes "name") is.fields)) (required (array_of column_of) (get_member (codes "column") is.fields))
     (optional [] key_of (get_member (codes "primary") is.fields)) (optional [] (array_of key_of) (get_member (codes "unique") is.fields)) t
-    (field_from name_of is.fields (codes "namespace") is.namespace.0 t.namespace is.namespace.1 (name_from is.namespace.0 t.namespace is.namespace.2 is.is_namespace))
-    (field_from name_of is.fields (codes "name") is.name.0 t.name is.name.1 (name_from is.name.0 t.name is.name.2 is.is_name))
+    (in_name is.fields (codes "namespace") t.namespace is.namespace is.is_namespace)
+    (in_name is.fields (codes "name") t.name is.name is.is_name)
     (field_from (array_of column_of) is.fields (codes "column") is.columns.0 t.columns is.columns.1 (array_from column_of IsColumn column_from is.columns.0 t.columns is.columns.2))
     (optional_from key_of is.fields (codes "primary") [] t.primary is.no_primary (λ d at. key_from d t.primary (is.primary d at)))
     (optional_from (array_of key_of) is.fields (codes "unique") [] t.uniques is.no_unique (λ d at. array_from key_of IsKey key_from d t.uniques (is.unique d at)))
 
 -- ---- documents
 
-pub document_read : (doc : Members) (ts : List Draft) → tables_of doc ≡ Some ts → Describes doc ts
+pub document_read : (doc : Members) (ts : List TableDraft) → tables_of doc ≡ Some ts → Describes doc ts
 unfolding tables_of
 document_read doc ts e =
     let parts = provided_some (has_only (codes "table" ∷ []) doc) (optional [] (array_of table_of) (get_member (codes "table") doc)) ts e in
@@ -153,7 +152,7 @@ document_read doc ts e =
       tables = λ d at. array_read table_of IsTable table_read d ts (present_read (array_of table_of) doc (codes "table") [] ts d parts.1 at);
     }
 
-pub document_from : (doc : Members) (ts : List Draft) → Describes doc ts → tables_of doc ≡ Some ts
+pub document_from : (doc : Members) (ts : List TableDraft) → Describes doc ts → tables_of doc ≡ Some ts
 unfolding tables_of
 document_from doc ts is =
     ap (λ b. provided b (optional [] (array_of table_of) (get_member (codes "table") doc))) (test_from_only (codes "table" ∷ []) doc is.only)

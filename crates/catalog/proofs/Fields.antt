@@ -13,12 +13,12 @@ use Rattle.std.proofs.lemmas.List.Folds.{list_any_at}
 use Rattle.std.proofs.lemmas.Map.Text.{is_eq-slice_cmp}
 use Rattle.std.proofs.lemmas.Option.{option_and_then_some, same_Some, slice_get_within, get_or_from_slice_get}
 use Rattle.std.proofs.lemmas.Slice.Eq.{bytes_eq-Decides}
-use Rattle.toml.specs.Data.{Data, string, integer, boolean, float, datetime, array, table, Items, no_items, item, get_item, Members, no_members, member, get_member, as_str, as_array, as_table}
+use Rattle.toml.specs.Data.{Data, string, integer, array, table, Items, no_items, item, get_item, Members, no_members, member, get_member, as_str, as_array, as_table}
 use Rattle.model.specs.declared.table_def.ColumnType.{ColumnType}
 use Rattle.model.specs.declared.table_def.ColumnType.TheVariants.{Int, Text, Bool as Truth}
 use Rattle.catalog.specs.declared.draft.DefaultDraft.{DefaultDraft}
 use Rattle.catalog.specs.Document.{◌>>=◌, provided, each, array_of, required, optional, has_only, fields_of, is_name, name_of, type_named, type_of, given}
-use Rattle.catalog.specs.Laws.{HasOnly, IsArrayOf, IsName, IsString, word_of, Defaults}
+use Rattle.catalog.specs.Laws.{HasOnly, HasFields, IsArrayOf, IsName, IsString, word_of, Defaults}
 use Rattle.catalog.proofs.Places.{list_any_finds}
 
 -- ---- names of fields
@@ -81,30 +81,15 @@ provided_from false x e = cc
 
 is_string : (d : Data) (text : List ℕ) → as_str d ≡ Some text → d ≡ string text
 is_string (string s) text e = ap string (same_Some _ _ e)
-is_string (integer n) text e = cc
-is_string (float x) text e = cc
-is_string (boolean b) text e = cc
-is_string (datetime x) text e = cc
-is_string (array ds) text e = cc
-is_string (table ms) text e = cc
+is_string d text e = cc
 
 is_array : (d : Data) (ds : Items) → as_array d ≡ Some ds → d ≡ array ds
 is_array (array s) ds e = ap array (same_Some _ _ e)
-is_array (integer n) ds e = cc
-is_array (float x) ds e = cc
-is_array (boolean b) ds e = cc
-is_array (datetime x) ds e = cc
-is_array (string s) ds e = cc
-is_array (table ms) ds e = cc
+is_array d ds e = cc
 
 is_table : (d : Data) (ms : Members) → as_table d ≡ Some ms → d ≡ table ms
 is_table (table s) ms e = ap table (same_Some _ _ e)
-is_table (integer n) ms e = cc
-is_table (float x) ms e = cc
-is_table (boolean b) ms e = cc
-is_table (datetime x) ms e = cc
-is_table (string s) ms e = cc
-is_table (array ds) ms e = cc
+is_table d ms e = cc
 
 pub string_read : (d : Data) (text : List ℕ) → as_str d ≡ Some text → IsString d text
 string_read d text e = is_string d text e
@@ -113,14 +98,17 @@ pub string_from : (d : Data) (text : List ℕ) → IsString d text → as_str d 
 string_from d text is = ap as_str is
 
 -- the fields of a table with no others
-pub fields_read : (names : List (List ℕ)) (d : Data) (ms : Members) → fields_of names d ≡ Some ms → (d ≡ table ms) × HasOnly names ms
+pub fields_read : (names : List (List ℕ)) (d : Data) (ms : Members) → fields_of names d ≡ Some ms → HasFields names d ms
 fields_read names d ms e =
     option_and_then_some (λ fields. provided (has_only names fields) (Some fields)) (as_table d) ms e (λ fields is given.
     let parts = provided_gives (has_only names fields) fields ms given in
-    (is_table d ms (is ∙ ap Some parts.1), only_from_test names ms (ap (has_only names) (sym parts.1) ∙ parts.0)))
+    record {
+      is_table = is_table d ms (is ∙ ap Some parts.1);
+      only = only_from_test names ms (ap (has_only names) (sym parts.1) ∙ parts.0);
+    })
 
-pub fields_from : (names : List (List ℕ)) (d : Data) (ms : Members) → d ≡ table ms → HasOnly names ms → fields_of names d ≡ Some ms
-fields_from names d ms is only = ap (fields_of names) is ∙ provided_from (has_only names ms) ms (test_from_only names ms only)
+pub fields_from : (names : List (List ℕ)) (d : Data) (ms : Members) → HasFields names d ms → fields_of names d ≡ Some ms
+fields_from names d ms own = ap (fields_of names) own.is_table ∙ provided_from (has_only names ms) ms (test_from_only names ms own.only)
 
 -- ---- names and types
 
@@ -174,21 +162,11 @@ type_from d kind is = ap type_of is ∙ type_of_word kind
 
 pub given_defaults : (d : Data) → Defaults d (given d)
 given_defaults (integer n) = refl
-given_defaults (string s) = refl
-given_defaults (boolean b) = refl
-given_defaults (float x) = refl
-given_defaults (datetime x) = refl
-given_defaults (array ds) = refl
-given_defaults (table ms) = refl
+given_defaults _ = refl
 
 pub defaults_given : (d : Data) (default : DefaultDraft) → Defaults d default → default ≡ given d
 defaults_given (integer n) default e = e
-defaults_given (string s) default e = e
-defaults_given (boolean b) default e = e
-defaults_given (float x) default e = e
-defaults_given (datetime x) default e = e
-defaults_given (array ds) default e = e
-defaults_given (table ms) default e = e
+defaults_given _ default e = e
 
 -- ---- arrays
 

@@ -7,7 +7,7 @@ use Rattle.toml.specs.Data.{Data, Items, no_items, item, Members, as_str, as_arr
 use Rattle.model.specs.declared.table_def.ColumnType.{ColumnType}
 use Rattle.catalog.specs.declared.draft.DefaultDraft.{DefaultDraft}
 use Rattle.catalog.specs.declared.draft.ColumnDraft.{ColumnDraft}
-use Rattle.catalog.specs.Draft.{Draft}
+use Rattle.catalog.specs.declared.draft.TableDraft.{TableDraft}
 use Rattle.catalog.specs.Document.{each, array_of, required, optional, provided, has_only, is_name, name_of, type_of, column_of, column_in, column_keys, key_of, default_of, table_in, table_keys, fields_of, table_of, tables_of}
 
 -- what holds of each that f reads holds of all that are read
@@ -53,12 +53,12 @@ column_of_is_named d c h =
     column_is_named (required name_of (get_member (codes "name") ms)) (required type_of (get_member (codes "type") ms)) (default_of (get_member (codes "default") ms)) c is (required_name (get_member (codes "name") ms)))
 
 -- the names of a table and of its columns are names
-pub record IsNamed (t : Draft) : Type 0 where
+pub record IsNamed (t : TableDraft) : Type 0 where
   pub namespace_named : is_name t.namespace ≡ true
   pub named : is_name t.name ≡ true
   pub columns_named : All (λ c. is_name c.name ≡ true) t.columns
 
-table_is_named : (namespace name : Option (List ℕ)) (columns : Option (List ColumnDraft)) (primary : Option (List (List ℕ))) (uniques : Option (List (List (List ℕ)))) (t : Draft)
+table_is_named : (namespace name : Option (List ℕ)) (columns : Option (List ColumnDraft)) (primary : Option (List (List ℕ))) (uniques : Option (List (List (List ℕ)))) (t : TableDraft)
     → option_and_then (λ ns. option_and_then (λ n. option_and_then (λ cs. option_and_then (λ p. option_and_then (λ us.
     Some (record { namespace = ns; name = n; columns = cs; primary = p; uniques = us })) uniques) primary) columns) name) namespace ≡ Some t
     → ((text : List ℕ) → namespace ≡ Some text → is_name text ≡ true)
@@ -78,7 +78,7 @@ columns_are_named : (o : Option Data) (cs : List ColumnDraft) → required (arra
 columns_are_named None cs h = cc
 columns_are_named (Some d) cs h = array_keeps column_of (λ c. is_name c.name ≡ true) column_of_is_named d cs h
 
-pub table_of_is_named : (d : Data) (t : Draft) → table_of d ≡ Some t → IsNamed t
+pub table_of_is_named : (d : Data) (t : TableDraft) → table_of d ≡ Some t → IsNamed t
 unfolding table_of table_in
 table_of_is_named d t h =
     option_and_then_some table_in (fields_of table_keys d) t h (λ ms _ is.
@@ -86,11 +86,11 @@ table_of_is_named d t h =
     (optional [] key_of (get_member (codes "primary") ms)) (optional [] (array_of key_of) (get_member (codes "unique") ms)) t is
     (required_name (get_member (codes "namespace") ms)) (required_name (get_member (codes "name") ms)) (columns_are_named (get_member (codes "column") ms)))
 
-optional_keeps : (o : Option Data) (ts : List Draft) → optional [] (array_of table_of) o ≡ Some ts → All IsNamed ts
+optional_keeps : (o : Option Data) (ts : List TableDraft) → optional [] (array_of table_of) o ≡ Some ts → All IsNamed ts
 optional_keeps None ts h = let e : [] ≡ ts = same_Some _ _ h in rw (← e) (All-nil IsNamed)
 optional_keeps (Some d) ts h = array_keeps table_of IsNamed table_of_is_named d ts h
 
-pub tables_of_are_named : (doc : Members) (ts : List Draft) → tables_of doc ≡ Some ts → All IsNamed ts
+pub tables_of_are_named : (doc : Members) (ts : List TableDraft) → tables_of doc ≡ Some ts → All IsNamed ts
 unfolding tables_of
 tables_of_are_named doc ts h =
     optional_keeps _ ts (provided_some (has_only (codes "table" ∷ []) doc) (optional [] (array_of table_of) (get_member (codes "table") doc)) ts h).1

@@ -1,7 +1,7 @@
 -- What tests over a list say of what stands in its places.
-use Rattle.std.proofs.Common.{◌≡◌, ℕ, zero, suc, ◌<◌, ◌≤◌, Bool, true, false, ◌||◌, ◌&&◌, cond, ltb, List, [], ◌∷◌, length, get_or, Option, Some, None, refl, sym, ap, ◌∙◌, arith}
+use Rattle.std.proofs.Common.{◌≡◌, ℕ, zero, suc, ◌<◌, ◌≤◌, Bool, true, false, not, ◌||◌, ◌&&◌, cond, ltb, List, [], ◌∷◌, length, get_or, Option, Some, None, refl, sym, ap, ◌∙◌, arith}
 use Rattle.std.specs.List.{slice_get, position, position_or_len, list_any, list_all}
-use Rattle.std.proofs.lemmas.Bool.{or_parts, and_parts, false≢true, ltb-false}
+use Rattle.std.proofs.lemmas.Bool.{or_parts, and_parts, not-true, false≢true, ltb-false}
 use Rattle.std.proofs.lemmas.Option.{slice_get-get_or, slice_get_within, get_or_from_slice_get, same_Some}
 use Rattle.std.proofs.lemmas.List.Quantifiers.{position-Some}
 use Rattle.std.proofs.lemmas.List.Sums.{fails_before_first}
@@ -71,12 +71,17 @@ module _ {A : Type 0} (p : A → Bool) where
   list_all_passes (y ∷ ys) zero x all at = ap p (sym (same_Some y x at)) ∙ (and_parts (p y) (list_all p ys) all).0
   list_all_passes (y ∷ ys) (suc k) x all at = list_all_passes ys k x (and_parts (p y) (list_all p ys) all).1 at
 
-  pub list_all_fails : (xs : List A) → list_all p xs ≡ false → (k : ℕ) × (x : A) × (slice_get xs k ≡ Some x) × (p x ≡ false)
-  list_all_fails [] e = cc
-  list_all_fails (y ∷ ys) e = here (p y) refl (list_all_fails ys)
-    where
-      here : (b : Bool) → p y ≡ b → (list_all p ys ≡ false → (k : ℕ) × (x : A) × (slice_get ys k ≡ Some x) × (p x ≡ false)) → (k : ℕ) × (x : A) × (slice_get (y ∷ ys) k ≡ Some x) × (p x ≡ false)
-      here false is later = (0, y, refl, is)
-      here true is later =
-          let rest = later (ap (λ b. b && list_all p ys) (sym is) ∙ e) in
-          (suc rest.0, rest.1, rest.2, rest.3)
+-- ---- not all
+
+not_and : (a b : Bool) → not (a && b) ≡ (not a || not b)
+not_and true b = refl
+not_and false b = refl
+
+not_all : {A : Type 0} (p : A → Bool) (xs : List A) → not (list_all p xs) ≡ list_any (λ x. not (p x)) xs
+not_all p [] = refl
+not_all p (y ∷ ys) = not_and (p y) (list_all p ys) ∙ ap (λ b. not (p y) || b) (not_all p ys)
+
+pub list_all_fails : {A : Type 0} (p : A → Bool) (xs : List A) → list_all p xs ≡ false → (k : ℕ) × (x : A) × (slice_get xs k ≡ Some x) × (p x ≡ false)
+list_all_fails p xs e =
+    let found = list_any_finds (λ x. not (p x)) xs (sym (not_all p xs) ∙ ap not e) in
+    (found.0, found.1, found.2, not-true _ found.3)

@@ -17,7 +17,7 @@ use Rattle.catalog.specs.declared.draft.DefaultDraft.{DefaultDraft}
 use Rattle.catalog.specs.declared.draft.DefaultDraft.TheVariants.{Missing, Given, OtherKind}
 use Rattle.catalog.specs.declared.draft.ColumnDraft.{ColumnDraft}
 use Rattle.catalog.specs.declared.fault.CatalogFault.{CatalogFault}
-use Rattle.catalog.specs.Draft.{Draft}
+use Rattle.catalog.specs.declared.draft.TableDraft.{TableDraft}
 use Rattle.catalog.specs.Document.{is_name, tables_of}
 use Rattle.catalog.specs.Faults.{repeats, is_empty, same_table, same_column, repeats_column, lacks_primary, has_column, names_columns, is_unknown_unique, has_unknown_key, is_of_type, is_bad_default, has_bad_default, is_over_limit, are_over_limit, first_fault}
 use Rattle.catalog.specs.Definitions.{column_from, value_given, default_from, column_number, key_from, definition_from}
@@ -70,7 +70,7 @@ defaults_fit (c ∷ cs) h =
     (default_fits c.kind c.name c.default here, defaults_fit cs more)
 
 -- no fault applies to a table
-record IsFaultless (t : Draft) : Type 0 where
+record IsFaultless (t : TableDraft) : Type 0 where
   columns_distinct : repeats_column t ≡ false
   has_primary : lacks_primary t ≡ false
   keys_known : has_unknown_key t ≡ false
@@ -82,7 +82,7 @@ unique_is_valid columns names h =
     let (some, known) = or_parts (is_empty names) (not (names_columns columns names)) h in
     key_is_valid columns names some (not_true (names_columns columns names) known)
 
-table_is_valid : (t : Draft) → IsNamed t → IsFaultless t → IsValidTable (definition_from t)
+table_is_valid : (t : TableDraft) → IsNamed t → IsFaultless t → IsValidTable (definition_from t)
 table_is_valid t names faultless =
     let (primary, uniques) = or_parts (not (names_columns t.columns t.primary)) (list_any (is_unknown_unique t.columns) t.uniques) faultless.keys_known in
     let (few_columns, few_uniques) = or_parts (nat_lt 1600 (length t.columns)) (nat_lt 16 (length t.uniques)) faultless.within_limit in
@@ -100,7 +100,7 @@ table_is_valid t names faultless =
     }
 
 -- no fault applies to the tables
-record AreFaultless (ts : List Draft) : Type 0 where
+record AreFaultless (ts : List TableDraft) : Type 0 where
   distinct : repeats same_table ts ≡ false
   each : All IsFaultless ts
   within_limit : nat_lt 1024 (length ts) ≡ false
@@ -109,7 +109,7 @@ passed : (b : Bool) (fault : CatalogFault) (others : Option CatalogFault) → co
 passed true fault others h = cc
 passed false fault others h = (refl, h)
 
-are_faultless : (ts : List Draft) → first_fault ts ≡ None → AreFaultless ts
+are_faultless : (ts : List TableDraft) → first_fault ts ≡ None → AreFaultless ts
 unfolding first_fault
 are_faultless ts h =
     let (tables, h1) = passed (repeats same_table ts) _ _ h in
@@ -131,13 +131,13 @@ are_faultless ts h =
       within_limit = few;
     }
 
-tables_apart : (t u : Draft) → same_table t u ≡ false → t.namespace ≡ u.namespace → t.name ≢ u.name
+tables_apart : (t u : TableDraft) → same_table t u ≡ false → t.namespace ≡ u.namespace → t.name ≢ u.name
 tables_apart t u apart same_namespace same_name =
     let e1 : bytes_eq t.namespace u.namespace ≡ true = (bytes_eq-Decides t.namespace u.namespace).1 same_namespace in
     let e2 : bytes_eq t.name u.name ≡ true = (bytes_eq-Decides t.name u.name).1 same_name in
     false≢true (sym apart ∙ rw (e1, e2))
 
-are_valid : (ts : List Draft) → All IsNamed ts → first_fault ts ≡ None → IsValid (map definition_from ts)
+are_valid : (ts : List TableDraft) → All IsNamed ts → first_fault ts ≡ None → IsValid (map definition_from ts)
 are_valid ts names h =
     let faultless = are_faultless ts h in
     let few = faultless.within_limit in
@@ -147,13 +147,13 @@ are_valid ts names h =
       tables_limit = rw length-map (grind (arith, nat_tests));
     }
 
-from_fault : (ts : List Draft) → All IsNamed ts → (fault : Option CatalogFault) → first_fault ts ≡ fault → (c : List Definition) → catalog_from ts fault ≡ Ok c → IsValid c
+from_fault : (ts : List TableDraft) → All IsNamed ts → (fault : Option CatalogFault) → first_fault ts ≡ fault → (c : List Definition) → catalog_from ts fault ≡ Ok c → IsValid c
 from_fault ts names (Some fault) is c h = cc
 from_fault ts names None is c h =
     let e : map definition_from ts ≡ c = cc in
     subst IsValid e (are_valid ts names is)
 
-from_tables : (doc : Members) (ts : Option (List Draft)) → tables_of doc ≡ ts → (c : List Definition) → catalog_of_tables ts ≡ Ok c → IsValid c
+from_tables : (doc : Members) (ts : Option (List TableDraft)) → tables_of doc ≡ ts → (c : List Definition) → catalog_of_tables ts ≡ Ok c → IsValid c
 from_tables doc None is c h = cc
 from_tables doc (Some ts) is c h = from_fault ts (tables_of_are_named doc ts is) (first_fault ts) refl c h
 

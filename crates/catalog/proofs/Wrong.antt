@@ -1,5 +1,5 @@
 -- What the tests of tables find wrong is what is wrong with them.
-use Rattle.std.proofs.Common.{◌≡◌, ℕ, zero, suc, ◌<◌, ◌≤◌, ◌⊎◌, ⊎_elim, inl, inr, Bool, true, false, not, List, [], ◌∷◌, length, Option, Some, None, refl, sym, ◌∙◌, subst, arith}
+use Rattle.std.proofs.Common.{◌≡◌, ℕ, zero, suc, ◌<◌, ◌⊎◌, ⊎_elim, inl, inr, Bool, true, false, not, List, [], ◌∷◌, length, Option, Some, None, refl, sym, ◌∙◌, subst, arith}
 use Rattle.std.specs.Prelude.{if◌then◌else◌}
 use Rattle.std.specs.Bool.{Decides}
 use Rattle.std.specs.List.{list_any, list_all}
@@ -16,9 +16,10 @@ use Rattle.catalog.specs.declared.draft.DefaultDraft.{DefaultDraft}
 use Rattle.catalog.specs.declared.draft.DefaultDraft.TheVariants.{Missing, Given, OtherKind}
 use Rattle.catalog.specs.declared.draft.ColumnDraft.{ColumnDraft}
 use Rattle.catalog.specs.declared.fault.CatalogFault.{CatalogFault}
-use Rattle.catalog.specs.declared.fault.CatalogFault.TheVariants.{NotToml, UnknownField, DuplicateTable, DuplicateColumn, NoPrimaryKey, KeyColumnUnknown, BadDefault, OverLimit, OutOfMemory}
-use Rattle.catalog.specs.Draft.{Draft}
+use Rattle.catalog.specs.declared.fault.CatalogFault.TheVariants.{DuplicateTable, DuplicateColumn, NoPrimaryKey, KeyColumnUnknown, BadDefault, OverLimit}
+use Rattle.catalog.specs.declared.draft.TableDraft.{TableDraft}
 use Rattle.catalog.specs.First.{IsFirst}
+use Rattle.catalog.proofs.Firsts.{first_at}
 use Rattle.catalog.specs.Faults.{repeats, is_empty, same_table, same_column, repeats_column, lacks_primary, has_column, names_columns, is_unknown_unique, has_unknown_key, is_of_type, is_bad_default, has_bad_default, is_over_limit, first_fault}
 use Rattle.catalog.specs.Laws.{SomeTwo, SomeOne, IsUnknownKey, IsOfType, IsWrongDefault, IsTablesFault, order}
 use Rattle.catalog.proofs.Places.{list_any_finds, list_any_lacks, list_all_passes, list_all_fails}
@@ -101,7 +102,7 @@ empty_decides (x ∷ xs) = (λ e. absurd (omega (arith, eqb-true (length (x ∷ 
 unique_unknown : (columns : List ColumnDraft) (names : List (List ℕ)) → Decides (is_unknown_unique columns names) ((names ≡ []) ⊎ IsUnknownKey columns names)
 unique_unknown columns names = Decides-or _ _ (empty_decides names) (key_unknown columns names)
 
-table_key_unknown : (t : Draft) → Decides (has_unknown_key t) (IsUnknownKey t.columns t.primary ⊎ SomeOne t.uniques (λ key. (key ≡ []) ⊎ IsUnknownKey t.columns key))
+table_key_unknown : (t : TableDraft) → Decides (has_unknown_key t) (IsUnknownKey t.columns t.primary ⊎ SomeOne t.uniques (λ key. (key ≡ []) ⊎ IsUnknownKey t.columns key))
 table_key_unknown t =
     Decides-or _ _ (key_unknown t.columns t.primary)
     (some_one (is_unknown_unique t.columns) (λ key. (key ≡ []) ⊎ IsUnknownKey t.columns key) (unique_unknown t.columns) t.uniques)
@@ -133,12 +134,12 @@ default_wrong name kind (Given value) = (
 )
 default_wrong name kind OtherKind = (λ e. inl refl, λ wrong. refl)
 
-table_default_wrong : (t : Draft) → Decides (has_bad_default t) (SomeOne t.columns (λ c. IsWrongDefault c.kind c.default))
+table_default_wrong : (t : TableDraft) → Decides (has_bad_default t) (SomeOne t.columns (λ c. IsWrongDefault c.kind c.default))
 table_default_wrong t = some_one is_bad_default (λ c. IsWrongDefault c.kind c.default) (λ c. default_wrong c.name c.kind c.default) t.columns
 
 -- ---- tables
 
-tables_same : (t u : Draft) → Decides (same_table t u) ((t.namespace ≡ u.namespace) × (t.name ≡ u.name))
+tables_same : (t u : TableDraft) → Decides (same_table t u) ((t.namespace ≡ u.namespace) × (t.name ≡ u.name))
 tables_same t u = (
   λ e.
       let parts = and_parts (bytes_eq t.namespace u.namespace) (bytes_eq t.name u.name) e in
@@ -146,44 +147,17 @@ tables_same t u = (
   λ is. and_from _ _ ((bytes_eq-Decides t.namespace u.namespace).1 is.0) ((bytes_eq-Decides t.name u.name).1 is.1),
 )
 
-column_twice : (t : Draft) → Decides (repeats_column t) (SomeTwo t.columns (λ c d. c.name ≡ d.name))
+column_twice : (t : TableDraft) → Decides (repeats_column t) (SomeTwo t.columns (λ c d. c.name ≡ d.name))
 column_twice t = some_two same_column (λ c d. c.name ≡ d.name) (λ c d. bytes_eq-Decides c.name d.name) t.columns
 
-over_limit : (t : Draft) → Decides (is_over_limit t) ((1600 < length t.columns) ⊎ (16 < length t.uniques))
+over_limit : (t : TableDraft) → Decides (is_over_limit t) ((1600 < length t.columns) ⊎ (16 < length t.uniques))
 over_limit t = Decides-or _ _ (Decides-ltb 1600 (length t.columns)) (Decides-ltb 16 (length t.uniques))
 
-module _ (ts : List Draft) where
+module _ (ts : List TableDraft) where
   -- what the first fault tells, or that there is none
   abbrev pub Stands : Option CatalogFault → Type 0
   Stands None = (fault : CatalogFault) → ¬ (IsTablesFault ts fault)
   Stands (Some fault) = IsFirst order (IsTablesFault ts) fault
-
-  none_below : (limit : ℕ) → (3 < limit → ¬ (IsTablesFault ts DuplicateTable)) → (4 < limit → ¬ (IsTablesFault ts DuplicateColumn)) → (5 < limit → ¬ (IsTablesFault ts NoPrimaryKey))
-      → (6 < limit → ¬ (IsTablesFault ts KeyColumnUnknown)) → (7 < limit → ¬ (IsTablesFault ts BadDefault)) → (8 < limit → ¬ (IsTablesFault ts OverLimit))
-      → (fault : CatalogFault) → order fault < limit → ¬ (IsTablesFault ts fault)
-  none_below limit table column primary key default over NotToml below applies = applies
-  none_below limit table column primary key default over UnknownField below applies = applies
-  none_below limit table column primary key default over DuplicateTable below applies = table below applies
-  none_below limit table column primary key default over DuplicateColumn below applies = column below applies
-  none_below limit table column primary key default over NoPrimaryKey below applies = primary below applies
-  none_below limit table column primary key default over KeyColumnUnknown below applies = key below applies
-  none_below limit table column primary key default over BadDefault below applies = default below applies
-  none_below limit table column primary key default over OverLimit below applies = over below applies
-  none_below limit table column primary key default over OutOfMemory below applies = applies
-
-  past : {P : Type 0} (number limit : ℕ) → limit ≤ number → number < limit → ¬ P
-  past number limit above below = absurd (omega (arith, above, below))
-
-  order_small : (fault : CatalogFault) → order fault < 10
-  order_small NotToml = omega arith
-  order_small UnknownField = omega arith
-  order_small DuplicateTable = omega arith
-  order_small DuplicateColumn = omega arith
-  order_small NoPrimaryKey = omega arith
-  order_small KeyColumnUnknown = omega arith
-  order_small BadDefault = omega arith
-  order_small OverLimit = omega arith
-  order_small OutOfMemory = omega arith
 
   fails : {P : Type 0} → Decides false P → ¬ P
   fails decides holds = false≢true (decides.1 holds)
@@ -193,32 +167,22 @@ module _ (ts : List Draft) where
       → Decides key (IsTablesFault ts KeyColumnUnknown) → Decides default (IsTablesFault ts BadDefault) → Decides over (IsTablesFault ts OverLimit)
       → Stands (if table then Some DuplicateTable else (if column then Some DuplicateColumn else (if primary then Some NoPrimaryKey
       else (if key then Some KeyColumnUnknown else (if default then Some BadDefault else (if over then Some OverLimit else None))))))
-  by_tests true column primary key default over a b c d e f = record {
-    applies = a.0 refl;
-    before = none_below 3 (past 3 3 (omega arith)) (past 4 3 (omega arith)) (past 5 3 (omega arith)) (past 6 3 (omega arith)) (past 7 3 (omega arith)) (past 8 3 (omega arith));
-  }
-  by_tests false true primary key default over a b c d e f = record {
-    applies = b.0 refl;
-    before = none_below 4 (λ _. fails a) (past 4 4 (omega arith)) (past 5 4 (omega arith)) (past 6 4 (omega arith)) (past 7 4 (omega arith)) (past 8 4 (omega arith));
-  }
-  by_tests false false true key default over a b c d e f = record {
-    applies = c.0 refl;
-    before = none_below 5 (λ _. fails a) (λ _. fails b) (past 5 5 (omega arith)) (past 6 5 (omega arith)) (past 7 5 (omega arith)) (past 8 5 (omega arith));
-  }
-  by_tests false false false true default over a b c d e f = record {
-    applies = d.0 refl;
-    before = none_below 6 (λ _. fails a) (λ _. fails b) (λ _. fails c) (past 6 6 (omega arith)) (past 7 6 (omega arith)) (past 8 6 (omega arith));
-  }
-  by_tests false false false false true over a b c d e f = record {
-    applies = e.0 refl;
-    before = none_below 7 (λ _. fails a) (λ _. fails b) (λ _. fails c) (λ _. fails d) (past 7 7 (omega arith)) (past 8 7 (omega arith));
-  }
-  by_tests false false false false false true a b c d e f = record {
-    applies = f.0 refl;
-    before = none_below 8 (λ _. fails a) (λ _. fails b) (λ _. fails c) (λ _. fails d) (λ _. fails e) (past 8 8 (omega arith));
-  }
-  by_tests false false false false false false a b c d e f = λ fault.
-      none_below 10 (λ _. fails a) (λ _. fails b) (λ _. fails c) (λ _. fails d) (λ _. fails e) (λ _. fails f) fault (order_small fault)
+  by_tests true column primary key default over a b c d e f = first_at order (IsTablesFault ts) 2 DuplicateTable refl (a.0 refl) (λ x. x, (λ x. x, tt))
+  by_tests false true primary key default over a b c d e f = first_at order (IsTablesFault ts) 3 DuplicateColumn refl (b.0 refl) (λ x. x, (λ x. x, (fails a, tt)))
+  by_tests false false true key default over a b c d e f = first_at order (IsTablesFault ts) 4 NoPrimaryKey refl (c.0 refl) (λ x. x, (λ x. x, (fails a, (fails b, tt))))
+  by_tests false false false true default over a b c d e f = first_at order (IsTablesFault ts) 5 KeyColumnUnknown refl (d.0 refl) (λ x. x, (λ x. x, (fails a, (fails b, (fails c, tt)))))
+  by_tests false false false false true over a b c d e f = first_at order (IsTablesFault ts) 6 BadDefault refl (e.0 refl) (λ x. x, (λ x. x, (fails a, (fails b, (fails c, (fails d, tt))))))
+  by_tests false false false false false true a b c d e f = first_at order (IsTablesFault ts) 7 OverLimit refl (f.0 refl) (λ x. x, (λ x. x, (fails a, (fails b, (fails c, (fails d, (fails e, tt)))))))
+  by_tests false false false false false false a b c d e f = none
+    where
+      none : (fault : CatalogFault) → ¬ (IsTablesFault ts fault)
+      none DuplicateTable = fails a
+      none DuplicateColumn = fails b
+      none NoPrimaryKey = fails c
+      none KeyColumnUnknown = fails d
+      none BadDefault = fails e
+      none OverLimit = fails f
+      none _ = λ x. x
 
   pub first_stands : Stands (first_fault ts)
   unfolding first_fault

@@ -5,18 +5,18 @@ use Rattle.toml.specs.Parse.{parse_document}
 use Rattle.model.specs.Definition.{Definition}
 use Rattle.catalog.specs.declared.fault.CatalogFault.{CatalogFault}
 use Rattle.catalog.specs.declared.fault.CatalogFault.TheVariants.{NotToml, UnknownField}
-use Rattle.catalog.specs.Draft.{Draft}
+use Rattle.catalog.specs.declared.draft.TableDraft.{TableDraft}
 use Rattle.catalog.specs.Document.{tables_of}
 use Rattle.catalog.specs.Faults.{first_fault}
 use Rattle.catalog.specs.Definitions.{definition_from}
 
 -- what the tables of a document make, unless a fault applies to them
-abbrev pub catalog_from : List Draft → Option CatalogFault → Result (List Definition) CatalogFault
+abbrev pub catalog_from : List TableDraft → Option CatalogFault → Result (List Definition) CatalogFault
 catalog_from ts (Some fault) = Err fault
 catalog_from ts None = Ok (map definition_from ts)
 
 -- the same of the tables that were read, if they could be
-abbrev pub catalog_of_tables : Option (List Draft) → Result (List Definition) CatalogFault
+abbrev pub catalog_of_tables : Option (List TableDraft) → Result (List Definition) CatalogFault
 catalog_of_tables None = Err UnknownField
 catalog_of_tables (Some ts) = catalog_from ts (first_fault ts)
 

@@ -8,7 +8,7 @@ use Rattle.model.specs.Definition.{Definition}
 use Rattle.catalog.specs.declared.draft.DefaultDraft.{DefaultDraft}
 use Rattle.catalog.specs.declared.draft.DefaultDraft.TheVariants.{Missing, Given, OtherKind}
 use Rattle.catalog.specs.declared.draft.ColumnDraft.{ColumnDraft}
-use Rattle.catalog.specs.Draft.{Draft}
+use Rattle.catalog.specs.declared.draft.TableDraft.{TableDraft}
 
 -- a column, with the name and the type that are described
 abbrev pub column_from : ColumnDraft → Column
@@ -33,7 +33,7 @@ abbrev pub key_from : List ColumnDraft → List (List ℕ) → List ℕ
 key_from columns names = map (column_number columns) names
 
 -- the definition of the table that is described
-abbrev pub definition_from : Draft → Definition
+abbrev pub definition_from : TableDraft → Definition
 definition_from t = record {
   namespace = t.namespace;
   name = t.name;

@@ -9,7 +9,7 @@ use Rattle.model.specs.declared.value.Value.TheVariants.{Int as IntValue, Text a
 use Rattle.catalog.specs.declared.draft.DefaultDraft.{DefaultDraft}
 use Rattle.catalog.specs.declared.draft.DefaultDraft.TheVariants.{Missing, Given, OtherKind}
 use Rattle.catalog.specs.declared.draft.ColumnDraft.{ColumnDraft}
-use Rattle.catalog.specs.Draft.{Draft}
+use Rattle.catalog.specs.declared.draft.TableDraft.{TableDraft}
 
 -- the next step with what the first gives, if it gives something
 infixl 10 ◌>>=◌
@@ -103,7 +103,7 @@ abbrev pub key_of : Data → Option (List (List ℕ))
 key_of = array_of as_str
 
 -- a table: `namespace`, `name` and `column`, and `primary` and `unique` where it has them
-unfoldable pub table_in : Members → Option Draft
+unfoldable pub table_in : Members → Option TableDraft
 table_in ms = do
   namespace ← required name_of (get_member (codes "namespace") ms)
   name ← required name_of (get_member (codes "name") ms)
@@ -123,11 +123,11 @@ abbrev pub table_keys : List (List ℕ)
 table_keys = codes "namespace" ∷ codes "name" ∷ codes "primary" ∷ codes "unique" ∷ codes "column" ∷ []
 
 -- a table, which has no other fields
-unfoldable pub table_of : Data → Option Draft
+unfoldable pub table_of : Data → Option TableDraft
 table_of d = fields_of table_keys d >>= table_in
 
 -- a document: the array `table`, and nothing else; without it there are no tables
-unfoldable pub tables_of : Members → Option (List Draft)
+unfoldable pub tables_of : Members → Option (List TableDraft)
 tables_of doc =
     provided (has_only (codes "table" ∷ []) doc)
     (optional [] (array_of table_of) (get_member (codes "table") doc))

@@ -11,7 +11,7 @@ use Rattle.catalog.specs.declared.draft.DefaultDraft.TheVariants.{Missing, Given
 use Rattle.catalog.specs.declared.draft.ColumnDraft.{ColumnDraft}
 use Rattle.catalog.specs.declared.fault.CatalogFault.{CatalogFault}
 use Rattle.catalog.specs.declared.fault.CatalogFault.TheVariants.{DuplicateTable, DuplicateColumn, NoPrimaryKey, KeyColumnUnknown, BadDefault, OverLimit}
-use Rattle.catalog.specs.Draft.{Draft}
+use Rattle.catalog.specs.declared.draft.TableDraft.{TableDraft}
 
 -- an element of the list is the same as a later one
 abbrev pub repeats : {A : Type 0} → (A → A → Bool) → List A → Bool
@@ -23,7 +23,7 @@ abbrev pub is_empty : {A : Type 0} → List A → Bool
 is_empty xs = length xs == 0
 
 -- the tables have one namespace and one name
-abbrev pub same_table : Draft → Draft → Bool
+abbrev pub same_table : TableDraft → TableDraft → Bool
 same_table t u = bytes_eq t.namespace u.namespace && bytes_eq t.name u.name
 
 -- the columns have one name
@@ -31,11 +31,11 @@ abbrev pub same_column : ColumnDraft → ColumnDraft → Bool
 same_column c d = bytes_eq c.name d.name
 
 -- two columns of the table have one name
-abbrev pub repeats_column : Draft → Bool
+abbrev pub repeats_column : TableDraft → Bool
 repeats_column t = repeats same_column t.columns
 
 -- the table has no primary key, or an empty one
-abbrev pub lacks_primary : Draft → Bool
+abbrev pub lacks_primary : TableDraft → Bool
 lacks_primary t = is_empty t.primary
 
 -- a column of the table has the name
@@ -51,7 +51,7 @@ abbrev pub is_unknown_unique : List ColumnDraft → List (List ℕ) → Bool
 is_unknown_unique columns names = is_empty names || not (names_columns columns names)
 
 -- a key of the table is not one of its columns, each once, or a unique key is empty
-abbrev pub has_unknown_key : Draft → Bool
+abbrev pub has_unknown_key : TableDraft → Bool
 has_unknown_key t = not (names_columns t.columns t.primary) || list_any (is_unknown_unique t.columns) t.uniques
 
 -- the value is one of the type
@@ -71,19 +71,19 @@ is_bad_default c = is_bad c.kind c.default
     is_bad kind OtherKind = true
 
 -- a default of the table is not of its column's type
-abbrev pub has_bad_default : Draft → Bool
+abbrev pub has_bad_default : TableDraft → Bool
 has_bad_default t = list_any is_bad_default t.columns
 
 -- the table has more than 1600 columns or 16 unique keys
-abbrev pub is_over_limit : Draft → Bool
+abbrev pub is_over_limit : TableDraft → Bool
 is_over_limit t = nat_lt 1600 (length t.columns) || nat_lt 16 (length t.uniques)
 
 -- there are more than 1024 tables, or one is over a limit
-abbrev pub are_over_limit : List Draft → Bool
+abbrev pub are_over_limit : List TableDraft → Bool
 are_over_limit ts = nat_lt 1024 (length ts) || list_any is_over_limit ts
 
 -- the least fault that applies to the tables, if one does
-unfoldable pub first_fault : List Draft → Option CatalogFault
+unfoldable pub first_fault : List TableDraft → Option CatalogFault
 first_fault ts =
     if repeats same_table ts then Some DuplicateTable
     else (if list_any repeats_column ts then Some DuplicateColumn

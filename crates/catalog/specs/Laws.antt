@@ -1,6 +1,6 @@
 -- The rules of a catalog's document as sentences: which field is there and what stands in which place of an array.
 -- `src/laws.rt` says that the definitions keep them.
-use Rattle.std.specs.Prelude.{◌≡◌, ◌≢◌, ◌⊎◌, ◌<◌, ℕ, ℤ, Bool, codes, List, [], ◌∷◌, length, Option, Some, None, slice_get, Contains}
+use Rattle.std.specs.Prelude.{◌≡◌, ◌≢◌, ◌↔◌, ◌⊎◌, ◌<◌, ℕ, ℤ, Bool, codes, List, [], ◌∷◌, length, Option, Some, None, Ok, slice_get, Contains}
 use Rattle.toml.specs.Data.{Data, string, integer, boolean, float, datetime, array, table, Items, get_item, Members, get_member}
 use Rattle.toml.specs.Parse.{parse_document}
 use Rattle.model.specs.declared.table_def.Column.{Column}
@@ -14,13 +14,21 @@ use Rattle.catalog.specs.declared.draft.DefaultDraft.TheVariants.{Missing, Given
 use Rattle.catalog.specs.declared.draft.ColumnDraft.{ColumnDraft}
 use Rattle.catalog.specs.declared.fault.CatalogFault.{CatalogFault}
 use Rattle.catalog.specs.declared.fault.CatalogFault.TheVariants.{NotToml, UnknownField, DuplicateTable, DuplicateColumn, NoPrimaryKey, KeyColumnUnknown, BadDefault, OverLimit, OutOfMemory}
-use Rattle.catalog.specs.Draft.{Draft}
+use Rattle.catalog.specs.declared.draft.TableDraft.{TableDraft}
+use Rattle.catalog.specs.Document.{tables_of}
+use Rattle.catalog.specs.Catalog.{catalog_of}
+use Rattle.catalog.specs.First.{IsRefusedFirst}
 
 -- ---- what a document says
 
 -- no field of the table has another name than these
 abbrev pub HasOnly : List (List ℕ) → Members → Type 0
 HasOnly names fields = (name : List ℕ) (value : Data) → get_member name fields ≡ Some value → Contains names name
+
+-- the value is a table with these fields, none of which has another name than these
+pub record HasFields (names : List (List ℕ)) (value : Data) (fields : Members) : Type 0 where
+  pub is_table : value ≡ table fields
+  pub only : HasOnly names fields
 
 -- the field of this name is there, and this holds of its value
 abbrev pub HasField : Members → List ℕ → (Data → Type 0) → Type 0
@@ -61,8 +69,7 @@ Defaults (table fields) default = default ≡ OtherKind
 -- the value is a table that describes this column
 pub record IsColumn (value : Data) (c : ColumnDraft) : Type 0 where
   pub fields : Members
-  pub is_table : value ≡ table fields
-  pub only : HasOnly (codes "name" ∷ codes "type" ∷ codes "default" ∷ []) fields
+  pub has_fields : HasFields (codes "name" ∷ codes "type" ∷ codes "default" ∷ []) value fields
   pub name : HasField fields (codes "name") (λ d. IsString d c.name)
   pub is_name : IsName c.name
   pub kind : HasField fields (codes "type") (λ d. IsString d (word_of c.kind))
@@ -74,10 +81,9 @@ abbrev pub IsKey : Data → List (List ℕ) → Type 0
 IsKey = IsArrayOf IsString
 
 -- the value is a table that describes this table of the catalog
-pub record IsTable (value : Data) (t : Draft) : Type 0 where
+pub record IsTable (value : Data) (t : TableDraft) : Type 0 where
   pub fields : Members
-  pub is_table : value ≡ table fields
-  pub only : HasOnly (codes "namespace" ∷ codes "name" ∷ codes "primary" ∷ codes "unique" ∷ codes "column" ∷ []) fields
+  pub has_fields : HasFields (codes "namespace" ∷ codes "name" ∷ codes "primary" ∷ codes "unique" ∷ codes "column" ∷ []) value fields
   pub namespace : HasField fields (codes "namespace") (λ d. IsString d t.namespace)
   pub is_namespace : IsName t.namespace
   pub name : HasField fields (codes "name") (λ d. IsString d t.name)
@@ -89,7 +95,7 @@ pub record IsTable (value : Data) (t : Draft) : Type 0 where
   pub unique : (d : Data) → get_member (codes "unique") fields ≡ Some d → IsArrayOf IsKey d t.uniques
 
 -- the document describes these tables
-pub record Describes (doc : Members) (ts : List Draft) : Type 0 where
+pub record Describes (doc : Members) (ts : List TableDraft) : Type 0 where
   pub only : HasOnly (codes "table" ∷ []) doc
   pub no_tables : get_member (codes "table") doc ≡ None → ts ≡ []
   pub tables : (d : Data) → get_member (codes "table") doc ≡ Some d → IsArrayOf IsTable d ts
@@ -123,7 +129,7 @@ IsWrongDefault kind default =
     (default ≡ OtherKind) ⊎ ((value : Value) × (default ≡ Given value) × (¬ (IsOfType kind value)))
 
 -- what is wrong with the tables that a document describes
-abbrev pub IsTablesFault : List Draft → CatalogFault → Type 0
+abbrev pub IsTablesFault : List TableDraft → CatalogFault → Type 0
 IsTablesFault ts DuplicateTable = SomeTwo ts (λ t u. (t.namespace ≡ u.namespace) × (t.name ≡ u.name))
 IsTablesFault ts DuplicateColumn = SomeOne ts (λ t. SomeTwo t.columns (λ c d. c.name ≡ d.name))
 IsTablesFault ts NoPrimaryKey = SomeOne ts (λ t. t.primary ≡ [])
@@ -141,30 +147,24 @@ IsTablesFault ts OutOfMemory = ⊥
 abbrev pub IsTextFault : List ℕ → CatalogFault → Type 0
 IsTextFault text NotToml = parse_document text ≡ None
 IsTextFault text UnknownField =
-    (doc : Members) × (parse_document text ≡ Some doc) × ((ts : List Draft) → ¬ (Describes doc ts))
+    (doc : Members) × (parse_document text ≡ Some doc) × ((ts : List TableDraft) → ¬ (Describes doc ts))
 IsTextFault text fault =
-    (doc : Members) × (ts : List Draft) × (parse_document text ≡ Some doc) × Describes doc ts × IsTablesFault ts fault
+    (doc : Members) × (ts : List TableDraft) × (parse_document text ≡ Some doc) × Describes doc ts × IsTablesFault ts fault
 
--- the order of faults: the first that applies is answered
-abbrev pub order : CatalogFault → ℕ
-order NotToml = 1
-order UnknownField = 2
-order DuplicateTable = 3
-order DuplicateColumn = 4
-order NoPrimaryKey = 5
-order KeyColumnUnknown = 6
-order BadDefault = 7
-order OverLimit = 8
-order OutOfMemory = 9
+-- the faults in their order: the first that applies is answered
+abbrev pub order : List CatalogFault
+order = NotToml ∷ UnknownField ∷ DuplicateTable ∷ DuplicateColumn ∷ NoPrimaryKey ∷ KeyColumnUnknown ∷ BadDefault ∷ OverLimit ∷ OutOfMemory ∷ []
 
 -- ---- what a catalog has
 
+-- the second list has as many elements as the first, and R holds of the two in each place
+pub record IsEach {A B : Type 0} (R : A → B → Type 0) (xs : List A) (ys : List B) : Type 0 where
+  pub count : length ys ≡ length xs
+  pub each : (place : ℕ) (x : A) → slice_get xs place ≡ Some x → (y : B) × (slice_get ys place ≡ Some y) × R x y
+
 -- the k-th number of a key is that of a column of the k-th name
-pub record NamesKey (columns : List Column) (names : List (List ℕ)) (key : List ℕ) : Type 0 where
-  pub width : length key ≡ length names
-  pub columns_named : (k : ℕ) (name : List ℕ) → slice_get names k ≡ Some name
-      → (number : ℕ) × (c : Column)
-      × (slice_get key k ≡ Some number) × (slice_get columns number ≡ Some c) × (c.name ≡ name)
+abbrev pub NamesKey : List Column → List (List ℕ) → List ℕ → Type 0
+NamesKey columns = IsEach (λ name number. (c : Column) × (slice_get columns number ≡ Some c) × (c.name ≡ name))
 
 -- the default that a column has: the one given, or null
 abbrev pub HasDefault : DefaultDraft → Option Value → Type 0
@@ -173,22 +173,30 @@ HasDefault (Given value) default = default ≡ Some value
 HasDefault OtherKind default = ⊥
 
 -- the definition has what the document says of the table
-pub record Defines (t : Draft) (d : Definition) : Type 0 where
+pub record Defines (t : TableDraft) (d : Definition) : Type 0 where
   pub namespace : d.namespace ≡ t.namespace
   pub name : d.name ≡ t.name
-  pub width : length d.columns ≡ length t.columns
-  pub columns : (number : ℕ) (c : ColumnDraft) → slice_get t.columns number ≡ Some c
-      → slice_get d.columns number ≡ Some (record { name = c.name; kind = c.kind })
-  pub defaults_width : length d.defaults ≡ length t.columns
-  pub defaults : (number : ℕ) (c : ColumnDraft) → slice_get t.columns number ≡ Some c
-      → (default : Option Value) × (slice_get d.defaults number ≡ Some default) × HasDefault c.default default
+  pub columns : IsEach (λ c column. column ≡ record { name = c.name; kind = c.kind }) t.columns d.columns
+  pub defaults : IsEach (λ c default. HasDefault c.default default) t.columns d.defaults
   pub primary : NamesKey d.columns t.primary d.primary
-  pub uniques_count : length d.uniques ≡ length t.uniques
-  pub uniques : (k : ℕ) (names : List (List ℕ)) → slice_get t.uniques k ≡ Some names
-      → (key : List ℕ) × (slice_get d.uniques k ≡ Some key) × NamesKey d.columns names key
+  pub uniques : IsEach (NamesKey d.columns) t.uniques d.uniques
 
 -- the catalog has the tables that the document describes, one by one
-pub record DefinesAll (ts : List Draft) (catalog : List Definition) : Type 0 where
-  pub count : length catalog ≡ length ts
-  pub each : (place : ℕ) (t : Draft) → slice_get ts place ≡ Some t
-      → (d : Definition) × (slice_get catalog place ≡ Some d) × Defines t d
+abbrev pub DefinesAll : List TableDraft → List Definition → Type 0
+DefinesAll = IsEach Defines
+
+-- ---- the laws
+
+-- a document is read as the tables that it describes, and as none if it describes none
+abbrev pub DocumentsAreReadAsDescribed : Type 0
+DocumentsAreReadAsDescribed = (doc : Members) (ts : List TableDraft) → (tables_of doc ≡ Some ts) ↔ Describes doc ts
+
+-- a text is refused for the first fault that applies, wherever in it the faults stand, and no other is refused
+abbrev pub TextsAreRefusedFirst : Type 0
+TextsAreRefusedFirst = (text : List ℕ) → IsRefusedFirst order (catalog_of text) (IsTextFault text)
+
+-- a catalog has, table by table, what the document describes
+abbrev pub CatalogsHaveWhatIsDescribed : Type 0
+CatalogsHaveWhatIsDescribed =
+    (text : List ℕ) (catalog : List Definition) → catalog_of text ≡ Ok catalog
+    → (doc : Members) × (ts : List TableDraft) × (parse_document text ≡ Some doc) × Describes doc ts × DefinesAll ts catalog

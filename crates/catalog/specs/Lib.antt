@@ -1,6 +1,5 @@
 pub mod Catalog
 pub mod Document
-pub mod Draft
 pub mod Faults
 pub mod Definitions
 pub mod Valid

@@ -57,10 +57,10 @@ impl Catalog {
         let Some(drafts) = read_tables(alloc, &document)? else {
             return Err(CatalogFault::UnknownField);
         };
-        if let Some(fault) = first_fault(drafts.as_slice()) {
+        if let Some(fault) = first_fault(drafts.items.as_slice()) {
             return Err(fault);
         }
-        let tables = define_tables(alloc, drafts.as_slice())?;
+        let tables = define_tables(alloc, drafts.items.as_slice())?;
         Ok(Catalog { tables })
     }
 

@@ -44,13 +44,15 @@ pub(crate) fn first_fault(tables: &[TableDraft]) -> Option<CatalogFault>
 fn some_repeats_column(tables: &[TableDraft]) -> bool
     ensures { result ≡ list_any repeats_column tables.now }
 {
-    tables.iter().any(|table| repeats(table.columns.as_slice()))
+    tables
+        .iter()
+        .any(|table| repeats(table.columns.items.as_slice()))
 }
 
 fn some_lacks_primary(tables: &[TableDraft]) -> bool
     ensures { result ≡ list_any lacks_primary tables.now }
 {
-    tables.iter().any(|table| table.primary.names.is_empty())
+    tables.iter().any(|table| table.primary.items.is_empty())
 }
 
 fn some_has_unknown_key(tables: &[TableDraft]) -> bool
@@ -62,8 +64,9 @@ fn some_has_unknown_key(tables: &[TableDraft]) -> bool
 fn has_unknown_key(table: &TableDraft) -> bool
     ensures { result ≡ has_unknown_key table.now }
 {
-    let columns = table.columns.as_slice();
-    !names_columns(columns, &table.primary) || has_unknown_unique(columns, table.uniques.as_slice())
+    let columns = table.columns.items.as_slice();
+    !names_columns(columns, &table.primary)
+        || has_unknown_unique(columns, table.uniques.items.as_slice())
 }
 
 fn has_unknown_unique(columns: &[ColumnDraft], keys: &[KeyDraft]) -> bool
@@ -75,14 +78,14 @@ fn has_unknown_unique(columns: &[ColumnDraft], keys: &[KeyDraft]) -> bool
 fn is_unknown_unique(columns: &[ColumnDraft], key: &KeyDraft) -> bool
     ensures { result ≡ is_unknown_unique columns.now key.now }
 {
-    key.names.is_empty() || !names_columns(columns, key)
+    key.items.is_empty() || !names_columns(columns, key)
 }
 
 /// Whether the names of a key are those of columns, and none stands twice.
 fn names_columns(columns: &[ColumnDraft], key: &KeyDraft) -> bool
     ensures { result ≡ names_columns columns.now key.now }
 {
-    let names = key.names.as_slice();
+    let names = key.items.as_slice();
     are_columns(columns, names) && !repeats(names)
 }
 
@@ -107,7 +110,7 @@ fn some_has_bad_default(tables: &[TableDraft]) -> bool
 fn has_bad_default(table: &TableDraft) -> bool
     ensures { result ≡ has_bad_default table.now }
 {
-    table.columns.iter().any(is_bad_default)
+    table.columns.items.iter().any(is_bad_default)
 }
 
 /// Whether a default is given that is no value of the column's type.
@@ -147,7 +150,7 @@ fn some_is_over_limit(tables: &[TableDraft]) -> bool
 fn is_over_limit(table: &TableDraft) -> bool
     ensures { result ≡ is_over_limit table.now }
 {
-    table.columns.len() > MAX_COLUMNS || table.uniques.len() > MAX_UNIQUES
+    table.columns.items.len() > MAX_COLUMNS || table.uniques.items.len() > MAX_UNIQUES
 }
 
 /// What is told apart by its name.

@@ -24,14 +24,14 @@ pub(crate) fn define_tables(
 fn define_table(alloc: Global, table: &TableDraft) -> Result<TableDef, OutOfMemory>
     ensures { IfOk result (λ t. t ≡ definition_from table.now) }
 {
-    let columns = table.columns.as_slice();
+    let columns = table.columns.items.as_slice();
     Ok(TableDef::new(
         table.namespace.clone()?,
         table.name.clone()?,
         define_columns(alloc, columns)?,
         define_defaults(alloc, columns)?,
         define_key(alloc, columns, &table.primary)?,
-        define_keys(alloc, columns, table.uniques.as_slice())?,
+        define_keys(alloc, columns, table.uniques.items.as_slice())?,
     ))
 }
 
@@ -91,7 +91,7 @@ fn define_key(
 ) -> Result<KeyColumns, OutOfMemory>
     ensures { IfOk result (λ k. k ≡ key_from columns.now key.now) }
 {
-    let names = key.names.as_slice();
+    let names = key.items.as_slice();
     let mut numbers = Vec::with_capacity(alloc, names.len())?;
     for name in names {
         numbers.push(column_number(columns, name))?;

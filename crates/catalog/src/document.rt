@@ -1,15 +1,15 @@
 // Reads the fields of a TOML document into drafts of tables. Each reader answers none where a field
 // is unknown, missing or of another kind, and fails for memory alone.
-ghost use Rattle.std.specs.Prelude.{◌≡◌, [], IfOk, map, option_map};
+ghost use Rattle.std.specs.Prelude.{◌≡◌, [], IfOk, Option, map, option_map};
 ghost use Rattle.std.specs.List.{list_any};
 ghost use Rattle.std.specs.Str.{bytes_eq};
-ghost use Rattle.toml.specs.Data.{get_member};
+ghost use Rattle.toml.specs.Data.{Data as Item, get_member};
 ghost use Rattle.toml.specs.View.{view, table_view};
-ghost use Rattle.catalog.specs.Document.{array_of, column_of, default_of, has_only, is_name, key_of, name_of, optional, required, table_of, tables_of, fields_of, type_named, type_of};
+ghost use Rattle.catalog.specs.Document.{array_of, column_of, default_of, has_only, is_name, key_of, name_of, optional, required, tables_of, fields_of, type_named, type_of};
 
-use crate::draft::{ColumnDraft, DefaultDraft, KeyDraft, TableDraft};
+use crate::draft::{ColumnDraft, DefaultDraft, KeyDraft, Listed, TableDraft};
 use bytes::ByteStr;
-use model::{ColumnType, OutOfMemory, Value};
+use model::{ColumnType, KeptText, OutOfMemory, Value};
 use std::alloc::Global;
 use toml::{Table, Value as Data};
 
@@ -22,108 +22,131 @@ const TABLE_FIELDS: [&str; 5] = ["namespace", "name", "primary", "unique", "colu
 pub(crate) fn read_tables(
     alloc: Global,
     document: &Table,
-) -> Result<Option<Vec<TableDraft>>, OutOfMemory>
-    ensures { IfOk result (λ ts. option_map (λ v. v.items) ts ≡ tables_of (table_view document.now)) }
+) -> Result<Option<Listed<TableDraft>>, OutOfMemory>
+    ensures { IfOk result (λ ts. ts ≡ tables_of (table_view document.now)) }
 {
     if !has_only(document, &["table"]) {
         return Ok(None);
     }
-    match member(document, "table") {
-        None => Ok(Some(Vec::new(alloc))),
-        Some(tables) => read_table_array(alloc, tables),
-    }
+    read_optional(alloc, document, "table")
 }
 
-fn read_table_array(alloc: Global, value: &Data) -> Result<Option<Vec<TableDraft>>, OutOfMemory>
-    ensures { IfOk result (λ ts. option_map (λ v. v.items) ts ≡ array_of table_of (view value.now)) }
+/// What an item of an array describes.
+trait Described: Sized {
+    ghost of: { Item → Option Self };
+
+    /// What the item describes.
+    fn read(alloc: Global, item: &Data) -> Result<Option<Self>, OutOfMemory>
+        ensures { IfOk result (λ described. described ≡ of (view item.now)) };
+}
+
+/// An array, item by item.
+fn read_array<T: Described + Drop>(
+    alloc: Global,
+    value: &Data,
+) -> Result<Option<Listed<T>>, OutOfMemory>
+    ensures { IfOk result (λ array. array ≡ array_of T.of (view value.now)) }
 {
-    let Some(array) = value.as_array() else {
+    let Some(items) = value.as_array() else {
         return Ok(None);
     };
-    let mut tables = Vec::new(alloc);
-    for item in array {
-        let Some(table) = read_table(alloc, item)? else {
+    let mut array = Vec::new(alloc);
+    for item in items {
+        let Some(described) = T::read(alloc, item)? else {
             return Ok(None);
         };
-        tables.push(table)?;
+        array.push(described)?;
     }
-    Ok(Some(tables))
+    Ok(Some(Listed { items: array }))
 }
 
-#[tactic(auto, unfolding(crate::specs::Document::table_of, crate::specs::Document::table_in))]
-fn read_table(alloc: Global, value: &Data) -> Result<Option<TableDraft>, OutOfMemory>
-    ensures { IfOk result (λ t. t ≡ table_of (view value.now)) }
+/// An array that may be missing, and then has no items.
+fn read_optional<T: Described + Drop>(
+    alloc: Global,
+    fields: &Table,
+    key: &str,
+) -> Result<Option<Listed<T>>, OutOfMemory>
+    ensures { IfOk result (λ array. array ≡ optional [] (array_of T.of) (get_member key.now (table_view fields.now))) }
 {
-    let Some(fields) = fields_of(value, &TABLE_FIELDS) else {
-        return Ok(None);
-    };
-    let Some(namespace) = read_name(alloc, fields, "namespace")? else {
-        return Ok(None);
-    };
-    let Some(name) = read_name(alloc, fields, "name")? else {
-        return Ok(None);
-    };
-    let Some(columns) = read_columns(alloc, fields, "column")? else {
-        return Ok(None);
-    };
-    let Some(primary) = read_primary(alloc, fields, "primary")? else {
-        return Ok(None);
-    };
-    let Some(uniques) = read_uniques(alloc, fields, "unique")? else {
-        return Ok(None);
-    };
-    Ok(Some(TableDraft {
-        namespace,
-        name,
-        columns,
-        primary,
-        uniques,
-    }))
+    match member(fields, key) {
+        None => Ok(Some(Listed {
+            items: Vec::new(alloc),
+        })),
+        Some(value) => read_array(alloc, value),
+    }
+}
+
+impl Described for TableDraft {
+    ghost use Rattle.catalog.specs.Document.{table_of};
+
+    ghost of = { table_of };
+
+    #[tactic(auto, unfolding(crate::specs::Document::table_of, crate::specs::Document::table_in))]
+    fn read(alloc: Global, item: &Data) -> Result<Option<TableDraft>, OutOfMemory> {
+        let Some(fields) = fields_of(item, &TABLE_FIELDS) else {
+            return Ok(None);
+        };
+        let Some(namespace) = read_name(alloc, fields, "namespace")? else {
+            return Ok(None);
+        };
+        let Some(name) = read_name(alloc, fields, "name")? else {
+            return Ok(None);
+        };
+        let Some(columns) = read_columns(alloc, fields, "column")? else {
+            return Ok(None);
+        };
+        let Some(primary) = read_optional(alloc, fields, "primary")? else {
+            return Ok(None);
+        };
+        let Some(uniques) = read_optional(alloc, fields, "unique")? else {
+            return Ok(None);
+        };
+        Ok(Some(TableDraft {
+            namespace,
+            name,
+            columns,
+            primary,
+            uniques,
+        }))
+    }
 }
 
 fn read_columns(
     alloc: Global,
     fields: &Table,
     key: &str,
-) -> Result<Option<Vec<ColumnDraft>>, OutOfMemory>
-    ensures { IfOk result (λ cs. option_map (λ v. v.items) cs
-        ≡ required (array_of column_of) (get_member key.now (table_view fields.now))) }
+) -> Result<Option<Listed<ColumnDraft>>, OutOfMemory>
+    ensures { IfOk result (λ cs. cs ≡ required (array_of column_of) (get_member key.now (table_view fields.now))) }
 {
-    let Some(value) = member(fields, key) else {
-        return Ok(None);
-    };
-    let Some(array) = value.as_array() else {
-        return Ok(None);
-    };
-    let mut columns = Vec::new(alloc);
-    for item in array {
-        let Some(column) = read_column(alloc, item)? else {
-            return Ok(None);
-        };
-        columns.push(column)?;
+    match member(fields, key) {
+        None => Ok(None),
+        Some(value) => read_array(alloc, value),
     }
-    Ok(Some(columns))
 }
 
-#[tactic(auto, unfolding(crate::specs::Document::column_of, crate::specs::Document::column_in))]
-fn read_column(alloc: Global, value: &Data) -> Result<Option<ColumnDraft>, OutOfMemory>
-    ensures { IfOk result (λ c. c ≡ column_of (view value.now)) }
-{
-    let Some(fields) = fields_of(value, &COLUMN_FIELDS) else {
-        return Ok(None);
-    };
-    let Some(name) = read_name(alloc, fields, "name")? else {
-        return Ok(None);
-    };
-    let Some(kind) = read_type(fields, "type") else {
-        return Ok(None);
-    };
-    let default = read_default(alloc, fields, "default")?;
-    Ok(Some(ColumnDraft {
-        name,
-        kind,
-        default,
-    }))
+impl Described for ColumnDraft {
+    ghost use Rattle.catalog.specs.Document.{column_of};
+
+    ghost of = { column_of };
+
+    #[tactic(auto, unfolding(crate::specs::Document::column_of, crate::specs::Document::column_in))]
+    fn read(alloc: Global, item: &Data) -> Result<Option<ColumnDraft>, OutOfMemory> {
+        let Some(fields) = fields_of(item, &COLUMN_FIELDS) else {
+            return Ok(None);
+        };
+        let Some(name) = read_name(alloc, fields, "name")? else {
+            return Ok(None);
+        };
+        let Some(kind) = read_type(fields, "type") else {
+            return Ok(None);
+        };
+        let default = read_default(alloc, fields, "default")?;
+        Ok(Some(ColumnDraft {
+            name,
+            kind,
+            default,
+        }))
+    }
 }
 
 fn read_type(fields: &Table, key: &str) -> Option<ColumnType>
@@ -151,7 +174,7 @@ fn read_default(alloc: Global, fields: &Table, key: &str) -> Result<DefaultDraft
     };
     match value {
         Data::Integer(number) => Ok(DefaultDraft::Given(Value::Int(*number))),
-        Data::String(text) => Ok(DefaultDraft::Given(Value::Text(ByteStr::copy_from_str(
+        Data::String(text) => Ok(DefaultDraft::Given(Value::Text(KeptText::from_str(
             alloc,
             text.as_str(),
         )?))),
@@ -160,56 +183,28 @@ fn read_default(alloc: Global, fields: &Table, key: &str) -> Result<DefaultDraft
     }
 }
 
-/// The columns of the primary key; a key that is missing is read as an empty one.
-fn read_primary(alloc: Global, fields: &Table, key: &str) -> Result<Option<KeyDraft>, OutOfMemory>
-    ensures { IfOk result (λ k. k ≡ optional [] key_of (get_member key.now (table_view fields.now))) }
-{
-    match member(fields, key) {
-        None => Ok(Some(KeyDraft {
-            names: Vec::new(alloc),
-        })),
-        Some(value) => read_key(alloc, value),
+impl Described for KeyDraft {
+    ghost use Rattle.catalog.specs.Document.{key_of};
+
+    ghost of = { key_of };
+
+    fn read(alloc: Global, item: &Data) -> Result<Option<KeyDraft>, OutOfMemory> {
+        read_array(alloc, item)
     }
 }
 
-fn read_uniques(
-    alloc: Global,
-    fields: &Table,
-    key: &str,
-) -> Result<Option<Vec<KeyDraft>>, OutOfMemory>
-    ensures { IfOk result (λ ks. option_map (λ v. v.items) ks
-        ≡ optional [] (array_of key_of) (get_member key.now (table_view fields.now))) }
-{
-    let mut keys = Vec::new(alloc);
-    let Some(value) = member(fields, key) else {
-        return Ok(Some(keys));
-    };
-    let Some(array) = value.as_array() else {
-        return Ok(None);
-    };
-    for item in array {
-        let Some(key) = read_key(alloc, item)? else {
-            return Ok(None);
-        };
-        keys.push(key)?;
-    }
-    Ok(Some(keys))
-}
+/// The name of a key's column.
+impl Described for ByteStr {
+    ghost use Rattle.toml.specs.Data.{as_str};
 
-fn read_key(alloc: Global, value: &Data) -> Result<Option<KeyDraft>, OutOfMemory>
-    ensures { IfOk result (λ k. k ≡ key_of (view value.now)) }
-{
-    let Some(array) = value.as_array() else {
-        return Ok(None);
-    };
-    let mut names = Vec::new(alloc);
-    for item in array {
-        let Some(name) = item.as_str() else {
-            return Ok(None);
-        };
-        names.push(ByteStr::copy_from_str(alloc, name)?)?;
+    ghost of = { as_str };
+
+    fn read(alloc: Global, item: &Data) -> Result<Option<ByteStr>, OutOfMemory> {
+        match item.as_str() {
+            Some(name) => Ok(Some(ByteStr::copy_from_str(alloc, name)?)),
+            None => Ok(None),
+        }
     }
-    Ok(Some(KeyDraft { names }))
 }
 
 fn read_name(alloc: Global, fields: &Table, key: &str) -> Result<Option<ByteStr>, OutOfMemory>

@@ -22,40 +22,29 @@ pub(crate) struct ColumnDraft {
     pub default: DefaultDraft,
 }
 
-/// The column names of a key. A clause sees the list of them.
+/// What an array of a document describes, item by item. A clause sees the list of it.
 #[derive(Debug, Drop)]
-pub(crate) struct KeyDraft {
-    pub names: Vec<ByteStr>,
+pub(crate) struct Listed<T> {
+    pub items: Vec<T>,
 }
 
-impl Model for KeyDraft {
-    ghost use Rattle.std.specs.Prelude.{List, ℕ};
+impl<T> Model for Listed<T> {
+    ghost use Rattle.std.specs.Prelude.{List};
 
-    ghost Value = { List (List ℕ) };
+    ghost Value = { List T };
 
-    ghost view = { λ k. k.names.items };
+    ghost view = { λ l. l.items.items };
 }
 
-/// A table, as a document has it. A clause sees it as a `Draft`.
+/// The column names of a key.
+pub(crate) type KeyDraft = Listed<ByteStr>;
+
+/// A table, as a document has it.
 #[derive(Debug, Drop)]
 pub(crate) struct TableDraft {
     pub namespace: ByteStr,
     pub name: ByteStr,
-    pub columns: Vec<ColumnDraft>,
+    pub columns: Listed<ColumnDraft>,
     pub primary: KeyDraft,
-    pub uniques: Vec<KeyDraft>,
-}
-
-impl Model for TableDraft {
-    ghost use Rattle.catalog.specs.Draft.{Draft};
-
-    ghost Value = { Draft };
-
-    ghost view = { λ t. record {
-      namespace = t.namespace;
-      name = t.name;
-      columns = t.columns.items;
-      primary = t.primary;
-      uniques = t.uniques.items;
-    } };
+    pub uniques: Listed<KeyDraft>,
 }

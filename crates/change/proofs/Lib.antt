@@ -1,7 +1,6 @@
 pub mod Restoring
 pub mod Outcomes
 pub mod Clashes
-pub mod Patched
 pub mod Wiping
 pub mod Altering
 pub mod Numbered

@@ -1,5 +1,5 @@
 -- What a change that is done leaves, and that its inverse can be put back.
-use Rattle.std.specs.Prelude.{◌≡◌, ℕ, ◌<◌, Bool, true, false, cond, if◌then◌else◌, List, Option, Some, None, length, IsSome, is_some, not, refl}
+use Rattle.std.specs.Prelude.{◌≡◌, ℕ, ◌<◌, Bool, true, false, cond, if◌then◌else◌, List, Option, Some, None, length, IsSome, is_some, not, refl, Ok, Err}
 use Rattle.std.proofs.Common.{sym, ◌∙◌, ap, subst, true≢false, inl, inr}
 use Rattle.std.specs.FinMap as map_of
 use Rattle.std.specs.FinMap.{get, insert, remove}
@@ -9,16 +9,19 @@ use Rattle.model.specs.declared.change.Change.{Change}
 use Rattle.model.specs.declared.change.Change.TheVariants.{Put as PutRow, Set, Remove}
 use Rattle.model.specs.declared.change.ColumnPatch.{ColumnPatch}
 use Rattle.model.specs.Rows.{Place, Rows, Schema, keys_at, key_of, IsValid}
-use Rattle.model.specs.Effect.{Edits, one_edit, Done, Clashes, Unique, row_outcome, row_outcome_at, unless_taken, patch_row, set_outcome, remove_outcome, outcome, effect, inverse, back, first_taken}
+use Rattle.model.specs.Effect.{Edits, one_edit, Done, Skip, Clashes, Unique, row_outcome, row_outcome_at, unless_taken, patch_row, set_outcome, remove_outcome, outcome, effect, inverse, back, first_taken}
 use Rattle.model.specs.EditLaws.{same_edits, is_place, same_place, place_is, place_cases, get_insert_same, get_insert_other, get_remove_same, get_remove_other, get_edit, get_one_edit, overlay_one, overlay_two, rows_under_one, rows_under_two}
-use Rattle.model.specs.EffectLaws.{row_outcome_free, effect_of, inverse_of, back_of_inverse}
+use Rattle.model.specs.EffectLaws.{row_outcome_free, effect_skipped, effect_of, inverse_of, back_of_inverse}
 use Rattle.model.specs.Footprint.{footprint}
 use Rattle.indexes.specs.Content.{Content, Keeps}
-use Rattle.change.specs.Applied.{IsSound, IsDone}
+use Rattle.change.specs.Applied.{IsSound, IsDone, Answers}
+use Rattle.change.specs.Leaving.{Leaves}
+use Rattle.change.specs.declared.outcome.Applied.TheVariants.{Done as DoneWith, Skipped}
+use Rattle.change.specs.declared.outcome.Clash.{Clash}
 use Rattle.change.specs.Altered.{cells_altered}
 use Rattle.change.specs.declared.inverse.Inverse.{Inverse}
 use Rattle.change.specs.declared.inverse.Inverse.TheVariants.{Take, Put, Replace}
-use Rattle.change.specs.Inverse.{edits_of, room_back, IsKnown, AsLeft, HasItsRoom, CanPutBack}
+use Rattle.change.specs.Inverse.{edits_of, room_back, IsKnown, AsLeft, HasItsRoom}
 use Rattle.change.proofs.Altering.{put_alters, set_alters, remove_alters}
 
 -- once it is put back the rows are as before, so they are valid
@@ -27,24 +30,38 @@ pub back_is_old : (old new : Content) (c : Change) (i : Inverse)
 back_is_old old new c i rows edits =
     ap (λ (e : Edits). back new.rows e) edits ∙ ap (λ (r : Rows). back r (inverse old.schema old.rows c)) rows ∙ back_of_inverse old.schema old.rows c
 
--- what a change that is done leaves: the rows, and an inverse that gives them back
-abbrev pub Leaves : Content → Content → Change → Inverse → Type 0
-Leaves old new c i = record {
-  answer : IsDone (outcome old.schema old.rows c);
-  ok : new.rows ≡ effect old.schema old.rows c;
-  err : Unit {0};
-  inverse : edits_of i ≡ inverse old.schema old.rows c;
-  altered : Keeps (cells_altered i) (footprint old.schema old.rows c);
-  can_put_back : CanPutBack new i;
-  room : Keeps old.room (room_back new.room i);
-  schema : new.schema ≡ old.schema;
+-- one that is skipped leaves all as it was
+pub skipped_leaves : (t : Content) (c : Change) → outcome t.schema t.rows c ≡ Skip → Leaves t t c (Ok Skipped)
+skipped_leaves t c skipped = record {
+  answer = skipped;
+  ok = sym (effect_skipped t.schema t.rows c skipped);
+  err = tt;
+  inverse = tt;
+  altered = tt;
+  can_put_back = tt;
+  room = λ cell is. is;
+  schema = refl;
 }
 
--- so a change leaves it that is done, and whose inverse is known, as left and with its room
+-- one that is refused leaves the rows, and perhaps more room
+pub refused_leaves : (old new : Content) (c : Change) (e : Clash) → Answers (outcome old.schema old.rows c) (Err e) → new.rows ≡ old.rows
+    → Keeps old.room new.room → new.schema ≡ old.schema → Leaves old new c (Err e)
+refused_leaves old new c e answer rows room schema = record {
+  answer = answer;
+  ok = tt;
+  err = rows;
+  inverse = tt;
+  altered = tt;
+  can_put_back = tt;
+  room = room;
+  schema = schema;
+}
+
+-- one that is done leaves its effect, with an inverse that is known, as left and with its room
 pub leaves : (old new : Content) (c : Change) (i : Inverse) → IsValid old.schema old.rows → IsDone (outcome old.schema old.rows c)
     → new.schema ≡ old.schema → new.rows ≡ effect old.schema old.rows c → edits_of i ≡ inverse old.schema old.rows c
     → Keeps (cells_altered i) (footprint old.schema old.rows c) → IsKnown old.schema i → AsLeft new.rows i → HasItsRoom old.schema new.room i
-    → Keeps old.room (room_back new.room i) → Leaves old new c i
+    → Keeps old.room (room_back new.room i) → Leaves old new c (Ok (DoneWith i))
 leaves old new c i valid answer schema rows edits altered known left its_room room = record {
   answer = answer;
   ok = rows;
@@ -86,7 +103,7 @@ module _ (old new : Content) (table : ℕ) (key copy : Key) (row : Row) (same : 
       ap (λ (k : Key). one_edit (table, k) (Some row)) same ∙ ap (one_edit (table, key)) (sym remove_there) ∙ sym (rows_under_one old.rows (table, key) None)
       ∙ sym (inverse_of old.schema old.rows asked (Done (one_edit (table, key) None)) remove_done)
 
-  pub remove_leaves : Leaves old new asked (Put table copy row)
+  pub remove_leaves : Leaves old new asked (Ok (DoneWith (Put table copy row)))
   remove_leaves =
       leaves old new asked (Put table copy row) sound.valid (subst IsDone (sym remove_done) tt) schema remove_ok remove_inverse
       (remove_alters old.schema old.rows table key copy same) known (ap (λ (r : Rows). get r (table, copy)) rows ∙ get_remove_same old.rows (table, copy))
@@ -117,7 +134,7 @@ module _ (old new : Content) (table : ℕ) (row : Row) (key copy : Key) (same : 
   stands : IsSome (get new.rows (table, copy))
   stands = ap is_some (ap (λ (r : Rows). get r (table, copy)) rows ∙ ap (λ (k : Key). get (insert old.rows (table, key) row) (table, k)) same ∙ get_insert_same old.rows (table, key) row)
 
-  pub put_leaves : Leaves old new asked_put (Take table copy)
+  pub put_leaves : Leaves old new asked_put (Ok (DoneWith (Take table copy)))
   put_leaves =
       leaves old new asked_put (Take table copy) valid (subst IsDone (sym put_done) tt) schema put_ok put_inverse
       (put_alters old.schema old.rows table key copy row same own) known stands tt kept
@@ -242,7 +259,7 @@ module _ (old new : Content) (table : ℕ) (key stood_at : Key) (new_key stands_
             ∙ get_remove_same old.rows old_place
       ]
 
-  pub set_leaves : Leaves old new asked_set (Replace table stands_at stood_at was)
+  pub set_leaves : Leaves old new asked_set (Ok (DoneWith (Replace table stands_at stood_at was)))
   set_leaves =
       leaves old new asked_set (Replace table stands_at stood_at was) sound.valid (subst IsDone (sym set_done) tt) schema set_ok set_inverse
       (set_alters old.schema old.rows table key stood_at new_key stands_at patch was same_key same_new there

@@ -6,6 +6,11 @@ use Rattle.model.specs.declared.change.ColumnPatch.{ColumnPatch}
 use Rattle.model.specs.Rows.{value_at}
 use Rattle.model.specs.Effect.{patch_row, patch_value}
 
+pub length_patched : (ps : List ColumnPatch) (row : Row) → length (patch_row ps row) ≡ length row
+length_patched [] row = refl
+length_patched (p ∷ ps) [] = refl
+length_patched (p ∷ ps) (v ∷ row) = ap suc (length_patched ps row)
+
 -- one that the patch has
 pub patched_column : (ps : List ColumnPatch) (row : Row) (i : ℕ) (p d : ColumnPatch) → i < length row → i < length ps → p ≡ get_or ps i d
     → patch_value p (value_at row i) ≡ value_at (patch_row ps row) i

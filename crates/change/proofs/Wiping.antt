@@ -1,5 +1,5 @@
 -- Tables that are emptied one after another.
-use Rattle.std.specs.Prelude.{◌≡◌, ℕ, ◌+◌, ◌<◌, ◌≤◌, ◌==◌, Bool, true, false, cond, not, ◌||◌, filter, List, [], ◌∷◌, ◌++◌, Option, Some, None, map, length, take, get_or, Contains, refl}
+use Rattle.std.specs.Prelude.{◌≡◌, ℕ, ◌+◌, ◌<◌, ◌≤◌, ◌==◌, Bool, true, false, cond, not, ◌||◌, filter, List, [], ◌∷◌, ◌++◌, Option, Some, None, map, length, take, get_or, Contains, refl, Ok}
 use Rattle.std.proofs.Common.{zero, suc, arith, sym, ◌∙◌, ap, subst, take-suc, take_all, add-one}
 use Rattle.std.proofs.Common.{Vec, Global}
 use Rattle.std.specs.FinMap.{get-empty}
@@ -23,7 +23,9 @@ use Rattle.change.specs.EditsLaws.{or_else, get_over, as_edit, get_rows_held_at,
 use Rattle.change.specs.Inverse.{rows_held, HasNoRows, is_elsewhere, room_with, room_unwiped, AreKnown, AreEmpty, CanUnwipe}
 use Rattle.change.specs.InverseLaws.{rows_held_last, unwiped_last, room_unwiped_last, known_more, empty_more, contains_filter, room_unwiped_keeps}
 use Rattle.change.specs.Applied.{IsSound}
-use Rattle.change.proofs.Outcomes.{Leaves, leaves}
+use Rattle.change.specs.declared.outcome.Applied.TheVariants.{Done as DoneWith}
+use Rattle.change.specs.Leaving.{Leaves}
+use Rattle.change.proofs.Outcomes.{leaves}
 use Rattle.change.proofs.Altering.{wipe_alters}
 
 -- ---- the edits of one more
@@ -186,7 +188,7 @@ module _ (start t : Content) (tables : List ℕ) (i : ℕ) (wiped : Vec Wiped Gl
   wipe_inverse = same_edits _ _ (λ p.
       far.edits p ∙ ap (λ ts. row_before_wipe (is_named ts p.0) (get start.rows p)) all_named ∙ sym (get_inverse_wipe start.schema start.rows tables p))
 
-  pub wipe_leaves : Leaves start t (Wipe tables) (Unwipe wiped)
+  pub wipe_leaves : Leaves start t (Wipe tables) (Ok (DoneWith (Unwipe wiped)))
   wipe_leaves =
       leaves start t (Wipe tables) (Unwipe wiped) sound.valid tt far.schema wipe_ok wipe_inverse
       (wipe_alters start.schema start.rows tables wiped.items (far.tables ∙ all_named)) (subst (λ (s : Schema). AreKnown s wiped.items) far.schema far.can.known)

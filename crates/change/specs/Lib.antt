@@ -3,9 +3,11 @@ pub mod Inverse
 pub mod EditsLaws
 pub mod InverseLaws
 pub mod Applied
+pub mod Leaving
 pub mod Clashing
 pub mod Altered
 pub mod Footprint
 pub mod Reading
 pub mod KeptRow
 pub mod Between
+pub mod Refusal

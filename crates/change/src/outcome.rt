@@ -3,19 +3,20 @@ ghost use Rattle.std.specs.Prelude.{◌≡◌, ◌+◌, ◌-◌, ◌<◌, ◌≤
 ghost use Rattle.std.specs.FinMap.{get, remove};
 ghost use Rattle.model.specs.declared.change.Change.TheVariants.{Put, Set, Remove, Wipe};
 ghost use Rattle.model.specs.Rows.{IsValid, keys_at, values_in};
-ghost use Rattle.model.specs.Effect.{first_taken, are_taken_unless_null, patch_row, patch_value, outcome, effect, inverse};
+ghost use Rattle.model.specs.Effect.{first_taken, are_taken_unless_null, patch_row, outcome, effect, inverse};
 ghost use Rattle.indexes.specs.Content.{Keeps, unique_columns};
 ghost use Rattle.model.specs.Footprint.{footprint};
 ghost use Rattle.change.specs.Altered.{cells_altered};
 ghost use Rattle.change.specs.Inverse.{edits_of, CanPutBack};
 ghost use Rattle.model.specs.Named.{NamesTables};
 ghost use Rattle.change.specs.Applied.{Answers, IsSound, IfDone, room_after};
+ghost use Rattle.change.specs.Leaving.{Leaves};
 ghost use Rattle.change.specs.Clashing.{without, KeepsValues};
 
 use crate::inverse::{Inverse, Wiped, unwipe_all};
 use crate::reading::{PatchedRow, has_same};
 use indexes::Tables;
-use model::{Change, ColumnPatch, Key, OutOfMemory, Patch, Row, TableId, Value};
+use model::{Change, Key, OutOfMemory, Patch, Row, TableId};
 use rows::RowView;
 use std::alloc::{AllocError, Global};
 use thiserror::Error;
@@ -90,14 +91,7 @@ pub fn apply(alloc: Global, t: &mut Tables, c: &Change) -> Result<Applied, Clash
 fn put(t: &mut Tables, table: TableId, row: &Row) -> Result<Applied, Clash>
     requires known { table < length t.old.schema }
     requires sound { IsSound t.old }
-    ensures answer { Answers (outcome t.old.schema t.old.rows (Put table row.now)) result }
-    ensures ok { OnOk result (t.new.rows ≡ effect t.old.schema t.old.rows (Put table row.now)) }
-    ensures err { OnErr result (t.new.rows ≡ t.old.rows) }
-    ensures inverse { IfDone result (λ i. edits_of i ≡ inverse t.old.schema t.old.rows (Put table row.now)) }
-    ensures altered { IfDone result (λ i. Keeps (cells_altered i) (footprint t.old.schema t.old.rows (Put table row.now))) }
-    ensures can_put_back { IfDone result (λ i. CanPutBack t.new i) }
-    ensures room { Keeps t.old.room (room_after t.new.room result) }
-    ensures schema { t.new.schema ≡ t.old.schema }
+    ensures { Leaves t.old t.new (Put table row.now) result }
 {
     let Some(key) = t.key_of(table, row)? else {
         return Err(Clash::NullKey { table });
@@ -126,14 +120,7 @@ fn set(
 ) -> Result<Applied, Clash>
     requires known { table < length t.old.schema }
     requires sound { IsSound t.old }
-    ensures answer { Answers (outcome t.old.schema t.old.rows (Set table key.now patch.now)) result }
-    ensures ok { OnOk result (t.new.rows ≡ effect t.old.schema t.old.rows (Set table key.now patch.now)) }
-    ensures err { OnErr result (t.new.rows ≡ t.old.rows) }
-    ensures inverse { IfDone result (λ i. edits_of i ≡ inverse t.old.schema t.old.rows (Set table key.now patch.now)) }
-    ensures altered { IfDone result (λ i. Keeps (cells_altered i) (footprint t.old.schema t.old.rows (Set table key.now patch.now))) }
-    ensures can_put_back { IfDone result (λ i. CanPutBack t.new i) }
-    ensures room { Keeps t.old.room (room_after t.new.room result) }
-    ensures schema { t.new.schema ≡ t.old.schema }
+    ensures { Leaves t.old t.new (Set table key.now patch.now) result }
 {
     let Some(old) = t.get(table, key) else {
         return Ok(Applied::Skipped);
@@ -163,14 +150,7 @@ fn set(
 fn remove(t: &mut Tables, table: TableId, key: &Key) -> Result<Applied, Clash>
     requires known { table < length t.old.schema }
     requires sound { IsSound t.old }
-    ensures answer { Answers (outcome t.old.schema t.old.rows (Remove table key.now)) result }
-    ensures ok { OnOk result (t.new.rows ≡ effect t.old.schema t.old.rows (Remove table key.now)) }
-    ensures err { OnErr result (t.new.rows ≡ t.old.rows) }
-    ensures inverse { IfDone result (λ i. edits_of i ≡ inverse t.old.schema t.old.rows (Remove table key.now)) }
-    ensures altered { IfDone result (λ i. Keeps (cells_altered i) (footprint t.old.schema t.old.rows (Remove table key.now))) }
-    ensures can_put_back { IfDone result (λ i. CanPutBack t.new i) }
-    ensures room { Keeps t.old.room (room_after t.new.room result) }
-    ensures schema { t.new.schema ≡ t.old.schema }
+    ensures { Leaves t.old t.new (Remove table key.now) result }
 {
     if t.get(table, key).is_none() {
         return Ok(Applied::Skipped);
@@ -184,14 +164,7 @@ fn remove(t: &mut Tables, table: TableId, key: &Key) -> Result<Applied, Clash>
 fn wipe(alloc: Global, t: &mut Tables, tables: &[TableId]) -> Result<Applied, Clash>
     requires known { NamesTables (length t.old.schema) (Wipe tables.now) }
     requires sound { IsSound t.old }
-    ensures answer { Answers (outcome t.old.schema t.old.rows (Wipe tables.now)) result }
-    ensures ok { OnOk result (t.new.rows ≡ effect t.old.schema t.old.rows (Wipe tables.now)) }
-    ensures err { OnErr result (t.new.rows ≡ t.old.rows) }
-    ensures inverse { IfDone result (λ i. edits_of i ≡ inverse t.old.schema t.old.rows (Wipe tables.now)) }
-    ensures altered { IfDone result (λ i. Keeps (cells_altered i) (footprint t.old.schema t.old.rows (Wipe tables.now))) }
-    ensures can_put_back { IfDone result (λ i. CanPutBack t.new i) }
-    ensures room { Keeps t.old.room (room_after t.new.room result) }
-    ensures schema { t.new.schema ≡ t.old.schema }
+    ensures { Leaves t.old t.new (Wipe tables.now) result }
 {
     let mut wiped = Vec::with_capacity(alloc, tables.len())?;
     for table in tables {
@@ -213,40 +186,7 @@ fn wipe(alloc: Global, t: &mut Tables, tables: &[TableId]) -> Result<Applied, Cl
 fn patched_row(alloc: Global, old: &RowView<'_>, patch: &Patch) -> Result<Row, OutOfMemory>
     ensures { IfOk result (λ row. row ≡ patch_row patch.now old.now) }
 {
-    let row = old.to_row()?;
-    let olds = row.values();
-    let patches = patch.columns();
-    let mut values = Vec::with_capacity(alloc, olds.len())?;
-    for column in 0..olds.len() {
-        let value = if column < patches.len() {
-            patch_value(&patches[column], &olds[column])?
-        } else {
-            copy_value(&olds[column])?
-        };
-        values.push(value)?;
-    }
-    Row::from_values(values)
-}
-
-/// A column after an update.
-fn patch_value(patch: &ColumnPatch, old: &Option<Value>) -> Result<Option<Value>, OutOfMemory>
-    ensures { IfOk result (λ value. value ≡ patch_value patch.now old.now) }
-{
-    match patch {
-        ColumnPatch::Keep => copy_value(old),
-        ColumnPatch::Null => Ok(None),
-        ColumnPatch::Value(value) => Ok(Some(value.copy()?)),
-    }
-}
-
-/// An equal value, or null.
-fn copy_value(old: &Option<Value>) -> Result<Option<Value>, OutOfMemory>
-    ensures { IfOk result (λ value. value ≡ old.now) }
-{
-    match old {
-        None => Ok(None),
-        Some(value) => Ok(Some(value.copy()?)),
-    }
+    PatchedRow::new(old, patch).to_row(alloc)
 }
 
 /// A row that an update takes the place of, and its key.

@@ -7,15 +7,14 @@ ghost use Rattle.model.specs.Key.{key_cmp};
 ghost use Rattle.model.specs.Rows.{is_key, value_at, values_in};
 ghost use Rattle.model.specs.Effect.{patch_row};
 ghost use Rattle.model.specs.Footprint.{both_have};
-ghost use Rattle.rows.specs.View.{read_value};
+ghost use Rattle.model.specs.ValueRef.{read_value};
 ghost use Rattle.indexes.specs.Columns.{present};
 ghost use Rattle.model.specs.Hashing.{hash_of, hash_value as hashed_value};
 ghost use Rattle.change.specs.Reading.{read_row};
 
-use bytes::ByteStr;
 use model::hashing::{hash_number, hash_text};
-use model::{ColumnPatch, Key, KeyValues, OutOfMemory, Patch, Value};
-use rows::{RowView, ValueRef};
+use model::{ColumnPatch, Key, KeyValues, OutOfMemory, Patch, Row, RowBuilder, Value, ValueRef};
+use rows::RowView;
 use std::alloc::Global;
 use std::cmp::Ordering;
 use std::slice;
@@ -45,6 +44,28 @@ impl<'a> PatchedRow<'a> {
         }
     }
 
+    /// An equal row of its own. The texts are copied.
+    pub fn to_row(self, alloc: Global) -> Result<Row, OutOfMemory>
+        ensures { IfOk result (λ row. row ≡ read_row self.entry) }
+    {
+        let mut row = RowBuilder::with_room(alloc, self.row.len(), self.text_len())?;
+        for column in 0..self.row.len() {
+            row.push(self.column(column))?;
+        }
+        row.finish()
+    }
+
+    // How many bytes its texts have, or the greatest number where they are more.
+    fn text_len(self) -> usize {
+        let mut len: usize = 0;
+        for column in 0..self.row.len() {
+            if let Some(ValueRef::Text(text)) = self.column(column) {
+                len = len.saturating_add(text.len());
+            }
+        }
+        len
+    }
+
     /// The value in a column, from 0; `None` is null, and past the row's end.
     pub fn column(self, number: usize) -> Option<ValueRef<'a>>
         ensures { option_map read_value result ≡ value_at (read_row self.entry) number }
@@ -58,19 +79,8 @@ impl<'a> PatchedRow<'a> {
         match &self.patch[number] {
             ColumnPatch::Keep => self.row.column(number),
             ColumnPatch::Null => None,
-            ColumnPatch::Value(value) => Some(lent_value(value)),
+            ColumnPatch::Value(value) => Some(ValueRef::of(value)),
         }
-    }
-}
-
-// A value, as it is read.
-fn lent_value(value: &Value) -> ValueRef<'_>
-    ensures { read_value result ≡ value.now }
-{
-    match value {
-        Value::Int(number) => ValueRef::Int(*number),
-        Value::Text(text) => ValueRef::Text(text.as_str()),
-        Value::Bool(truth) => ValueRef::Bool(*truth),
     }
 }
 
@@ -92,7 +102,7 @@ pub(crate) fn has_same(columns: &[usize], old: PatchedRow<'_>, new: PatchedRow<'
 {
     for column in columns {
         match (old.column(*column), new.column(*column)) {
-            (Some(before), Some(after)) if is_same(before, after) => {}
+            (Some(before), Some(after)) if before.compare(after).is_eq() => {}
             _ => return false,
         }
     }
@@ -116,29 +126,18 @@ pub(crate) fn key_of(
 {
     if let [column] = columns {
         return match row.column(*column) {
-            Some(value) => Ok(Some(Key::from_value(alloc, own_value(alloc, value)?)?)),
+            Some(value) => Ok(Some(Key::from_value(alloc, value.to_value(alloc)?)?)),
             None => Ok(None),
         };
     }
     let mut values = Vec::with_capacity(alloc, columns.len())?;
     for column in columns {
         match row.column(*column) {
-            Some(value) => values.push(own_value(alloc, value)?)?,
+            Some(value) => values.push(value.to_value(alloc)?)?,
             None => return Ok(None),
         }
     }
     Ok(Some(Key::from_values(values)?))
-}
-
-// A value of its own, of one that is read. A text is copied.
-fn own_value(alloc: Global, value: ValueRef<'_>) -> Result<Value, OutOfMemory>
-    ensures { IfOk result (λ own. own ≡ read_value value.entry) }
-{
-    match value {
-        ValueRef::Int(number) => Ok(Value::Int(number)),
-        ValueRef::Text(text) => Ok(Value::Text(ByteStr::copy_from_str(alloc, text)?)),
-        ValueRef::Bool(truth) => Ok(Value::Bool(truth)),
-    }
 }
 
 // The order of the values that a row has in some columns, nulls left out, and a key.
@@ -165,7 +164,7 @@ fn compare_values(columns: &[usize], row: PatchedRow<'_>, key: &[Value]) -> Orde
         let Some((first, tail)) = rest.split_first() else {
             return Ordering::Greater;
         };
-        match compare_value(value, first) {
+        match value.compare(ValueRef::of(first)) {
             Ordering::Equal => rest = tail,
             other => return other,
         }
@@ -198,30 +197,5 @@ fn hash_value(hash: u64, value: ValueRef<'_>) -> u64
         ValueRef::Int(number) => hash_number(hash, number),
         ValueRef::Text(text) => hash_text(hash, text),
         ValueRef::Bool(_) => hash,
-    }
-}
-
-// The order of a value as it is read and one that is kept.
-fn compare_value(value: ValueRef<'_>, other: &Value) -> Ordering
-    ensures { result ≡ value_cmp (read_value value.entry) other.now }
-{
-    match (value, other) {
-        (ValueRef::Int(own), Value::Int(others)) => own.cmp(others),
-        (ValueRef::Text(own), Value::Text(others)) => own.cmp(others.as_str()),
-        (ValueRef::Bool(own), Value::Bool(others)) => own.cmp(others),
-        (ValueRef::Int(_), _) | (ValueRef::Text(_), Value::Bool(_)) => Ordering::Less,
-        (ValueRef::Bool(_), _) | (ValueRef::Text(_), Value::Int(_)) => Ordering::Greater,
-    }
-}
-
-// Whether two values are equal, as they are read.
-fn is_same(value: ValueRef<'_>, other: ValueRef<'_>) -> bool
-    ensures { result ≡ eq_by_cmp value_cmp (read_value value.entry) (read_value other.entry) }
-{
-    match (value, other) {
-        (ValueRef::Int(own), ValueRef::Int(others)) => own == others,
-        (ValueRef::Text(own), ValueRef::Text(others)) => own.cmp(others).is_eq(),
-        (ValueRef::Bool(own), ValueRef::Bool(others)) => own == others,
-        _ => false,
     }
 }

@@ -143,13 +143,15 @@ where
     let Ok(gates) = open_gates(alloc, config.workers) else {
         return OUT_OF_MEMORY;
     };
-    let outcome = if spooled {
+    let mut outcome = if spooled {
         run_over(alloc, devices, &catalog, start, config)
     } else {
         let watchers = Vec::<NoWatch>::new(alloc);
         run_with_workers(rt, alloc, devices, &catalog, start, config, gates, watchers)
     };
     hearer.hear_end(&catalog, &outcome);
+    // The report tells nothing of the journal: its memory goes before the report's text grows.
+    outcome.journal = Vec::new(alloc);
     let ended = tell(alloc, &outcome, &catalog, out);
     // The process ends with its report: the memory goes back as a whole, not row by row.
     let _outcome = ManuallyDrop::new(outcome);

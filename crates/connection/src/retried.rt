@@ -36,6 +36,19 @@ fn is_interrupted<T>(answer: &io::Result<T>) -> bool
     }
 }
 
+/// Returns the first answer of a call that no signal interrupted.
+macro_rules! retry {
+    ($call:expr) => {{
+        for _ in 0..TRIES {
+            let answer = $call;
+            if !is_interrupted(&answer) {
+                return answer;
+            }
+        }
+        Err(io::Error::from(ErrorKind::TimedOut))
+    }};
+}
+
 impl<R: Read> Read for Retried<R> {
     ghost remaining = { λ r. R.remaining r.stream };
 
@@ -44,13 +57,7 @@ impl<R: Read> Read for Retried<R> {
         ensures bytes { ReadConsumes (R.remaining self.old.stream) (R.remaining self.new.stream) result buf.new }
         ensures retried { IfErr result (λ e. error_kind e ≢ ErrorKind.Interrupted) }
     {
-        for _ in 0..TRIES {
-            let answer = self.stream.read(buf);
-            if !is_interrupted(&answer) {
-                return answer;
-            }
-        }
-        Err(io::Error::from(ErrorKind::TimedOut))
+        retry!(self.stream.read(buf))
     }
 }
 
@@ -62,25 +69,13 @@ impl<W: Write> Write for Retried<W> {
         ensures bytes { WriteAppends (W.contents self.old.stream) (W.contents self.new.stream) result buf.now }
         ensures retried { IfErr result (λ e. error_kind e ≢ ErrorKind.Interrupted) }
     {
-        for _ in 0..TRIES {
-            let answer = self.stream.write(buf);
-            if !is_interrupted(&answer) {
-                return answer;
-            }
-        }
-        Err(io::Error::from(ErrorKind::TimedOut))
+        retry!(self.stream.write(buf))
     }
 
     fn flush(&mut self) -> io::Result<()>
         ensures bytes { Keeps (W.contents self.old.stream) (W.contents self.new.stream) }
         ensures retried { IfErr result (λ e. error_kind e ≢ ErrorKind.Interrupted) }
     {
-        for _ in 0..TRIES {
-            let answer = self.stream.flush();
-            if !is_interrupted(&answer) {
-                return answer;
-            }
-        }
-        Err(io::Error::from(ErrorKind::TimedOut))
+        retry!(self.stream.flush())
     }
 }

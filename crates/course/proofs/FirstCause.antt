@@ -161,36 +161,36 @@ clear_earlier schema rows g q p items sane is clear =
 -- ---- a run
 
 module _ (g : Setting) (rows : Rows) (old new : DeviceState) (o : Outcome) (run : IsRun g rows old new o) where
-  clash : HasNotClashed g rows old new run.handled run.progress run.times
-      ⊎ LastClashed g rows old new run.handled run.progress run.times o.end
-  clash = clear_or_last g rows old new run.handled run.progress run.times run.bytes run.rest o.end run.cause
+  clash : HasNotClashed g rows old new run.part.handled run.part.progress run.part.times
+      ⊎ LastClashed g rows old new run.part.handled run.part.progress run.part.times o.end
+  clash = clear_or_last g rows old new run.part.handled run.part.progress run.part.times run.part.bytes run.part.rest o.end run.cause
 
-  by_clash : (end : End) → IsLastCause g rows run.progress.state end → o.end ≡ end
+  by_clash : (end : End) → IsLastCause g rows run.part.progress.state end → o.end ≡ end
   by_clash end is =
       elim clash [
         | inl all ↦
-            let last = last_clash g rows run.progress.state end is in
-            absurd (first_in_clear (schema_of g) rows (all_changes run.progress.state) last.0 all last.2)
-        | inr last ↦ one_last g rows run.progress.state o.end end last.why is
+            let last = last_clash g rows run.part.progress.state end is in
+            absurd (first_in_clear (schema_of g) rows (all_changes run.part.progress.state) last.0 all last.2)
+        | inr last ↦ one_last g rows run.part.progress.state o.end end last.why is
       ]
 
 module _ (g : Setting) (rows : Rows) (old new : DeviceState) (o : Outcome) (run : IsRun g rows old new o)
     (before after : List CopyItem) (item : CopyItem) (q : Progress)
-    (split : run.handled ≡ before ++ item ∷ after) (lawful : Leads g start_progress before q) where
+    (split : run.part.handled ≡ before ++ item ∷ after) (lawful : Leads g start_progress before q) where
   sane : IsSane q.state
   sane = sane_items g start_progress q before sane_start lawful
 
-  later : Leads g q (item ∷ after) run.progress
+  later : Leads g q (item ∷ after) run.part.progress
   later =
-      leads_on g start_progress run.progress q before (item ∷ after) lawful
-      (subst (λ items. Leads g start_progress items run.progress) split run.lawful)
+      leads_on g start_progress run.part.progress q before (item ∷ after) lawful
+      (subst (λ items. Leads g start_progress items run.part.progress) split run.part.lawful)
 
   -- what was committed at the end of the run is clear
-  committed : IsClear (schema_of g) rows (committed_changes run.progress.state)
+  committed : IsClear (schema_of g) rows (committed_changes run.part.progress.state)
   committed =
       elim (clash g rows old new o run) [
         | inl all ↦
-            clear_front (schema_of g) rows (committed_changes run.progress.state) (begun_changes run.progress.state) all
+            clear_front (schema_of g) rows (committed_changes run.part.progress.state) (begun_changes run.part.progress.state) all
         | inr last ↦ last.committed
       ]
 
@@ -198,7 +198,7 @@ module _ (g : Setting) (rows : Rows) (old new : DeviceState) (o : Outcome) (run 
   clear : IsClear (schema_of g) rows (all_changes q.state)
   clear =
       elim (clash g rows old new o run) [
-        | inl all ↦ clear_earlier (schema_of g) rows g q run.progress (item ∷ after) sane later all
+        | inl all ↦ clear_earlier (schema_of g) rows g q run.part.progress (item ∷ after) sane later all
         | inr is ↦
             let more = all_but_last before item after is.last.before is.last.item (sym split ∙ is.last.split) in
             clear_earlier (schema_of g) rows g q is.last.past more.0 sane
@@ -207,23 +207,23 @@ module _ (g : Setting) (rows : Rows) (old new : DeviceState) (o : Outcome) (run 
       ]
 
   none_refused : (refused : Refused) → refused ≢ refusals.OutOfMemory
-      → RefusesNext g q.state (item ∷ after ++ run.rest) refused → ⊥
-  none_refused refused = handled_next g q later.0 item (after ++ run.rest) refused later.1
+      → RefusesNext g q.state (item ∷ after ++ run.part.rest) refused → ⊥
+  none_refused refused = handled_next g q later.0 item (after ++ run.part.rest) refused later.1
 
   none_clashes : (cause : ClashCause)
-      → NextClashes g rows q.state (item ∷ after ++ run.rest) (clash_of cause)
+      → NextClashes g rows q.state (item ∷ after ++ run.part.rest) (clash_of cause)
       ⊎ ClashesIn (schema_of g) rows (all_changes q.state) (clash_of cause) → ⊥
   none_clashes cause is =
       elim is [
         | inl next ↦
-            next_clash g rows q run.progress (item ∷ after) sane later committed cause
-            (first_clashes g rows q.state item (after ++ run.rest) after (clash_of cause) next)
+            next_clash g rows q run.part.progress (item ∷ after) sane later committed cause
+            (first_clashes g rows q.state item (after ++ run.part.rest) after (clash_of cause) next)
         | inr last ↦
             first_in_clear (schema_of g) rows (all_changes q.state) cause clear
             (first_in (schema_of g) rows (all_changes q.state) cause last)
       ]
 
-  no_cause_before : (end : End) → IsStreamCause g rows q.state (item ∷ after ++ run.rest) end → ⊥
+  no_cause_before : (end : End) → IsStreamCause g rows q.state (item ∷ after ++ run.part.rest) end → ⊥
   no_cause_before (ends.Msg fault) is =
       elim is [ inl next ↦ none_refused (refusals.Msg fault) (λ e. cc) next | inr last ↦ last ]
   no_cause_before (ends.Session fault) is =
@@ -236,7 +236,7 @@ module _ (g : Setting) (rows : Rows) (old new : DeviceState) (o : Outcome) (run 
   no_cause_before end is = elim is [ inl next ↦ next | inr last ↦ last ]
 
 pub at_first_cause : (g : Setting) (rows : Rows) (old new : DeviceState) (o : Outcome) (run : IsRun g rows old new o)
-    → IsAtFirstCause g rows run.handled run.rest run.progress.state o.end
+    → IsAtFirstCause g rows run.part.handled run.part.rest run.part.progress.state o.end
 at_first_cause g rows old new o run = record {
   none_before = λ before after item q end split lawful is.
       no_cause_before g rows old new o run before after item q split lawful end is;

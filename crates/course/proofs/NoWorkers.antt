@@ -349,37 +349,28 @@ module _ (g : Setting) (rows : Rows) (old new : DeviceState) (o : Outcome) (run 
     (zero : g.workers ≡ 0) where
   -- where it ended
   abbrev s : State
-  s = run.progress.state
+  s = run.part.progress.state
 
   sane : IsSane s
-  sane = sane_items g start_progress run.progress run.handled sane_start run.lawful
+  sane = sane_items g start_progress run.part.progress run.part.handled sane_start run.part.lawful
 
   plain : IsPlain s
-  plain = led_plain g zero run.progress run.handled run.lawful
+  plain = led_plain g zero run.part.progress run.part.handled run.part.lawful
 
   -- a run with workers that handled the same items
   abbrev IsSame : Type 0
-  IsSame = (same : IsThreadedRun g rows old new o) × (same.handled ≡ run.handled)
+  IsSame = (same : IsThreadedRun g rows old new o) × (same.part.handled ≡ run.part.handled)
 
   at_world : (w : World) → TellsRun g rows s o w
-      → ((xid : ℕ) (done : Opened) → get w.opened xid ≡ Some done → IsOpen g s run.rest sane plain xid done)
+      → ((xid : ℕ) (done : Opened) → get w.opened xid ≡ Some done → IsOpen g s run.part.rest sane plain xid done)
       → ((cause : ClashCause) → conflict o.end ≡ Some cause → HasConflict g s w cause) → IsSame
   at_world w tells opened clashes = (
     record {
-      bytes = run.bytes;
-      read = run.read;
-      handled = run.handled;
-      rest = run.rest;
-      items = run.items;
-      progress = run.progress;
-      lawful = run.lawful;
-      times = run.times;
-      told = run.told;
-      counted = run.counted;
+      part = run.part;
       world = w;
       is_world = record { reached = ∣ tells.reached ∣₁; line = tells.line ∙ sym plain.past; opened = opened };
       cause =
-          threaded_cause g rows old new run.handled run.progress run.times run.bytes run.rest w tells.running o.end
+          threaded_cause g rows old new run.part.handled run.part.progress run.part.times run.part.bytes run.part.rest w tells.running o.end
           run.cause clashes;
       left = tells.left;
       schema = run.schema;
@@ -390,15 +381,15 @@ module _ (g : Setting) (rows : Rows) (old new : DeviceState) (o : Outcome) (run 
   by_conflict : (found : Option ClashCause) → conflict o.end ≡ found → IsSame
   by_conflict None is =
       at_world (world_of (schema_of g) rows s) (run_reached g rows old new o run is)
-      (begun_works g s run.rest sane plain (begun s) refl)
+      (begun_works g s run.part.rest sane plain (begun s) refl)
       (λ cause e. absurd (no_cause cause (sym is ∙ e)))
   by_conflict (Some cause) is =
       let stopped = run_stopped g rows old new o run cause is in
       at_world stopped.0 stopped.1
-      (stopped_works g s run.rest sane plain stopped.0 stopped.2 stopped.3 stopped.4 cause stopped.5 stopped.1.alone)
+      (stopped_works g s run.part.rest sane plain stopped.0 stopped.2 stopped.3 stopped.4 cause stopped.5 stopped.1.alone)
       (λ why e.
       subst (HasConflict g s stopped.0) (one_cause cause why (sym is ∙ e))
-      (stopped_conflict g s run.rest sane plain stopped.0 stopped.2 stopped.3 stopped.4 cause stopped.5))
+      (stopped_conflict g s run.part.rest sane plain stopped.0 stopped.2 stopped.3 stopped.4 cause stopped.5))
 
   pub without_workers : IsSame
   without_workers = by_conflict (conflict o.end) refl

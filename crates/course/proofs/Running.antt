@@ -22,7 +22,8 @@ use Rattle.spooled.specs.declared.end.End.{End}
 use Rattle.spooled.specs.declared.end.End.TheVariants as ends
 use Rattle.spooled.specs.declared.outcome.Outcome.{Outcome}
 use Rattle.spooled.specs.Commits.{transaction, committed_changes, all_changes, last_end}
-use Rattle.spooled.specs.Work.{IsClear, ClashesIn, ClashesAs}
+use Rattle.change.specs.Refusal.{ClashesAs}
+use Rattle.spooled.specs.Work.{IsClear, ClashesIn}
 use Rattle.spooled.specs.Progress.{Progress, Leads, start_progress, commits_from}
 use Rattle.spooled.specs.Cause.{schema_of, IsCause, HasGoneWell, HasNotClashed, LastClashed, NextClashes, IsNext}
 use Rattle.spooled.specs.Devices.{DeviceState}
@@ -56,16 +57,16 @@ ends_same (c ∷ d ∷ past) = ends_same (d ∷ past)
 -- a world with the commits of a state tells of the run
 tells_of : (g : Setting) (rows : Rows) (old new : DeviceState) (o : Outcome) (run : IsRun g rows old new o)
     (m : OpenOnes) (w : World) → IsAtMostOne m
-    → w ≡ at (schema_of g) rows (map past_of run.progress.state.past) m
-    → Reaches (schema_of g) (starting rows) w → TellsRun g rows run.progress.state o w
+    → w ≡ at (schema_of g) rows (map past_of run.part.progress.state.past) m
+    → Reaches (schema_of g) (starting rows) w → TellsRun g rows run.part.progress.state o w
 tells_of g rows old new o run m w alone is reached = record {
   reached = reached;
   line = ap (λ (v : World). v.line) is;
   left = record {
-    entries = run.journal ∙ entries_same run.progress.state.past ∙ sym (ap (λ (v : World). map told_of (journal v)) is);
-    position = run.position ∙ ends_same run.progress.state.past ∙ sym (ap (λ (v : World). end_of v.line) is);
+    entries = run.journal ∙ entries_same run.part.progress.state.past ∙ sym (ap (λ (v : World). map told_of (journal v)) is);
+    position = run.position ∙ ends_same run.part.progress.state.past ∙ sym (ap (λ (v : World). end_of v.line) is);
     tables =
-        run.tables ∙ ap (serial (schema_of g) rows) (sym (work_same run.progress.state.past)) ∙ sym (ap (λ (v : World). v.committed) is);
+        run.tables ∙ ap (serial (schema_of g) rows) (sym (work_same run.part.progress.state.past)) ∙ sym (ap (λ (v : World). v.committed) is);
   };
   alone = subst IsAtMostOne (sym (ap (λ (v : World). v.opened) is)) alone;
   running = ap (λ (v : World). v.stopped) is;
@@ -116,11 +117,11 @@ module _ (g : Setting) (rows : Rows) (old new : DeviceState) (handled : List Cop
 
 pub run_reached : (g : Setting) (rows : Rows) (old new : DeviceState) (o : Outcome) (run : IsRun g rows old new o)
     → conflict o.end ≡ None
-    → TellsRun g rows run.progress.state o (world_of (schema_of g) rows run.progress.state)
+    → TellsRun g rows run.part.progress.state o (world_of (schema_of g) rows run.part.progress.state)
 run_reached g rows old new o run e =
-    tells_of g rows old new o run (open_ones (begun run.progress.state)) (world_of (schema_of g) rows run.progress.state) (begun_open (begun run.progress.state)) (world_is (schema_of g) rows (starting rows) run.progress.state)
-    (reached g (schema_of g) rows run.handled run.progress run.lawful
-    (clear_at g rows old new run.handled run.progress run.times run.bytes run.rest o.end run.cause e))
+    tells_of g rows old new o run (open_ones (begun run.part.progress.state)) (world_of (schema_of g) rows run.part.progress.state) (begun_open (begun run.part.progress.state)) (world_is (schema_of g) rows (starting rows) run.part.progress.state)
+    (reached g (schema_of g) rows run.part.handled run.part.progress run.part.lawful
+    (clear_at g rows old new run.part.handled run.part.progress run.part.times run.part.bytes run.part.rest o.end run.cause e))
 
 -- ---- a conflict
 
@@ -358,9 +359,9 @@ ended g rows old new handled p times bytes rest lawful ends.OutOfMemory is cause
 
 pub run_stopped : (g : Setting) (rows : Rows) (old new : DeviceState) (o : Outcome) (run : IsRun g rows old new o) (cause : ClashCause)
     → conflict o.end ≡ Some cause
-    → (w : World) × TellsRun g rows run.progress.state o w × (xid : ℕ) × (work : List Item)
-    × IsTurnOf g run.progress.state run.rest xid work × IsStoppedBy (schema_of g) w xid work cause
+    → (w : World) × TellsRun g rows run.part.progress.state o w × (xid : ℕ) × (work : List Item)
+    × IsTurnOf g run.part.progress.state run.part.rest xid work × IsStoppedBy (schema_of g) w xid work cause
 run_stopped g rows old new o run cause e =
-    let is = ended g rows old new run.handled run.progress run.times run.bytes run.rest run.lawful o.end run.cause cause e in
-    let w = at (schema_of g) rows (map past_of run.progress.state.past) is.0 in
+    let is = ended g rows old new run.part.handled run.part.progress run.part.times run.part.bytes run.part.rest run.part.lawful o.end run.cause cause e in
+    let w = at (schema_of g) rows (map past_of run.part.progress.state.past) is.0 in
     (w, tells_of g rows old new o run is.0 w is.1 refl is.2, is.3, is.4, is.5, is.6)

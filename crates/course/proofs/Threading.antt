@@ -34,9 +34,10 @@ use Rattle.world.specs.CallLaws.{committed_is_serial}
 use Rattle.world.specs.World.{Opened, Past, World, starting, entry_of, changes_in}
 use Rattle.world.specs.Steps.{Reaches}
 use Rattle.course.specs.Begun.{IsSane, begun, begun_in, if_direct, Moves}
+use Rattle.course.specs.Laws.{WorkersAlterNothing, CleanIsWithoutThreads}
 use Rattle.course.specs.Runs.{told_of, end_of, IsAtMostOne, IsCommitOf, CommitsNext}
 use Rattle.course.specs.Threads.{work_of, done_by_commit, Does, IsWorldOf}
-use Rattle.course.specs.ThreadedRun.{IsStuckBy, IsThreadedCause, IsThreadedRun}
+use Rattle.course.specs.ThreadedRun.{IsStuckBy, IsCauseOf, IsThreadedRun}
 use Rattle.course.proofs.Alone.{survive_again}
 use Rattle.course.proofs.Clear.{commits_clear}
 use Rattle.course.proofs.Reaching.{handled_told}
@@ -81,12 +82,12 @@ committed_serial schema rows w valid reached =
     ∥∥₁_elim reached (Coded-set rows_code _ _) (λ (is : Reaches schema (starting rows) w). (committed_is_serial schema rows w (valid, is)).1)
 
 module _ (g : Setting) (rows : Rows) (old new : DeviceState) (o : Outcome) (run : IsThreadedRun g rows old new o) where
-  pub run_commits : map transaction_of o.journal.items ≡ commits run.progress.state
+  pub run_commits : map transaction_of o.journal.items ≡ commits run.part.progress.state
   run_commits =
-      run.left.entries ∙ ap (λ line. map told_of (map entry_of line)) run.is_world.line ∙ entries_done run.progress.state.past
+      run.left.entries ∙ ap (λ line. map told_of (map entry_of line)) run.is_world.line ∙ entries_done run.part.progress.state.past
 
-  pub run_position : o.position ≡ last_end run.progress.state.past
-  run_position = run.left.position ∙ ap end_of run.is_world.line ∙ ends_done run.progress.state.past
+  pub run_position : o.position ≡ last_end run.part.progress.state.past
+  run_position = run.left.position ∙ ap end_of run.is_world.line ∙ ends_done run.part.progress.state.past
 
   pub run_tables : IsValid (schema_of g) rows
       → o.tables.rows ≡ serial (schema_of g) rows (told_changes (map transaction_of o.journal.items))
@@ -255,19 +256,16 @@ not_stuck g s rest w xid holder alone stuck =
 pub one_open : (g : Setting) (rows : Rows) (old new : DeviceState) (o : Outcome) (run : IsThreadedRun g rows old new o)
     → g.workers ≡ 0 → IsAtMostOne run.world.opened × ((xid holder : ℕ) → o.end ≢ ends.HeldKey xid holder)
 one_open g rows old new o run zero =
-    let alone = at_most_one g rows run.handled run.rest run.progress run.world zero run.lawful run.is_world in (
+    let alone = at_most_one g rows run.part.handled run.part.rest run.part.progress run.world zero run.part.lawful run.is_world in (
       alone,
       λ xid holder e.
-          let cause = subst (IsThreadedCause g old new run.handled run.progress run.times run.bytes run.rest run.world) e run.cause in
-          not_stuck g run.progress.state run.rest run.world xid holder alone cause.1,
+          let cause = subst (IsCauseOf g old new run.part run.world) e run.cause in
+          not_stuck g run.part.progress.state run.part.rest run.world xid holder alone cause.1,
     )
 
 -- ---- with workers and without
 
-pub workers_alter : (g h : Setting) (items : List CopyItem) (p q : Progress) → h.catalog ≡ g.catalog
-    → Leads g start_progress items p → Leads h start_progress items q
-    → (commits q.state ≡ commits p.state) × (q.state.position ≡ p.state.position)
-    × (q.seen ≡ p.seen) × (q.updates ≡ p.updates)
+pub workers_alter : WorkersAlterNothing
 workers_alter g h items p q catalog is there =
     let same = led g h start_progress start_progress p q items catalog (start_alike h) is there in
     (same_transactions h p.state q.state same.state, same.state.position, same.seen, same.updates)
@@ -283,26 +281,20 @@ same_ends h s t alike = ends_without t.past ∙ ap last_end alike.past ∙ sym (
 pub all_items : (handled rest items : List CopyItem) → handled ++ rest ≡ items → rest ≡ [] → handled ≡ items
 all_items handled rest items all none = sym (append-nil handled) ∙ ap (λ more. handled ++ more) (sym none) ∙ all
 
-pub clean_alone : (g h : Setting) (rows : Rows) (old new before after : DeviceState) (o p : Outcome)
-    (run : IsThreadedRun g rows old new o) (alone : IsRun h rows before after p)
-    → IsValid (schema_of g) rows → h.catalog ≡ g.catalog → o.end ≡ ends.Clean
-    → alone.bytes ≡ run.bytes → alone.rest ≡ []
-    → (map transaction_of p.journal.items ≡ map transaction_of o.journal.items)
-    × (p.position ≡ o.position) × (p.tables.rows ≡ o.tables.rows)
-    × (alone.progress.updates ≡ run.progress.updates)
+pub clean_alone : CleanIsWithoutThreads
 clean_alone g h rows old new before after o p run alone valid catalog clean bytes none =
-    let cause = subst (IsThreadedCause g old new run.handled run.progress run.times run.bytes run.rest run.world) clean run.cause in
-    let items : alone.handled ≡ run.handled =
-    all_items alone.handled alone.rest (copy_items run.bytes) (alone.items ∙ ap copy_items bytes) none
-    ∙ sym (all_items run.handled run.rest (copy_items run.bytes) run.items cause.0.all_handled) in
-    let same = led g h start_progress start_progress run.progress alone.progress run.handled catalog (start_alike h) run.lawful
-    (subst (λ is. Leads h start_progress is alone.progress) items alone.lawful) in
-    let commits_same = same_transactions h run.progress.state alone.progress.state same.state in
+    let cause = subst (IsCauseOf g old new run.part run.world) clean run.cause in
+    let items : alone.part.handled ≡ run.part.handled =
+    all_items alone.part.handled alone.part.rest (copy_items run.part.bytes) (alone.part.items ∙ ap copy_items bytes) none
+    ∙ sym (all_items run.part.handled run.part.rest (copy_items run.part.bytes) run.part.items cause.0.all_handled) in
+    let same = led g h start_progress start_progress run.part.progress alone.part.progress run.part.handled catalog (start_alike h) run.part.lawful
+    (subst (λ is. Leads h start_progress is alone.part.progress) items alone.part.lawful) in
+    let commits_same = same_transactions h run.part.progress.state alone.part.progress.state same.state in
     let journal_same : map transaction_of p.journal.items ≡ map transaction_of o.journal.items =
     alone.journal ∙ commits_same ∙ sym (run_commits g rows old new o run) in (
       journal_same,
-      alone.position ∙ same_ends h run.progress.state alone.progress.state same.state ∙ sym (run_position g rows old new o run),
-      alone.tables ∙ ap (λ c. serial (map keys_of c) rows (told_changes (commits alone.progress.state))) catalog
+      alone.position ∙ same_ends h run.part.progress.state alone.part.progress.state same.state ∙ sym (run_position g rows old new o run),
+      alone.tables ∙ ap (λ c. serial (map keys_of c) rows (told_changes (commits alone.part.progress.state))) catalog
           ∙ ap (λ ts. serial (schema_of g) rows (told_changes ts)) (sym alone.journal ∙ journal_same) ∙ sym (run_tables g rows old new o run valid),
       same.updates,
     )

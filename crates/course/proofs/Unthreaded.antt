@@ -30,7 +30,7 @@ use Rattle.spooled.specs.Run.{IsRun}
 use Rattle.spooled.specs.Work.{IsClear, ClashesIn}
 use Rattle.world.specs.World.{starting}
 use Rattle.course.specs.Begun.{IsSane, begun, Moves}
-use Rattle.course.specs.ThreadedRun.{IsThreadedCause, IsThreadedRun}
+use Rattle.course.specs.ThreadedRun.{IsCauseOf, IsThreadedRun}
 use Rattle.course.specs.Threads.{AreBytes}
 use Rattle.course.proofs.Alone.{clear_front, first_in_clear}
 use Rattle.course.proofs.Reaching.{done, all_done, work_same, moved, handled_told}
@@ -250,22 +250,22 @@ bytes_behind (Wal first last payload ∷ xs) ys are = bytes_behind xs ys are.1
 bytes_behind (Keepalive last reply ∷ xs) ys are = bytes_behind xs ys are
 bytes_behind (Done ∷ xs) ys are = bytes_behind xs ys are
 
-module _ (g h : Setting) (rows : Rows) (old new before after : DeviceState) (o p : Outcome) (run : IsThreadedRun g rows old new o) (alone : IsRun h rows before after p) (valid : IsValid (schema_of g) rows) (catalog : h.catalog ≡ g.catalog) (clean : o.end ≡ ends.Clean) (same_bytes : alone.bytes ≡ run.bytes) (are : AreBytes run.handled) (q : Progress) (room : Leads h start_progress run.handled q) where
-  items : alone.handled ++ alone.rest ≡ run.handled
+module _ (g h : Setting) (rows : Rows) (old new before after : DeviceState) (o p : Outcome) (run : IsThreadedRun g rows old new o) (alone : IsRun h rows before after p) (valid : IsValid (schema_of g) rows) (catalog : h.catalog ≡ g.catalog) (clean : o.end ≡ ends.Clean) (same_bytes : alone.part.bytes ≡ run.part.bytes) (are : AreBytes run.part.handled) (q : Progress) (room : Leads h start_progress run.part.handled q) where
+  items : alone.part.handled ++ alone.part.rest ≡ run.part.handled
   items =
-      let cause = subst (IsThreadedCause g old new run.handled run.progress run.times run.bytes run.rest run.world) clean run.cause in
-      alone.items ∙ ap copy_items same_bytes ∙ sym (all_items run.handled run.rest (copy_items run.bytes) run.items cause.0.all_handled)
+      let cause = subst (IsCauseOf g old new run.part run.world) clean run.cause in
+      alone.part.items ∙ ap copy_items same_bytes ∙ sym (all_items run.part.handled run.part.rest (copy_items run.part.bytes) run.part.items cause.0.all_handled)
 
-  later : Leads h alone.progress alone.rest q
+  later : Leads h alone.part.progress alone.part.rest q
   later =
-      leads_on h start_progress q alone.progress alone.handled alone.rest alone.lawful
+      leads_on h start_progress q alone.part.progress alone.part.handled alone.part.rest alone.part.lawful
       (subst (λ is. Leads h start_progress is q) (sym items) room)
 
-  alike : Alike h run.progress.state q.state
-  alike = (led g h start_progress start_progress run.progress q run.handled catalog (start_alike h) run.lawful room).state
+  alike : Alike h run.part.progress.state q.state
+  alike = (led g h start_progress start_progress run.part.progress q run.part.handled catalog (start_alike h) run.part.lawful room).state
 
   same_journal : map transaction_of o.journal.items ≡ commits q.state
-  same_journal = run_commits g rows old new o run ∙ sym (same_transactions h run.progress.state q.state alike)
+  same_journal = run_commits g rows old new o run ∙ sym (same_transactions h run.part.progress.state q.state alike)
 
   clear : IsClear (schema_of h) rows (committed_changes q.state)
   clear =
@@ -276,14 +276,14 @@ module _ (g h : Setting) (rows : Rows) (old new before after : DeviceState) (o p
       → (map transaction_of p.journal.items ≡ map transaction_of o.journal.items)
       × (p.position ≡ o.position) × (p.tables.rows ≡ o.tables.rows)
   clean_with_room memory device =
-      let sane = sane_items h start_progress alone.progress alone.handled sane_start alone.lawful in
-      let past : q.state.past ≡ alone.progress.state.past =
-      all_committed h rows alone.progress q alone.rest sane later clear before after alone.handled alone.times alone.bytes
-      (bytes_behind alone.handled alone.rest (subst AreBytes (sym items) are)) p.end alone.cause memory device in
+      let sane = sane_items h start_progress alone.part.progress alone.part.handled sane_start alone.part.lawful in
+      let past : q.state.past ≡ alone.part.progress.state.past =
+      all_committed h rows alone.part.progress q alone.part.rest sane later clear before after alone.part.handled alone.part.times alone.part.bytes
+      (bytes_behind alone.part.handled alone.part.rest (subst AreBytes (sym items) are)) p.end alone.cause memory device in
       let journal : map transaction_of p.journal.items ≡ map transaction_of o.journal.items =
       alone.journal ∙ ap (map transaction) (sym past) ∙ sym same_journal in (
         journal,
-        alone.position ∙ ap last_end (sym past) ∙ same_ends h run.progress.state q.state alike ∙ sym (run_position g rows old new o run),
-        alone.tables ∙ ap (λ c. serial (map keys_of c) rows (told_changes (commits alone.progress.state))) catalog
+        alone.position ∙ ap last_end (sym past) ∙ same_ends h run.part.progress.state q.state alike ∙ sym (run_position g rows old new o run),
+        alone.tables ∙ ap (λ c. serial (map keys_of c) rows (told_changes (commits alone.part.progress.state))) catalog
             ∙ ap (λ ts. serial (schema_of g) rows (told_changes ts)) (sym alone.journal ∙ journal) ∙ sym (run_tables g rows old new o run valid),
       )

@@ -29,7 +29,8 @@ use Rattle.spooled.specs.Commits.{committed_changes, all_changes, changes_in as 
 use Rattle.spooled.specs.Devices.{DeviceState}
 use Rattle.spooled.specs.Progress.{Progress, Handles, Leads, start_progress, commits_from}
 use Rattle.spooled.specs.Run.{IsRun}
-use Rattle.spooled.specs.Work.{HasNoClash, IsClear, ClashesIn, ClashesAs}
+use Rattle.change.specs.Refusal.{HasNoClash, ClashesAs}
+use Rattle.spooled.specs.Work.{IsClear, ClashesIn}
 use Rattle.spooled.proofs.Working.{IsClear-append}
 use Rattle.world.specs.World.{Opened, World, starting, changes_in, work, own_rows}
 use Rattle.course.specs.Begun.{IsSane, open_items, begun_in, begun}
@@ -379,14 +380,14 @@ module _ (g : Setting) (rows : Rows) (old new : DeviceState) (handled : List Cop
 
 module _ (g : Setting) (rows : Rows) (old new : DeviceState) (o : Outcome) (run : IsThreadedRun g rows old new o)
     (valid : IsValid (schema_of g) rows) (zero : g.workers ≡ 0)
-    (first : IsAtFirstCause g rows run.handled run.rest run.progress.state o.end) where
+    (first : IsAtFirstCause g rows run.part.handled run.part.rest run.part.progress.state o.end) where
   -- where it ended
   abbrev s : State
-  s = run.progress.state
+  s = run.part.progress.state
 
   -- why a run without threads would end there
   abbrev IsEnd : Type 0
-  IsEnd = IsAlone g rows old new run.handled run.progress run.times run.bytes run.rest run.world o.end
+  IsEnd = IsAlone g rows old new run.part.handled run.part.progress run.part.times run.part.bytes run.part.rest run.world o.end
 
   committed_clear : IsClear (schema_of g) rows (committed_changes s)
   committed_clear =
@@ -401,35 +402,35 @@ module _ (g : Setting) (rows : Rows) (old new : DeviceState) (o : Outcome) (run 
         subst (IsLastCause g rows s) (sym (first.by_clash (end_by cause) is)) is
 
     -- at the start there is no change
-    not_at_start : run.handled ≡ [] → ⊥
+    not_at_start : run.part.handled ≡ [] → ⊥
     not_at_start none =
-        let here : start_progress ≡ run.progress =
-        subst (λ items. Leads g start_progress items run.progress) none run.lawful in
+        let here : start_progress ≡ run.part.progress =
+        subst (λ items. Leads g start_progress items run.part.progress) none run.part.lawful in
         first_in_clear (schema_of g) rows [] cause tt
         (first_in (schema_of g) rows [] cause
         (subst (λ (p : Progress). ClashesIn (schema_of g) rows (all_changes p.state) (clash_of cause)) (sym here) clash))
 
-    at_last : LastStep g run.handled run.progress → IsEnd
+    at_last : LastStep g run.part.handled run.part.progress → IsEnd
     at_last last =
-        by_last g rows old new run.handled run.progress run.times run.bytes run.rest run.world last
-        (clear_without g rows last.past.state (last.item ∷ run.rest)
+        by_last g rows old new run.part.handled run.part.progress run.part.times run.part.bytes run.part.rest run.world last
+        (clear_without g rows last.past.state (last.item ∷ run.part.rest)
         (λ end. first.none_before last.before [] last.item last.past end last.split last.lawful))
         committed_clear o.end run.cause why
 
     clashed : IsEnd
     clashed =
-        elim (last_step g run.handled run.progress run.lawful) [
+        elim (last_step g run.part.handled run.part.progress run.part.lawful) [
           | inl none ↦ absurd (not_at_start none)
           | inr last ↦ at_last last
         ]
 
   no_clash : IsClear (schema_of g) rows (all_changes s) → IsEnd
   no_clash clear =
-      let sane = sane_items g start_progress run.progress run.handled sane_start run.lawful in
-      let plain = led_plain g zero run.progress run.handled run.lawful in
-      let none = none_works g run.handled run.progress zero run.lawful in
-      by_item g rows old new run.handled run.progress run.times run.bytes run.rest run.world clear o.end run.cause
-      (conflict_next g rows s run.rest run.world sane plain none run.is_world valid clear)
+      let sane = sane_items g start_progress run.part.progress run.part.handled sane_start run.part.lawful in
+      let plain = led_plain g zero run.part.progress run.part.handled run.part.lawful in
+      let none = none_works g run.part.handled run.part.progress zero run.part.lawful in
+      by_item g rows old new run.part.handled run.part.progress run.part.times run.part.bytes run.part.rest run.world clear o.end run.cause
+      (conflict_next g rows s run.part.rest run.world sane plain none run.is_world valid clear)
       (one_open g rows old new o run zero).1
 
   alone_cause : IsEnd
@@ -439,19 +440,10 @@ module _ (g : Setting) (rows : Rows) (old new : DeviceState) (o : Outcome) (run 
         | inr clash ↦ clashed clash.0 clash.1
       ]
 
-  pub without_threads : (alone : IsRun g rows old new o) × (alone.handled ≡ run.handled)
+  pub without_threads : (alone : IsRun g rows old new o) × (alone.part.handled ≡ run.part.handled)
   without_threads = (
     record {
-      bytes = run.bytes;
-      read = run.read;
-      handled = run.handled;
-      rest = run.rest;
-      items = run.items;
-      progress = run.progress;
-      lawful = run.lawful;
-      times = run.times;
-      told = run.told;
-      counted = run.counted;
+      part = run.part;
       cause = alone_cause;
       journal = run_commits g rows old new o run;
       position = run_position g rows old new o run;

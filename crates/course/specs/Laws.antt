@@ -59,7 +59,7 @@ abbrev pub RunIsReached : Type 0
 RunIsReached =
     (g : Setting) (rows : Rows) (old new : DeviceState) (o : Outcome) (run : IsRun g rows old new o)
     → conflict o.end ≡ None
-    → TellsRun g rows run.progress.state o (world_of (schema_of g) rows run.progress.state)
+    → TellsRun g rows run.part.progress.state o (world_of (schema_of g) rows run.part.progress.state)
 
 -- a run that a conflict ended is a world that a call stops, for just this conflict: a change of the
 -- one transaction whose turn it is, after the items that come before it
@@ -67,8 +67,8 @@ abbrev pub ConflictStopsWorld : Type 0
 ConflictStopsWorld =
     (g : Setting) (rows : Rows) (old new : DeviceState) (o : Outcome) (run : IsRun g rows old new o)
     (cause : ClashCause) → conflict o.end ≡ Some cause
-    → (w : World) × TellsRun g rows run.progress.state o w × (xid : ℕ) × (work : List Item)
-    × IsTurnOf g run.progress.state run.rest xid work × IsStoppedBy (schema_of g) w xid work cause
+    → (w : World) × TellsRun g rows run.part.progress.state o w × (xid : ℕ) × (work : List Item)
+    × IsTurnOf g run.part.progress.state run.part.rest xid work × IsStoppedBy (schema_of g) w xid work cause
 
 -- ---- runs with workers
 
@@ -80,10 +80,10 @@ abbrev pub ThreadedIsSerial : Type 0
 ThreadedIsSerial =
     (g : Setting) (rows : Rows) (old new : DeviceState) (o : Outcome)
     (run : IsThreadedRun g rows old new o) → IsValid (schema_of g) rows
-    → (map transaction_of o.journal.items ≡ commits run.progress.state)
+    → (map transaction_of o.journal.items ≡ commits run.part.progress.state)
     × (o.tables.rows ≡ serial (schema_of g) rows (changes_in (map transaction_of o.journal.items)))
     × IsClear (schema_of g) rows (changes_in (map transaction_of o.journal.items))
-    × (o.position ≡ last_end run.progress.state.past)
+    × (o.position ≡ last_end run.part.progress.state.past)
 
 -- what was open at its end has left nothing: calls reach a world in which none is open any more,
 -- and the run leaves what closing that world gives
@@ -110,10 +110,10 @@ CleanIsWithoutThreads =
     (g h : Setting) (rows : Rows) (old new before after : DeviceState) (o p : Outcome)
     (run : IsThreadedRun g rows old new o) (alone : IsRun h rows before after p)
     → IsValid (schema_of g) rows → h.catalog ≡ g.catalog → o.end ≡ ends.Clean
-    → alone.bytes ≡ run.bytes → alone.rest ≡ []
+    → alone.part.bytes ≡ run.part.bytes → alone.part.rest ≡ []
     → (map transaction_of p.journal.items ≡ map transaction_of o.journal.items)
     × (p.position ≡ o.position) × (p.tables.rows ≡ o.tables.rows)
-    × (alone.progress.updates ≡ run.progress.updates)
+    × (alone.part.progress.updates ≡ run.part.progress.updates)
 
 -- and its journal, position and tables are those of any run without workers over the same bytes,
 -- whose spools have room for all of their items, and which neither memory nor a device fails
@@ -122,8 +122,8 @@ CleanWhereThereIsRoom =
     (g h : Setting) (rows : Rows) (old new before after : DeviceState) (o p : Outcome)
     (run : IsThreadedRun g rows old new o) (alone : IsRun h rows before after p)
     → IsValid (schema_of g) rows → h.catalog ≡ g.catalog → o.end ≡ ends.Clean
-    → alone.bytes ≡ run.bytes → AreBytes run.handled
-    → (q : Progress) → Leads h start_progress run.handled q
+    → alone.part.bytes ≡ run.part.bytes → AreBytes run.part.handled
+    → (q : Progress) → Leads h start_progress run.part.handled q
     → p.end ≢ ends.OutOfMemory → p.end ≢ ends.Frame Device
     → (map transaction_of p.journal.items ≡ map transaction_of o.journal.items)
     × (p.position ≡ o.position) × (p.tables.rows ≡ o.tables.rows)
@@ -143,13 +143,13 @@ abbrev pub RunIsWithoutWorkers : Type 0
 RunIsWithoutWorkers =
     (g : Setting) (rows : Rows) (old new : DeviceState) (o : Outcome) (run : IsRun g rows old new o)
     → g.workers ≡ 0
-    → (same : IsThreadedRun g rows old new o) × (same.handled ≡ run.handled)
+    → (same : IsThreadedRun g rows old new o) × (same.part.handled ≡ run.part.handled)
 
 -- it ends at its first cause
 abbrev pub EndsAtFirstCause : Type 0
 EndsAtFirstCause =
     (g : Setting) (rows : Rows) (old new : DeviceState) (o : Outcome) (run : IsRun g rows old new o)
-    → IsAtFirstCause g rows run.handled run.rest run.progress.state o.end
+    → IsAtFirstCause g rows run.part.handled run.part.rest run.part.progress.state o.end
 
 -- and a run with no workers that ends at its first cause is a run without threads that handled the
 -- same items
@@ -157,8 +157,8 @@ abbrev pub FirstCauseIsWithoutThreads : Type 0
 FirstCauseIsWithoutThreads =
     (g : Setting) (rows : Rows) (old new : DeviceState) (o : Outcome)
     (run : IsThreadedRun g rows old new o) → IsValid (schema_of g) rows → g.workers ≡ 0
-    → IsAtFirstCause g rows run.handled run.rest run.progress.state o.end
-    → (alone : IsRun g rows old new o) × (alone.handled ≡ run.handled)
+    → IsAtFirstCause g rows run.part.handled run.part.rest run.part.progress.state o.end
+    → (alone : IsRun g rows old new o) × (alone.part.handled ≡ run.part.handled)
 
 -- ---- a leader and its workers
 

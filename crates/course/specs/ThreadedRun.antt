@@ -3,11 +3,10 @@
 --     HasConflict      the next change of an open transaction clashes
 --     WaitsOn, HasDoneAll, AllWait, IsStuckBy      nothing goes on, and a transaction whose turn it
 --         is waits for a cell of another
---     IsThreadedCause      why a run ends, for each end
+--     IsThreadedCause, IsCauseOf      why a run ends, for each end
 --     IsThreadedRun      a run
 use Rattle.std.specs.Prelude.{◌≡◌, ◌≢◌, ℕ, ℤ, List, [], ◌++◌, length, Option, Some, None, ◌⊎◌}
 use Rattle.std.specs.FinMap.{get}
-use Rattle.std.specs.Io.KnownBytes.{Consumes}
 use Rattle.model.specs.Rows.{Rows, Schema}
 use Rattle.model.specs.Effect.{ClashCause, NullKey, Unique}
 use Rattle.model.specs.Footprint.{footprint}
@@ -16,16 +15,16 @@ use Rattle.frames.specs.declared.fault.FrameFault.TheVariants.{Device}
 use Rattle.frames.specs.declared.item.CopyItem.{CopyItem}
 use Rattle.frames.specs.Device.{HasWorked, HasFailedLast}
 use Rattle.frames.specs.Reads.{fault_at_end, AtEndOf}
-use Rattle.frames.specs.Stream.{copy_items, ending_of}
+use Rattle.frames.specs.Stream.{ending_of}
 use Rattle.session.specs.declared.fault.Refused.TheVariants as refusals
 use Rattle.session.specs.State.{Spooled, Open, State, Setting, begun_at}
 use Rattle.spooled.specs.declared.end.End.{End}
 use Rattle.spooled.specs.declared.end.End.TheVariants as ends
 use Rattle.spooled.specs.declared.outcome.Outcome.{Outcome}
 use Rattle.spooled.specs.Cause.{schema_of, RefusesNext, HasGoneWell, CouldNotSend, HadNoMemoryToSend, CouldNotRead, IsOver}
-use Rattle.spooled.specs.Clock.{Ticks}
 use Rattle.spooled.specs.Devices.{DeviceState}
-use Rattle.spooled.specs.Progress.{Progress, start_progress, Leads}
+use Rattle.spooled.specs.Progress.{Progress}
+use Rattle.spooled.specs.StreamPart.{StreamPart}
 use Rattle.world.specs.FineLaws.{IsClashing}
 use Rattle.world.specs.World.{Opened, World, own_rows, IsHeldBy}
 use Rattle.course.specs.Runs.{CommitsNext, NextChange, Leaves}
@@ -96,23 +95,17 @@ module _ (g : Setting) (old new : DeviceState) (handled : List CopyItem) (p : Pr
   IsThreadedCause bytes rest w (ends.HeldKey xid holder) = HasWorkedOn × IsStuckBy g p.state rest w xid holder
   IsThreadedCause bytes rest w ends.OutOfMemory = HasWorkedOn ⊎ HadNoMemoryToSend g Clear old new handled p times
 
--- A run with workers from these rows, over the bytes that the reader gave: `handled` are items of
--- the bytes, each lawful after those before it; there is a world of the state that they led to, at
--- which the run ended for its cause. What is left are the commits of that world, and nothing of
--- what was open in it.
+-- Why a run that handled this part of its stream ends at this world.
+abbrev pub IsCauseOf : (g : Setting) (old new : DeviceState) → StreamPart g old new → World → End → Type 0
+IsCauseOf g old new part = IsThreadedCause g old new part.handled part.progress part.times part.bytes part.rest
+
+-- A run with workers from these rows: it handled items of the bytes; there is a world of the state
+-- that they led to, at which the run ended for its cause. What is left are the commits of that
+-- world, and nothing of what was open in it.
 pub record IsThreadedRun (g : Setting) (rows : Rows) (old new : DeviceState) (o : Outcome) : Type 0 where
-  pub bytes : List ℕ
-  pub read : Consumes old.unread new.unread bytes
-  pub handled : List CopyItem
-  pub rest : List CopyItem
-  pub items : handled ++ rest ≡ copy_items bytes
-  pub progress : Progress
-  pub lawful : Leads g start_progress handled progress
-  pub times : List ℤ
-  pub told : Ticks old.times new.times times
-  pub counted : length times ≡ length progress.updates
+  pub part : StreamPart g old new
   pub world : World
-  pub is_world : IsWorldOf g rows progress.state rest world
-  pub cause : IsThreadedCause g old new handled progress times bytes rest world o.end
+  pub is_world : IsWorldOf g rows part.progress.state part.rest world
+  pub cause : IsCauseOf g old new part world o.end
   pub left : Leaves o world
   pub schema : o.tables.schema ≡ schema_of g

@@ -6,7 +6,7 @@ ghost use Rattle.model.specs.TableRows.{rows_of_table};
 ghost use Rattle.model.specs.declared.value.Value.TheVariants.{Int, Text};
 ghost use Rattle.embed.specs.Accounts.{email_columns, HasEmail};
 
-use leader::{ByteStr, Key, OutOfMemory, RowView, TableId, Tables, Value, Walk};
+use leader::{KeptText, Key, OutOfMemory, RowView, TableId, Tables, Value, Walk};
 use std::alloc::Global;
 use std::marker::Model;
 
@@ -62,7 +62,7 @@ impl Accounts {
         ensures found { IfOk result (λ row. IfSome row (HasEmail self.now email.now)) }
         ensures none { IfOk result (λ row. IfNone row (are_taken self.now.rows 0 (email_columns self.now.schema) (Text email.now ∷ []) ≡ false)) }
     {
-        let text = Value::Text(ByteStr::copy_from_str(alloc, email)?);
+        let text = Value::Text(KeptText::from_str(alloc, email)?);
         let values = Key::from_value(alloc, text)?;
         match self.tables.find_unique(ACCOUNTS, EMAIL, &values) {
             Some(key) => Ok(self.tables.get(ACCOUNTS, key)),

@@ -47,15 +47,7 @@ namespace = "public"
 name = "accounts"
 primary = ["id"]
 unique = [["email"]]
-[[table.column]]
-name = "id"
-type = "int"
-[[table.column]]
-name = "email"
-type = "text"
-[[table.column]]
-name = "note"
-type = "text"
+column = [{name="id", type="int"}, {name="email", type="text"}, {name="note", type="text"}]
 "#;
 
 const CONFIG: Config = Config {

@@ -22,7 +22,8 @@ use Rattle.model.specs.Rows.{Rows, Schema, IsValid, key_of}
 use Rattle.model.specs.TableRows.{rows_of_table}
 use Rattle.engine.specs.Merged.{or_row, row_list, kept, kept_each, around, merged, PutsUpTo, PutsRest}
 use Rattle.engine.proofs.MergedLaws.{merged_sorted, find_merged, find_below}
-use Rattle.engine.proofs.TableRows.{first, second, keyed, get_keyed, table_sorted, values_keyed, found, ordered, rows_by_keys}
+use Rattle.model.specs.TakenLaws.{first_T, second_T}
+use Rattle.engine.proofs.TableRows.{keyed, get_keyed, table_sorted, values_keyed, found, ordered, rows_by_keys}
 
 pub values_kept : (key : Key) (o : Option Row) (es : List (Key × Row)) → values_of (kept key o es) ≡ row_list o ++ values_of es
 values_kept key None es = refl
@@ -127,10 +128,10 @@ own_by_find : (schema : Schema) (table : ℕ) (es : List (Key × Row)) → T (is
 own_by_find schema table [] sorted own = tt
 own_by_find schema table (e ∷ es) sorted own = (
   own e.0 e.1 (ap (λ (r : Ordering). cond (is_eq r) (Some e.1) (find key_cmp e.0 es)) (tied_itself key_cmp_total e.0)),
-  own_by_find schema table es (second _ _ sorted) (λ key row at. own key row (
+  own_by_find schema table es (second_T _ _ sorted) (λ key row at. own key row (
       elim (eq_by_cmp key_cmp key e.0) as (λ b. eq_by_cmp key_cmp key e.0 ≡ b → cond b (Some e.1) (find key_cmp key es) ≡ Some row) [
         | true ↦ λ same.
-            let under = subst (λ (k : Key). find key_cmp k es ≡ None) (sym (tells_apart key_cmp_exact key e.0 same)) (find_below e.0 es (first _ _ sorted)) in
+            let under = subst (λ (k : Key). find key_cmp k es ≡ None) (sym (tells_apart key_cmp_exact key e.0 same)) (find_below e.0 es (first_T _ _ sorted)) in
             absurd (let clash : None ≡ Some row = sym under ∙ at in cc)
         | false ↦ λ differs. at
       ] refl

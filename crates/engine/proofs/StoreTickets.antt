@@ -2,8 +2,9 @@
 --     IsTicket, its_ticket      a number is that of a ticket, under which a store's book has the ticket's list
 --     may_call      so the live part may be called with it
 --     seen_open      callers see the transaction open
+--     met_open, met_call      the same of a book that met the ticket's slip
 --     tied_after, seen_step      the world that the live part's call leads to, and what callers see of that call
-use Rattle.std.proofs.Common.{◌≡◌, ℕ, Some, sym, ap, subst, ◌∙◌}
+use Rattle.std.proofs.Common.{◌≡◌, ℕ, Some, refl, sym, ap, subst, ◌∙◌}
 use Rattle.std.specs.FinMap.{get}
 use Rattle.model.specs.Rows.{Schema}
 use Rattle.tokens.specs.Lists.{OpenList}
@@ -61,3 +62,16 @@ module _ {s : Inside} {t : OpenList Event} {n : ℕ} (is : IsStore s) (its : IsT
       (subst (Steps s.live.tables.schema (world_in s) t.number (opened_by t.list)) (sym leads)
       (subst (λ (k : ℕ). Steps s.live.tables.schema (world_in s) k (opened_by t.list) (later (world_in s) k (opened_by t.list))) its.number
       (steps (world_in s) (opened_by t.list) is.tied open_under)))
+
+-- a book that has met a ticket's slip shows callers that the ticket's transaction is open
+pub met_open : {s : Inside} {slip t : OpenList Event} → IsStore s → slip ≡ t → get s.book.lists slip.number ≡ Some slip.list
+    → (e : Engine) → engine_in s ≡ e → get e.world.opened t.number ≡ Some (opened_by t.list)
+met_open {s} {t = t} is same listed e seen = seen_open {t = t} is record {
+  number = refl;
+  listed = subst (λ (u : OpenList Event). get s.book.lists u.number ≡ Some u.list) same listed;
+} e seen
+
+-- and the live part may be called with its number
+pub met_call : {s : Inside} {n : ℕ} (slip : OpenList Event) → IsStore s → n ≡ slip.number → get s.book.lists slip.number ≡ Some slip.list
+    → (w : World) × (o : Opened) × IsTied w s.live × (get w.opened n ≡ Some o)
+met_call slip is number listed = may_call {t = slip} is record { number = number; listed = listed }

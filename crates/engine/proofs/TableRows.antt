@@ -21,6 +21,7 @@ use Rattle.model.specs.Key.{key_cmp, key_cmp_total}
 use Rattle.model.specs.Exact.{key_cmp_exact}
 use Rattle.model.specs.Rows.{Place, Rows, place_cmp}
 use Rattle.model.specs.TableRows.{is_in_table, rows_of_table}
+use Rattle.model.specs.TakenLaws.{first_T, second_T}
 
 -- ---- the entries of a table, by their keys alone
 
@@ -32,14 +33,6 @@ keyed table (e ∷ es) = cond (is_in_table table e) ((e.0.1, e.1) ∷ keyed tabl
 pub both : (a b : Bool) → T a → T b → T (a && b)
 both true b p q = q
 both false b p q = p
-
-pub first : (a b : Bool) → T (a && b) → T a
-first true b p = tt
-first false b p = p
-
-pub second : (a b : Bool) → T (a && b) → T b
-second true b p = p
-second false b p = absurd p
 
 -- within a table places are in the order of their keys
 within : (table : ℕ) (key other : Key) → place_cmp (table, key) (table, other) ≡ key_cmp key other
@@ -55,9 +48,9 @@ below_keyed : (table : ℕ) (key : Key) (es : List (Place × Row)) → T (below_
 unfolding keyed
 below_keyed table key [] below = tt
 below_keyed table key (e ∷ es) below =
-    let rest = below_keyed table key es (second _ _ below) in
+    let rest = below_keyed table key es (second_T _ _ below) in
     elim (is_in_table table e) as (λ b. is_in_table table e ≡ b → T (below_all key_cmp key (cond b ((e.0.1, e.1) ∷ keyed table es) (keyed table es)))) [
-      | true ↦ λ is. both _ _ (subst (λ (r : Ordering). T (is_lt r)) (place_of table e is key) (first _ _ below)) rest
+      | true ↦ λ is. both _ _ (subst (λ (r : Ordering). T (is_lt r)) (place_of table e is key) (first_T _ _ below)) rest
       | false ↦ λ is. rest
     ] refl
 
@@ -65,10 +58,10 @@ keyed_sorted : (table : ℕ) (es : List (Place × Row)) → T (is_sorted place_c
 unfolding keyed
 keyed_sorted table [] sorted = tt
 keyed_sorted table (e ∷ es) sorted =
-    let rest = keyed_sorted table es (second _ _ sorted) in
+    let rest = keyed_sorted table es (second_T _ _ sorted) in
     elim (is_in_table table e) as (λ b. is_in_table table e ≡ b → T (is_sorted key_cmp (cond b ((e.0.1, e.1) ∷ keyed table es) (keyed table es)))) [
       | true ↦ λ is.
-          both _ _ (below_keyed table e.0.1 es (subst (λ (t : ℕ). T (below_all place_cmp (t, e.0.1) es)) (in_table table e is) (first _ _ sorted))) rest
+          both _ _ (below_keyed table e.0.1 es (subst (λ (t : ℕ). T (below_all place_cmp (t, e.0.1) es)) (in_table table e is) (first_T _ _ sorted))) rest
       | false ↦ λ is. rest
     ] refl
 

@@ -1,7 +1,6 @@
 -- What the lists of tickets and of the line tell, once they are longer.
 --     get_values, values_insert, values_remove      a finite map whose values are altered
 --     opened_more, work_back      an open transaction once one more event has come, and what survives of it after a rollback
---     same_insert      a map into which what it has is inserted
 --     world_acted      the world once a call that tried a change is in its transaction's list
 --     world_done      the world once an item is in it
 --     rise_more      numbers that rise, with one more
@@ -25,6 +24,7 @@ use Rattle.model.specs.Effect.{serial}
 use Rattle.model.specs.EffectLaws.{serial_append}
 use Rattle.model.specs.Survivors.{before_savepoint, survivors, changes_of}
 use Rattle.model.specs.SurvivorLaws.{survivors_with}
+use Rattle.tokens.specs.ListLaws.{grown_by_nothing}
 use Rattle.tokens.specs.Lists.{ListMap}
 use Rattle.world.specs.World.{Past, OpenOnes, Stop, work, changes_in, work_behind}
 use Rattle.world.specs.ListingLaws.{xid_cases, got_same, got_other, same_by_xid}
@@ -73,14 +73,6 @@ module _ {X Y : Type 0} (g : X → Y) where
   values_empty = same_by_xid (map_values g finite.empty) finite.empty (λ q.
       get_values finite.empty q ∙ ap (option_map g) (finite.get-empty nat_cmp q) ∙ sym (finite.get-empty nat_cmp q))
 
--- a map into which what it has is inserted
-pub same_insert : {X : Type 0} (m : FinMap nat_cmp X) (k : ℕ) (v : X) → get m k ≡ Some v → finite.insert m k v ≡ m
-same_insert m k v is = same_by_xid (finite.insert m k v) m (λ q.
-    elim (xid_cases q k) [
-      | inl at ↦ ap (get (finite.insert m k v)) at ∙ got_same m k v ∙ sym is ∙ ap (get m) (sym at)
-      | inr apart ↦ got_other m k v q apart
-    ])
-
 -- ---- the events of a ticket
 
 -- an open transaction once one more event has come
@@ -105,10 +97,6 @@ pub opened_stands : (lists : ListMap Event) (xid : ℕ) (events : List Event) �
     → get (opened_in lists) xid ≡ Some (opened_by events)
 opened_stands lists xid events is = get_values opened_by lists xid ∙ ap (option_map opened_by) is
 
--- a list that is longer by nothing
-pub same_lists : (lists : ListMap Event) (xid : ℕ) (events : List Event) → get lists xid ≡ Some events → finite.insert lists xid (events ++ []) ≡ lists
-same_lists lists xid events is = ap (finite.insert lists xid) (append-nil events) ∙ same_insert lists xid events is
-
 module _ (schema : Schema) (start : Rows) (line : List LineEvent) (lists : ListMap Event) (xid : ℕ) (events : List Event) (is : get lists xid ≡ Some events) where
   -- the world once an item is in its transaction's list
   pub world_done : (stopped : Option Stop) (item : Item)
@@ -131,7 +119,7 @@ module _ (schema : Schema) (start : Rows) (line : List LineEvent) (lists : ListM
   world_acted stopped later sub c (Ok (Clashed cause)) e =
       λ i. record (world_of schema start line lists (e i)) { opened = opened_event lists xid events (Wants sub c) i }
   world_acted stopped later sub c (Err fault) e =
-      λ i. world_of schema start line (same_lists lists xid events is i) (e i)
+      λ i. world_of schema start line (grown_by_nothing lists xid events is i) (e i)
 
 -- ---- the events of the line
 

@@ -87,33 +87,28 @@ OpenIsStood =
     → HasStood w records held → (xid : ℕ) → get w.opened xid ≡ None → (after : ℕ → Option Record) (r : Record) → IsPutAt records xid (Some r) after
     → HasStood (opened_with w xid) after held
 
--- a change is done, and its cells are held too: the places with the live rows, which are the committed ones
-abbrev pub DoneIsStood : Type 0
-DoneIsStood =
+-- a change that came out so is an item with these inverses, and its cells are held too: the places with the live rows,
+-- which are the committed ones
+abbrev pub ChangeIsStood : List Inverse → (Schema → Content → change_type.Change → Type 0) → Type 0
+ChangeIsStood inverses CameOut =
     (schema : Schema) (t : Content) (w : World) (records : ℕ → Option Record) (kept : IsKept schema t w records)
     (held : ℕ → List (Cell × Stood)) → AreHolds schema w (cells_of_each held) → HasStood w records held
     → (xid : ℕ) (o : Opened) (is : get w.opened xid ≡ Some o)
     → HasHeldMarks schema w.committed (kept.ready xid o is).its (keys_of (held xid))
-    → (sub : ℕ) (c : change_type.Change) → IsFreeLive schema t w xid c → (new : Content) (i : Inverse) → IsApplied schema t new c i
+    → (sub : ℕ) (c : change_type.Change) → IsFreeLive schema t w xid c → CameOut schema t c
     → (after : ℕ → Option Record) (s : Record) → IsPutAt records xid (Some s) after
-    → (has : HasItem xid sub (Change sub c) (i ∷ []) (kept.ready xid o is).its s) → has.mark.held ≡ length (held xid)
+    → (has : HasItem xid sub (Change sub c) inverses (kept.ready xid o is).its s) → has.mark.held ≡ length (held xid)
     → (later : ℕ → List (Cell × Stood))
     → TakesStood t.rows (footprint schema t.rows c) (length (kept.ready xid o is).its.log.inverses) held xid later
     → HasStood (done_with w xid o (Change sub c)) after later
 
--- so it is where one is skipped
+-- one that is done
+abbrev pub DoneIsStood : Type 0
+DoneIsStood = (new : Content) (i : Inverse) → ChangeIsStood (i ∷ []) (λ schema t c. IsApplied schema t new c i)
+
+-- one that is skipped
 abbrev pub SkipIsStood : Type 0
-SkipIsStood =
-    (schema : Schema) (t : Content) (w : World) (records : ℕ → Option Record) (kept : IsKept schema t w records)
-    (held : ℕ → List (Cell × Stood)) → AreHolds schema w (cells_of_each held) → HasStood w records held
-    → (xid : ℕ) (o : Opened) (is : get w.opened xid ≡ Some o)
-    → HasHeldMarks schema w.committed (kept.ready xid o is).its (keys_of (held xid))
-    → (sub : ℕ) (c : change_type.Change) → IsFreeLive schema t w xid c → outcome schema t.rows c ≡ Skip
-    → (after : ℕ → Option Record) (s : Record) → IsPutAt records xid (Some s) after
-    → (has : HasItem xid sub (Change sub c) [] (kept.ready xid o is).its s) → has.mark.held ≡ length (held xid)
-    → (later : ℕ → List (Cell × Stood))
-    → TakesStood t.rows (footprint schema t.rows c) (length (kept.ready xid o is).its.log.inverses) held xid later
-    → HasStood (done_with w xid o (Change sub c)) after later
+SkipIsStood = ChangeIsStood [] (λ schema t c. outcome schema t.rows c ≡ Skip)
 
 -- a touch
 abbrev pub TouchIsStood : Type 0

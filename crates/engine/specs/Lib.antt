@@ -13,6 +13,7 @@ pub mod KeptLaws
 pub mod EndLaws
 pub mod BackToLaws
 pub mod Told
+pub mod Tried
 pub mod Laws
 pub mod CallLaws
 pub mod Held

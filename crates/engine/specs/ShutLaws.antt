@@ -4,6 +4,7 @@
 --     fewer_kept      an abort leaves fewer
 --     none_left, all_aborted      what has no first entry is empty; with no transaction kept, all were aborted
 --     shut_closes, shut_serial      the tables and the journal of a store whose open transactions were all aborted
+--     closed_alone      the same of one in which none was open
 --     reaches_on      calls after calls
 --     shared_ended, shared_shut, shared_serial      the same of a store under a lock
 use Rattle.std.proofs.Common.{◌≡◌, ℕ, zero, suc, ◌-◌, ◌<◌, List, Option, Some, None, true, false, refl, sym, ap, subst, ◌∙◌, arith}
@@ -88,6 +89,11 @@ module _ (s : Inside) (is : IsStore s) (v : World) (shut : IsShut s.live.tables.
   shut_serial =
       are ∙ shut.aborted.committed ∙ sym (entries_are_serial s.live.tables.schema s.start.rows (commits_in s.line.list))
       ∙ ap (rows_after s.live.tables.schema s.start.rows) (sym is.told)
+
+-- with no transaction open none is aborted, and the world itself is closed
+pub closed_alone : (schema : Schema) (w : World) → w.opened ≡ finite.empty → {rows : Rows} {entries : List Entry}
+    → ((v : World) × IsShut schema w v × Closes v rows entries) → Closes w rows entries
+closed_alone schema w none (v, shut, closed) = (none, closed.1 ∙ shut.aborted.committed, closed.2 ∙ ap (map entry_of) shut.aborted.line)
 
 -- ---- under a lock
 

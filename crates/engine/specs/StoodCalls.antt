@@ -173,7 +173,7 @@ module _ (schema : Schema) (w : World) (records : ℕ → Option Record) (held :
       (marks_with xid sub has.mark r.marks s.marks (length r.log.inverses) (length (held xid)) has.undo held_is has.marks))))
 
 pub done_is_stood : DoneIsStood
-done_is_stood schema t w records kept held are had xid o is marks sub c free new i applied after s put has held_is later takes =
+done_is_stood new i schema t w records kept held are had xid o is marks sub c free applied after s put has held_is later takes =
     let before = kept.ready xid o is in
     with_item schema w records held had xid o is before.its before.found marks sub (Change sub c) (i ∷ []) after s put has held_is takes.more later takes.at
     (λ front over cell stood its fresh.

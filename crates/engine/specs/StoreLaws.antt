@@ -39,6 +39,7 @@ use Rattle.model.specs.Effect.{ClashCause, serial}
 use Rattle.model.specs.TableRows.{rows_of_table}
 use Rattle.savepoint.specs.Record.{Record}
 use Rattle.tokens.specs.Half.{Half}
+use Rattle.tokens.specs.ListLaws.{grown_by_nothing}
 use Rattle.tokens.specs.Lists.{ListMap, OpenLists, with_list, without_list}
 use Rattle.world.specs.World as told_entry
 use Rattle.world.specs.World.{Opened, Past, ByClash, World, starting, entry_of, journal, changes_in}
@@ -56,7 +57,7 @@ use Rattle.engine.specs.declared.store.Store.TheInside.{Inside}
 use Rattle.engine.specs.declared.transaction.OpenTransaction.{OpenTransaction}
 use Rattle.engine.specs.Answers.{cause_of, stop_for, told_stop, after_act, after_touch, stop_of, TellsWhatStopped, HasCause}
 use Rattle.engine.specs.Events.{opened_by, opened_in, commits_in, ends_in, last_end, is_same, open_after, is_open_in, world_of, events_of, events_of_touch}
-use Rattle.engine.specs.EventLaws.{get_values, values_empty, opened_stands, same_lists, rise_more, ends_same, ends_more, world_done, world_acted, world_opened, world_aborted, world_committed}
+use Rattle.engine.specs.EventLaws.{get_values, values_empty, opened_stands, rise_more, ends_same, ends_more, world_done, world_acted, world_opened, world_aborted, world_committed}
 use Rattle.engine.specs.Journal.{rows_after}
 use Rattle.engine.specs.JournalLaws.{entries_are_serial, rows_after_are_read}
 use Rattle.engine.specs.Engine.{entry_in, world_in, AreNamed, IsStore}
@@ -198,7 +199,7 @@ module _ (s : Inside) (is : IsStore s) (xid : ℕ) (events : List Event) (listed
   store_touched m b sub (Ok u) schema book tied = store_done m b (Touch sub) schema book tied
   store_touched m b sub (Err fault) schema book tied =
       store_grown m b [] (world_in s) schema book tied refl
-      (λ i. world_of s.live.tables.schema s.start.rows s.line.list (same_lists s.book.lists xid events listed i) (tied.stopped i))
+      (λ i. world_of s.live.tables.schema s.start.rows s.line.list (grown_by_nothing s.book.lists xid events listed i) (tied.stopped i))
 
 -- ---- a new store
 

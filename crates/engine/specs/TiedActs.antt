@@ -193,8 +193,8 @@ module _ (w : World) (l : Live) (tied : IsTied w l) (xid : ℕ) (o : Opened) (is
           (records_in n.transactions) kept.record records_at has.0 in (
             came.0,
             tied_item (i ∷ []) applied.0 applied.1.2 applied.1.1.schema_is stops came.1
-                (done_is_stood l.tables.schema l.tables w (records_in l.transactions) tied.kept (holds_of l.holds) tied.holds tied.stood xid o is marks_there sub c
-                (free_live w l tied xid c free) n.tables i applied.1.1 (records_in n.transactions) kept.record records_at has.0 (has.1 ∙ length-keys_of (holds_of l.holds xid))
+                (done_is_stood n.tables i l.tables.schema l.tables w (records_in l.transactions) tied.kept (holds_of l.holds) tied.holds tied.stood xid o is marks_there sub c
+                (free_live w l tied xid c free) applied.1.1 (records_in n.transactions) kept.record records_at has.0 (has.1 ∙ length-keys_of (holds_of l.holds xid))
                 (holds_of n.holds) takes),
           )
 

@@ -2,11 +2,11 @@
 --     puts_by_update, writes_by_borrow, records_put      the map with another transaction, and its records
 --     its_record, its_tells, its_can, its_marks, its_beside      what a store keeps of the transaction is what the map has
 --     taken_cells, released_again      the cells once some were taken; once they were let go again
---     is_there, its_names      an open transaction is in the map; each savepoint of its record is named by an item
+--     is_there, never_missing, its_names      an open transaction is in the map; each savepoint of its record is named by an item
 --     still_caused      what stopped a store is what had
 --     tied_by, marks_put, beside_put      a store is tied, its marks and what it keeps beside them, where one transaction has another record
 --     tied_put      a store stays tied there
-use Rattle.std.proofs.Common.{◌≡◌, ◌≢◌, ℕ, ◌+◌, cond, List, length, take, Option, Some, None, refl, sym, ap, subst, ◌∙◌, inl, inr, is_some}
+use Rattle.std.proofs.Common.{◌≡◌, ◌≢◌, ℕ, ◌+◌, cond, List, length, take, Option, Some, None, refl, sym, ap, subst, ◌∙◌, inl, inr, is_some, true≢false}
 use Rattle.std.specs.Prelude.{option_map, IsSome, IfSome}
 use Rattle.std.specs.Ordering.{nat_cmp}
 use Rattle.std.specs.Cmp.{nat_cmp_total, unsigned_tied}
@@ -100,6 +100,10 @@ kept_there (Some k) r is = refl
 -- an open transaction is in the map
 pub is_there : (w : World) (l : Live) → IsTied w l → (xid : ℕ) (o : Opened) → get w.opened xid ≡ Some o → IsSome (tree.get nat_cmp l.transactions xid)
 is_there w l tied xid o is = kept_there (tree.get nat_cmp l.transactions xid) (tied.kept.ready xid o is).its (tied.kept.ready xid o is).found
+
+-- so it is never missing there
+pub never_missing : (l : Live) (xid : ℕ) → ((w : World) × (o : Opened) × IsTied w l × (get w.opened xid ≡ Some o)) → None ≡ tree.get nat_cmp l.transactions xid → ⊥
+never_missing l xid (w, o, tied, is) none = true≢false (sym (is_there w l tied xid o is) ∙ ap is_some (sym none))
 
 -- what stopped it is what had
 pub still_caused : (l n : Live) → n.stopped ≡ l.stopped → IfSome l.stopped HasCause → IfSome n.stopped HasCause

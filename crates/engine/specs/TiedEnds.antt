@@ -39,7 +39,7 @@ use Rattle.savepoint.specs.Savepoints.{mark_at}
 use Rattle.savepoint.specs.Record.{Record}
 use Rattle.world.specs.World.{Opened, Past, ByClash, World, starting, own_rows, holds}
 use Rattle.world.specs.Steps.{opened_with, done_with, aborted_with, committed_with}
-use Rattle.world.specs.FineLaws.{IsFine, StillClashes, fine_put, put_cases, gone_cases, holds_free, same_some}
+use Rattle.world.specs.FineLaws.{IsFine, StillClashes, fine_put, noted_put, put_cases, gone_cases, holds_free, same_some}
 use Rattle.world.specs.ListingLaws.{xid_cases}
 use Rattle.engine.specs.declared.live.Live.{Live}
 use Rattle.engine.specs.declared.stood.Stood.{Stood}
@@ -110,34 +110,12 @@ module _ (schema : Schema) (w : World) (fine : IsFine schema w) (xid : ℕ) (o :
   same_holds : holds schema w xid touched ≡ holds schema w xid o
   same_holds = ap (held_cells schema w.committed) (work_with_touch xid sub o.items)
 
-  none_wanted : (named : ℕ) (c : change_type.Change) (p : Opened) → p ≡ touched → ¬ (p.wants ≡ Some (named, c))
-  none_wanted named c p same wants = not_none (named, c) (sym (ap (λ (r : Opened). r.wants) same) ∙ wants)
-
-  noted_touched : StillClashes schema (done_with w xid o (Touch sub))
-  noted_touched other c cause stopped p named at wants =
-      elim (put_cases w.opened xid touched other p at) [
-        | inl it ↦ absurd (none_wanted named c p it.1 wants)
-        | inr was ↦
-            let before = fine.noted other c cause stopped p named was.1 wants in (
-              λ third q differs there.
-                  elim (put_cases w.opened xid touched third q there) [
-                    | inl it ↦
-                        ap (λ (n : ℕ). shares_cell (footprint schema (own_rows schema w other p) c) (holds schema w n q)) it.0
-                        ∙ ap (λ (r : Opened). shares_cell (footprint schema (own_rows schema w other p) c) (holds schema w xid r)) it.1
-                        ∙ ap (shares_cell (footprint schema (own_rows schema w other p) c)) same_holds
-                        ∙ before.0 xid o (λ s. was.0 (sym s)) is
-                    | inr too ↦ before.0 third q differs too.1
-                  ],
-              before.1,
-            )
-      ]
-
   fine_touched : IsFine schema (done_with w xid o (Touch sub))
   fine_touched =
       fine_put schema w fine xid touched w.stopped
       (subst (AreAccepted schema w.committed) (sym (work_with_touch xid sub o.items)) (fine.accepted xid o is))
       (λ other p differs at. ap (λ (cells : List Cell). shares_cell cells (holds schema w other p)) same_holds ∙ holds_free schema w fine xid o is other p differs at)
-      noted_touched
+      (noted_put schema w fine xid o touched is refl (λ cells free. ap (shares_cell cells) same_holds ∙ free))
 
 module _ (w : World) (l : Live) (tied : IsTied w l) (xid : ℕ) (o : Opened) (is : get w.opened xid ≡ Some o) (old kept : OpenTransaction) (n : Live)
     (writes : WritesTransaction xid old kept l.transactions n.transactions) where

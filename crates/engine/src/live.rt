@@ -22,8 +22,9 @@ ghost use Rattle.savepoint.specs.Savepoints.{mark_at};
 ghost use Rattle.savepoint.specs.Record.{Record};
 ghost use Rattle.engine.specs.Cells.{IsFreeOf, IsHeldIn};
 ghost use Rattle.engine.specs.GivenUp.{AreGivenUp};
-ghost use Rattle.engine.specs.Answers.{told, after_act, after_stop, TellsCause};
+ghost use Rattle.engine.specs.Answers.{after_stop};
 ghost use Rattle.engine.specs.Tied.{records_in, IsTied};
+ghost use Rattle.engine.specs.Tried.{HasActed};
 ghost use Rattle.engine.specs.declared.transaction.OpenTransaction.{OpenTransaction};
 
 use crate::answers::{Acted, EngineFault, NotSettled};
@@ -116,12 +117,7 @@ impl Live {
     ) -> Result<Acted, EngineFault>
         requires names { NamesTables (length self.old.tables.schema) c.now }
         requires tied { (w : World) × (o : Opened) × IsTied w self.old × (finite.get w.opened xid ≡ Some o) }
-        ensures acts { (w : World) (o : Opened) → IsTied w self.old → finite.get w.opened xid ≡ Some o
-            → Acts self.old.tables.schema w xid o sub c.now (told result) (after_act w xid o sub c.now (told result)) }
-        ensures tied { (w : World) (o : Opened) → IsTied w self.old → finite.get w.opened xid ≡ Some o
-            → IsTied (after_act w xid o sub c.now (told result)) self.new }
-        ensures cause { TellsCause result }
-        ensures schema { self.new.tables.schema ≡ self.old.tables.schema }
+        ensures { HasActed self.old self.new xid sub c.now result }
     {
         if self.stopped.is_some() {
             return Err(EngineFault::Stopped);
@@ -163,12 +159,7 @@ impl Live {
         requires running { self.old.stopped ≡ None }
         requires free { IsFreeOf self.old.tables.schema self.old.tables.rows (cells_held self.old.holds) xid tried.change }
         requires cells { tried.cells.items ≡ footprint self.old.tables.schema self.old.tables.rows tried.change }
-        ensures acts { (w : World) (o : Opened) → IsTied w self.old → finite.get w.opened xid ≡ Some o
-            → Acts self.old.tables.schema w xid o tried.sub tried.change (told result) (after_act w xid o tried.sub tried.change (told result)) }
-        ensures tied { (w : World) (o : Opened) → IsTied w self.old → finite.get w.opened xid ≡ Some o
-            → IsTied (after_act w xid o tried.sub tried.change (told result)) self.new }
-        ensures cause { TellsCause result }
-        ensures schema { self.new.tables.schema ≡ self.old.tables.schema }
+        ensures { HasActed self.old self.new xid tried.sub tried.change result }
     {
         let Tried { sub, change, cells } = tried;
         let count = self.inverse_count(xid);
@@ -205,12 +196,7 @@ impl Live {
         requires running { self.old.stopped ≡ None }
         requires free { IsFreeOf self.old.tables.schema self.old.tables.rows (cells_held self.old.holds) xid refused.change }
         requires clash { Answers (outcome self.old.tables.schema self.old.tables.rows refused.change) (Err refused.clash) }
-        ensures acts { (w : World) (o : Opened) → IsTied w self.old → finite.get w.opened xid ≡ Some o
-            → Acts self.old.tables.schema w xid o sub refused.change (told result) (after_act w xid o sub refused.change (told result)) }
-        ensures tied { (w : World) (o : Opened) → IsTied w self.old → finite.get w.opened xid ≡ Some o
-            → IsTied (after_act w xid o sub refused.change (told result)) self.new }
-        ensures cause { TellsCause result }
-        ensures schema { self.new.tables.schema ≡ self.old.tables.schema }
+        ensures { HasActed self.old self.new xid sub refused.change result }
     {
         let Refused { clash, change } = refused;
         if clash == Clash::OutOfMemory {

@@ -45,7 +45,7 @@ impl Store {
             book,
             line: mut kept,
         } = self;
-        let mut token = line.into_token();
+        let Line { mut token } = line;
         meet(&mut kept, &mut token);
         drop(book);
         live.abort_all();

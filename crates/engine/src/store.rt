@@ -111,6 +111,7 @@ impl Store {
     }
 
     /// A subtransaction of an open transaction tries a change.
+    #[tactic(auto, using(crate::proofs::StoreTickets::met_open))]
     pub fn act(
         &mut self,
         alloc: Global,
@@ -136,6 +137,7 @@ impl Store {
 
     /// A subtransaction of an open transaction is named by an item that changes no row: a relation or
     /// type message.
+    #[tactic(auto, using(crate::proofs::StoreTickets::met_open))]
     pub fn touch(&mut self, t: &mut Ticket, sub: Xid) -> Result<(), EngineFault>
         requires { t.old.name ≡ self.old.tickets }
         ensures stood { finite.get self.old.world.opened t.old.number ≡ Some (opened_by t.old.list) }
@@ -157,6 +159,7 @@ impl Store {
     /// changes and all later ones are undone, and what was held since its savepoint is let go. What is
     /// left is the work of the items before its savepoint, as though the others had never come; all of
     /// it where it has none, or is the top one. It takes no memory.
+    #[tactic(auto, using(crate::proofs::StoreTickets::met_open))]
     pub fn back_to(&mut self, t: &mut Ticket, sub: Xid)
         requires { t.old.name ≡ self.old.tickets }
         ensures stood { finite.get self.old.world.opened t.old.number ≡ Some (opened_by t.old.list) }
@@ -175,6 +178,7 @@ impl Store {
 
     /// Whether an open transaction waits with a change, or has one that clashed. Nothing changes, and
     /// it takes no memory.
+    #[tactic(auto, using(crate::proofs::StoreTickets::met_open))]
     pub fn wants(&mut self, t: &mut Ticket) -> bool
         requires { t.old.name ≡ self.old.tickets }
         ensures stood { finite.get self.old.world.opened t.old.number ≡ Some (opened_by t.old.list) }
@@ -191,6 +195,7 @@ impl Store {
     /// its rollbacks are an entry of the journal, and what it held is let go. The log goes on behind it
     /// above where it went on behind the commit before, and above 0 behind the first: so an end names
     /// one entry. It takes no memory.
+    #[tactic(auto, using(crate::proofs::StoreTickets::met_open))]
     pub fn commit(&mut self, line: &mut Line, t: Ticket, info: CommitInfo)
         requires belongs { t.name ≡ self.old.tickets }
         requires line { line.old.name ≡ self.old.line.name }
@@ -204,7 +209,8 @@ impl Store {
     {
         let xid = t.slip.number();
         tell_commit(&mut self.line, &mut line.token, &t, info);
-        self.book.close(t.into_slip());
+        let Ticket { slip } = t;
+        self.book.close(slip);
         let items = self.live.commit(xid);
         self.journal.push_reserved(Entry {
             xid,
@@ -217,6 +223,7 @@ impl Store {
     /// An open transaction is aborted, also in a store that is stopped: its changes are undone, and what
     /// it held is let go. Nothing of it is left: the world is the same but that it isn't open. It takes
     /// no memory.
+    #[tactic(auto, using(crate::proofs::StoreTickets::met_open))]
     pub fn abort(&mut self, line: &mut Line, t: Ticket)
         requires belongs { t.name ≡ self.old.tickets }
         requires line { line.old.name ≡ self.old.line.name }
@@ -229,7 +236,8 @@ impl Store {
     {
         let xid = t.slip.number();
         grow(&mut self.line, &mut line.token, &LineEvent::Aborted(xid));
-        self.book.close(t.into_slip());
+        let Ticket { slip } = t;
+        self.book.close(slip);
         self.live.abort(xid);
     }
 
@@ -382,17 +390,7 @@ impl Store {
         ensures schema { result.0.schema ≡ self.schema }
         ensures met { line ≡ self.line }
     {
-        let Store {
-            live,
-            start: _,
-            journal,
-            book,
-            line: mut kept,
-        } = self;
-        let mut token = line.into_token();
-        meet(&mut kept, &mut token);
-        drop(book);
-        (live.into_tables(), journal)
+        self.shut(line)
     }
 }
 

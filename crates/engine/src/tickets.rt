@@ -8,7 +8,7 @@ use tokens::{Seen as SeenList, Slip, Token};
 
 /// The one token of an open transaction. A clause sees the name of its store's tickets, the
 /// transaction's number, and the list of what happened to it.
-#[derive(Debug)]
+#[derive(Debug, Drop)]
 pub struct Ticket {
     pub(crate) slip: Slip<Event>,
 }
@@ -22,13 +22,6 @@ impl Model for Ticket {
     ghost view = { λ t. t.slip };
 }
 
-impl Drop for Ticket {
-    fn drop(self) {
-        let Self { slip } = self;
-        drop(slip);
-    }
-}
-
 impl Ticket {
     /// The transaction's number.
     pub fn xid(&self) -> Xid
@@ -36,18 +29,11 @@ impl Ticket {
     {
         self.slip.number()
     }
-
-    pub(crate) fn into_slip(self) -> Slip<Event>
-        ensures { result ≡ self }
-    {
-        let Self { slip } = self;
-        slip
-    }
 }
 
 /// The one token of a store's commits. A clause sees its name, and the list of what happened to all
 /// transactions: which were opened, committed with which items, and aborted.
-#[derive(Debug)]
+#[derive(Debug, Drop)]
 pub struct Line {
     pub(crate) token: Token<LineEvent>,
 }
@@ -61,25 +47,9 @@ impl Model for Line {
     ghost view = { λ l. l.token };
 }
 
-impl Drop for Line {
-    fn drop(self) {
-        let Self { token } = self;
-        drop(token);
-    }
-}
-
-impl Line {
-    pub(crate) fn into_token(self) -> Token<LineEvent>
-        ensures { result ≡ self }
-    {
-        let Self { token } = self;
-        token
-    }
-}
-
 /// What was seen of a store's line: a beginning of what it is now. It has no bytes. A clause sees the
 /// line's name, and the list of what was seen.
-#[derive(Debug)]
+#[derive(Debug, Drop)]
 pub struct Seen {
     pub(crate) list: SeenList<LineEvent>,
 }
@@ -91,11 +61,4 @@ impl Model for Seen {
     ghost Value = { Half AnyEvent };
 
     ghost view = { λ s. s.list };
-}
-
-impl Drop for Seen {
-    fn drop(self) {
-        let Self { list } = self;
-        drop(list);
-    }
 }

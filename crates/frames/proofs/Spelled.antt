@@ -1,5 +1,5 @@
 -- Frames as they are spelled are read.
-use Rattle.std.proofs.Common.{◌≡◌, ℕ, ◌+◌, ◌<◌, ◌≤◌, ◌^◌, true, ltb, leb, eqb, List, [], ◌∷◌, ◌++◌, length, take, drop, None, Ok, refl, ap, ◌∙◌, arith, append_assoc}
+use Rattle.std.proofs.Common.{◌≡◌, ℕ, ◌+◌, ◌<◌, ◌≤◌, ◌^◌, true, false, ltb, leb, eqb, List, [], ◌∷◌, ◌++◌, length, take, drop, None, Ok, refl, ap, ◌∙◌, arith, append_assoc}
 use Rattle.std.proofs.lemmas.Nat.{from_be_bytes-to_be_bytes_4, from_be_bytes-to_be_bytes_8}
 use Rattle.std.proofs.lemmas.List.{take_at, drop_at, length-append, get_or_at}
 use Rattle.std.proofs.lemmas.Bool.{lt-ltb, le-ltb, cond-true, cond-false}
@@ -8,7 +8,7 @@ use Rattle.frames.specs.declared.item.CopyItem.{CopyItem}
 use Rattle.frames.specs.declared.item.CopyItem.TheVariants.{Wal, Keepalive, Done}
 use Rattle.frames.specs.declared.fault.FrameFault.TheVariants.{ServerError}
 use Rattle.std.specs.Prelude.{not, slice_index}
-use Rattle.frames.specs.Wire.{tag_of, length_of, content_of, header_fault, copy_item, copy_data, copy_done, error_response, notice_response, parameter_status, int32, int64, bytes_at, wal_of, keepalive_of, spelled32, spelled64, spelled_frame, spelled_wal, spelled_keepalive}
+use Rattle.frames.specs.Wire.{tag_of, length_of, content_of, is_tag, header_fault, copy_item, copy_data, copy_done, error_response, notice_response, parameter_status, int32, int64, bytes_at, wal_of, keepalive_of, spelled32, spelled64, spelled_frame, spelled_wal, spelled_keepalive}
 use Rattle.frames.specs.Stream.{Front, Part, Refused, Skipped, Given, Closing, front, frame_front, content_front, header_front, Closed, Broken, reading, reading_from, after_items}
 use Rattle.frames.proofs.Streams.{reading_by_front}
 
@@ -63,17 +63,10 @@ header_data : (n : ℕ) → 5 ≤ n → n ≤ 67108864 → header_fault copy_dat
 unfolding header_fault
 header_data n p q = grind (arith, nat_tests)
 
-header_notice : (n : ℕ) → 4 ≤ n → n ≤ 67108864 → header_fault notice_response n ≡ None
+-- a frame that is neither CopyData nor CopyDone
+header_other : (tag n : ℕ) → is_tag tag ≡ true → eqb tag copy_data ≡ false → eqb tag copy_done ≡ false → 4 ≤ n → n ≤ 67108864 → header_fault tag n ≡ None
 unfolding header_fault
-header_notice n p q = grind (arith, nat_tests)
-
-header_parameter : (n : ℕ) → 4 ≤ n → n ≤ 67108864 → header_fault parameter_status n ≡ None
-unfolding header_fault
-header_parameter n p q = grind (arith, nat_tests)
-
-header_error : (n : ℕ) → 4 ≤ n → n ≤ 67108864 → header_fault error_response n ≡ None
-unfolding header_fault
-header_error n p q = grind (arith, nat_tests)
+header_other tag n known other unfinished p q = grind (arith, nat_tests)
 
 header_done : header_fault copy_done 4 ≡ None
 unfolding header_fault
@@ -157,12 +150,15 @@ reading_done rest = reading_spelled copy_done [] rest Closing (omega arith) head
 
 pub reading_notice : (content rest : List ℕ) → length content + 4 ≤ 67108864 → reading (spelled_frame notice_response content ++ rest) ≡ reading rest
 unfolding frame_front
-reading_notice content rest h = reading_spelled notice_response content rest (Skipped rest) h (header_notice (length content + 4) (omega arith) h) refl
+reading_notice content rest h = reading_spelled notice_response content rest (Skipped rest) h (header_other notice_response (length content + 4) refl refl refl (omega arith) h) refl
 
 pub reading_parameter : (content rest : List ℕ) → length content + 4 ≤ 67108864 → reading (spelled_frame parameter_status content ++ rest) ≡ reading rest
 unfolding frame_front
-reading_parameter content rest h = reading_spelled parameter_status content rest (Skipped rest) h (header_parameter (length content + 4) (omega arith) h) refl
+reading_parameter content rest h = reading_spelled parameter_status content rest (Skipped rest) h (header_other parameter_status (length content + 4) refl refl refl (omega arith) h) refl
 
 pub reading_error : (content rest : List ℕ) → length content + 4 ≤ 67108864 → reading (spelled_frame error_response content ++ rest) ≡ record { items = []; ending = Broken ServerError }
 unfolding frame_front
-reading_error content rest h = reading_spelled error_response content rest (Refused ServerError) h (header_error (length content + 4) (omega arith) h) refl
+reading_error content rest h = reading_spelled error_response content rest (Refused ServerError) h (header_other error_response (length content + 4) refl refl refl (omega arith) h) refl
+
+-- each kind of frame is read as it is spelled
+pub ruleset frames_read = (reading_wal, reading_keepalive, reading_done, reading_notice, reading_parameter, reading_error)

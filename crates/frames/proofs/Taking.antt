@@ -61,9 +61,6 @@ Reads-refused old fault p = let r = by_front old (Refused fault) p in (sym (ap (
 pub Finished-refused : (before items : List CopyItem) (all old : List ℕ) (fault : FrameFault) → Progress before items all old → UnlessMemory fault (front old ≡ Refused fault) → Finished before items all (Broken fault)
 Finished-refused before items all old fault h p = finish before items items [] all old (Broken fault) h (same items) (Reads-refused old fault p)
 
-pub Finished-memory : (before items kept : List CopyItem) (all old : List ℕ) → Progress before items all old → kept ≡ items → Finished before kept all (Broken OutOfMemory)
-Finished-memory before items kept all old h q = finish before items kept [] all old (Broken OutOfMemory) h (q ∙ same items) (copy_items old, refl)
-
 pub Finished-closing : (before items kept : List CopyItem) (all old : List ℕ) → Progress before items all old → front old ≡ Closing → kept ≡ items ++ Done ∷ [] → Finished before kept all Closed
 Finished-closing before items kept all old h p q =
     let r = by_front old Closing p in

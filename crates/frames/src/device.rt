@@ -1,5 +1,5 @@
 // Where the bytes come from and where they go.
-ghost use Rattle.std.specs.Prelude.{◌≡◌, ℕ, ◌<◌, ◌≤◌, Bool, false, List, Option, IfOk, OnOk, OnErr, is_err, take, length};
+ghost use Rattle.std.specs.Prelude.{◌≡◌, ℕ, ◌<◌, ◌≤◌, Bool, true, false, List, Option, IfOk, OnOk, OnErr, is_err, take, length};
 ghost use Rattle.std.specs.Io.KnownBytes.{Consumes, Keeps, Appends, IsAtEnd};
 ghost use Rattle.frames.specs.Device.{HasFailed};
 
@@ -55,13 +55,53 @@ pub trait Sink {
         ensures kept { OnErr result (Keeps (contents self.old) (contents self.new)) };
 }
 
+/// How the calls of a device went. They are counted down from `u64::MAX`; it fails where none is left.
+#[derive(Debug, Drop)]
+struct Calls {
+    left: u64,
+    failures: u64,
+    failed_last: bool,
+}
+
+impl Calls {
+    /// No call yet.
+    fn new() -> Calls
+        ensures { result ≡ record { left = u64.MAX; failures = 0; failed_last = false } }
+    {
+        Calls {
+            left: u64::MAX,
+            failures: 0,
+            failed_last: false,
+        }
+    }
+
+    /// A call has worked.
+    fn work(&mut self)
+        requires { 0 < self.old.left }
+        ensures falls { self.new.left < self.old.left }
+        ensures works { self.new.failures ≡ self.old.failures }
+        ensures last { self.new.failed_last ≡ false }
+    {
+        self.left -= 1;
+        self.failed_last = false;
+    }
+
+    /// A call has failed.
+    fn fail(&mut self) -> Failed
+        ensures failed { HasFailed self.old.failures self.new.failures }
+        ensures last { self.new.failed_last ≡ true }
+    {
+        self.failures = self.failures.saturating_add(1);
+        self.failed_last = true;
+        Failed
+    }
+}
+
 /// A source over a reader. It counts its reads down from `u64::MAX`, and then fails.
 #[derive(Debug, Drop)]
 pub struct ReadSource<R> {
     reader: R,
-    reads_left: u64,
-    failures: u64,
-    failed_last: bool,
+    calls: Calls,
 }
 
 impl<R: Read> ReadSource<R> {
@@ -74,9 +114,7 @@ impl<R: Read> ReadSource<R> {
     {
         ReadSource {
             reader,
-            reads_left: u64::MAX,
-            failures: 0,
-            failed_last: false,
+            calls: Calls::new(),
         }
     }
 }
@@ -84,23 +122,20 @@ impl<R: Read> ReadSource<R> {
 impl<R: Read> Source for ReadSource<R> {
     ghost remaining = { λ s. R.remaining s.reader };
 
-    ghost reads_left = { λ s. s.reads_left };
+    ghost reads_left = { λ s. s.calls.left };
 
-    ghost failures = { λ s. s.failures };
+    ghost failures = { λ s. s.calls.failures };
 
-    ghost failed_last = { λ s. s.failed_last };
+    ghost failed_last = { λ s. s.calls.failed_last };
 
     fn read_some(&mut self, buf: &mut [u8]) -> Result<usize, Failed> {
-        if self.reads_left > 0 {
+        if self.calls.left > 0 {
             if let Ok(count) = self.reader.read(buf) {
-                self.reads_left -= 1;
-                self.failed_last = false;
+                self.calls.work();
                 return Ok(count);
             }
         }
-        self.failures = self.failures.saturating_add(1);
-        self.failed_last = true;
-        Err(Failed)
+        Err(self.calls.fail())
     }
 }
 
@@ -109,9 +144,7 @@ impl<R: Read> Source for ReadSource<R> {
 #[derive(Debug, Drop)]
 pub struct WriteSink<W> {
     writer: W,
-    writes_left: u64,
-    failures: u64,
-    failed_last: bool,
+    calls: Calls,
 }
 
 impl<W: Write> WriteSink<W> {
@@ -123,9 +156,7 @@ impl<W: Write> WriteSink<W> {
     {
         WriteSink {
             writer,
-            writes_left: u64::MAX,
-            failures: 0,
-            failed_last: false,
+            calls: Calls::new(),
         }
     }
 }
@@ -133,23 +164,20 @@ impl<W: Write> WriteSink<W> {
 impl<W: Write> Sink for WriteSink<W> {
     ghost contents = { λ s. W.contents s.writer };
 
-    ghost failures = { λ s. s.failures };
+    ghost failures = { λ s. s.calls.failures };
 
-    ghost failed_last = { λ s. s.failed_last };
+    ghost failed_last = { λ s. s.calls.failed_last };
 
     fn write_some(&mut self, buf: &[u8]) -> Result<usize, Failed> {
-        if self.writes_left > 0 {
-            self.writes_left -= 1;
+        if self.calls.left > 0 {
             match self.writer.write(buf) {
                 Ok(count) if count > 0 || buf.is_empty() => {
-                    self.failed_last = false;
+                    self.calls.work();
                     return Ok(count);
                 }
                 Ok(_) | Err(_) => {}
             }
         }
-        self.failures = self.failures.saturating_add(1);
-        self.failed_last = true;
-        Err(Failed)
+        Err(self.calls.fail())
     }
 }

@@ -38,6 +38,7 @@ pub fn endings()
 
 /// A frame that is spelled as the manual says is read, and then what follows it. The numbers are those of 64 bits, and
 /// the clocks are left out.
+#[tactic(auto, using(crate::proofs::Spelled::frames_read))]
 pub fn spelled_frames()
     ensures wal { (start end clock : ℕ) (payload rest : List ℕ) →
         start < 2 ^ 64 → end < 2 ^ 64 → length payload + 29 ≤ 67108864 →

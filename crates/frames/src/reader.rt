@@ -11,7 +11,7 @@ ghost use Rattle.frames.specs.Device.{HasFailed};
 use crate::wire::{Taken, take_frame};
 use crate::{CopyItem, Failed, FrameFault, Source};
 use bytes::BytesMut;
-use std::alloc::Global;
+use std::alloc::{AllocError, Global};
 use std::collections::VecDeque;
 use std::marker::Model;
 
@@ -56,9 +56,9 @@ fn take_frames(unread: &mut BytesMut, items: &mut VecDeque<CopyItem>) -> Result<
         match take_frame(unread)? {
             Taken::Part => return Ok(false),
             Taken::Skipped => {}
-            Taken::Given(item) => items.push_back(item)?,
+            Taken::Given(item) => items.push_back(item).map_err(AllocError::from)?,
             Taken::Closing => {
-                items.push_back(CopyItem::Done)?;
+                items.push_back(CopyItem::Done).map_err(AllocError::from)?;
                 return Ok(true);
             }
         }

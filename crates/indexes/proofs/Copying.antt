@@ -76,8 +76,8 @@ columns_copied [] [] e = refl
 columns_copied [] (v ∷ vs) e = absurd cc
 columns_copied (u ∷ us) [] e = absurd cc
 columns_copied (u ∷ us) (v ∷ vs) e =
-    let first : v.columns.items ≡ u.columns.items = ap (λ (p : List ℕ × List (Key × Option ℕ)). p.0) (first_plain u v us vs e) in
-    ap (λ cs. cs ∷ columns_of vs) first ∙ ap (λ css. u.columns.items ∷ css) (columns_copied us vs (rest_plain u v us vs e))
+    let first : v.columns ≡ u.columns = ap (λ (p : List ℕ × List (Key × Option ℕ)). p.0) (first_plain u v us vs e) in
+    ap (λ cs. cs ∷ columns_of vs) first ∙ ap (λ css. u.columns ∷ css) (columns_copied us vs (rest_plain u v us vs e))
 
 spots_copied : (number : ℕ) (us vs : List Unique) → map plain vs ≡ map plain us → entry_spots number vs ≡ entry_spots number us
 spots_copied number [] [] e = refl

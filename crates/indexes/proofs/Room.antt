@@ -142,12 +142,12 @@ in_room kept us s c =
 
 -- ---- columns
 
-pub columns_at : (us : List Unique) (i : ℕ) (d : Unique) → i < length us → slice_get (columns_of us) i ≡ Some (slice_index_or us i d).columns.items
+pub columns_at : (us : List Unique) (i : ℕ) (d : Unique) → i < length us → slice_get (columns_of us) i ≡ Some (slice_index_or us i d).columns
 columns_at [] i d l = absurd (omega arith)
 columns_at (u ∷ us) zero d l = refl
 columns_at (u ∷ us) (suc i) d l = columns_at us i d (omega arith)
 
-pub column_within : (us : List Unique) (i : ℕ) (columns : List ℕ) → slice_get (columns_of us) i ≡ Some columns → (i < length us) × (d : Unique) × ((slice_index_or us i d).columns.items ≡ columns)
+pub column_within : (us : List Unique) (i : ℕ) (columns : List ℕ) → slice_get (columns_of us) i ≡ Some columns → (i < length us) × (d : Unique) × ((slice_index_or us i d).columns ≡ columns)
 column_within [] i columns e = absurd cc
 column_within (u ∷ us) zero columns e = (omega arith, u, cc)
 column_within (u ∷ us) (suc i) columns e = let r = column_within us i columns e in (let l = r.0 in omega arith, r.1, r.2)

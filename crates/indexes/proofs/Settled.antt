@@ -44,7 +44,7 @@ entry_gone keys kept us is was k d l after values gone entry =
             holder.key,
             holder.row,
             holder.at,
-            unique_spot keys holder.row k (slice_index_or us k d).columns.items values (ap (λ cs. slice_get cs k) is ∙ columns_at us k d l) holder.has,
+            unique_spot keys holder.row k (slice_index_or us k d).columns values (ap (λ cs. slice_get cs k) is ∙ columns_at us k d l) holder.has,
           )
     ] refl
 

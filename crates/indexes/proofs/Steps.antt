@@ -98,19 +98,19 @@ emptied (Some number) = refl
 
 taken_away : (row : Row) (u v w : Unique) → IsFree row u → MayPut row u v → Sets row None v w → KeepsSlots u w
 taken_away row u v w free may sets =
-    let columns_is : v.columns.items ≡ u.columns.items = may.columns in
-    let here : (values : Key) → values_in u.columns.items row ≡ Some values → entry_at w.entries values ≡ with_number None (entry_at v.entries values) =
+    let columns_is : v.columns ≡ u.columns = may.columns in
+    let here : (values : Key) → values_in u.columns row ≡ Some values → entry_at w.entries values ≡ with_number None (entry_at v.entries values) =
     λ values has. sets.entries.here values (ap (λ cs. values_in cs row) columns_is ∙ has) in
-    let beside : (values : Key) → values_in u.columns.items row ≢ Some values → entry_at w.entries values ≡ entry_at v.entries values =
+    let beside : (values : Key) → values_in u.columns row ≢ Some values → entry_at w.entries values ≡ entry_at v.entries values =
     λ values differs. sets.entries.beside values (λ has. differs (ap (λ cs. values_in cs row) (sym columns_is) ∙ has)) in
     record {
       columns = sets.columns ∙ may.columns;
       entries = record {
-        numbers = λ values. elim (has_or_not (values_in u.columns.items row) values) [
+        numbers = λ values. elim (has_or_not (values_in u.columns row) values) [
           | inl has ↦ ap number_in (here values has) ∙ emptied (entry_at v.entries values) ∙ sym (free values has)
           | inr has_not ↦ ap number_in (beside values has_not) ∙ may.entries.beside values has_not
         ];
-        entries = λ values some. sets_keep v.columns.items row None v.entries w.entries sets.entries values (may.entries.entries values some);
+        entries = λ values some. sets_keep v.columns row None v.entries w.entries sets.entries values (may.entries.entries values some);
       };
     }
 

@@ -24,13 +24,13 @@ use Rattle.indexes.proofs.Room.{key_spot, unique_spot, spot_of, key_in_room, ent
 -- ---- columns
 
 pub same_columns : (us vs : List Unique) → length vs ≡ length us
-    → ((k : ℕ) (d : Unique) → k < length us → (slice_index_or vs k d).columns.items ≡ (slice_index_or us k d).columns.items) → columns_of vs ≡ columns_of us
+    → ((k : ℕ) (d : Unique) → k < length us → (slice_index_or vs k d).columns ≡ (slice_index_or us k d).columns) → columns_of vs ≡ columns_of us
 same_columns [] [] long each = refl
 same_columns [] (v ∷ vs) long each = absurd (omega arith)
 same_columns (u ∷ us) [] long each = absurd (omega arith)
 same_columns (u ∷ us) (v ∷ vs) long each =
-    let first : v.columns.items ≡ u.columns.items = each 0 u (omega arith) in
-    ap (λ c. c ∷ columns_of vs) first ∙ ap (λ cs. u.columns.items ∷ cs) (same_columns us vs (omega arith) (λ k d l. each (suc k) d (omega arith)))
+    let first : v.columns ≡ u.columns = each 0 u (omega arith) in
+    ap (λ c. c ∷ columns_of vs) first ∙ ap (λ cs. u.columns ∷ cs) (same_columns us vs (omega arith) (λ k d l. each (suc k) d (omega arith)))
 
 -- ---- room
 
@@ -77,8 +77,8 @@ slot_of_room keys kept us row key has room = elim (in_room kept us (0, key) (roo
 pub entries_of_room : (keys : TableKeys) (kept : Kept) (us : List Unique) (row : Row) → keys.uniques ≡ columns_of us
     → KeepsSpots (spots_of keys row) (room_of kept us) → EachHasSlot row us
 entries_of_room keys kept us row is room k d l values has =
-    let at : slice_get keys.uniques k ≡ Some (slice_index_or us k d).columns.items = ap (λ cs. slice_get cs k) is ∙ columns_at us k d l in
-    elim (in_room kept us (suc k, values) (room (suc k, values) (unique_spot keys row k (slice_index_or us k d).columns.items values at has))) [
+    let at : slice_get keys.uniques k ≡ Some (slice_index_or us k d).columns = ap (λ cs. slice_get cs k) is ∙ columns_at us k d l in
+    elim (in_room kept us (suc k, values) (room (suc k, values) (unique_spot keys row k (slice_index_or us k d).columns values at has))) [
       | inl (other, same, number, there) ↦ absurd (let e : suc k ≡ 0 = ap (λ (t : Spot). t.0) same in omega arith)
       | inr h ↦
           let k_is : h.i ≡ k = let e = h.number in omega arith in
@@ -118,13 +118,13 @@ indexed_kept primary old new us vs was rows slots numbered steps = record {
 
 -- no row has the values of one that may come
 pub free_values : (keys : TableKeys) (primary : List ℕ) (kept : Kept) (us : List Unique) (row : Row) → keys.uniques ≡ columns_of us → IsIndexed primary kept us → NoClash keys kept.rows row
-    → (k : ℕ) (d : Unique) → k < length us → (values : Key) → values_in (slice_index_or us k d).columns.items row ≡ Some values → held (slice_index_or us k d).entries values ≡ None
+    → (k : ℕ) (d : Unique) → k < length us → (values : Key) → values_in (slice_index_or us k d).columns row ≡ Some values → held (slice_index_or us k d).entries values ≡ None
 free_values keys primary kept us row is was clash k d l values has =
     elim (held (slice_index_or us k d).entries values) as (λ o. held (slice_index_or us k d).entries values ≡ o → held (slice_index_or us k d).entries values ≡ None) [
       | None ↦ λ e. e
       | Some number ↦ λ e.
           let h = (was.each k d l).only values number e in
-          absurd (clash k (slice_index_or us k d).columns.items h.key values h.row (ap (λ cs. slice_get cs k) is ∙ columns_at us k d l) h.at h.has has)
+          absurd (clash k (slice_index_or us k d).columns h.key values h.row (ap (λ cs. slice_get cs k) is ∙ columns_at us k d l) h.at h.has has)
     ] refl
 
 number_written : (number : ℕ) (o : Option (Option ℕ)) → IsSome o → number_in (with_number (Some number) o) ≡ Some number
@@ -175,7 +175,7 @@ own_inserted primary rows was key row own other there at = elim (one_or_apart ke
 
 pub indexed_filled : (primary : List ℕ) (kept : Kept) (us vs : List Unique) (key : Key) (row : Row) (number : ℕ) → IsIndexed primary kept us
     → values_in primary row ≡ Some key → get kept.slots key ≡ Some number → get kept.rows key ≡ None
-    → ((k : ℕ) (d : Unique) → k < length us → (values : Key) → values_in (slice_index_or us k d).columns.items row ≡ Some values → held (slice_index_or us k d).entries values ≡ None)
+    → ((k : ℕ) (d : Unique) → k < length us → (values : Key) → values_in (slice_index_or us k d).columns row ≡ Some values → held (slice_index_or us k d).entries values ≡ None)
     → EachStep (Puts row number) us vs → IsIndexed primary (record { rows = insert kept.rows key row; slots = kept.slots }) vs
 indexed_filled primary kept us vs key row number was own slot absent free steps = record {
   own_key = own_inserted primary kept.rows was.own_key key row own;
@@ -214,7 +214,7 @@ pub indexed_swapped : (primary : List ℕ) (kept : Kept) (us : List Unique) (key
     → IsIndexed primary (record { rows = insert kept.rows key row; slots = kept.slots }) us
 indexed_swapped primary kept us key row stood was own there agrees = record {
   own_key = own_inserted primary kept.rows was.own_key key row own;
-  each = λ k d l. index_swapped (slice_index_or us k d).columns.items kept (slice_index_or us k d).entries (slice_index_or us k d).entries (was.each k d l) key row stood there (agrees k d l);
+  each = λ k d l. index_swapped (slice_index_or us k d).columns kept (slice_index_or us k d).entries (slice_index_or us k d).entries (was.each k d l) key row stood there (agrees k d l);
   numbered = was.numbered;
   slotted = λ other found at. elim (one_or_apart key other) [
     | inl same ↦ let place = was.slotted key stood there in (place.0, ap (get kept.slots) (sym same) ∙ place.1)
@@ -273,7 +273,7 @@ table_of primary kept us = record { keys = record { primary = primary; uniques =
 
 module _ (primary : List ℕ) (old new : Kept) (us vs : List Unique) (t : TableContent) (v : table_of primary old us ≡ t) where
   pub keys_stay : length vs ≡ length us
-      → ((k : ℕ) (d : Unique) → k < length us → (slice_index_or vs k d).columns.items ≡ (slice_index_or us k d).columns.items)
+      → ((k : ℕ) (d : Unique) → k < length us → (slice_index_or vs k d).columns ≡ (slice_index_or us k d).columns)
       → (table_of primary new vs).keys ≡ t.keys
   keys_stay long columns =
       ap (λ (cs : List (List ℕ)). let keys : TableKeys = record { primary = primary; uniques = cs } in keys) (same_columns us vs long columns) ∙ ap (λ (s : TableContent). s.keys) v
@@ -322,7 +322,7 @@ module _ (primary : List ℕ) (old new : Kept) (us vs : List Unique) (t : TableC
 abbrev pub Finds : (Key → Type 0) → Option (Bor Key) → Type 0
 Finds Has r = record { found : IfSome r (λ key. Has key.now); missed : IfNone r ((key : Key) → ¬ Has key) }
 
-found_values : (primary : List ℕ) (kept : Kept) (us : List Unique) → IsIndexed primary kept us → (k : ℕ) (d : Unique) → k < length us → (columns : List ℕ) → columns ≡ (slice_index_or us k d).columns.items
+found_values : (primary : List ℕ) (kept : Kept) (us : List Unique) → IsIndexed primary kept us → (k : ℕ) (d : Unique) → k < length us → (columns : List ℕ) → columns ≡ (slice_index_or us k d).columns
     → (values : Key) (number : ℕ) → Some number ≡ held (slice_index_or us k d).entries values
     → (r : Option (Bor Key)) → IfSome r (λ key. get kept.slots key.now ≡ Some number) → IfSome r (λ key. HasValues kept.rows columns key.now values)
 found_values primary kept us was k d l columns is values number e None at = tt
@@ -338,7 +338,7 @@ missed_slot primary kept us was k d l values number e P None none =
     let h = (was.each k d l).only values number (sym e) in absurd (none h.key h.slot)
 missed_slot primary kept us was k d l values number e P (Some key) none = tt
 
-missed_values : (primary : List ℕ) (kept : Kept) (us : List Unique) → IsIndexed primary kept us → (k : ℕ) (d : Unique) → k < length us → (columns : List ℕ) → columns ≡ (slice_index_or us k d).columns.items
+missed_values : (primary : List ℕ) (kept : Kept) (us : List Unique) → IsIndexed primary kept us → (k : ℕ) (d : Unique) → k < length us → (columns : List ℕ) → columns ≡ (slice_index_or us k d).columns
     → (values : Key) → None ≡ held (slice_index_or us k d).entries values → (key : Key) → ¬ HasValues kept.rows columns key values
 missed_values primary kept us was k d l columns is values e key has =
     let place = was.slotted key has.0 has.1 in
@@ -355,31 +355,31 @@ no_twin_held : (entries : Entries) (o : Option Key) (values : Key) → o ≡ Som
 no_twin_held entries o values is e = e ∙ ap (held_by entries) is
 
 module _ (primary : List ℕ) (kept : Kept) (us : List Unique) (was : IsIndexed primary kept us) (k : ℕ) (d : Unique) (below : k < length us)
-    (columns : List ℕ) (is : columns ≡ (slice_index_or us k d).columns.items) (row : Row) where
-  own_values : (values : Key) → values_in (slice_index_or us k d).columns.items row ≡ Some values → values_in columns row ≡ Some values
+    (columns : List ℕ) (is : columns ≡ (slice_index_or us k d).columns) (row : Row) where
+  own_values : (values : Key) → values_in (slice_index_or us k d).columns row ≡ Some values → values_in columns row ≡ Some values
   own_values values has = ap (λ cs. values_in cs row) is ∙ has
 
   has_twin : (values : Key) → values_in columns row ≡ Some values → (r : Option (Bor Key)) → IfSome r (λ key. HasValues kept.rows columns key.now values) → IfSome r (λ key. IsTwin kept.rows columns key.now row)
   has_twin values has None at = tt
   has_twin values has (Some key) at = (values, has, at)
 
-  module _ (number : ℕ) (e : Some number ≡ held_by (slice_index_or us k d).entries (values_in (slice_index_or us k d).columns.items row)) (r : Option (Bor Key)) where
+  module _ (number : ℕ) (e : Some number ≡ held_by (slice_index_or us k d).entries (values_in (slice_index_or us k d).columns row)) (r : Option (Bor Key)) where
     found_twin : IfSome r (λ key. get kept.slots key.now ≡ Some number) → IfSome r (λ key. IsTwin kept.rows columns key.now row)
     found_twin at =
-        let v = values_of_twin (slice_index_or us k d).entries (values_in (slice_index_or us k d).columns.items row) number e in
+        let v = values_of_twin (slice_index_or us k d).entries (values_in (slice_index_or us k d).columns row) number e in
         has_twin v.0 (own_values v.0 v.1) r (found_values primary kept us was k d below columns is v.0 number v.2 r at)
 
     missed_twin : (P : Type 0) → IfNone r ((key : Key) → get kept.slots key ≢ Some number) → IfNone r P
     missed_twin P none =
-        let v = values_of_twin (slice_index_or us k d).entries (values_in (slice_index_or us k d).columns.items row) number e in
+        let v = values_of_twin (slice_index_or us k d).entries (values_in (slice_index_or us k d).columns row) number e in
         missed_slot primary kept us was k d below v.0 number v.2 P r none
 
-  no_twin : None ≡ held_by (slice_index_or us k d).entries (values_in (slice_index_or us k d).columns.items row) → (key : Key) → ¬ IsTwin kept.rows columns key row
+  no_twin : None ≡ held_by (slice_index_or us k d).entries (values_in (slice_index_or us k d).columns row) → (key : Key) → ¬ IsTwin kept.rows columns key row
   no_twin e key twin =
-      let has : values_in (slice_index_or us k d).columns.items row ≡ Some twin.0 = ap (λ cs. values_in cs row) (sym is) ∙ twin.1 in
-      missed_values primary kept us was k d below columns is twin.0 (no_twin_held (slice_index_or us k d).entries (values_in (slice_index_or us k d).columns.items row) twin.0 has e) key twin.2
+      let has : values_in (slice_index_or us k d).columns row ≡ Some twin.0 = ap (λ cs. values_in cs row) (sym is) ∙ twin.1 in
+      missed_values primary kept us was k d below columns is twin.0 (no_twin_held (slice_index_or us k d).entries (values_in (slice_index_or us k d).columns row) twin.0 has e) key twin.2
 
-columns_is : (us : List Unique) (number : ℕ) (d : Unique) → 1 ≤ number → number ≤ length us → unwrap_or (slice_get (columns_of us) (number - 1)) [] ≡ (slice_index_or us (number - 1) d).columns.items
+columns_is : (us : List Unique) (number : ℕ) (d : Unique) → 1 ≤ number → number ≤ length us → unwrap_or (slice_get (columns_of us) (number - 1)) [] ≡ (slice_index_or us (number - 1) d).columns
 columns_is us number d low high = ap (λ o. unwrap_or o []) (columns_at us (number - 1) d (omega arith))
 
 columns_length : (us : List Unique) → length (columns_of us) ≡ length us
@@ -398,7 +398,7 @@ module _ (primary : List ℕ) (kept : Kept) (us : List Unique) (was : IsIndexed 
   below : number - 1 < length us
   below = (within_columns us number range.0 range.1).0
 
-  own_columns : unique_at (table_of primary kept us).keys number ≡ (slice_index_or us (number - 1) u).columns.items
+  own_columns : unique_at (table_of primary kept us).keys number ≡ (slice_index_or us (number - 1) u).columns
   own_columns = columns_is us number u range.0 (within_columns us number range.0 range.1).1
 
   module _ (values : Key) where
@@ -423,11 +423,11 @@ module _ (primary : List ℕ) (kept : Kept) (us : List Unique) (was : IsIndexed 
 
   -- the same of a row's values
   module _ (row : Row) where
-    held_of_row : (o : Option ℕ) → o ≡ held_by u.entries (values_in u.columns.items row)
-        → o ≡ held_by (slice_index_or us (number - 1) u).entries (values_in (slice_index_or us (number - 1) u).columns.items row)
-    held_of_row o e = e ∙ ap (λ (w : Unique). held_by w.entries (values_in w.columns.items row)) is
+    held_of_row : (o : Option ℕ) → o ≡ held_by u.entries (values_in u.columns row)
+        → o ≡ held_by (slice_index_or us (number - 1) u).entries (values_in (slice_index_or us (number - 1) u).columns row)
+    held_of_row o e = e ∙ ap (λ (w : Unique). held_by w.entries (values_in w.columns row)) is
 
-    pub slot_has_twin : (slot : ℕ) → Some slot ≡ held_by u.entries (values_in u.columns.items row) → (r : Option (Bor Key))
+    pub slot_has_twin : (slot : ℕ) → Some slot ≡ held_by u.entries (values_in u.columns row) → (r : Option (Bor Key))
         → Finds (λ key. get kept.slots key ≡ Some slot) r → Finds (λ key. IsTwin t.rows (unique_at t.keys number) key row) r
     slot_has_twin slot e r told = record {
       found =
@@ -436,7 +436,7 @@ module _ (primary : List ℕ) (kept : Kept) (us : List Unique) (was : IsIndexed 
       missed = missed_twin primary kept us was (number - 1) u below _ own_columns row slot (held_of_row (Some slot) e) r _ told.missed;
     }
 
-    pub none_is_twin : None ≡ held_by u.entries (values_in u.columns.items row) → (key : Key) → ¬ IsTwin t.rows (unique_at t.keys number) key row
+    pub none_is_twin : None ≡ held_by u.entries (values_in u.columns row) → (key : Key) → ¬ IsTwin t.rows (unique_at t.keys number) key row
     none_is_twin e key twin =
         no_twin primary kept us was (number - 1) u below _ own_columns row (held_of_row None e) key
         (subst (λ (t : TableContent). IsTwin t.rows (unique_at t.keys number) key row) (sym v) twin)
@@ -474,7 +474,7 @@ pub record LosesSlots (old new : Kept) : Type 0 where
 
 -- no number in the index changes, and no entry comes
 pub record LosesEntries (old new : Unique) : Type 0 where
-  pub columns : new.columns.items ≡ old.columns.items
+  pub columns : new.columns ≡ old.columns
   pub numbers : (values : Key) → held new.entries values ≡ held old.entries values
   pub fewer : (values : Key) → IsSome (entry_at new.entries values) → IsSome (entry_at old.entries values)
 
@@ -570,7 +570,7 @@ module _ (old new : Kept) (key : Key) (rows : new.rows ≡ old.rows) (slots : ne
   room_settled keys us vs row is steps s not_row not_key =
       spot_kept old new us vs s (key_stays s not_key) steps.long
       (λ k d l number some.
-      let differs : values_in (slice_index_or us k d).columns.items row ≢ Some s.1 =
+      let differs : values_in (slice_index_or us k d).columns row ≢ Some s.1 =
       λ e. not_row (subst (λ (n : ℕ). Contains (spots_of keys row) (n, s.1)) (sym number)
-      (unique_spot keys row k (slice_index_or us k d).columns.items s.1 (ap (λ cs. slice_get cs k) is ∙ columns_at us k d l) e)) in
+      (unique_spot keys row k (slice_index_or us k d).columns s.1 (ap (λ cs. slice_get cs k) is ∙ columns_at us k d l) e)) in
       ap is_some ((steps.each k d l).entries.beside s.1 differs) ∙ some)

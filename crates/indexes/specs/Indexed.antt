@@ -30,7 +30,7 @@ pub record IsIndex (columns : List ℕ) (kept : Kept) (entries : Entries) : Type
 
 -- the entries of this unique key that have numbers are those of the stored rows' values
 abbrev pub IndexOf : Kept → Unique → Type 0
-IndexOf kept unique = IsIndex unique.columns.items kept unique.entries
+IndexOf kept unique = IsIndex unique.columns kept unique.entries
 
 -- each row stands at its own key in a slot, no two slots share a number, each index is of these rows
 pub record IsIndexed (primary : List ℕ) (kept : Kept) (uniques : List Unique) : Type 0 where

@@ -88,40 +88,40 @@ pub record SettlesEntry (columns : List ℕ) (row : Row) (old new : Entries) : T
 
 -- the index keeps its columns, no number changes, and no entry goes
 pub record KeepsSlots (old new : Unique) : Type 0 where
-  pub columns : new.columns.items ≡ old.columns.items
+  pub columns : new.columns ≡ old.columns
   pub entries : KeepsEntries old.entries new.entries
 
 -- the index has an entry for the row's values, unless one of them is null
 abbrev pub HasSlot : Row → Unique → Type 0
-HasSlot row unique = HasEntry unique.columns.items row unique.entries
+HasSlot row unique = HasEntry unique.columns row unique.entries
 
 -- the number in the index's entry for the row's values is set, if there is one; nothing else changes
 pub record Sets (row : Row) (number : Option ℕ) (old new : Unique) : Type 0 where
-  pub columns : new.columns.items ≡ old.columns.items
-  pub entries : SetsEntry old.columns.items row number old.entries new.entries
+  pub columns : new.columns ≡ old.columns
+  pub entries : SetsEntry old.columns row number old.entries new.entries
 
 -- the number comes to the row's values in the index; no other changes, and no entry goes
 pub record Puts (row : Row) (number : ℕ) (old new : Unique) : Type 0 where
-  pub columns : new.columns.items ≡ old.columns.items
-  pub entries : PutsEntry old.columns.items row number old.entries new.entries
+  pub columns : new.columns ≡ old.columns
+  pub entries : PutsEntry old.columns row number old.entries new.entries
 
 -- a number may have come to the row's values in the index; no other changed, and no entry went
 pub record MayPut (row : Row) (old new : Unique) : Type 0 where
-  pub columns : new.columns.items ≡ old.columns.items
-  pub entries : MayPutEntry old.columns.items row old.entries new.entries
+  pub columns : new.columns ≡ old.columns
+  pub entries : MayPutEntry old.columns row old.entries new.entries
 
 -- no number stands at the row's values
 abbrev pub IsFree : Row → Unique → Type 0
-IsFree row unique = (values : Key) → values_in unique.columns.items row ≡ Some values → held unique.entries values ≡ None
+IsFree row unique = (values : Key) → values_in unique.columns row ≡ Some values → held unique.entries values ≡ None
 
 -- the index's entry for the row's values goes if it has no number; nothing else changes
 pub record Settles (row : Row) (old new : Unique) : Type 0 where
-  pub columns : new.columns.items ≡ old.columns.items
-  pub entries : SettlesEntry old.columns.items row old.entries new.entries
+  pub columns : new.columns ≡ old.columns
+  pub entries : SettlesEntry old.columns row old.entries new.entries
 
 -- the index's entry for these values goes if it has no number; nothing else changes
 pub record GivesUpValues (values : Key) (old new : Unique) : Type 0 where
-  pub columns : new.columns.items ≡ old.columns.items
+  pub columns : new.columns ≡ old.columns
   pub entries : DropsEntry values old.entries new.entries
 
 -- ---- of each index of a table
@@ -137,7 +137,7 @@ EachHasSlot row uniques = (k : ℕ) (d : Unique) → k < length uniques → HasS
 
 -- two rows have the same values in each unique key
 abbrev pub EachAgrees : Row → Row → List Unique → Type 0
-EachAgrees row other uniques = (k : ℕ) (d : Unique) → k < length uniques → values_in (slice_index_or uniques k d).columns.items row ≡ values_in (slice_index_or uniques k d).columns.items other
+EachAgrees row other uniques = (k : ℕ) (d : Unique) → k < length uniques → values_in (slice_index_or uniques k d).columns row ≡ values_in (slice_index_or uniques k d).columns other
 
 -- no number stands at the row's values in any index
 abbrev pub EachIsFree : Row → List Unique → Type 0
@@ -149,8 +149,8 @@ HasNone unique = unique.entries.entries ≡ []
 
 -- its columns and entries alone, however they lie in memory
 abbrev pub plain : Unique → List ℕ × List (Key × Option ℕ)
-plain unique = (unique.columns.items, unique.entries.entries)
+plain unique = (unique.columns, unique.entries.entries)
 
 -- the columns of each
 abbrev pub columns_of : List Unique → List (List ℕ)
-columns_of uniques = map (λ u. u.columns.items) uniques
+columns_of uniques = map (λ u. u.columns) uniques

@@ -1,27 +1,16 @@
 // A row's values in the columns of a key.
 ghost use Rattle.std.specs.Prelude.{◌≡◌, true, IfOk, is_some};
-ghost use Rattle.std.specs.Option.{option_copied};
 ghost use Rattle.model.specs.Rows.{value_at, values_in};
 
-use model::{Key, OutOfMemory, Row, Value};
+use model::{Key, OutOfMemory, Row};
 use std::alloc::Global;
-
-// The value in a column; none if it is null.
-pub(crate) fn value_of(row: &Row, column: usize) -> Option<&Value>
-    ensures { option_copied result ≡ value_at row.now column }
-{
-    match row.values().get(column) {
-        Some(Some(value)) => Some(value),
-        _ => None,
-    }
-}
 
 // Whether none of these columns is null.
 pub(crate) fn has_values(columns: &[usize], row: &Row) -> bool
     ensures { result ≡ is_some (values_in columns.now row.now) }
 {
     for column in columns {
-        if value_of(row, *column).is_none() {
+        if row.get(*column).is_none() {
             return false;
         }
     }
@@ -43,14 +32,14 @@ pub(crate) fn agree(columns: &[usize], row: &Row, other: &Row) -> bool
 fn agree_at(column: usize, row: &Row, other: &Row) -> bool
     ensures { result ≡ true → value_at row.now column ≡ value_at other.now column }
 {
-    match (value_of(row, column), value_of(other, column)) {
-        (Some(own), Some(others)) => *own == *others,
+    match (row.get(column), other.get(column)) {
+        (Some(own), Some(others)) => own.compare(others).is_eq(),
         (None, None) => true,
         _ => false,
     }
 }
 
-// A row's values in these columns; none if one of them is null.
+// A row's values in these columns, which are copied; none if one of them is null.
 pub(crate) fn values_of(
     alloc: Global,
     columns: &[usize],
@@ -59,15 +48,15 @@ pub(crate) fn values_of(
     ensures { IfOk result (λ key. key ≡ values_in columns.now row.now) }
 {
     if let [column] = columns {
-        return match value_of(row, *column) {
-            Some(value) => Ok(Some(Key::from_value(alloc, value.copy()?)?)),
+        return match row.get(*column) {
+            Some(value) => Ok(Some(Key::from_value(alloc, value.to_value(alloc)?)?)),
             None => Ok(None),
         };
     }
     let mut values = Vec::with_capacity(alloc, columns.len())?;
     for column in columns {
-        match value_of(row, *column) {
-            Some(value) => values.push(value.copy()?)?,
+        match row.get(*column) {
+            Some(value) => values.push(value.to_value(alloc)?)?,
             None => return Ok(None),
         }
     }

@@ -14,13 +14,15 @@
 // room alone, takes no memory and succeeds. `wipe` moves a table's whole content out, and `unwipe`
 // moves it back; no row is copied.
 //
-//   tables     `Tables`, all of a catalog
-//   table      `Table`, one of them
-//   unique     the index of a unique key
-//   sought     what an index is asked for: values as they lie in a row
-//   seed       what the hashes of indexes begin with
-//   columns    a row's values in the columns of a key
+//   tables       `Tables`, all of a catalog
+//   table        `Table`, one of them
+//   unique       the index of a unique key
+//   kept_values  what an entry of an index keeps: a row, in which its values lie
+//   sought       what an index is asked for: values as they lie in a row
+//   seed         what the hashes of indexes begin with
+//   columns      a row's values in the columns of a key
 mod columns;
+mod kept_values;
 pub mod seed;
 mod sought;
 pub mod table;

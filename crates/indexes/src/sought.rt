@@ -5,14 +5,13 @@
 ghost use Rattle.std.specs.Prelude.{◌≡◌, ◌∷◌, [], IfSome, IfNone};
 ghost use Rattle.std.specs.List.{fold};
 ghost use Rattle.model.specs.Key.{key_cmp};
+ghost use Rattle.model.specs.ValueRef.{read_value};
 ghost use Rattle.rows.specs.Hashing.{key_writes};
 ghost use Rattle.indexes.specs.Columns.{present};
 
-use crate::columns::value_of;
-use model::{Key, KeyValues, Row, Value};
-use rows::hashing::{HashedKey, hash_value};
+use model::{Key, KeyValues, Row, Value, ValueRef};
+use rows::hashing::hash_value;
 use std::cmp::Ordering;
-use std::collections::hash_map::Equivalent;
 use std::hash::{Hash, Hasher};
 use std::slice;
 
@@ -67,27 +66,9 @@ impl<'a> Hash for Sought<'a> {
     }
 }
 
-impl<'a> Equivalent<HashedKey> for Sought<'a> {
-    ghost use Rattle.std.specs.Ordering.{eq_by_cmp};
-    ghost use Rattle.std.specs.Cmp.{eq_by_cmp_equiv};
-    ghost use Rattle.model.specs.Key.{key_cmp, key_cmp_total};
-    ghost use Rattle.rows.specs.Hashing.{same_writes};
-    ghost use Rattle.indexes.specs.Columns.{present};
-
-    ghost equivalent = { λ q k. eq_by_cmp key_cmp (present q.columns.now q.row.now) k };
-
-    ghost respects_hash = { λ q. same_writes (present q.columns.now q.row.now) };
-
-    ghost respects_eq = { λ q. (eq_by_cmp_equiv key_cmp_total).congr (present q.columns.now q.row.now) };
-
-    fn equivalent(&self, key: &HashedKey) -> bool {
-        compare_key(self.columns, self.row, key.key()).is_eq()
-    }
-}
-
 // The order of the values that a row has in some columns, nulls left out, and a key.
 #[inline(never)]
-fn compare_key(columns: &[usize], row: &Row, key: &Key) -> Ordering
+pub(crate) fn compare_key(columns: &[usize], row: &Row, key: &Key) -> Ordering
     ensures { result ≡ key_cmp (present columns.now row.now) key.now }
 {
     match key.values() {
@@ -104,13 +85,13 @@ fn compare_values(columns: &[usize], row: &Row, key: &[Value]) -> Ordering
 {
     let mut rest = key;
     for column in columns {
-        let Some(value) = value_of(row, *column) else {
+        let Some(value) = row.get(*column) else {
             continue;
         };
         let Some((first, tail)) = rest.split_first() else {
             return Ordering::Greater;
         };
-        match value.cmp(first) {
+        match value.compare(ValueRef::of(first)) {
             Ordering::Equal => rest = tail,
             other => return other,
         }
@@ -123,18 +104,18 @@ fn compare_values(columns: &[usize], row: &Row, key: &[Value]) -> Ordering
 }
 
 // The order of the values that two rows have in columns of theirs, nulls left out.
-fn compare_rows(columns: &[usize], row: &Row, others: &[usize], other: &Row) -> Ordering
+pub(crate) fn compare_rows(columns: &[usize], row: &Row, others: &[usize], other: &Row) -> Ordering
     ensures { result ≡ key_cmp (present columns.now row.now) (present others.now other.now) }
 {
     let mut rest = others;
     for column in columns {
-        let Some(value) = value_of(row, *column) else {
+        let Some(value) = row.get(*column) else {
             continue;
         };
         let Some((first, tail)) = first_present(rest, other) else {
             return Ordering::Greater;
         };
-        match value.cmp(first) {
+        match value.compare(first) {
             Ordering::Equal => rest = tail,
             differ => return differ,
         }
@@ -146,12 +127,12 @@ fn compare_rows(columns: &[usize], row: &Row, others: &[usize], other: &Row) -> 
 }
 
 // A row's first value in some columns that isn't null, and the columns behind it.
-fn first_present<'a>(columns: &'a [usize], row: &'a Row) -> Option<(&'a Value, &'a [usize])>
-    ensures found { IfSome result (λ first. present columns.now row.now ≡ first.0.now ∷ present first.1.now row.now) }
+fn first_present<'a>(columns: &'a [usize], row: &'a Row) -> Option<(ValueRef<'a>, &'a [usize])>
+    ensures found { IfSome result (λ first. present columns.now row.now ≡ read_value first.0 ∷ present first.1.now row.now) }
     ensures missed { IfNone result (present columns.now row.now ≡ []) }
 {
     for index in 0..columns.len() {
-        if let Some(value) = value_of(row, columns[index]) {
+        if let Some(value) = row.get(columns[index]) {
             return Some((value, &columns[index + 1..]));
         }
     }
@@ -159,11 +140,11 @@ fn first_present<'a>(columns: &'a [usize], row: &'a Row) -> Option<(&'a Value, &
 }
 
 // The values that a row has in some columns, nulls left out, are fed to a hasher in turn.
-fn hash_row<S: Hasher>(columns: &[usize], row: &Row, state: &mut S)
+pub(crate) fn hash_row<S: Hasher>(columns: &[usize], row: &Row, state: &mut S)
     ensures { state.new ≡ fold S.write state.old (key_writes (present columns.now row.now)) }
 {
     for column in columns {
-        if let Some(value) = value_of(row, *column) {
+        if let Some(value) = row.get(*column) {
             hash_value(value, state);
         }
     }

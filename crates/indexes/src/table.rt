@@ -24,7 +24,7 @@ use std::mem;
 pub struct Table {
     primary: Vec<usize>,
     uniques: Vec<Unique>,
-    rows: HashedRows<Row, Seed>,
+    rows: HashedRows<Seed>,
     seed: Seed,
     alloc: Global,
 }
@@ -226,7 +226,7 @@ impl Table {
         ensures sound { IsSound self.new }
     {
         self.rows.reserve(key)?;
-        reserve_each(self.alloc, &mut self.uniques, row)
+        reserve_each(&mut self.uniques, row)
     }
 
     /// Takes a `remove` back: puts a row at its key, where there is room for it. It takes no memory.
@@ -276,7 +276,7 @@ impl Table {
         ensures sound { IsSound self.new }
     {
         let number = self.rows.reserve(key)?;
-        put_each(self.alloc, &mut self.uniques, &row, number)?;
+        put_each(&mut self.uniques, &row, number)?;
         self.rows.replace_at(number, row);
         Ok(())
     }

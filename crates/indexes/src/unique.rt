@@ -6,11 +6,12 @@ ghost use Rattle.indexes.specs.Columns.{present};
 ghost use Rattle.model.specs.Key.{key_cmp};
 ghost use Rattle.indexes.specs.Unique.{plain, HasNone, held, held_by, entry_at, with_number, SameApart, KeepsEntries, HasEntry, SetsEntry, PutsEntry, DropsEntry, SettlesEntry, KeepsSlots, HasSlot, Sets, Puts, MayPut, Settles, GivesUpValues, EachStep, EachHasSlot, EachAgrees, EachIsFree};
 
-use crate::columns::{agree, has_values, values_of};
+use crate::columns::{agree, has_values};
+use crate::kept_values::{KeptValues, SharedColumns};
 use crate::seed::Seed;
 use crate::sought::Sought;
 use model::{Key, OutOfMemory, Row};
-use rows::hashing::{HashedKey, SoughtKey};
+use rows::hashing::SoughtKey;
 use std::alloc::Global;
 use std::collections::HashMap;
 
@@ -18,18 +19,18 @@ use std::collections::HashMap;
 // values lies in. An entry whose row went stays, with no number, until it is settled.
 #[derive(Debug, Drop)]
 pub(crate) struct Unique {
-    pub(crate) columns: Vec<usize>,
-    pub(crate) entries: HashMap<HashedKey, Option<usize>, Seed>,
+    pub(crate) columns: SharedColumns,
+    pub(crate) entries: HashMap<KeptValues, Option<usize>, Seed>,
 }
 
 impl Unique {
     // The index of a unique key over these columns, with no entries.
     pub(crate) fn new(alloc: Global, columns: &[usize], seed: Seed) -> Result<Unique, OutOfMemory>
-        ensures columns { IfOk result (λ unique. unique.columns.items ≡ columns.now) }
+        ensures columns { IfOk result (λ unique. unique.columns ≡ columns.now) }
         ensures none { IfOk result HasNone }
     {
         Ok(Unique {
-            columns: copy_numbers(alloc, columns)?,
+            columns: SharedColumns::of(alloc, columns)?,
             entries: HashMap::with_hasher(alloc, seed),
         })
     }
@@ -56,17 +57,17 @@ impl Unique {
 
     // The number of the slot that a row with the same values as this one lies in.
     pub(crate) fn find_twin(&self, row: &Row) -> Option<usize>
-        ensures { result ≡ held_by self.now.entries (values_in self.now.columns.items row.now) }
+        ensures { result ≡ held_by self.now.entries (values_in self.now.columns row.now) }
     {
         find_row(self.columns.as_slice(), &self.entries, row)
     }
 
     // Makes an entry for a row's values, if it has them all and there is none.
-    fn reserve(&mut self, alloc: Global, row: &Row) -> Result<(), OutOfMemory>
+    fn reserve(&mut self, row: &Row) -> Result<(), OutOfMemory>
         ensures kept { KeepsSlots self.old self.new }
         ensures ok { OnOk result (HasSlot row.now self.new) }
     {
-        reserve_entry(alloc, self.columns.as_slice(), &mut self.entries, row)
+        reserve_entry(&self.columns, &mut self.entries, row)
     }
 
     // Writes a number, or none, at a row's values, if there is an entry for them.
@@ -77,17 +78,11 @@ impl Unique {
     }
 
     // Puts a number at a row's values, if it has them all, with an entry for it if there is none.
-    fn put(&mut self, alloc: Global, row: &Row, number: usize) -> Result<(), OutOfMemory>
+    fn put(&mut self, row: &Row, number: usize) -> Result<(), OutOfMemory>
         ensures ok { OnOk result (Puts row.now number self.old self.new) }
         ensures err { OnErr result (KeepsSlots self.old self.new) }
     {
-        put_entry(
-            alloc,
-            self.columns.as_slice(),
-            &mut self.entries,
-            row,
-            number,
-        )
+        put_entry(&self.columns, &mut self.entries, row, number)
     }
 
     // Drops the entry for a row's values if it has no number.
@@ -139,23 +134,19 @@ pub(crate) fn agree_in_each(uniques: &[Unique], row: &Row, other: &Row) -> bool
 }
 
 // An entry in each index for a row's values there.
-pub(crate) fn reserve_each(
-    alloc: Global,
-    uniques: &mut Vec<Unique>,
-    row: &Row,
-) -> Result<(), OutOfMemory>
+pub(crate) fn reserve_each(uniques: &mut Vec<Unique>, row: &Row) -> Result<(), OutOfMemory>
     ensures kept { EachStep KeepsSlots uniques.old.items uniques.new.items }
     ensures ok { OnOk result (EachHasSlot row.now uniques.new.items) }
 {
-    reserve_all(alloc, uniques.as_mut_slice(), row)
+    reserve_all(uniques.as_mut_slice(), row)
 }
 
-fn reserve_all(alloc: Global, uniques: &mut [Unique], row: &Row) -> Result<(), OutOfMemory>
+fn reserve_all(uniques: &mut [Unique], row: &Row) -> Result<(), OutOfMemory>
     ensures kept { EachStep KeepsSlots uniques.old uniques.new }
     ensures ok { OnOk result (EachHasSlot row.now uniques.new) }
 {
     for unique in uniques.iter_mut() {
-        unique.reserve(alloc, row)?;
+        unique.reserve(row)?;
     }
     Ok(())
 }
@@ -177,7 +168,6 @@ fn set_all(uniques: &mut [Unique], row: &Row, number: Option<usize>)
 
 // A number at a row's values in each index, where none is. Refused for memory, no number stands there.
 pub(crate) fn put_each(
-    alloc: Global,
     uniques: &mut Vec<Unique>,
     row: &Row,
     number: usize,
@@ -186,20 +176,15 @@ pub(crate) fn put_each(
     ensures ok { OnOk result (EachStep (Puts row.now number) uniques.old.items uniques.new.items) }
     ensures err { OnErr result (EachStep KeepsSlots uniques.old.items uniques.new.items) }
 {
-    put_all(alloc, uniques.as_mut_slice(), row, number)
+    put_all(uniques.as_mut_slice(), row, number)
 }
 
-fn put_all(
-    alloc: Global,
-    uniques: &mut [Unique],
-    row: &Row,
-    number: usize,
-) -> Result<(), OutOfMemory>
+fn put_all(uniques: &mut [Unique], row: &Row, number: usize) -> Result<(), OutOfMemory>
     requires { EachIsFree row.now uniques.old }
     ensures ok { OnOk result (EachStep (Puts row.now number) uniques.old uniques.new) }
     ensures err { OnErr result (EachStep KeepsSlots uniques.old uniques.new) }
 {
-    if put_some(alloc, uniques, row, number).is_err() {
+    if put_some(uniques, row, number).is_err() {
         set_all(uniques, row, None);
         return Err(OutOfMemory);
     }
@@ -207,17 +192,12 @@ fn put_all(
 }
 
 // The same; refused for memory, it leaves the numbers that it has put.
-fn put_some(
-    alloc: Global,
-    uniques: &mut [Unique],
-    row: &Row,
-    number: usize,
-) -> Result<(), OutOfMemory>
+fn put_some(uniques: &mut [Unique], row: &Row, number: usize) -> Result<(), OutOfMemory>
     ensures ok { OnOk result (EachStep (Puts row.now number) uniques.old uniques.new) }
     ensures err { OnErr result (EachStep (MayPut row.now) uniques.old uniques.new) }
 {
     for unique in uniques.iter_mut() {
-        unique.put(alloc, row, number)?;
+        unique.put(row, number)?;
     }
     Ok(())
 }
@@ -239,7 +219,7 @@ fn settle_all(uniques: &mut [Unique], row: &Row)
 
 fn find_row(
     columns: &[usize],
-    entries: &HashMap<HashedKey, Option<usize>, Seed>,
+    entries: &HashMap<KeptValues, Option<usize>, Seed>,
     row: &Row,
 ) -> Option<usize>
     ensures { result ≡ held_by entries.now (values_in columns.now row.now) }
@@ -254,18 +234,17 @@ fn find_row(
 }
 
 fn reserve_entry(
-    alloc: Global,
-    columns: &[usize],
-    entries: &mut HashMap<HashedKey, Option<usize>, Seed>,
+    columns: &SharedColumns,
+    entries: &mut HashMap<KeptValues, Option<usize>, Seed>,
     row: &Row,
 ) -> Result<(), OutOfMemory>
     ensures kept { KeepsEntries entries.old entries.new }
     ensures ok { OnOk result (HasEntry columns.now row.now entries.new) }
 {
-    if entries.contains_key(Sought::of(columns, row)) {
+    if entries.contains_key(Sought::of(columns.as_slice(), row)) {
         return Ok(());
     }
-    if let Some(values) = values_of(alloc, columns, row)? {
+    if let Some(values) = KeptValues::from_row(columns, row)? {
         add_entry(entries, values)?;
     }
     Ok(())
@@ -273,36 +252,36 @@ fn reserve_entry(
 
 // An entry with no number, for values that have none.
 fn add_entry(
-    entries: &mut HashMap<HashedKey, Option<usize>, Seed>,
-    values: Key,
+    entries: &mut HashMap<KeptValues, Option<usize>, Seed>,
+    values: KeptValues,
 ) -> Result<(), OutOfMemory>
     requires { entry_at entries.old values ≡ None }
     ensures kept { KeepsEntries entries.old entries.new }
     ensures ok { OnOk result (IsSome (entry_at entries.new values)) }
 {
-    entries.insert(HashedKey::of(values), None)?;
+    entries.insert(values, None)?;
     Ok(())
 }
 
+// Where there is an entry, it keeps the row that it has.
 fn put_entry(
-    alloc: Global,
-    columns: &[usize],
-    entries: &mut HashMap<HashedKey, Option<usize>, Seed>,
+    columns: &SharedColumns,
+    entries: &mut HashMap<KeptValues, Option<usize>, Seed>,
     row: &Row,
     number: usize,
 ) -> Result<(), OutOfMemory>
     ensures ok { OnOk result (PutsEntry columns.now row.now number entries.old entries.new) }
     ensures err { OnErr result (KeepsEntries entries.old entries.new) }
 {
-    if let Some(values) = values_of(alloc, columns, row)? {
-        entries.insert(HashedKey::of(values), Some(number))?;
+    if let Some(values) = KeptValues::from_row(columns, row)? {
+        entries.insert(values, Some(number))?;
     }
     Ok(())
 }
 
 fn set_entry(
     columns: &[usize],
-    entries: &mut HashMap<HashedKey, Option<usize>, Seed>,
+    entries: &mut HashMap<KeptValues, Option<usize>, Seed>,
     row: &Row,
     number: Option<usize>,
 )
@@ -315,7 +294,7 @@ fn set_entry(
 
 // Writes a number, or none, at some values, if there is an entry for them.
 fn write_entry(
-    entries: &mut HashMap<HashedKey, Option<usize>, Seed>,
+    entries: &mut HashMap<KeptValues, Option<usize>, Seed>,
     values: Sought<'_>,
     number: Option<usize>,
 )
@@ -327,7 +306,11 @@ fn write_entry(
     }
 }
 
-fn settle_entry(columns: &[usize], entries: &mut HashMap<HashedKey, Option<usize>, Seed>, row: &Row)
+fn settle_entry(
+    columns: &[usize],
+    entries: &mut HashMap<KeptValues, Option<usize>, Seed>,
+    row: &Row,
+)
     ensures { SettlesEntry columns.now row.now entries.old entries.new }
 {
     if has_values(columns, row) {
@@ -336,7 +319,7 @@ fn settle_entry(columns: &[usize], entries: &mut HashMap<HashedKey, Option<usize
 }
 
 // Drops the entry for some values if it has no number.
-fn drop_entry(entries: &mut HashMap<HashedKey, Option<usize>, Seed>, values: Sought<'_>)
+fn drop_entry(entries: &mut HashMap<KeptValues, Option<usize>, Seed>, values: Sought<'_>)
     ensures { DropsEntry (present values.entry.columns.now values.entry.row.now) entries.old entries.new }
 {
     if let Some(None) = entries.get(values) {
@@ -345,7 +328,7 @@ fn drop_entry(entries: &mut HashMap<HashedKey, Option<usize>, Seed>, values: Sou
 }
 
 // The same, for values that lie in a key.
-fn give_up_entry(entries: &mut HashMap<HashedKey, Option<usize>, Seed>, values: &Key)
+fn give_up_entry(entries: &mut HashMap<KeptValues, Option<usize>, Seed>, values: &Key)
     ensures { DropsEntry values.now entries.old entries.new }
 {
     if let Some(None) = entries.get(SoughtKey::of(values)) {

@@ -1,4 +1,5 @@
 -- Which clash is noted, slot by slot, and the end that it decides.
+use Rattle.std.specs.Option.{option_or}
 use Rattle.std.proofs.Common.{◌≡◌, ℕ, List, [], ◌∷◌, ◌++◌, Option, Some, None, refl, sym, ap, subst, ◌∙◌, append-nil, inl, inr}
 use Rattle.std.specs.Prelude.{IsSome, IfSome, is_some, slice_index_or}
 use Rattle.std.specs.Cmp.{nat_cmp_total}
@@ -32,22 +33,18 @@ module _ (w : World) where
 
   -- ---- the slots so far
 
-  -- with one slot more, which tells nothing
-  pub tells_still : (hand : Hand) (slot : Option Own) (noted : Option Clash) → TellsNoted w hand noted → TellsNoted w (slot ∷ []) None
-      → TellsNoted w (hand ++ slot ∷ []) noted
-  tells_still hand slot (Some clash) (cause, is, (h, c, among, stopped, wants)) none =
+  -- with one slot more, the clash that it tells, or else the one that was noted
+  pub tells_next : (hand : Hand) (slot : Option Own) (told noted : Option Clash) → TellsNoted w hand noted → TellsNoted w (slot ∷ []) told
+      → TellsNoted w (hand ++ slot ∷ []) (option_or told noted)
+  tells_next hand slot (Some clash) noted earlier (cause, is, (h, c, here, stopped, wants)) =
+      (cause, is, (h, c, Contains-append_right hand (slot ∷ []) (Some h) here, stopped, wants))
+  tells_next hand slot None (Some clash) (cause, is, (h, c, among, stopped, wants)) none =
       (cause, is, (h, c, Contains-append_left hand (slot ∷ []) (Some h) among, stopped, wants))
-  tells_still hand slot None not none = λ cause noted.
+  tells_next hand slot None None not none = λ cause noted.
       elim (Contains-append_cases hand (slot ∷ []) (Some noted.0) noted.2) [
         | inl earlier ↦ not cause (noted.0, noted.1, earlier, noted.3, noted.4)
         | inr here ↦ none cause (noted.0, noted.1, here, noted.3, noted.4)
       ]
-
-  -- with one that tells the clash
-  pub tells_now : (hand : Hand) (slot : Option Own) (clash : Clash) → TellsNoted w (slot ∷ []) (Some clash)
-      → TellsNoted w (hand ++ slot ∷ []) (Some clash)
-  tells_now hand slot clash (cause, is, (h, c, here, stopped, wants)) =
-      (cause, is, (h, c, Contains-append_right hand (slot ∷ []) (Some h) here, stopped, wants))
 
   pub stood_one : (h : Own) → get w.opened h.xid ≡ Some h.done → AreStood w (Some h ∷ [])
   stood_one h is = All-cons (λ o. IfSome o (λ (k : Own). get w.opened k.xid ≡ Some k.done)) (Some h) [] is (All-nil (λ o. IfSome o (λ (k : Own). get w.opened k.xid ≡ Some k.done)))

@@ -25,7 +25,7 @@ use Rattle.spooled.specs.Progress.{Progress}
 use Rattle.spooled.proofs.Running.{clear_at_send, clear_at_input}
 use Rattle.course.specs.Leading.{Lane, InStep, IsAgreed, AreInStep, AreCounts}
 use Rattle.course.specs.Threads.{work_of, IsWorldOf}
-use Rattle.course.specs.ThreadedRun.{HasConflict, IsStuckBy, Clear, HasWorkedOn, IsThreadedCause}
+use Rattle.course.specs.ThreadedRun.{HasConflict, IsStuckBy, Clear, HasWorkedOn, IsThreadedCause, IsCauseOf}
 use Rattle.course.proofs.Books.{is_world, noted_conflict, stuck_by}
 use Rattle.leader.specs.Standing.{Own}
 use Rattle.leader.specs.Threads.{KeepsToWork, HasTurn, MayEndBy}
@@ -229,38 +229,38 @@ module _ {H : Type 0} (g : Setting) (rows : Rows) (At : H → Progress → Type 
     (ended_held : (handled : List CopyItem) (p : Progress) (rest : List CopyItem) → Ended h handled p rest proposed
     → AreInHand g p.state rest line hand × AreGiven p.state given × MayEndBy g p.state rest proposed) where
   abbrev Why : Type 0
-  Why = AreInHand g over.progress.state over.rest line hand
-      × IsThreadedCause g old new over.handled over.progress over.times over.bytes over.rest f.world end
+  Why = AreInHand g over.part.progress.state over.part.rest line hand
+      × IsCauseOf g old new over.part f.world end
 
-  by_at : At h over.progress
-      → (AreInHand g over.progress.state over.rest line hand → IsThreadedCause g old new over.handled over.progress over.times over.bytes over.rest f.world end) → Why
-  by_at at why = let are = at_held over.progress over.rest at in (are, why are)
+  by_at : At h over.part.progress
+      → (AreInHand g over.part.progress.state over.part.rest line hand → IsCauseOf g old new over.part f.world end) → Why
+  by_at at why = let are = at_held over.part.progress over.part.rest at in (are, why are)
 
   by_why : Why
   by_why = elim over.why [
     | inl item ↦
-        let is = ended_held over.handled over.progress over.rest item.ended in (
+        let is = ended_held over.part.handled over.part.progress over.part.rest item.ended in (
           is.0,
-          by_item g rows over.rest line hand given proposed end old new over.handled over.progress over.times over.bytes valid f is.0 is.1
+          by_item g rows over.part.rest line hand given proposed end old new over.part.handled over.part.progress over.part.times over.part.bytes valid f is.0 is.1
               (record { clear = tt; read = item.read; sent = item.sent }) proposed end is.2 f.decided,
         )
     | inr later ↦
         elim later [
           | inl send ↦
-              by_at (clear_at_send g (At h over.progress) old new over.handled over.progress over.times proposed send) (λ are.
-              by_send g rows over.rest line hand given proposed end old new over.handled over.progress over.times over.bytes valid f
-              (At h over.progress) proposed end send f.decided)
+              by_at (clear_at_send g (At h over.part.progress) old new over.part.handled over.part.progress over.part.times proposed send) (λ are.
+              by_send g rows over.part.rest line hand given proposed end old new over.part.handled over.part.progress over.part.times over.part.bytes valid f
+              (At h over.part.progress) proposed end send f.decided)
           | inr input ↦
-              by_at (clear_at_input g (At h over.progress) old new over.handled over.progress over.times over.bytes over.rest proposed input) (λ are.
-              by_input g rows over.rest line hand given proposed end old new over.handled over.progress over.times over.bytes valid f
-              (At h over.progress) are proposed end input f.decided)
+              by_at (clear_at_input g (At h over.part.progress) old new over.part.handled over.part.progress over.part.times over.part.bytes over.part.rest proposed input) (λ are.
+              by_input g rows over.part.rest line hand given proposed end old new over.part.handled over.part.progress over.part.times over.part.bytes valid f
+              (At h over.part.progress) are proposed end input f.decided)
         ]
   ]
 
   -- the world is one of the items that were handled
-  pub is_world_of : IsWorldOf g rows over.progress.state over.rest f.world
-  is_world_of = ends_in_world g rows over.progress.state over.rest line hand given proposed end f by_why.0
+  pub is_world_of : IsWorldOf g rows over.part.progress.state over.part.rest f.world
+  is_world_of = ends_in_world g rows over.part.progress.state over.part.rest line hand given proposed end f by_why.0
 
   -- and has a cause of the end
-  pub is_cause : IsThreadedCause g old new over.handled over.progress over.times over.bytes over.rest f.world end
+  pub is_cause : IsCauseOf g old new over.part f.world end
   is_cause = by_why.1

@@ -24,6 +24,7 @@ use Rattle.engine.specs.declared.events.LineEvent.TheVariants.{Aborted as WasAbo
 use Rattle.engine.specs.Events.{past_of, commits_in, last_end as last_end_of}
 use Rattle.session.specs.declared.fault.Refused.{Refused}
 use Rattle.session.specs.declared.fault.Refused.TheVariants as refusals
+use Rattle.session.specs.declared.session.Session.{Session}
 use Rattle.session.specs.declared.step.Step.{Step}
 use Rattle.session.specs.declared.step.Step.TheVariants as steps
 use Rattle.session.specs.Sized.{item_of}
@@ -32,21 +33,21 @@ use Rattle.session.specs.Lawful.{Admits, Refuses}
 use Rattle.session.specs.Table.{new_open}
 use Rattle.session.specs.Told.{Told, Nothing, Opens, Gives, Commits, Aborts, Tells, IsGiving, IsCommitting, items_handed_out}
 use Rattle.session.specs.Represents.{Represents}
-use Rattle.session.specs.Answers.{IsOfTables, Says, HandsOut, IsWithin}
+use Rattle.session.specs.Answers.{IsOfTables, Says, HandsOut, IsWithin, AdmitsPayload}
 use Rattle.spooled.specs.declared.end.End.{End}
 use Rattle.spooled.specs.declared.end.End.TheVariants as ends
 use Rattle.spooled.specs.Commits.{last_end}
 use Rattle.spooled.specs.Ends.{end_of_refusal}
-use Rattle.spooled.specs.Handler.{HandlesItem, HasHandled}
+use Rattle.spooled.specs.Handler.{HasTaken, HandlesItem, HasHandled}
 use Rattle.spooled.specs.Progress.{Progress, Handles, commits_from, due_updates}
-use Rattle.spooled.proofs.Handling.{with_seen}
+use Rattle.spooled.proofs.Admitted.{on_to, with_seen, not_committed, one_committed, later_max, by_commit, taken_on, taken_commit, message_handled, ended_behind}
 use Rattle.spooled.proofs.States.{get-inserted, get-other, get-left, get-gone, last_end-push}
 use Rattle.spooled.proofs.Taking.{handed_named}
 use Rattle.course.specs.Runs.{IsCommitOf, CommitsNext}
 use Rattle.course.specs.Threads.{done_by_commit}
 use Rattle.leader.specs.declared.lead.Stream.{Stream}
 use Rattle.leader.specs.Standing.{Standing, IsStoreEnd, IsStopEnd, IsBegun, IsHandedOut, IsTaken, IsMet, IsCommitted, HasTried, IsAborted}
-use Rattle.leader.specs.Threads.{Numbered, numbered, numbered_past, Led, led, AreNamed, AreAgreed, HasCommitted, IsLeadAt, HasLed, HasLedTo, LeadTakes, AreLeft, HasTurn, MayEndBy, HasStopped, Stops}
+use Rattle.leader.specs.Threads.{Numbered, numbered, numbered_past, Led, led, AreNamed, AreAgreed, HasCommitted, IsLeadAt, HasLedTo, LeadTakes, AreLeft, HasTurn, MayEndBy, HasStopped, Stops}
 use Rattle.leader.proofs.Serving.{Committing, begun_agreed, handed_out_agreed, spooled_agreed, given_agreed, applied_agreed, kept_agreed, aborted_agreed, dropped_agreed, worker_commit, direct_commit, spooled_commit, unopened, all_held, met_held, tried_held}
 
 -- ---- names
@@ -86,14 +87,6 @@ IsNoCommit (steps.Item xid item) = Unit {0}
 IsNoCommit (steps.Commit xid info items) = ⊥
 IsNoCommit (steps.Abort xid) = Unit {0}
 
-none_handed : (c : Committed) (step : Step) → HandsOut c step → IsNoCommit step → ⊥
-none_handed c steps.Nothing hands is = hands
-none_handed c (steps.Begin xid) hands is = hands
-none_handed c (steps.Open xid) hands is = hands
-none_handed c (steps.Item xid item) hands is = hands
-none_handed c (steps.Commit xid info items) hands is = is
-none_handed c (steps.Abort xid) hands is = hands
-
 -- the state has the same commits, and its items name tables
 pub record KeepsOn (g : Setting) (s t : State) : Type 0 where
   pub past : t.past ≡ s.past
@@ -120,22 +113,17 @@ keeps_on g s t (Opens xid way) step named tells within says is = record { past =
 keeps_on g s t (Gives xid Direct item size) step named tells within says is = record { past = tells.2.past; position = tells.2.position; named = given_on g s t xid tells.0 item size named tells.2.present within.0 tells.2.transactions }
 keeps_on g s t (Gives xid Worker item size) step named tells within says is = record { past = tells.2.past; position = tells.2.position; named = given_on g s t xid tells.0 item size named tells.2.present within tells.2.transactions }
 keeps_on g s t (Gives xid Spooled item size) step named tells within says is = record { past = tells.2.past; position = tells.2.position; named = given_on g s t xid tells.0 item size named tells.2.present within tells.2.transactions }
-keeps_on g s t (Commits c) step named tells within says is = absurd (none_handed c step says is)
+keeps_on g s t (Commits c) step named tells within says is = absurd (by_commit IsNoCommit (λ xid info items is. is) c step says is)
 keeps_on g s t (Aborts xid way) step named tells within says is = record { past = tells.2.past; position = tells.2.position; named = dropped_on g s t xid named tells.2.transactions }
 
 -- an item that is handed on names tables
 pub item_named : (g : Setting) (told : Told) (x : ℕ) (i : Item) → IsWithin g told → Says told (steps.Item x i) → IsOfTables (length g.catalog) i
-item_named g Nothing x i within says = absurd cc
-item_named g (Opens xid Direct) x i within says = absurd cc
-item_named g (Opens xid Worker) x i within says = absurd cc
-item_named g (Opens xid Spooled) x i within says = absurd cc
 item_named g (Gives xid Direct item size) x i within says = let same : item ≡ i = cc in subst (IsOfTables (length g.catalog)) same within.0
 item_named g (Gives xid Worker item size) x i within says = let same : item ≡ i = cc in subst (IsOfTables (length g.catalog)) same within
-item_named g (Gives xid Spooled item size) x i within says = absurd cc
 item_named g (Commits c) x i within says = absurd says
+item_named g (Opens xid Direct) x i within says = absurd cc
 item_named g (Aborts xid Direct) x i within says = absurd cc
-item_named g (Aborts xid Worker) x i within says = absurd cc
-item_named g (Aborts xid Spooled) x i within says = absurd cc
+item_named g told x i within says = absurd cc
 
 -- ---- what is there of all transactions
 
@@ -151,31 +139,19 @@ nothing_agreed g s t told st agreed tells within says = absurd cc
 
 -- one that begins
 pub begin_agreed : (g : Setting) (s t : State) (told : Told) (x : ℕ) (old new : Standing) → AreAgreed s.transactions old → Tells s t told → IsWithin g told → Says told (steps.Begin x) → IsBegun old x new → AreAgreed t.transactions new
-begin_agreed g s t Nothing x old new agreed tells within says is = absurd cc
 begin_agreed g s t (Opens xid Direct) x old new agreed tells within says is = let same : x ≡ xid = cc in begun_agreed s t old new xid agreed tells (subst (λ n. IsBegun old n new) same is)
-begin_agreed g s t (Opens xid Worker) x old new agreed tells within says is = absurd cc
-begin_agreed g s t (Opens xid Spooled) x old new agreed tells within says is = absurd cc
-begin_agreed g s t (Gives xid Direct item size) x old new agreed tells within says is = absurd cc
-begin_agreed g s t (Gives xid Worker item size) x old new agreed tells within says is = absurd cc
-begin_agreed g s t (Gives xid Spooled item size) x old new agreed tells within says is = absurd cc
 begin_agreed g s t (Commits c) x old new agreed tells within says is = absurd says
 begin_agreed g s t (Aborts xid Direct) x old new agreed tells within says is = absurd within
-begin_agreed g s t (Aborts xid Worker) x old new agreed tells within says is = absurd cc
-begin_agreed g s t (Aborts xid Spooled) x old new agreed tells within says is = absurd cc
+begin_agreed g s t (Gives xid Direct item size) x old new agreed tells within says is = absurd cc
+begin_agreed g s t told x old new agreed tells within says is = absurd cc
 
 -- one that goes to a worker
 pub open_agreed : (g : Setting) (s t : State) (told : Told) (x : ℕ) (old new : Standing) → AreAgreed s.transactions old → Tells s t told → IsWithin g told → Says told (steps.Open x) → IsHandedOut old x new → AreAgreed t.transactions new
-open_agreed g s t Nothing x old new agreed tells within says is = absurd cc
-open_agreed g s t (Opens xid Direct) x old new agreed tells within says is = absurd cc
 open_agreed g s t (Opens xid Worker) x old new agreed tells within says is = let same : x ≡ xid = cc in handed_out_agreed s t old new xid agreed tells (subst (λ n. IsHandedOut old n new) same is)
-open_agreed g s t (Opens xid Spooled) x old new agreed tells within says is = absurd cc
-open_agreed g s t (Gives xid Direct item size) x old new agreed tells within says is = absurd cc
-open_agreed g s t (Gives xid Worker item size) x old new agreed tells within says is = absurd cc
-open_agreed g s t (Gives xid Spooled item size) x old new agreed tells within says is = absurd cc
 open_agreed g s t (Commits c) x old new agreed tells within says is = absurd says
 open_agreed g s t (Aborts xid Direct) x old new agreed tells within says is = absurd within
-open_agreed g s t (Aborts xid Worker) x old new agreed tells within says is = absurd cc
-open_agreed g s t (Aborts xid Spooled) x old new agreed tells within says is = absurd cc
+open_agreed g s t (Gives xid Direct item size) x old new agreed tells within says is = absurd cc
+open_agreed g s t told x old new agreed tells within says is = absurd cc
 
 -- an item that is handed on is given to an open transaction that isn't spooled
 pub record IsHandedOn (s t : State) (xid : ℕ) (item : Item) : Type 0 where
@@ -208,24 +184,12 @@ item_agreed s t xid item old new agreed on is = by_way on.transaction.way refl
 
 -- one that is dropped
 pub abort_agreed : (g : Setting) (s t : State) (told : Told) (x : ℕ) (old new : Standing) → AreAgreed s.transactions old → Tells s t told → IsWithin g told → Says told (steps.Abort x) → IsAborted old x new → AreAgreed t.transactions new
-abort_agreed g s t Nothing x old new agreed tells within says is = absurd cc
-abort_agreed g s t (Opens xid Direct) x old new agreed tells within says is = absurd cc
-abort_agreed g s t (Opens xid Worker) x old new agreed tells within says is = absurd cc
-abort_agreed g s t (Opens xid Spooled) x old new agreed tells within says is = absurd cc
-abort_agreed g s t (Gives xid Direct item size) x old new agreed tells within says is = absurd cc
-abort_agreed g s t (Gives xid Worker item size) x old new agreed tells within says is = absurd cc
-abort_agreed g s t (Gives xid Spooled item size) x old new agreed tells within says is = absurd cc
-abort_agreed g s t (Commits c) x old new agreed tells within says is = absurd says
-abort_agreed g s t (Aborts xid Direct) x old new agreed tells within says is = absurd within
 abort_agreed g s t (Aborts xid Worker) x old new agreed tells within says is = let same : x ≡ xid = cc in aborted_agreed s t old new xid tells.0 agreed tells.1 tells.2 (subst (λ n. IsAborted old n new) same is)
-abort_agreed g s t (Aborts xid Spooled) x old new agreed tells within says is = absurd cc
-
--- where it stands then
-abbrev pub on_to : Progress → State → Progress
-on_to p t = record { state = t; seen = p.seen; updates = p.updates }
-
-pub none_more : (s t : State) → t.past ≡ s.past → commits_from s t ≡ false
-none_more s t e = rw e (le-ltb (length s.past) (length s.past) (omega arith))
+abort_agreed g s t (Aborts xid Direct) x old new agreed tells within says is = absurd within
+abort_agreed g s t (Commits c) x old new agreed tells within says is = absurd says
+abort_agreed g s t (Opens xid Direct) x old new agreed tells within says is = absurd cc
+abort_agreed g s t (Gives xid Direct item size) x old new agreed tells within says is = absurd cc
+abort_agreed g s t told x old new agreed tells within says is = absurd cc
 
 -- the leader knows the same, but for its session and for what is open
 pub record IsSameLed (a b : Led) : Type 0 where
@@ -250,25 +214,29 @@ kept_commits b s t e has = record {
 }
 
 pub led_on : (g : Setting) (rows : Rows) (a b : Led) (p : Progress) (payload : List ℕ) (m : Message) (t : State) → IsLeadAt g rows a p → Admits g p.state payload m t → KeepsOn g p.state t → IsSameLed a b → AreAgreed t.transactions b.standing
-    → Represents g b.session t → HasLed g rows b p payload false
-led_on g rows a b p payload m t at admits on same agreed session = record {
-  message = m;
-  progress = on_to p t;
-  admits = admits;
-  seen = refl;
-  commits = sym (none_more p.state t on.past);
-  updates = sym (append-nil p.updates);
-  at = record {
-    catalog = at.catalog ∙ sym same.catalog;
-    tables = same.tables ∙ at.tables;
-    session = session;
-    named = on.named;
-    agreed = agreed;
-    committed = kept_commits b p.state t on.past (same_commits a b p.state same at.committed);
-    reached = on.position ∙ at.reached ∙ ap last_end (sym on.past);
-    seen = same.written ∙ at.seen ∙ ap (max p.seen) (sym on.position);
-  };
-}
+    → Represents g b.session t → HasTaken g (IsLeadAt g rows b) p payload false
+led_on g rows a b p payload m t at admits on same agreed session =
+    taken_on g (IsLeadAt g rows b) p payload m t admits on.past (record {
+      catalog = at.catalog ∙ sym same.catalog;
+      tables = same.tables ∙ at.tables;
+      session = session;
+      named = on.named;
+      agreed = agreed;
+      committed = kept_commits b p.state t on.past (same_commits a b p.state same at.committed);
+      reached = on.position ∙ at.reached ∙ ap last_end (sym on.past);
+      seen = same.written ∙ at.seen ∙ ap (max p.seen) (sym on.position);
+    })
+
+-- so it does by a step that commits nothing
+pub led_by_step : (g : Setting) (rows : Rows) (a b : Led) (p : Progress) (payload : List ℕ) (step : Step) → IsLeadAt g rows a p → (t : AdmitsPayload g b.session p.state payload step) → IsNoCommit step
+    → IsSameLed a b → AreAgreed t.state.transactions b.standing → HasTaken g (IsLeadAt g rows b) p payload false
+led_by_step g rows a b p payload step at t none same agreed =
+    led_on g rows a b p payload t.message t.state at t.admits
+    (keeps_on g p.state t.state t.told step at.named t.tells t.within t.says none) same agreed t.represents
+
+-- the session and what is open are otherwise, and neither tables nor commits
+pub same_but_open : (s : Stream) (v : Session) (old new : Standing) → new.tables ≡ old.tables → commits_in new.line ≡ commits_in old.line → IsSameLed (led s old) (led (record s { session = v }) new)
+same_but_open s v old new tables line = record { catalog = refl; tables = tables; line = line; position = refl; written = refl }
 
 -- ---- a message that ends the run
 
@@ -327,7 +295,7 @@ stops_behind g rows a b p payload m t end at admits on same held ended =
       m,
       t,
       admits,
-      none_more p.state t on.past,
+      not_committed p.state t on.past,
       λ more.
           let why = ended more in
           (kept_commits b p.state t on.past (same_commits a b p.state same at.committed), why.0, held more, why.1),
@@ -386,16 +354,6 @@ pub record IsLedCommit (g : Setting) (s t : State) (xid : ℕ) (info : CommitInf
 
 pub led_commit : (g : Setting) (s t : State) (told : Told) (xid : ℕ) (info : CommitInfo) (items : Vec Item Global) → AreNamed (length g.catalog) s.transactions → Tells s t told → Says told (steps.Commit xid info items)
     → IsLedCommit g s t xid info items.items
-led_commit g s t Nothing xid info items named tells says = absurd cc
-led_commit g s t (Opens x Direct) xid info items named tells says = absurd cc
-led_commit g s t (Opens x Worker) xid info items named tells says = absurd cc
-led_commit g s t (Opens x Spooled) xid info items named tells says = absurd cc
-led_commit g s t (Gives x Direct item size) xid info items named tells says = absurd cc
-led_commit g s t (Gives x Worker item size) xid info items named tells says = absurd cc
-led_commit g s t (Gives x Spooled item size) xid info items named tells says = absurd cc
-led_commit g s t (Aborts x Direct) xid info items named tells says = absurd cc
-led_commit g s t (Aborts x Worker) xid info items named tells says = absurd cc
-led_commit g s t (Aborts x Spooled) xid info items named tells says = absurd cc
 led_commit g s t (Commits c) xid info items named tells says =
     record {
       transaction = c;
@@ -406,6 +364,10 @@ led_commit g s t (Commits c) xid info items named tells says =
       named = dropped_on g s t c.xid named tells.transactions;
       items = subst (All (IsOfTables (length g.catalog))) (sym says.2) (handed_named (IsOfTables (length g.catalog)) c.xid c.way c.items (named c.xid _ tells.present));
     }
+led_commit g s t (Opens x Direct) xid info items named tells says = absurd cc
+led_commit g s t (Gives x Direct item size) xid info items named tells says = absurd cc
+led_commit g s t (Aborts x Direct) xid info items named tells says = absurd cc
+led_commit g s t told xid info items named tells says = absurd cc
 
 -- a commit ends above those of the line
 line_ends : (line : List LineEvent) (past : List Committed) → commits_in line ≡ map done_by_commit past → last_end_of line ≡ last_end past
@@ -421,16 +383,6 @@ rises g rows l p t xid info handed at is =
     subst (λ n. n < info.end) (sym (line_ends l.standing.line p.state.past at.committed.done ∙ sym at.reached))
     (subst (λ (i : CommitInfo). p.state.position < i.end) is.info_is is.commits.later)
 
--- the progress that a commit leads to
-abbrev pub committed_to : Progress → State → Progress
-committed_to p t = record { state = t; seen = p.seen; updates = p.updates ++ due_updates true t p.seen }
-
-later_max : (a b c : ℕ) → b < c → max (max a b) c ≡ max a c
-later_max a b c lt = omega arith
-
-one_more : (s t : State) (c : Committed) → t.past ≡ s.past ++ c ∷ [] → commits_from s t ≡ true
-one_more s t c e = lt-ltb (length s.past) (length t.past) (rw e (omega (arith, length-append s.past (c ∷ []))))
-
 -- what is there of all, once it was committed
 commit_agreed : (s t : State) (c : Committed) (old new : Standing) (handed : List Item) → AreAgreed s.transactions old → handed ≡ items_handed_out c.xid c.way c.items → IsCommitting s t c → IsCommitted old c.xid c.info handed new → Committing s t c old new
 commit_agreed s t c old new handed agreed hands commits is = by_way c.way refl
@@ -441,7 +393,7 @@ commit_agreed s t c old new handed agreed hands commits is = by_way c.way refl
     by_way Spooled e = spooled_commit s t c old new handed agreed e hands commits is
 
 pub led_to_commit : (g : Setting) (rows : Rows) (a b : Led) (p : Progress) (payload : List ℕ) (m : Message) (t : State) (xid : ℕ) (info : CommitInfo) (handed : List Item) → IsLeadAt g rows a p → Admits g p.state payload m t → IsLedCommit g p.state t xid info handed
-    → IsCommitted a.standing xid info handed b.standing → b.catalog ≡ a.catalog → b.position ≡ info.end → b.written ≡ max a.written info.end → Represents g b.session t → HasLed g rows b p payload true
+    → IsCommitted a.standing xid info handed b.standing → b.catalog ≡ a.catalog → b.position ≡ info.end → b.written ≡ max a.written info.end → Represents g b.session t → HasTaken g (IsLeadAt g rows b) p payload true
 led_to_commit g rows a b p payload m t xid info handed at admits is made catalog position written session =
     let c = is.transaction in
     let made_so : IsCommitted a.standing c.xid c.info handed b.standing =
@@ -453,30 +405,22 @@ led_to_commit g rows a b p payload m t xid info handed at admits is made catalog
     in
     let ends : last_end t.past ≡ info.end = ap last_end is.commits.past ∙ last_end-push p.state.past c ∙ ap (λ (i : CommitInfo). i.end) is.info_is in
     let reaches : t.position ≡ info.end = is.commits.position ∙ ap (λ (i : CommitInfo). i.end) is.info_is in
-    record {
-      message = m;
-      progress = committed_to p t;
-      admits = admits;
-      seen = refl;
-      commits = sym (one_more p.state t c is.commits.past);
-      updates = refl;
-      at = record {
-        catalog = at.catalog ∙ sym catalog;
-        tables = to.tables ∙ at.tables;
-        session = session;
-        named = is.named;
-        agreed = to.agreed;
-        committed = record {
-          commits = ap (map numbered_past) done ∙ numbers_of t.past;
-          done = done;
-          position = position ∙ sym ends;
-        };
-        reached = reaches ∙ sym ends;
-        seen =
-            written ∙ ap (λ n. max n info.end) at.seen ∙ ap (max (max p.seen p.state.position)) (sym reaches)
-            ∙ later_max p.seen p.state.position t.position (subst (λ n. p.state.position < n) (sym is.commits.position) is.commits.later);
+    taken_commit g (IsLeadAt g rows b) p payload m t admits (one_committed p.state t c is.commits.past) (record {
+      catalog = at.catalog ∙ sym catalog;
+      tables = to.tables ∙ at.tables;
+      session = session;
+      named = is.named;
+      agreed = to.agreed;
+      committed = record {
+        commits = ap (map numbered_past) done ∙ numbers_of t.past;
+        done = done;
+        position = position ∙ sym ends;
       };
-    }
+      reached = reaches ∙ sym ends;
+      seen =
+          written ∙ ap (λ n. max n info.end) at.seen ∙ ap (max (max p.seen p.state.position)) (sym reaches)
+          ∙ later_max p.seen p.state.position t.position (subst (λ n. p.state.position < n) (sym is.commits.position) is.commits.later);
+    })
   where
     numbers_of : (past : List Committed) → map numbered_past (map done_by_commit past) ≡ map numbered past
     numbers_of [] = refl
@@ -547,17 +491,10 @@ module _ {H : Type 0} (of : H → Led) (g : Setting) (rows : Rows) where
   Ended h handled p rest end = HasLedTo g rows (of h) handled p rest end
 
   pub handled_led_wal : (h : H) (handled : List CopyItem) (p : Progress) (first last : ℕ) (payload : List ℕ) (result : Result Bool End) → LeadTakes g rows (of h) (with_seen p (max (max p.seen first) last)) payload result → HandlesItem g At Ended h handled p (Wal first last payload) result
-  handled_led_wal h handled p first last payload (Ok is_commit) taken = record {
-    progress = taken.progress;
-    handles = (taken.message, taken.admits, taken.seen, taken.updates ∙ ap (λ c. p.updates ++ due_updates c taken.progress.state taken.progress.seen) taken.commits);
-    updates = taken.updates;
-    at = taken.at;
-  }
+  handled_led_wal h handled p first last payload (Ok is_commit) taken = message_handled g At h p Ended first last payload is_commit taken
   handled_led_wal h handled p first last payload (Err end) (inl before) = inl (λ more. before first last more)
   handled_led_wal h handled p first last payload (Err end) (inr (m, s, admits, none, behind)) =
-      let q : Progress = record { state = s; seen = max (max p.seen first) last; updates = p.updates } in
-      let handles : Handles g p (Wal first last payload) q = (m, admits, refl, sym (append-nil p.updates) ∙ ap (λ c. p.updates ++ due_updates c s (max (max p.seen first) last)) (sym none)) in
-      inr (q, handles, refl, behind)
+      ended_behind g At h p Ended handled first last payload m s end admits none (λ handles. behind)
 
   pub handled_led_keepalive : (h : H) (p : Progress) (last : ℕ) (reply : Bool) → IsLeadAt g rows (of h) (with_seen p (max p.seen last)) → HasHandled g At Ended h p (Keepalive last reply) reply
   handled_led_keepalive h p last reply at = record {
@@ -566,6 +503,3 @@ module _ {H : Type 0} (of : H → Led) (g : Setting) (rows : Rows) where
     updates = refl;
     at = record { catalog = at.catalog; tables = at.tables; session = at.session; named = at.named; agreed = at.agreed; committed = at.committed; reached = at.reached; seen = at.seen };
   }
-
-  pub handled_led_done : (h : H) (p : Progress) → IsLeadAt g rows (of h) p → HasHandled g At Ended h p Done false
-  handled_led_done h p at = record { progress = p; handles = refl; updates = sym (append-nil p.updates); at = at }

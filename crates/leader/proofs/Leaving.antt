@@ -36,10 +36,11 @@ use Rattle.spooled.specs.Commits.{transaction_of, commits, changes_in, committed
 use Rattle.spooled.specs.Devices.{DeviceState}
 use Rattle.spooled.specs.Handler.{IsEnded, IsRunOver}
 use Rattle.spooled.specs.Progress.{Progress, start_progress}
+use Rattle.spooled.specs.StreamPart.{StreamPart}
 use Rattle.spooled.proofs.Running.{Ticks-nil}
 use Rattle.course.specs.Runs.{told_of, end_of}
 use Rattle.course.specs.Threads.{done_by_commit}
-use Rattle.course.specs.ThreadedRun.{IsThreadedCause}
+use Rattle.course.specs.ThreadedRun.{IsThreadedCause, IsCauseOf}
 use Rattle.course.proofs.Threading.{entries_done, ends_done, changes_told}
 use Rattle.leader.specs.Lanes.{Laned, IsHome, AreCounted}
 use Rattle.leader.specs.Standing.{own_by, goes_by}
@@ -58,23 +59,13 @@ module _ {H : Type 0} (of : H → Led) (g : Setting) (rows : Rows) where
       → IsRunOver g (λ h p. IsLeadAt g rows (of h) p) (λ h handled p rest end. HasLedTo g rows (of h) handled p rest end) old new h end
       → IsRunOver g (IsLeadAt g rows) (HasLedTo g rows) old new (of h) end
   over_led old new h end over = record {
-    bytes = over.bytes;
-    read = over.read;
-    handled = over.handled;
-    rest = over.rest;
-    items = over.items;
-    progress = over.progress;
-    lawful = over.lawful;
-    times = over.times;
-    told = over.told;
-    counted = over.counted;
+    part = over.part;
     why = elim over.why [ inl item ↦ inl (record { ended = item.ended; read = item.read; sent = item.sent }) | inr other ↦ inr other ];
   }
 
--- it is over before a byte is read
-pub nothing_read : (g : Setting) (rows : Rows) (devices : DeviceState) (l : Led) → IsLeadAt g rows l start_progress
-    → IsRunOver g (IsLeadAt g rows) (HasLedTo g rows) devices devices l ends.OutOfMemory
-nothing_read g rows devices l at = record {
+-- nothing was handled
+abbrev nothing_handled : (g : Setting) (devices : DeviceState) → StreamPart g devices devices
+nothing_handled g devices = record {
   bytes = [];
   read = Consumes-nil devices.unread;
   handled = [];
@@ -85,6 +76,13 @@ nothing_read g rows devices l at = record {
   times = [];
   told = Ticks-nil devices.times;
   counted = refl;
+}
+
+-- it is over before a byte is read
+pub nothing_read : (g : Setting) (rows : Rows) (devices : DeviceState) (l : Led) → IsLeadAt g rows l start_progress
+    → IsRunOver g (IsLeadAt g rows) (HasLedTo g rows) devices devices l ends.OutOfMemory
+nothing_read g rows devices l at = record {
+  part = nothing_handled g devices;
   why = inl (record {
     ended = (at.committed, (λ e. cc), all_held g start [] l.standing at.agreed, tt);
     read = refl;
@@ -202,40 +200,31 @@ module _ (g : Setting) (rows : Rows) where
   left_run keys old new line position end o left shut_by same reached ended =
       let over = left.over in
       let shut : IsShutSo (schema_of g) rows line o = subst (λ (k : Schema). IsShutSo k rows line o) same shut_by in
-      let so = leaves g rows old new left.led over.handled over.progress over.times over.bytes over.rest left.proposed over.why in
-      let done : commits_in line ≡ map done_by_commit over.progress.state.past = left.told ∙ left.is_world.line in
-      let at : o.position ≡ last_end over.progress.state.past = reached ∙ left.reached ∙ so.0.position in
+      let so = leaves g rows old new left.led over.part.handled over.part.progress over.part.times over.part.bytes over.part.rest left.proposed over.why in
+      let done : commits_in line ≡ map done_by_commit over.part.progress.state.past = left.told ∙ left.is_world.line in
+      let at : o.position ≡ last_end over.part.progress.state.past = reached ∙ left.reached ∙ so.0.position in
       let serial_rows : o.tables.rows ≡ serial (schema_of g) rows (changes_of (commits_in line)) =
       shut.tables ∙ ap (rows_after (schema_of g) rows) shut.journal ∙ entries_are_serial (schema_of g) rows (commits_in line) in
       record {
         run = record {
-          bytes = over.bytes;
-          read = over.read;
-          handled = over.handled;
-          rest = over.rest;
-          items = over.items;
-          progress = over.progress;
-          lawful = over.lawful;
-          times = over.times;
-          told = over.told;
-          counted = over.counted;
+          part = over.part;
           world = left.world;
           is_world = left.is_world;
-          cause = subst (IsThreadedCause g old new over.handled over.progress over.times over.bytes over.rest left.world) (sym ended) left.cause;
+          cause = subst (IsCauseOf g old new over.part left.world) (sym ended) left.cause;
           left = record {
             entries = told_alike o.journal.items ∙ ap (map told_of) (shut.journal ∙ ap (map entry_of) left.told);
-            position = at ∙ sym (ap end_of left.is_world.line ∙ ends_done over.progress.state.past);
+            position = at ∙ sym (ap end_of left.is_world.line ∙ ends_done over.part.progress.state.past);
             tables = serial_rows ∙ ap (λ (ps : List Past). serial (schema_of g) rows (changes_of ps)) left.told ∙ sym left.committed;
           };
           schema = shut.schema;
         };
         sent = so.1;
         clean = λ clean.
-            let none = none_left g old new over.handled over.progress over.times over.bytes over.rest left.world end left.cause (sym ended ∙ clean) in
-            sym (append-nil over.handled) ∙ ap (λ (others : List CopyItem). over.handled ++ others) (sym none) ∙ over.items;
-        journal = journal_told (schema_of g) rows line over.progress.state done o.journal.items shut.journal;
+            let none = none_left g old new over.part.handled over.part.progress over.part.times over.part.bytes over.part.rest left.world end left.cause (sym ended ∙ clean) in
+            sym (append-nil over.part.handled) ∙ ap (λ (others : List CopyItem). over.part.handled ++ others) (sym none) ∙ over.part.items;
+        journal = journal_told (schema_of g) rows line over.part.progress.state done o.journal.items shut.journal;
         position = at;
-        tables = shut.tables ∙ rows_told (schema_of g) rows line over.progress.state done o.journal.items shut.journal;
+        tables = shut.tables ∙ rows_told (schema_of g) rows line over.part.progress.state done o.journal.items shut.journal;
         world = shut.world;
       }
 
@@ -243,16 +232,7 @@ module _ (g : Setting) (rows : Rows) where
   nothing_done : (devices : DeviceState) (o : Outcome) → IsShutSo (schema_of g) rows [] o → o.position ≡ 0 → o.end ≡ ends.OutOfMemory → IsRunByWorkers g rows devices devices o
   nothing_done devices o shut position end = record {
     run = record {
-      bytes = [];
-      read = Consumes-nil devices.unread;
-      handled = [];
-      rest = [];
-      items = Reads-nothing.0;
-      progress = start_progress;
-      lawful = refl;
-      times = [];
-      told = Ticks-nil devices.times;
-      counted = refl;
+      part = nothing_handled g devices;
       world = starting rows;
       is_world = record {
         reached = ∣ at_start ∣₁;

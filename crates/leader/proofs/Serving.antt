@@ -163,6 +163,19 @@ kept_agreed s t st xid item size o agreed way gives =
     (subst (λ f. IsAgreed f [] None false) (sym (ap (λ m. finite.get m xid) gives.transactions ∙ get-inserted s.transactions xid (with_item o item size))) way)
     (λ q ne. ap (λ m. finite.get m q) gives.transactions ∙ get-other s.transactions xid (with_item o item size) q ne)
 
+-- ---- one goes
+
+-- one that the state has no longer is nowhere, and the others are where they were
+gone_agreed : (s t : State) (old new : Standing) (xid : ℕ) → AreAgreed s.transactions old → t.transactions ≡ finite.remove s.transactions xid
+    → (items_by xid new.lanes ≡ []) × (own_of xid new.begun ≡ None) × (is_open_in new.line xid ≡ false)
+    → ((q : ℕ) → (xid ≡ q → ⊥) → (items_by q new.lanes ≡ items_by q old.lanes) × (own_of q new.begun ≡ own_of q old.begun) × (is_open_in new.line q ≡ is_open_in old.line q))
+    → AreAgreed t.transactions new
+gone_agreed s t old new xid agreed gone nowhere same =
+    agreed_but xid s.transactions t.transactions old new agreed
+    (there new xid (finite.get t.transactions xid) None [] None false
+    (ap (λ m. finite.get m xid) gone ∙ get-gone s.transactions xid) nowhere.0 nowhere.1 nowhere.2 tt)
+    (λ q ne. let is = same q ne in (ap (λ m. finite.get m q) gone ∙ get-left s.transactions xid q ne, is.0, is.1, is.2))
+
 -- ---- one is dropped
 
 pub aborted_agreed : (s t : State) (old new : Standing) (xid : ℕ) (o : Open) → AreAgreed s.transactions old → o.way ≡ Worker → IsAborting s t xid o → IsAborted old xid new → AreAgreed t.transactions new
@@ -171,15 +184,12 @@ aborted_agreed s t old new xid o agreed way aborts is =
     let was = by_lane o (items_by xid old.lanes) (own_of xid old.begun) (is_open_in old.line xid) way (subst (There old xid) aborts.present (agreed xid)) in
     let before : Option Given = Some (record { xid = xid; items = is.had }) in
     let same = had_is xid old.lanes new.lanes is.had (map item_of o.items) None is.lanes was.0 in
-    agreed_but xid s.transactions t.transactions old new agreed
-    (there new xid (finite.get t.transactions xid) None [] None false
-    (ap (λ m. finite.get m xid) aborts.transactions ∙ get-gone s.transactions xid)
-    (all_turned xid old.lanes new.lanes before None is.lanes (was.0 ∙ ap (λ (i : List Item). i ∷ []) (sym same) ∙ sym (items_here xid is.had)))
-    (ap (own_of xid) (ap begun_of e) ∙ was.1)
-    (ap (λ l. is_open_in l xid) (ap line_of e) ∙ aborted_here old.line xid)
-    tt)
+    gone_agreed s t old new xid agreed aborts.transactions (
+      all_turned xid old.lanes new.lanes before None is.lanes (was.0 ∙ ap (λ (i : List Item). i ∷ []) (sym same) ∙ sym (items_here xid is.had)),
+      ap (own_of xid) (ap begun_of e) ∙ was.1,
+      ap (λ l. is_open_in l xid) (ap line_of e) ∙ aborted_here old.line xid,
+    )
     (λ q ne. (
-      ap (λ m. finite.get m q) aborts.transactions ∙ get-left s.transactions xid q ne,
       same_turned q old.lanes new.lanes before None is.lanes (items_elsewhere xid q is.had ne),
       ap (own_of q) (ap begun_of e),
       ap (λ l. is_open_in l q) (ap line_of e) ∙ aborted_elsewhere old.line xid q ne,
@@ -220,15 +230,12 @@ worker_commit s t c old new handed agreed way commits (inl is) =
     let same = had_is c.xid old.lanes new.lanes is.had (map item_of c.items) None is.lanes was.0 in
     record {
       agreed =
-          agreed_but c.xid s.transactions t.transactions old new agreed
-          (there new c.xid (finite.get t.transactions c.xid) None [] None false
-          (ap (λ m. finite.get m c.xid) commits.transactions ∙ get-gone s.transactions c.xid)
-          (all_turned c.xid old.lanes new.lanes before None is.lanes (was.0 ∙ ap (λ (i : List Item). i ∷ []) (sym same) ∙ sym (items_here c.xid is.had)))
-          (ap (own_of c.xid) (ap begun_of e) ∙ was.1)
-          (ap (λ l. is_open_in l c.xid) (ap line_of e) ∙ committed_here old.line c.xid is.had c.info)
-          tt)
+          gone_agreed s t old new c.xid agreed commits.transactions (
+            all_turned c.xid old.lanes new.lanes before None is.lanes (was.0 ∙ ap (λ (i : List Item). i ∷ []) (sym same) ∙ sym (items_here c.xid is.had)),
+            ap (own_of c.xid) (ap begun_of e) ∙ was.1,
+            ap (λ l. is_open_in l c.xid) (ap line_of e) ∙ committed_here old.line c.xid is.had c.info,
+          )
           (λ q ne. (
-            ap (λ m. finite.get m q) commits.transactions ∙ get-left s.transactions c.xid q ne,
             same_turned q old.lanes new.lanes before None is.lanes (items_elsewhere c.xid q is.had ne),
             ap (own_of q) (ap begun_of e),
             ap (λ l. is_open_in l q) (ap line_of e) ∙ committed_elsewhere old.line c.xid q is.had c.info ne,
@@ -257,15 +264,12 @@ direct_commit s t c old new handed agreed way commits (inr (inl is)) =
     let had = own_done old c.xid (open_of c) is.done way here is.was in
     record {
       agreed =
-          agreed_but c.xid s.transactions t.transactions old new agreed
-          (there new c.xid (finite.get t.transactions c.xid) None [] None false
-          (ap (λ m. finite.get m c.xid) commits.transactions ∙ get-gone s.transactions c.xid)
-          (ap (items_by c.xid) (ap lanes_of e) ∙ was.0)
-          (ap (own_of c.xid) (ap begun_of e))
-          (ap (λ l. is_open_in l c.xid) (ap line_of e) ∙ committed_here old.line c.xid is.done.items c.info)
-          tt)
+          gone_agreed s t old new c.xid agreed commits.transactions (
+            ap (items_by c.xid) (ap lanes_of e) ∙ was.0,
+            ap (own_of c.xid) (ap begun_of e),
+            ap (λ l. is_open_in l c.xid) (ap line_of e) ∙ committed_here old.line c.xid is.done.items c.info,
+          )
           (λ q ne. (
-            ap (λ m. finite.get m q) commits.transactions ∙ get-left s.transactions c.xid q ne,
             ap (items_by q) (ap lanes_of e),
             ap (own_of q) (ap begun_of e) ∙ sym (ap (own_of q) is.was ∙ own_elsewhere c.xid q is.done ne),
             ap (λ l. is_open_in l q) (ap line_of e) ∙ committed_elsewhere old.line c.xid q is.done.items c.info ne,
@@ -292,15 +296,12 @@ spooled_commit s t c old new handed agreed way hands commits (inr (inr is)) =
     let was = by_none (open_of c) (items_by c.xid old.lanes) (own_of c.xid old.begun) (is_open_in old.line c.xid) way (subst (There old c.xid) commits.present (agreed c.xid)) in
     record {
       agreed =
-          agreed_but c.xid s.transactions t.transactions old new agreed
-          (there new c.xid (finite.get t.transactions c.xid) None [] None false
-          (ap (λ m. finite.get m c.xid) commits.transactions ∙ get-gone s.transactions c.xid)
-          (ap (items_by c.xid) (ap lanes_of e) ∙ was.0)
-          (ap (own_of c.xid) (ap begun_of e) ∙ was.1)
-          (ap (λ l. is_open_in l c.xid) (ap line_of e) ∙ committed_here (old.line ++ WasOpened c.xid ∷ []) c.xid handed c.info)
-          tt)
+          gone_agreed s t old new c.xid agreed commits.transactions (
+            ap (items_by c.xid) (ap lanes_of e) ∙ was.0,
+            ap (own_of c.xid) (ap begun_of e) ∙ was.1,
+            ap (λ l. is_open_in l c.xid) (ap line_of e) ∙ committed_here (old.line ++ WasOpened c.xid ∷ []) c.xid handed c.info,
+          )
           (λ q ne. (
-            ap (λ m. finite.get m q) commits.transactions ∙ get-left s.transactions c.xid q ne,
             ap (items_by q) (ap lanes_of e),
             ap (own_of q) (ap begun_of e),
             ap (λ l. is_open_in l q) (ap line_of e) ∙ committed_elsewhere (old.line ++ WasOpened c.xid ∷ []) c.xid q handed c.info ne ∙ opened_elsewhere old.line c.xid q ne,

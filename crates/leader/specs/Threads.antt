@@ -4,7 +4,6 @@
 --     AreNamed      items name tables of the catalog
 --     IsAgreed, AreAgreed      what is there of a transaction is what the state has; so it is of all
 --     HasCommitted, IsLeadAt, IsLeadAtSome, IsLeadAtStart      what a leader knows is what a state, or a progress, has
---     HasLed      a message was taken
 --     KeepsToWork      what an open transaction has done is a beginning of its work
 --     IsLeft, AreLeft      what is there of a transaction at an end, and of all
 --     HasTurn, MayEndBy      whose turn it is; why a run may end at the next item
@@ -32,6 +31,7 @@ use Rattle.session.specs.Represents.{Represents}
 use Rattle.spooled.specs.declared.end.End.{End}
 use Rattle.spooled.specs.declared.end.End.TheVariants as ends
 use Rattle.spooled.specs.Cause.{RefusesNext}
+use Rattle.spooled.specs.Handler.{HasTaken}
 use Rattle.spooled.specs.Commits.{last_end}
 use Rattle.spooled.specs.Progress.{Progress, start_progress, due_updates, commits_from}
 use Rattle.course.specs.Runs.{CommitsNext}
@@ -121,16 +121,6 @@ IsLeadAtSome l = (g : Setting) × (rows : Rows) × (p : Progress) × IsLeadAt g 
 abbrev pub IsLeadAtStart : Led → Type 0
 IsLeadAtStart l = (g : Setting) × (rows : Rows) × IsLeadAt g rows l start_progress
 
--- The message was taken. Whether it commits is answered.
-pub record HasLed (g : Setting) (rows : Rows) (l : Led) (p : Progress) (payload : List ℕ) (is_commit : Bool) : Type 0 where
-  pub message : Message
-  pub progress : Progress
-  pub admits : Admits g p.state payload message progress.state
-  pub seen : progress.seen ≡ p.seen
-  pub commits : is_commit ≡ commits_from p.state progress.state
-  pub updates : progress.updates ≡ p.updates ++ due_updates is_commit progress.state progress.seen
-  pub at : IsLeadAt g rows l progress
-
 -- ---- an end
 
 -- What an open transaction has done is a beginning of its work; a spooled one begins only once the next message commits
@@ -186,7 +176,7 @@ Stops g l p payload end =
 
 -- The message was taken, or it ended the run.
 abbrev pub LeadTakes : Setting → Rows → Led → Progress → List ℕ → Result Bool End → Type 0
-LeadTakes g rows l p payload result = MatchResult result (HasLed g rows l p payload) (Stops g l p payload)
+LeadTakes g rows l p payload result = MatchResult result (HasTaken g (IsLeadAt g rows l) p payload) (Stops g l p payload)
 
 -- It ended a run so, other than cleanly, and what it has is that of this progress.
 abbrev pub HasLedTo : Setting → Rows → Led → List CopyItem → Progress → List CopyItem → End → Type 0

@@ -28,7 +28,7 @@ use Rattle.spooled.specs.Handler.{IsRunOver}
 use Rattle.spooled.specs.Progress.{Progress}
 use Rattle.spooled.specs.Run.{IsRun}
 use Rattle.course.specs.Threads.{IsWorldOf}
-use Rattle.course.specs.ThreadedRun.{IsThreadedCause, IsThreadedRun}
+use Rattle.course.specs.ThreadedRun.{IsCauseOf, IsThreadedRun}
 use Rattle.leader.specs.Threads.{Led, IsLeadAt, HasLedTo}
 
 -- The status updates went out: all of them, or all but a part of the last.
@@ -42,8 +42,8 @@ pub record Leaves (g : Setting) (rows : Rows) (old new : DeviceState) (line : Li
   pub proposed : End
   pub over : IsRunOver g (IsLeadAt g rows) (HasLedTo g rows) old new led proposed
   pub world : World
-  pub is_world : IsWorldOf g rows over.progress.state over.rest world
-  pub cause : IsThreadedCause g old new over.handled over.progress over.times over.bytes over.rest world end
+  pub is_world : IsWorldOf g rows over.part.progress.state over.part.rest world
+  pub cause : IsCauseOf g old new over.part world end
   pub committed : world.committed ≡ serial (schema_of g) rows (changes_in world.line)
   pub told : commits_in line ≡ world.line
   pub reached : position ≡ led.position
@@ -62,11 +62,11 @@ pub record IsShutSo (keys : Schema) (rows : Rows) (line : List LineEvent) (o : O
 -- their order. A world that calls reach closes with them.
 pub record IsRunByWorkers (g : Setting) (rows : Rows) (old new : DeviceState) (o : Outcome) : Type 0 where
   pub run : IsThreadedRun g rows old new o
-  pub sent : WasSent g old new run.handled run.progress run.times
-  pub clean : o.end ≡ Clean → run.handled ≡ copy_items run.bytes
-  pub journal : map transaction_of o.journal.items ≡ commits run.progress.state
-  pub position : o.position ≡ last_end run.progress.state.past
-  pub tables : o.tables.rows ≡ serial (schema_of g) rows (committed_changes run.progress.state)
+  pub sent : WasSent g old new run.part.handled run.part.progress run.part.times
+  pub clean : o.end ≡ Clean → run.part.handled ≡ copy_items run.part.bytes
+  pub journal : map transaction_of o.journal.items ≡ commits run.part.progress.state
+  pub position : o.position ≡ last_end run.part.progress.state.past
+  pub tables : o.tables.rows ≡ serial (schema_of g) rows (committed_changes run.part.progress.state)
   pub world : ∥ ((w : World) × Reaches (schema_of g) (starting rows) w × Closes w o.tables.rows (map entry_in o.journal.items)) ∥₁
 
 -- A run by so many workers, beside so many watchers; without any of both it is the run without threads.

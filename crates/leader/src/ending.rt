@@ -105,9 +105,7 @@ fn undo_all<N: StoreNames, S: Slot<N> + Drop>(
 {
     let mut noted = undo(store, line, own, stop);
     for slot in lanes {
-        if let Some(clash) = undo(store, line, slot.into_ticket(), stop) {
-            noted = Some(clash);
-        }
+        noted = undo(store, line, slot.into_ticket(), stop).or(noted);
     }
     noted
 }

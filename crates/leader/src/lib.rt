@@ -59,9 +59,9 @@ pub use origin::Position;
 pub use snapshot::{ReadFault, Reader, Watch};
 pub use spooled::{
     ByteStr, Catalog, CatalogFault, Change, Changes, ChangesIter, Clock, Config, Devices, End,
-    Entry, Failed, FrameFault, Key, KeyValues, Lsn, MsgFault, OutOfMemory, Outcome, ReadSource,
-    RelFault, Row, RowView, Seed, SessionFault, Sink, Source, TableDef, TableId, Tables, Value,
-    ValueRef, Walk, WriteSink, Xid, report, run_over, run_spooled,
+    Entry, Failed, FrameFault, KeptText, Key, KeyValues, Lsn, MsgFault, OutOfMemory, Outcome,
+    ReadSource, RelFault, Row, RowView, Seed, SessionFault, Sink, Source, TableDef, TableId,
+    Tables, Value, ValueRef, Walk, WriteSink, Xid, report, run_over, run_spooled,
 };
 pub use threads::{run, run_with_workers};
 pub use watching::NoWatch;

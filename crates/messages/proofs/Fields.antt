@@ -1,9 +1,9 @@
 -- A field that is read is the field that stands there, and what stands there is read.
 use Rattle.std.proofs.Common.{◌≡◌, ℕ, ℤ, zero, suc, ◌+◌, ◌-◌, ◌^◌, ◌<◌, ◌≤◌, Bool, true, false, cond, ltb, List, [], ◌∷◌, ◌++◌, length, get_or, eqb, take, drop, Option, Some, None, Result, Ok, Err, refl, sym, ap, subst, ◌∙◌, append_assoc, arith, inl, inr}
 use Rattle.std.specs.Prelude.{FitsSigned, IsUtf8, pos, negsuc}
-use Rattle.std.specs.Int.{w16, w32, w64, from_be_bytes, to_be_bytes, cast_signed, cast_unsigned}
+use Rattle.std.specs.Int.{cast_signed, cast_unsigned}
 use Rattle.std.specs.Str.{is_utf8}
-use Rattle.std.specs.List.{Contains, list_any, position_or_len, before_first, after_first}
+use Rattle.std.specs.List.{list_any, position_or_len, before_first, after_first}
 use Rattle.std.proofs.lemmas.Bool.{cases_lt, ltb-false, ltb-true, le-ltb, lt-ltb, eqb-true, eq-eqb, ne_eqb}
 use Rattle.std.proofs.lemmas.Int.{to_z-of_z, of_z-to_z}
 use Rattle.std.proofs.lemmas.List.Sums.{split_at_first, passes_at_first, fails_before_first, position_or_len_is}
@@ -103,6 +103,13 @@ both_ok false c early bad x y e = absurd cc
 same_reading : {A : Type 0} (x y : A × List ℕ) → read_of x.0 x.1 ≡ Ok y → x ≡ y
 same_reading x y e = cc
 
+-- what was written is enough, and the rest stands behind it
+enough : (size : Size) (n : ℕ) (rest : List ℕ) → ltb (length (number_bytes size n ++ rest)) (byte_count size) ≡ false
+enough size n rest = le-ltb _ _ (omega (arith, length-append (number_bytes size n) rest, length-number_bytes size n))
+
+behind : (size : Size) (n : ℕ) (rest : List ℕ) → drop (byte_count size) (number_bytes size n ++ rest) ≡ rest
+behind size n rest = drop_at (number_bytes size n) rest (byte_count size) (length-number_bytes size n)
+
 unsigned_taken : (size : Size) (bytes : List ℕ) (x : ℕ × List ℕ) → IsBytes bytes → unsigned_at size bytes ≡ Ok x → Takes (Unsigned size) bytes x.0 x.1
 unfolding unsigned_at
 unsigned_taken size bytes x fits e =
@@ -115,10 +122,7 @@ unsigned_taken size bytes x fits e =
 
 unsigned_again : (size : Size) (n : ℕ) (rest : List ℕ) → n < limit size → unsigned_at size (number_bytes size n ++ rest) ≡ Ok (n, rest)
 unfolding unsigned_at
-unsigned_again size n rest lt =
-    let len = length-number_bytes size n in
-    let long : ltb (length (number_bytes size n ++ rest)) (byte_count size) ≡ false = le-ltb _ _ (omega (arith, length-append (number_bytes size n) rest)) in
-    rw (long, number_in-number_bytes size n rest lt, drop_at (number_bytes size n) rest (byte_count size) len) refl
+unsigned_again size n rest lt = rw (enough size n rest, number_in-number_bytes size n rest lt, behind size n rest) refl
 
 signed_taken : (size : Size) (bytes : List ℕ) (x : ℤ × List ℕ) → IsBytes bytes → signed_at size bytes ≡ Ok x → Takes (Signed size) bytes x.0 x.1
 unfolding signed_at
@@ -139,9 +143,7 @@ signed_again : (size : Size) (z : ℤ) (rest : List ℕ) → FitsSigned (width s
 unfolding signed_at
 signed_again size z rest fits =
     let n = cast_unsigned (width size) z in
-    let len = length-number_bytes size n in
-    let long : ltb (length (number_bytes size n ++ rest)) (byte_count size) ≡ false = le-ltb _ _ (omega (arith, length-append (number_bytes size n) rest)) in
-    rw (long, number_in-number_bytes size n rest (cast_unsigned_below size z fits), drop_at (number_bytes size n) rest (byte_count size) len, to_z-of_z (width size) z fits) refl
+    rw (enough size n rest, number_in-number_bytes size n rest (cast_unsigned_below size z fits), behind size n rest, to_z-of_z (width size) z fits) refl
 
 count_taken : (size : Size) (bytes : List ℕ) (x : ℕ × List ℕ) → IsBytes bytes → count_at size bytes ≡ Ok x → Takes (Count size) bytes x.0 x.1
 unfolding count_at
@@ -158,10 +160,8 @@ count_taken size bytes x fits e =
 count_again : (size : Size) (n : ℕ) (rest : List ℕ) → n < count_limit size → count_at size (number_bytes size n ++ rest) ≡ Ok (n, rest)
 unfolding count_at
 count_again size n rest lt =
-    let len = length-number_bytes size n in
-    let long : ltb (length (number_bytes size n ++ rest)) (byte_count size) ≡ false = le-ltb _ _ (omega (arith, length-append (number_bytes size n) rest)) in
     let small : ltb n (count_limit size) ≡ true = lt-ltb _ _ lt in
-    rw (long, number_in-number_bytes size n rest (below_count size n lt), small, drop_at (number_bytes size n) rest (byte_count size) len) refl
+    rw (enough size n rest, number_in-number_bytes size n rest (below_count size n lt), small, behind size n rest) refl
 
 -- ---- one byte
 

@@ -1,11 +1,10 @@
 -- What reading a format gives is what the bytes spell, or the fault that stands; proved once for every format.
-use Rattle.std.proofs.Common.{◌≡◌, ℕ, List, [], ◌∷◌, ◌++◌, Result, Ok, Err, refl, sym, ap, subst, ◌∙◌, append_assoc, inl, inr, ◌⊎◌}
+use Rattle.std.proofs.Common.{◌≡◌, ℕ, List, ◌++◌, Result, Ok, Err, refl, sym, ap, subst, ◌∙◌, append_assoc, inl, inr, ◌⊎◌}
 use Rattle.messages.specs.declared.fault.MsgFault.{MsgFault}
-use Rattle.messages.specs.declared.fault.MsgFault.TheVariants.{Trailing}
 use Rattle.messages.specs.Field.{Field, Value, Begins, spelling, wrong}
 use Rattle.messages.specs.Format.{Format, done, one, followed_by, Spells, Fails}
-use Rattle.messages.specs.Reading.{Read, if_read, read_field, read, ended, read_all}
-use Rattle.messages.proofs.Fields.{IsBytes, Takes, field_taken, field_again, field_failed}
+use Rattle.messages.specs.Reading.{Read, if_read, read_field, read}
+use Rattle.messages.proofs.Fields.{IsBytes, field_taken, field_again, field_failed}
 
 -- the value of a step that did not fail, and the fault of a step or of what follows it
 pub if_read-ok : {A B : Type 0} (r : Result A MsgFault) (next : A → Result B MsgFault) (y : B) → if_read r next ≡ Ok y → (x : A) × (r ≡ Ok x) × (next x ≡ Ok y)

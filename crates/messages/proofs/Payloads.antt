@@ -2,11 +2,11 @@
 use Rattle.std.proofs.Common.{◌≡◌, ℕ, Bool, List, [], ◌∷◌, ◌++◌, Result, Ok, Err, refl, sym, ap, subst, ◌∙◌, inl, inr, ◌⊎◌}
 use Rattle.std.specs.Prelude.{◌≢◌, IfOk, IfErr}
 use Rattle.messages.specs.declared.fault.MsgFault.{MsgFault}
-use Rattle.messages.specs.declared.fault.MsgFault.TheVariants.{UnknownTag, Short, Trailing, BadTupleKind, BadText, BinaryColumn, BadFlag, NegativeCount, TwoPhase, OutOfMemory}
+use Rattle.messages.specs.declared.fault.MsgFault.TheVariants.{Trailing, OutOfMemory}
 use Rattle.messages.specs.declared.message.Message.{Message}
-use Rattle.messages.specs.Format.{Format, Spells, Fails}
+use Rattle.messages.specs.Format.{Spells}
 use Rattle.messages.specs.Messages.{message, Spelled, HasFault, HasXid}
-use Rattle.messages.specs.Reading.{Read, if_read, read, ended, read_all, IsFault, IsReading}
+use Rattle.messages.specs.Reading.{read, ended, read_all, IsFault, IsReading}
 use Rattle.messages.proofs.Fields.{IsBytes}
 use Rattle.messages.proofs.Xids.{spelled_has_xid}
 use Rattle.messages.proofs.Formats.{if_read-ok, if_read-err, read-spells, spells-read, read-fails, Spells-more, Spells-one, Fails-read}

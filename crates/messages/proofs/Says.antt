@@ -1,11 +1,10 @@
 -- Spellings put together: the bytes say the value, whatever follows them.
-use Rattle.std.proofs.Common.{◌≡◌, ℕ, ℤ, zero, suc, ◌<◌, ◌^◌, List, [], ◌∷◌, ◌++◌, length, Option, None, refl, sym, ap, subst, ◌∙◌, append_assoc, arith}
+use Rattle.std.proofs.Common.{◌≡◌, ℕ, ℤ, suc, ◌<◌, List, [], ◌∷◌, ◌++◌, length, Option, None, refl, sym, subst, append_assoc, arith}
 use Rattle.std.specs.List.{flat_map, All}
-use Rattle.std.proofs.lemmas.List.{append-nil}
 use Rattle.std.proofs.lemmas.List.Concat.{flat_map-cons}
 use Rattle.std.specs.Prelude.{FitsSigned, IsUtf8}
 use Rattle.messages.specs.declared.fault.MsgFault.{MsgFault}
-use Rattle.messages.specs.Field.{Size, width, limit, count_limit, number_bytes, Field, Unsigned, Signed, Count, Byte, String, Text, Content, Value, IsName, Begins, Fits, spelling}
+use Rattle.messages.specs.Field.{Size, width, limit, count_limit, number_bytes, Field, Unsigned, Signed, Count, Byte, String, Text, Content, Value, IsName, Fits, spelling}
 use Rattle.messages.specs.Writing.{Says, signed_bytes, string_bytes}
 use Rattle.messages.specs.Format.{Format, done, one, followed_by, times, Spells}
 

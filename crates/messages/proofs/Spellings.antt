@@ -1,5 +1,5 @@
 -- What is written for a message is a spelling of it.
-use Rattle.std.proofs.Common.{◌≡◌, ℕ, ◌<◌, ◌^◌, Bool, true, false, List, [], ◌∷◌, ◌++◌, length, Option, Some, None, refl, sym, subst, append_assoc}
+use Rattle.std.proofs.Common.{◌≡◌, ℕ, ◌<◌, ◌^◌, Bool, true, false, List, [], ◌∷◌, length, Option, Some, None, refl, sym, subst, append_assoc}
 use Rattle.std.specs.Prelude.{FitsSigned, IsUtf8, IfSome, is_some}
 use Rattle.std.specs.Int.{w32, w64}
 use Rattle.std.specs.List.{All}
@@ -28,10 +28,10 @@ use Rattle.messages.specs.declared.row.Delete.{Delete}
 use Rattle.messages.specs.declared.tuple.OldTuple.{OldTuple}
 use Rattle.messages.specs.declared.tuple.OldTuple.TheVariants as olds
 use Rattle.messages.specs.Field.{IsName, number_bytes, four, Unsigned}
-use Rattle.messages.specs.Format.{one, times}
-use Rattle.messages.specs.Letters.{flag, no_flags, truncate_options, identity, new_tuple_follows, tag}
-use Rattle.messages.specs.Messages.{text, column_of, column, tuple, xid_in, begin, commit, relation_column, relation_columns, relation, old_tuple, optional_old_tuple, origin, type_name, insert, update, delete, truncate, content, logical_message, stream_start, stream_commit, stream_abort, message}
-use Rattle.messages.specs.Writing.{Says, signed_bytes, flag_bytes, string_bytes, identity_bytes, xid_bytes, column_bytes, tuple_bytes, begin_bytes, commit_bytes, relation_column_bytes, relation_columns_bytes, relation_bytes, options_bytes, old_tuple_bytes, optional_old_tuple_bytes, origin_bytes, type_name_bytes, insert_bytes, update_bytes, delete_bytes, relations_bytes, truncate_bytes, content_bytes, logical_message_bytes, stream_start_bytes, stream_commit_bytes, stream_abort_bytes, message_bytes}
+use Rattle.messages.specs.Format.{Format, one, times}
+use Rattle.messages.specs.Letters.{flag, no_flags, truncate_options, identity, new_tuple_follows, tag_table, tag_of, tag}
+use Rattle.messages.specs.Messages.{text, column, tuple, xid_in, begin, commit, relation_column, relation_columns, relation, old_tuple, optional_old_tuple, origin, type_name, insert, update, delete, truncate, content, logical_message, stream_start, stream_commit, stream_abort, fields_of, body, message}
+use Rattle.messages.specs.Writing.{Says, BodySays, flag_bytes, identity_bytes, xid_bytes, column_bytes, tuple_bytes, begin_bytes, commit_bytes, relation_column_bytes, relation_columns_bytes, relation_bytes, options_bytes, old_tuple_bytes, optional_old_tuple_bytes, origin_bytes, type_name_bytes, insert_bytes, update_bytes, delete_bytes, relations_bytes, truncate_bytes, content_bytes, logical_message_bytes, stream_start_bytes, stream_commit_bytes, stream_abort_bytes, message_bytes}
 use Rattle.messages.proofs.Says.{say_unsigned, say_signed, say_count, say_byte, say_string, say_text, say_content, next_to, at_last, behind, nothing, each}
 
 flag_says : (b : Bool) → Says flag (flag_bytes b) b
@@ -199,61 +199,16 @@ stream_abort_says m xid subtransaction lsn time =
 
 -- ---- behind the tag
 
-pub begin_message : (in_block : Bool) (m : Begin) → Says begin (begin_bytes m) m → Says (message in_block) (message_bytes (messages.Begin m)) (messages.Begin m)
+-- a tag's letter, and the fields of its kind
+of_kind : {A : Type 0} {p : Format A} {bytes : List ℕ} {m : A} (in_block : Bool) (kind : A → Message) (letter : ℕ) → tag_table letter ≡ None → body in_block (tag_of letter) ≡ fields_of kind p → Says p bytes m
+    → Says (message in_block) (letter ∷ bytes) (kind m)
 unfolding message tag
-begin_message in_block m said = next_to tags.Begin (at_last 66 (say_byte 66 refl) refl) (at_last m said refl)
+of_kind {bytes = bytes} {m = m} in_block kind letter known same said =
+    next_to (tag_of letter) (at_last letter (say_byte letter known) refl) (rw same (at_last m said refl))
 
-pub commit_message : (in_block : Bool) (m : Commit) → Says commit (commit_bytes m) m → Says (message in_block) (message_bytes (messages.Commit m)) (messages.Commit m)
+-- what is written for a message: but for two kinds, a letter and the fields of one format
+pub message_says : (in_block : Bool) (m : Message) → BodySays in_block m → Says (message in_block) (message_bytes m) m
 unfolding message tag
-commit_message in_block m said = next_to tags.Commit (at_last 67 (say_byte 67 refl) refl) (at_last m said refl)
-
-pub origin_message : (in_block : Bool) (m : Origin) → Says origin (origin_bytes m) m → Says (message in_block) (message_bytes (messages.Origin m)) (messages.Origin m)
-unfolding message tag
-origin_message in_block m said = next_to tags.Origin (at_last 79 (say_byte 79 refl) refl) (at_last m said refl)
-
-pub type_name_message : (in_block : Bool) (m : TypeName) → Says (type_name in_block) (type_name_bytes m) m → Says (message in_block) (message_bytes (messages.TypeName m)) (messages.TypeName m)
-unfolding message tag
-type_name_message in_block m said = next_to tags.TypeName (at_last 89 (say_byte 89 refl) refl) (at_last m said refl)
-
-pub insert_message : (in_block : Bool) (m : Insert) → Says (insert in_block) (insert_bytes m) m → Says (message in_block) (message_bytes (messages.Insert m)) (messages.Insert m)
-unfolding message tag
-insert_message in_block m said = next_to tags.Insert (at_last 73 (say_byte 73 refl) refl) (at_last m said refl)
-
-pub update_message : (in_block : Bool) (m : Update) → Says (update in_block) (update_bytes m) m → Says (message in_block) (message_bytes (messages.Update m)) (messages.Update m)
-unfolding message tag
-update_message in_block m said = next_to tags.Update (at_last 85 (say_byte 85 refl) refl) (at_last m said refl)
-
-pub delete_message : (in_block : Bool) (m : Delete) → Says (delete in_block) (delete_bytes m) m → Says (message in_block) (message_bytes (messages.Delete m)) (messages.Delete m)
-unfolding message tag
-delete_message in_block m said = next_to tags.Delete (at_last 68 (say_byte 68 refl) refl) (at_last m said refl)
-
-pub truncate_message : (in_block : Bool) (m : Truncate) → Says (truncate in_block) (truncate_bytes m) m → Says (message in_block) (message_bytes (messages.Truncate m)) (messages.Truncate m)
-unfolding message tag
-truncate_message in_block m said = next_to tags.Truncate (at_last 84 (say_byte 84 refl) refl) (at_last m said refl)
-
-pub logical_message_message : (in_block : Bool) (m : LogicalMessage) → Says (logical_message in_block) (logical_message_bytes m) m → Says (message in_block) (message_bytes (messages.Message m)) (messages.Message m)
-unfolding message tag
-logical_message_message in_block m said = next_to tags.Message (at_last 77 (say_byte 77 refl) refl) (at_last m said refl)
-
-pub stream_start_message : (in_block : Bool) (m : StreamStart) → Says stream_start (stream_start_bytes m) m → Says (message in_block) (message_bytes (messages.StreamStart m)) (messages.StreamStart m)
-unfolding message tag
-stream_start_message in_block m said = next_to tags.StreamStart (at_last 83 (say_byte 83 refl) refl) (at_last m said refl)
-
-pub stream_commit_message : (in_block : Bool) (m : StreamCommit) → Says stream_commit (stream_commit_bytes m) m → Says (message in_block) (message_bytes (messages.StreamCommit m)) (messages.StreamCommit m)
-unfolding message tag
-stream_commit_message in_block m said = next_to tags.StreamCommit (at_last 99 (say_byte 99 refl) refl) (at_last m said refl)
-
-pub stream_abort_message : (in_block : Bool) (m : StreamAbort) → Says stream_abort (stream_abort_bytes m) m → Says (message in_block) (message_bytes (messages.StreamAbort m)) (messages.StreamAbort m)
-unfolding message tag
-stream_abort_message in_block m said = next_to tags.StreamAbort (at_last 65 (say_byte 65 refl) refl) (at_last m said refl)
-
-pub relation_message : (in_block : Bool) (xid : Option ℕ) (m : Relation) → is_some xid ≡ in_block → IfSome xid (λ x. x < 2 ^ 32) → Says relation (relation_bytes m) m
-    → Says (message in_block) (message_bytes (messages.Relation xid m)) (messages.Relation xid m)
-unfolding message tag
-relation_message in_block xid m e fits said = next_to tags.Relation (at_last 82 (say_byte 82 refl) refl) (next_to xid (xid_says in_block xid e fits) (at_last m said refl))
-
-pub stream_stop_message : (in_block : Bool) → Says (message in_block) (message_bytes messages.StreamStop) messages.StreamStop
-unfolding message tag
-stream_stop_message in_block = next_to tags.StreamStop (at_last 69 (say_byte 69 refl) refl) nothing
-
-pub ruleset message_says = (begin_message, commit_message, origin_message, type_name_message, insert_message, update_message, delete_message, truncate_message, logical_message_message, stream_start_message, stream_commit_message, stream_abort_message, relation_message, stream_stop_message)
+message_says in_block (messages.Relation xid m) (e, fits, said) = next_to tags.Relation (at_last 82 (say_byte 82 refl) refl) (next_to xid (xid_says in_block xid e fits) (at_last m said refl))
+message_says in_block messages.StreamStop said = next_to tags.StreamStop (at_last 69 (say_byte 69 refl) refl) nothing
+message_says in_block m said = of_kind in_block _ _ refl refl said

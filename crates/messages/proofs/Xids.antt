@@ -1,8 +1,7 @@
 -- The xid is there exactly in a block.
-use Rattle.std.proofs.Common.{◌≡◌, ℕ, Bool, true, false, List, [], Option, Some, None, refl, ap, ◌∙◌}
+use Rattle.std.proofs.Common.{◌≡◌, ℕ, Bool, true, false, List, [], Option, refl}
 use Rattle.std.specs.Prelude.{is_some}
 use Rattle.messages.specs.declared.message.Message.{Message}
-use Rattle.messages.specs.declared.message.Message.TheVariants as messages
 use Rattle.messages.specs.declared.tag.Tag.{Tag}
 use Rattle.messages.specs.declared.tag.Tag.TheVariants as tags
 use Rattle.messages.specs.Format.{Spells}

@@ -1,5 +1,5 @@
 -- The single bytes of messages: tags, flags, and the letters that say what follows.
-use Rattle.std.specs.Prelude.{◌≡◌, ℕ, Bool, true, false, List, [], ◌∷◌, Option, Some, None, codes, ◌==◌, if◌then◌else◌}
+use Rattle.std.specs.Prelude.{ℕ, Bool, true, false, List, [], ◌∷◌, Option, Some, None, codes, ◌==◌, if◌then◌else◌}
 use Rattle.std.specs.List.{list_any}
 use Rattle.messages.specs.declared.fault.MsgFault.{MsgFault}
 use Rattle.messages.specs.declared.fault.MsgFault.TheVariants.{UnknownTag, TwoPhase, BadTupleKind, BinaryColumn, BadFlag}
@@ -44,13 +44,15 @@ truncate_options = do
   b ← one (Byte (one_of (0 ∷ 1 ∷ 2 ∷ 3 ∷ []) BadFlag))
   done (options_of b)
 
+-- what stands in the list where the letter stands in its own; the last one if the byte is none of the letters
+abbrev pub by_letter : {A : Type 0} → List ℕ → List A → A → ℕ → A
+by_letter (c ∷ letters) (value ∷ values) last b = if c == b then value else by_letter letters values last b
+by_letter _ _ last b = last
+
 -- the replica identity that a letter says: 'd', 'n', 'f', or else 'i'
 abbrev pub identity_of : ℕ → ReplicaIdentity
 identity_of b =
-    if is_in (codes "d") b then identities.Default
-    else (if is_in (codes "n") b then identities.Nothing
-    else (if is_in (codes "f") b then identities.Full
-    else identities.Index))
+    by_letter (codes "dnf") (identities.Default ∷ identities.Nothing ∷ identities.Full ∷ []) identities.Index b
 
 -- the replica identity of a Relation: 'd', 'n', 'f' or 'i'
 unfoldable pub identity : Format ReplicaIdentity
@@ -77,20 +79,10 @@ tag_table b =
 -- the kind of message that a tag's letter says; Stream Abort if it says none of the others
 abbrev pub tag_of : ℕ → Tag
 tag_of b =
-    if is_in (codes "B") b then tags.Begin
-    else (if is_in (codes "C") b then tags.Commit
-    else (if is_in (codes "O") b then tags.Origin
-    else (if is_in (codes "R") b then tags.Relation
-    else (if is_in (codes "Y") b then tags.TypeName
-    else (if is_in (codes "I") b then tags.Insert
-    else (if is_in (codes "U") b then tags.Update
-    else (if is_in (codes "D") b then tags.Delete
-    else (if is_in (codes "T") b then tags.Truncate
-    else (if is_in (codes "M") b then tags.Message
-    else (if is_in (codes "S") b then tags.StreamStart
-    else (if is_in (codes "E") b then tags.StreamStop
-    else (if is_in (codes "c") b then tags.StreamCommit
-    else tags.StreamAbort))))))))))))
+    by_letter (codes "BCORYIUDTMSEc")
+    (tags.Begin ∷ tags.Commit ∷ tags.Origin ∷ tags.Relation ∷ tags.TypeName ∷ tags.Insert ∷ tags.Update ∷ tags.Delete
+    ∷ tags.Truncate ∷ tags.Message ∷ tags.StreamStart ∷ tags.StreamStop ∷ tags.StreamCommit ∷ [])
+    tags.StreamAbort b
 
 -- a message's tag: the byte that says of which kind it is
 unfoldable pub tag : Format Tag

@@ -234,49 +234,31 @@ stream_abort = do
 
 -- ---- the table of tags
 
+-- the fields of a format, as a message of this kind
+abbrev pub fields_of : {A : Type 0} → (A → Message) → Format A → Format Message
+fields_of kind p = do
+  m ← p
+  done (kind m)
+
 -- the fields behind a tag, as the kind of message has them, in a block or outside of one
 abbrev pub body : Bool → Tag → Format Message
-body in_block tags.Begin = do
-  m ← begin
-  done (messages.Begin m)
-body in_block tags.Commit = do
-  m ← commit
-  done (messages.Commit m)
-body in_block tags.Origin = do
-  m ← origin
-  done (messages.Origin m)
+body in_block tags.Begin = fields_of messages.Begin begin
+body in_block tags.Commit = fields_of messages.Commit commit
+body in_block tags.Origin = fields_of messages.Origin origin
 body in_block tags.Relation = do
   xid ← xid_in in_block
   m ← relation
   done (messages.Relation xid m)
-body in_block tags.TypeName = do
-  m ← type_name in_block
-  done (messages.TypeName m)
-body in_block tags.Insert = do
-  m ← insert in_block
-  done (messages.Insert m)
-body in_block tags.Update = do
-  m ← update in_block
-  done (messages.Update m)
-body in_block tags.Delete = do
-  m ← delete in_block
-  done (messages.Delete m)
-body in_block tags.Truncate = do
-  m ← truncate in_block
-  done (messages.Truncate m)
-body in_block tags.Message = do
-  m ← logical_message in_block
-  done (messages.Message m)
-body in_block tags.StreamStart = do
-  m ← stream_start
-  done (messages.StreamStart m)
+body in_block tags.TypeName = fields_of messages.TypeName (type_name in_block)
+body in_block tags.Insert = fields_of messages.Insert (insert in_block)
+body in_block tags.Update = fields_of messages.Update (update in_block)
+body in_block tags.Delete = fields_of messages.Delete (delete in_block)
+body in_block tags.Truncate = fields_of messages.Truncate (truncate in_block)
+body in_block tags.Message = fields_of messages.Message (logical_message in_block)
+body in_block tags.StreamStart = fields_of messages.StreamStart stream_start
 body in_block tags.StreamStop = done messages.StreamStop
-body in_block tags.StreamCommit = do
-  m ← stream_commit
-  done (messages.StreamCommit m)
-body in_block tags.StreamAbort = do
-  m ← stream_abort
-  done (messages.StreamAbort m)
+body in_block tags.StreamCommit = fields_of messages.StreamCommit stream_commit
+body in_block tags.StreamAbort = fields_of messages.StreamAbort stream_abort
 
 -- a message: its tag and its fields, in a block of a streamed transaction or outside of one
 unfoldable pub message : Bool → Format Message

@@ -1,5 +1,5 @@
 -- The bytes that are written for each message. They are proved to be its one spelling.
-use Rattle.std.specs.Prelude.{◌≡◌, ℕ, ℤ, Bool, true, false, List, [], ◌∷◌, ◌++◌, length, Option, Some, None, codes, if◌then◌else◌}
+use Rattle.std.specs.Prelude.{◌≡◌, ◌<◌, ◌^◌, IfSome, is_some, ℕ, ℤ, Bool, List, [], ◌∷◌, ◌++◌, length, Option, Some, None, codes, if◌then◌else◌}
 use Rattle.std.specs.Int.{cast_unsigned}
 use Rattle.std.specs.List.{flat_map}
 use Rattle.messages.specs.declared.message.Message.{Message}
@@ -26,6 +26,7 @@ use Rattle.messages.specs.declared.relation.ReplicaIdentity.{ReplicaIdentity}
 use Rattle.messages.specs.declared.relation.ReplicaIdentity.TheVariants as identities
 use Rattle.messages.specs.declared.relation.TruncateOptions.{TruncateOptions}
 use Rattle.messages.specs.Format.{Format, Spells}
+use Rattle.messages.specs.Messages.{begin, commit, origin, relation, type_name, insert, update, delete, truncate, logical_message, stream_start, stream_commit, stream_abort}
 use Rattle.messages.specs.Field.{Size, two, four, eight, width, number_bytes}
 
 -- The bytes are a spelling of the value, whatever follows them.
@@ -185,3 +186,20 @@ body_bytes (messages.StreamAbort m) = stream_abort_bytes m
 -- the spelling of a message: its tag, and what follows it
 abbrev pub message_bytes : Message → List ℕ
 message_bytes m = tag_byte m ∷ body_bytes m
+
+-- what is written behind the tag says the fields of the message
+abbrev pub BodySays : Bool → Message → Type 0
+BodySays in_block (messages.Begin m) = Says begin (begin_bytes m) m
+BodySays in_block (messages.Commit m) = Says commit (commit_bytes m) m
+BodySays in_block (messages.Origin m) = Says origin (origin_bytes m) m
+BodySays in_block (messages.TypeName m) = Says (type_name in_block) (type_name_bytes m) m
+BodySays in_block (messages.Insert m) = Says (insert in_block) (insert_bytes m) m
+BodySays in_block (messages.Update m) = Says (update in_block) (update_bytes m) m
+BodySays in_block (messages.Delete m) = Says (delete in_block) (delete_bytes m) m
+BodySays in_block (messages.Truncate m) = Says (truncate in_block) (truncate_bytes m) m
+BodySays in_block (messages.Message m) = Says (logical_message in_block) (logical_message_bytes m) m
+BodySays in_block (messages.StreamStart m) = Says stream_start (stream_start_bytes m) m
+BodySays in_block (messages.StreamCommit m) = Says stream_commit (stream_commit_bytes m) m
+BodySays in_block (messages.StreamAbort m) = Says stream_abort (stream_abort_bytes m) m
+BodySays in_block (messages.Relation xid m) = (is_some xid ≡ in_block) × IfSome xid (λ x. x < 2 ^ 32) × Says relation (relation_bytes m) m
+BodySays in_block messages.StreamStop = Unit {0}

@@ -88,22 +88,18 @@ impl<'a> Cursor<'a> {
         ]))
     }
 
-    #[tactic(auto, unfolding(crate::specs::Reading::signed_at, crate::specs::Reading::number_in))]
+    #[tactic(auto, unfolding(crate::specs::Reading::signed_at, crate::specs::Reading::unsigned_at))]
     pub(crate) fn next_i32(&mut self) -> Result<i32, MsgFault>
         ensures { Gives result self.new (signed_at four self.old) }
     {
-        let front = self.take(4)?;
-        Ok(i32::from_be_bytes([front[0], front[1], front[2], front[3]]))
+        Ok(self.next_u32()?.cast_signed())
     }
 
-    #[tactic(auto, unfolding(crate::specs::Reading::signed_at, crate::specs::Reading::number_in))]
+    #[tactic(auto, unfolding(crate::specs::Reading::signed_at, crate::specs::Reading::unsigned_at))]
     pub(crate) fn next_i64(&mut self) -> Result<i64, MsgFault>
         ensures { Gives result self.new (signed_at eight self.old) }
     {
-        let front = self.take(8)?;
-        Ok(i64::from_be_bytes([
-            front[0], front[1], front[2], front[3], front[4], front[5], front[6], front[7],
-        ]))
+        Ok(self.next_u64()?.cast_signed())
     }
 
     /// A count of 16 bits.

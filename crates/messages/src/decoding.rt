@@ -2,7 +2,7 @@
 
 ghost use Rattle.std.specs.Prelude.{◌≡◌, ◌<◌, ◌⊎◌, ℕ, length, slice_index, IfOk, IfErr};
 ghost use Rattle.messages.specs.Field.{four, Unsigned};
-ghost use Rattle.messages.specs.Format.{one, times};
+ghost use Rattle.messages.specs.Format.{Format, one, times};
 ghost use Rattle.messages.specs.Letters.{flag, no_flags, truncate_options, identity, new_tuple_follows, tag};
 ghost use Rattle.messages.specs.Messages.{xid_in, text, column, tuple, old_tuple, optional_old_tuple, begin, commit, origin, relation_column, relation_columns, relation, type_name, insert, update, delete, truncate, content, logical_message, stream_start, stream_commit, stream_abort, message, Spelled, HasFault, HasXid};
 ghost use Rattle.messages.specs.Reading.{Gives, GivesBy, IsReading, read, read_all};
@@ -172,31 +172,48 @@ fn read_text(cursor: &mut Cursor) -> Result<Column, MsgFault>
     Ok(Column::Text(text))
 }
 
-#[tactic(auto, unfolding(crate::specs::Messages::column, crate::specs::Reading::byte_at))]
-fn read_column(cursor: &mut Cursor) -> Result<Column, MsgFault>
-    ensures { Gives result cursor.new (read column cursor.old) }
-{
-    match cursor.next_byte()? {
-        b'n' => Ok(Column::Null),
-        b'u' => Ok(Column::Unchanged),
-        b't' => read_text(cursor),
-        b'b' => Err(MsgFault::BinaryColumn),
-        _ => Err(MsgFault::BadTupleKind),
-    }
+/// What a message has a counted number of, one after another.
+trait Counted: Sized {
+    ghost format: { Format Self };
+
+    /// The next one.
+    fn read(cursor: &mut Cursor) -> Result<Self, MsgFault>
+        ensures { Gives result cursor.new (read format cursor.old) };
 }
 
-fn read_columns(alloc: Global, count: u16, cursor: &mut Cursor) -> Result<Vec<Column>, MsgFault>
-    ensures read { GivesBy (λ v. v.items) result cursor.new (read (times count column) cursor.old) }
+fn read_each<T: Counted + Drop>(
+    alloc: Global,
+    count: usize,
+    cursor: &mut Cursor,
+) -> Result<Vec<T>, MsgFault>
+    ensures read { GivesBy (λ v. v.items) result cursor.new (read (times count T.format) cursor.old) }
     ensures len { IfOk result (λ v. length v.items ≡ count) }
 {
-    // Each column takes a byte at least.
-    let room = cursor.unread().len().min(count as usize);
-    let mut columns = Vec::with_capacity(alloc, room)?;
+    // Each takes a byte at least.
+    let room = cursor.unread().len().min(count);
+    let mut items = Vec::with_capacity(alloc, room)?;
     for _ in 0..count {
-        let column = read_column(cursor)?;
-        columns.push(column)?;
+        let item = T::read(cursor)?;
+        items.push(item)?;
     }
-    Ok(columns)
+    Ok(items)
+}
+
+impl Counted for Column {
+    ghost use Rattle.messages.specs.Messages.{column};
+
+    ghost format = { column };
+
+    #[tactic(auto, unfolding(crate::specs::Messages::column, crate::specs::Reading::byte_at))]
+    fn read(cursor: &mut Cursor) -> Result<Column, MsgFault> {
+        match cursor.next_byte()? {
+            b'n' => Ok(Column::Null),
+            b'u' => Ok(Column::Unchanged),
+            b't' => read_text(cursor),
+            b'b' => Err(MsgFault::BinaryColumn),
+            _ => Err(MsgFault::BadTupleKind),
+        }
+    }
 }
 
 #[tactic(auto, unfolding(crate::specs::Messages::tuple))]
@@ -204,7 +221,7 @@ fn read_tuple(alloc: Global, cursor: &mut Cursor) -> Result<Tuple, MsgFault>
     ensures { Gives result cursor.new (read tuple cursor.old) }
 {
     let count = cursor.next_count()?;
-    let columns = read_columns(alloc, count, cursor)?;
+    let columns = read_each(alloc, usize::from(count), cursor)?;
     Ok(Tuple::new(columns))
 }
 
@@ -266,36 +283,24 @@ fn read_commit(cursor: &mut Cursor) -> Result<Commit, MsgFault>
     })
 }
 
-#[tactic(auto, unfolding(crate::specs::Messages::relation_column))]
-fn read_relation_column(cursor: &mut Cursor) -> Result<RelationColumn, MsgFault>
-    ensures { Gives result cursor.new (read relation_column cursor.old) }
-{
-    let is_key = read_flag(cursor)?;
-    let name = cursor.next_string()?;
-    let type_oid = cursor.next_u32()?;
-    let type_modifier = cursor.next_i32()?;
-    Ok(RelationColumn {
-        is_key,
-        name,
-        type_oid,
-        type_modifier,
-    })
-}
+impl Counted for RelationColumn {
+    ghost use Rattle.messages.specs.Messages.{relation_column};
 
-fn read_relation_columns(
-    alloc: Global,
-    count: u16,
-    cursor: &mut Cursor,
-) -> Result<Vec<RelationColumn>, MsgFault>
-    ensures read { GivesBy (λ v. v.items) result cursor.new (read (times count relation_column) cursor.old) }
-    ensures len { IfOk result (λ v. length v.items ≡ count) }
-{
-    let mut columns = Vec::new(alloc);
-    for _ in 0..count {
-        let column = read_relation_column(cursor)?;
-        columns.push(column)?;
+    ghost format = { relation_column };
+
+    #[tactic(auto, unfolding(crate::specs::Messages::relation_column))]
+    fn read(cursor: &mut Cursor) -> Result<RelationColumn, MsgFault> {
+        let is_key = read_flag(cursor)?;
+        let name = cursor.next_string()?;
+        let type_oid = cursor.next_u32()?;
+        let type_modifier = cursor.next_i32()?;
+        Ok(RelationColumn {
+            is_key,
+            name,
+            type_oid,
+            type_modifier,
+        })
     }
-    Ok(columns)
 }
 
 #[tactic(auto, unfolding(crate::specs::Messages::relation_columns))]
@@ -303,7 +308,7 @@ fn read_published(alloc: Global, cursor: &mut Cursor) -> Result<Columns, MsgFaul
     ensures { Gives result cursor.new (read relation_columns cursor.old) }
 {
     let count = cursor.next_count()?;
-    let columns = read_relation_columns(alloc, count, cursor)?;
+    let columns = read_each(alloc, usize::from(count), cursor)?;
     Ok(Columns::new(columns))
 }
 
@@ -382,17 +387,15 @@ fn read_delete(alloc: Global, cursor: &mut Cursor, in_block: bool) -> Result<Del
     Ok(Delete { xid, oid, old })
 }
 
-fn read_oids(alloc: Global, count: u32, cursor: &mut Cursor) -> Result<Vec<Oid>, MsgFault>
-    ensures read { GivesBy (λ v. v.items) result cursor.new
-        (read (times count (one (Unsigned four))) cursor.old) }
-    ensures len { IfOk result (λ v. length v.items ≡ count) }
-{
-    let mut oids = Vec::new(alloc);
-    for _ in 0..count {
-        let oid = cursor.next_u32()?;
-        oids.push(oid)?;
+impl Counted for Oid {
+    ghost use Rattle.messages.specs.Field.{four, Unsigned};
+    ghost use Rattle.messages.specs.Format.{one};
+
+    ghost format = { one (Unsigned four) };
+
+    fn read(cursor: &mut Cursor) -> Result<Oid, MsgFault> {
+        cursor.next_u32()
     }
-    Ok(oids)
 }
 
 #[tactic(auto, unfolding(crate::specs::Messages::truncate))]
@@ -402,7 +405,7 @@ fn read_truncate(alloc: Global, cursor: &mut Cursor, in_block: bool) -> Result<T
     let xid = read_xid(cursor, in_block)?;
     let count = cursor.next_long_count()?;
     let options = read_truncate_options(cursor)?;
-    let oids = read_oids(alloc, count, cursor)?;
+    let oids = read_each(alloc, count as usize, cursor)?;
     Ok(Truncate {
         xid,
         options,

@@ -4,7 +4,7 @@ ghost use Rattle.std.specs.Prelude.{◌≡◌, ◌<◌, ◌^◌, ◌++◌, ℕ, 
 ghost use Rattle.std.specs.List.{All, flat_map};
 ghost use Rattle.messages.specs.Field.{two, four, eight, IsName, number_bytes};
 ghost use Rattle.messages.specs.Messages.{begin, commit, origin, relation_column, relation_columns, relation, type_name, column, tuple, old_tuple, optional_old_tuple, insert, update, delete, truncate, logical_message, stream_start, stream_commit, stream_abort, message, Spelled, HasXid};
-ghost use Rattle.messages.specs.Writing.{Says, signed_bytes, flag_bytes, string_bytes, identity_bytes, options_bytes, xid_bytes, column_bytes, tuple_bytes, old_tuple_bytes, optional_old_tuple_bytes, begin_bytes, commit_bytes, origin_bytes, relation_column_bytes, relation_columns_bytes, relation_bytes, type_name_bytes, insert_bytes, update_bytes, delete_bytes, relations_bytes, truncate_bytes, content_bytes, logical_message_bytes, stream_start_bytes, stream_commit_bytes, stream_abort_bytes, tag_byte, body_bytes, message_bytes};
+ghost use Rattle.messages.specs.Writing.{Says, BodySays, signed_bytes, flag_bytes, string_bytes, identity_bytes, options_bytes, xid_bytes, column_bytes, tuple_bytes, old_tuple_bytes, optional_old_tuple_bytes, begin_bytes, commit_bytes, origin_bytes, relation_column_bytes, relation_columns_bytes, relation_bytes, type_name_bytes, insert_bytes, update_bytes, delete_bytes, relations_bytes, truncate_bytes, content_bytes, logical_message_bytes, stream_start_bytes, stream_commit_bytes, stream_abort_bytes, tag_byte, body_bytes, message_bytes};
 ghost use Rattle.messages.specs.declared.fault.MsgFault.TheVariants.{OutOfMemory};
 
 use crate::fault::MsgFault;
@@ -403,11 +403,10 @@ fn tag_byte(m: &Message) -> u8
 }
 
 /// What follows the tag.
-#[tactic(auto, using(crate::proofs::Spellings::message_says))]
 fn put_body(out: &mut Vec<u8>, m: &Message, in_block: bool) -> Result<(), AllocError>
     requires { HasXid in_block m.now }
     ensures written { OnOk result (out.new.items ≡ out.old.items ++ body_bytes m.now) }
-    ensures says { OnOk result (Says (message in_block) (message_bytes m.now) m.now) }
+    ensures says { OnOk result (BodySays in_block m.now) }
 {
     match m {
         Message::Begin(m) => put_begin(out, m),
@@ -430,6 +429,7 @@ fn put_body(out: &mut Vec<u8>, m: &Message, in_block: bool) -> Result<(), AllocE
     }
 }
 
+#[tactic(auto, using(crate::proofs::Spellings::message_says))]
 fn put_message(out: &mut Vec<u8>, m: &Message, in_block: bool) -> Result<(), AllocError>
     requires { HasXid in_block m.now }
     ensures written { OnOk result (out.new.items ≡ out.old.items ++ message_bytes m.now) }

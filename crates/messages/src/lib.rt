@@ -17,10 +17,10 @@
 //! Whether a message names its transaction depends on where it stands: exactly in a block of a streamed
 //! transaction (between Stream Start and Stream Stop) it does. The caller says which by `in_block`.
 //!
-//! **Cost.** Texts and names are cuts of the payload's shared bytes, so no text is copied. A tuple is one
-//! `Vec`, which grows by the columns that are there and never by the word of a count. Names, texts and lists
-//! have types of their own that keep them short enough for their length fields; so `encode` asks for nothing
-//! but the xid.
+//! **Cost.** Texts and names are cuts of the payload's shared bytes, so no text is copied. The columns of a
+//! tuple or a relation, and a truncate's OIDs, are one `Vec`, with room for no more of them than bytes are
+//! there, whatever a count says. Names, texts and lists have types of their own that keep them short enough
+//! for their length fields; so `encode` asks for nothing but the xid.
 //!
 //! It stands on `bytes` for the shared bytes, and on `thiserror` for the faults' texts.
 #![tactic(auto)]

@@ -1,1 +1,4 @@
 pub mod Orders
+mod Blocks
+mod Cuts
+mod Numbers

@@ -31,16 +31,6 @@ use Rattle.model.specs.FrameLaws.{taken_alike, each_of_first, each_of_second, in
 module _ (schema : Schema) (rows others : Rows) where
   -- ---- the footprint
 
-  pub same_footprint : (c : Change) → AreSame schema rows others (footprint schema rows c)
-      → footprint schema rows c ≡ footprint schema others c
-  unfolding footprint
-  same_footprint (Put table row) same = refl
-  same_footprint (Set table key patch) same =
-      ap (λ (r : Option Record). Row table key ∷ replaced_cells schema table key patch r) same.0
-  same_footprint (Remove table key) same =
-      ap (λ (r : Option Record). Row table key ∷ removed_cells schema table r) same.0
-  same_footprint (Wipe tables) same = refl
-
   -- it depends on the looked-up row alone
   pub footprint_by_looked_up : (c : Change) → AreSame schema rows others (looked_up c)
       → footprint schema rows c ≡ footprint schema others c
@@ -51,6 +41,18 @@ module _ (schema : Schema) (rows others : Rows) where
   footprint_by_looked_up (Remove table key) same =
       ap (λ (r : Option Record). Row table key ∷ removed_cells schema table r) same.0
   footprint_by_looked_up (Wipe tables) same = refl
+
+  -- whose cell is in it
+  same_looked_up : (c : Change) → AreSame schema rows others (footprint schema rows c) → AreSame schema rows others (looked_up c)
+  unfolding footprint
+  same_looked_up (Put table row) same = tt
+  same_looked_up (Set table key patch) same = (same.0, tt)
+  same_looked_up (Remove table key) same = (same.0, tt)
+  same_looked_up (Wipe tables) same = tt
+
+  pub same_footprint : (c : Change) → AreSame schema rows others (footprint schema rows c)
+      → footprint schema rows c ≡ footprint schema others c
+  same_footprint c same = footprint_by_looked_up c (same_looked_up c same)
 
   -- ---- a row that is placed
 

@@ -1,5 +1,5 @@
 -- The orders of values, keys and places tell them apart: those that tie are equal.
-use Rattle.std.specs.Prelude.{◌≡◌, Bool, true, false, refl, cond}
+use Rattle.std.specs.Prelude.{◌≡◌, refl}
 use Rattle.std.proofs.Common.{ap}
 use Rattle.std.specs.Ordering.{nat_cmp, int_cmp, ordering_then}
 use Rattle.std.specs.declared.cmp.Ordering.{Ordering}
@@ -8,6 +8,7 @@ use Rattle.std.specs.FinMap.{IsAntisymmetric, slice_cmp-IsAntisymmetric, nat_cmp
 use Rattle.std.specs.Cmp.Lexicographic.{slice_cmp}
 use Rattle.std.proofs.lemmas.Map.Lookups.{exact_pairs}
 use Rattle.model.specs.declared.value.Value.TheVariants.{Int, Text, Bool as Truth}
+use Rattle.model.specs.Types.Boolean.{truth_exact}
 use Rattle.model.specs.Value.{value_cmp}
 use Rattle.model.specs.Key.{key_cmp}
 use Rattle.model.specs.Rows.{place_cmp}
@@ -20,23 +21,12 @@ first_equal Less e = e
 first_equal Equal e = refl
 first_equal Greater e = e
 
-truth_exact : (b c : Bool) → nat_cmp (cond b 1 0) (cond c 1 0) ≡ Equal → b ≡ c
-truth_exact true true e = refl
-truth_exact true false e = cc
-truth_exact false true e = cc
-truth_exact false false e = refl
-
 pub value_cmp_exact : IsAntisymmetric value_cmp
 value_cmp_exact (Int n) (Int m) e = ap Int (int_cmp-IsAntisymmetric n m (first_equal (int_cmp n m) e))
-value_cmp_exact (Int n) (Text t) e = cc
-value_cmp_exact (Int n) (Truth b) e = cc
-value_cmp_exact (Text t) (Int n) e = cc
 value_cmp_exact (Text t) (Text u) e =
     ap Text (slice_cmp-IsAntisymmetric nat_cmp-IsAntisymmetric t u (first_equal (slice_cmp nat_cmp t u) e))
-value_cmp_exact (Text t) (Truth b) e = cc
-value_cmp_exact (Truth b) (Int n) e = cc
-value_cmp_exact (Truth b) (Text t) e = cc
 value_cmp_exact (Truth b) (Truth c) e = ap Truth (truth_exact b c e)
+value_cmp_exact v w e = cc
 
 -- ---- keys and places
 

@@ -1,4 +1,8 @@
+pub mod Types
+pub mod Mapped
 pub mod Value
+pub mod ValueRef
+pub mod Packed
 pub mod Key
 pub mod KeyCode
 pub mod Definition

@@ -7,6 +7,7 @@ use crate::memory::OutOfMemory;
 use crate::row::Row;
 use crate::value::Value;
 use std::marker::Model;
+use std::sync::ArcSlice;
 
 /// A change of tables, as a row message of the publisher asks for it.
 #[derive(Debug, Drop)]
@@ -71,26 +72,31 @@ pub enum ColumnPatch {
 }
 
 /// What an update does to each column, in the table's column order. A clause sees the list of it.
+///
+/// Copies of a patch share what it does.
 #[derive(Debug, Drop)]
 pub struct Patch {
-    columns: Vec<ColumnPatch>,
+    columns: ArcSlice<ColumnPatch>,
 }
 
 impl Model for Patch {
+    ghost use Rattle.std.specs.Arc.{arc_slice_items};
     ghost use Rattle.std.specs.Prelude.{List};
     ghost use Rattle.model.specs.declared.change.ColumnPatch.{ColumnPatch};
 
     ghost Value = { List ColumnPatch };
 
-    ghost view = { λ p. p.columns.items };
+    ghost view = { λ p. arc_slice_items p.columns };
 }
 
 impl Patch {
-    /// The patch with these columns. It takes no memory.
-    pub fn from_columns(columns: Vec<ColumnPatch>) -> Patch
-        ensures { result ≡ columns.items }
+    /// The patch with these columns.
+    pub fn from_columns(columns: Vec<ColumnPatch>) -> Result<Patch, OutOfMemory>
+        ensures { IfOk result (λ p. p ≡ columns.items) }
     {
-        Patch { columns }
+        Ok(Patch {
+            columns: ArcSlice::from_vec(columns)?,
+        })
     }
 
     /// What it does to each column.

@@ -8,7 +8,10 @@
 // of a transaction survive its rollbacks. It has no input, no clock and no
 // thread. Each layer above cites its words, so that "the tables" means the same in each of them:
 //
+//   specs/Types          each type of columns: how a value is read and printed
 //   specs/Value, Key     the order of values and of keys
+//   specs/ValueRef       a value as it is read
+//   specs/Packed         how a row lies in one block of memory
 //   specs/Definition     what a table's definition says
 //   specs/Rows           all rows of all tables as one finite map; valid rows
 //   specs/Effect         what a change does, and what takes it back
@@ -38,18 +41,23 @@ pub mod key;
 pub mod laws;
 pub mod laws_of_cells;
 pub mod memory;
+pub(crate) mod packed;
 pub mod row;
 pub mod table_def;
+pub mod types;
 pub mod value;
+pub mod value_ref;
 
 pub use cell::Cell;
 pub use change::{Change, ColumnPatch, Patch, TableIds};
 pub use item::{CommitInfo, Item, Lsn, Xid};
 pub use key::{Key, KeyValues};
 pub use memory::OutOfMemory;
-pub use row::Row;
+pub use row::{Row, RowBuilder};
 pub use table_def::{Column, ColumnType, KeyColumns, TableDef};
+pub use types::text::KeptText;
 pub use value::Value;
+pub use value_ref::ValueRef;
 
 /// A table's place in the catalog, from 0.
 pub type TableId = usize;

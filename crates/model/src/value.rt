@@ -2,21 +2,22 @@
 ghost use Rattle.std.specs.Prelude.{◌≡◌, IfOk};
 
 use crate::memory::OutOfMemory;
-use bytes::ByteStr;
+use crate::types::text::KeptText;
+use crate::value_ref::ValueRef;
 use std::cmp::Ordering;
 
 /// A value of a column: `int`, `text` or `bool`.
 ///
-/// A text is a cut of shared bytes, and they are UTF-8.
+/// A text is of its own; copies of the value share it.
 #[derive(Clone, Debug, Drop)]
 pub enum Value {
     Int(i64),
-    Text(ByteStr),
+    Text(KeptText),
     Bool(bool),
 }
 
 impl Value {
-    /// An equal value. A text's bytes are shared, and not copied.
+    /// An equal value. A text is shared, and not copied.
     pub fn copy(&self) -> Result<Value, OutOfMemory>
         ensures { IfOk result (λ v. v ≡ self.now) }
     {
@@ -77,12 +78,6 @@ impl Ord for Value {
 
     #[inline]
     fn cmp(&self, other: &Value) -> Ordering {
-        match (self, other) {
-            (Value::Int(a), Value::Int(b)) => a.cmp(b),
-            (Value::Text(a), Value::Text(b)) => a.cmp(b),
-            (Value::Bool(a), Value::Bool(b)) => a.cmp(b),
-            (Value::Int(_), _) | (Value::Text(_), Value::Bool(_)) => Ordering::Less,
-            (Value::Bool(_), _) | (Value::Text(_), Value::Int(_)) => Ordering::Greater,
-        }
+        ValueRef::of(self).compare(ValueRef::of(other))
     }
 }

@@ -39,6 +39,16 @@ reviews ends publisher id w views others mine by u at =
     (λ here. subst (λ (t : ℕ × View). Knows ends publisher t.0 t.1) (λ i. (sym here.0 i, here.1 i)) mine)
     (λ there. others by u there.0 there.1) (at_set views id by w u at)
 
+-- one token's view changes, to another that is true
+sees : (id : ℕ) (w : View) (x : Position) (views : List View) (rule : IsInOrder x views)
+    → Knows rule.ends rule.publisher id w → IsInOrder x (set views id w)
+sees id w x views rule knows = record {
+  ends = rule.ends;
+  publisher = rule.publisher;
+  now_is = rule.now_is;
+  each = reviews rule.ends rule.publisher id w views (λ by u _ there. rule.each by u there) knows;
+}
+
 pub publishes : (id : ℕ) (v : View) (p : Position) → HasPublished v
     → p.commits ≡ length (published_by v) + 1
     → Turns IsInOrder id v (λ _. p) (λ before _ stored after. Publishes before stored after)
@@ -74,14 +84,7 @@ loads id v x views rule at =
     let mine = rule.each id v at in
     let w : View = record v { seen = rule.ends } in (
       w,
-      record {
-        ends = rule.ends;
-        publisher = rule.publisher;
-        now_is = rule.now_is;
-        each = reviews rule.ends rule.publisher id w views
-            (λ by u _ there. rule.each by u there)
-            (record { published = mine.published; seen = all_begins rule.ends });
-      },
+      sees id w x views rule record { published = mine.published; seen = all_begins rule.ends },
       record { same = refl; later = mine.seen; position = rule.now_is },
     )
 
@@ -89,18 +92,8 @@ pub compares : (id : ℕ) (v : View) → HasPublished v
     → Turns IsInOrder id v (λ x. x) (λ before _ _ after. Compares before after)
 compares id v is x views rule at =
     let mine = rule.each id v at in
-    let own = mine.published (published_by v) is in (
-      v,
-      record {
-        ends = rule.ends;
-        publisher = rule.publisher;
-        now_is = rule.now_is;
-        each = reviews rule.ends rule.publisher id v views
-            (λ by u _ there. rule.each by u there)
-            mine;
-      },
-      (subst (Begins v.seen) (sym own.1) mine.seen, refl),
-    )
+    let own = mine.published (published_by v) is in
+    (v, sees id v x views rule mine, (subst (Begins v.seen) (sym own.1) mine.seen, refl))
 
 pub tells : (id : ℕ) (v : View) → Forks IsInOrder id v v (seen_part v)
 tells id v x views rule at = record {
@@ -123,13 +116,6 @@ meets id other v w x views rule at apart there =
     (λ e. e.1)
     (at_set views id other m w there) in
     let told = (rule.each other w was).seen in
-    record {
-      ends = rule.ends;
-      publisher = rule.publisher;
-      now_is = rule.now_is;
-      each = reviews rule.ends rule.publisher other blank_view (set views id m)
-          (λ by u _ found. reviews rule.ends rule.publisher id m views
-          (λ k z _ at_k. rule.each k z at_k)
-          (record { published = mine.published; seen = told }) by u found)
-          (record { published = λ l e. absurd (cc); seen = nothing_begins rule.ends });
-    }
+    sees other blank_view x (set views id m)
+    (sees id m x views rule record { published = mine.published; seen = told })
+    record { published = λ l e. absurd (cc); seen = nothing_begins _ }

@@ -2,7 +2,7 @@
 use crate::columns::{DefaultValue, Kind, ServerType, read_default};
 use crate::keys::{Key, read_keys};
 use crate::sql;
-use crate::toml_text::{push_string, push_strings};
+use crate::toml_text::{push_comma, push_string, push_strings};
 use server::connection::Connection;
 use server::fault::Fault;
 use server::line::Line;
@@ -323,7 +323,9 @@ fn push_table(
     push_strings(out, primary)?;
     out.push('\n')?;
     if !uniques.is_empty() {
+        out.push_str("unique = [")?;
         push_uniques(out, uniques)?;
+        out.push_str("]\n")?;
     }
     for column in kept.columns {
         push_column(out, column)?;
@@ -331,15 +333,12 @@ fn push_table(
     Ok(())
 }
 
+/// Appends the elements of a table's unique keys.
 fn push_uniques(out: &mut String, uniques: &[Vec<String>]) -> Result<(), Fault> {
-    out.push_str("unique = [")?;
     for (index, names) in uniques.iter().enumerate() {
-        if index > 0 {
-            out.push_str(", ")?;
-        }
+        push_comma(out, index)?;
         push_strings(out, names.as_slice())?;
     }
-    out.push_str("]\n")?;
     Ok(())
 }
 

@@ -28,11 +28,17 @@ fn push_letter(out: &mut String, letter: char) -> Result<(), Fault> {
 pub fn push_strings(out: &mut String, texts: &[String]) -> Result<(), Fault> {
     out.push('[')?;
     for (index, text) in texts.iter().enumerate() {
-        if index > 0 {
-            out.push_str(", ")?;
-        }
+        push_comma(out, index)?;
         push_string(out, text.as_str())?;
     }
     out.push(']')?;
+    Ok(())
+}
+
+/// Appends what stands before the element of an array that has this number: nothing before the first.
+pub fn push_comma(out: &mut String, index: usize) -> Result<(), Fault> {
+    if index > 0 {
+        out.push_str(", ")?;
+    }
     Ok(())
 }

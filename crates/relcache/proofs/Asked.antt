@@ -15,20 +15,20 @@ use Rattle.model.specs.declared.change.Change.{Change}
 use Rattle.model.specs.declared.change.Change.TheVariants.{Put, Set, Remove}
 use Rattle.model.specs.declared.change.ColumnPatch.{ColumnPatch}
 use Rattle.model.specs.declared.change.ColumnPatch.TheVariants.{Keep, Null as BecomesNull, Value as Becomes}
+use Rattle.model.specs.Mapped.{mapped}
+use Rattle.model.specs.Types.{value_of, value_spelled}
 use Rattle.catalog.specs.First.{IsFirst, IsRefusedFirst}
+use Rattle.catalog.proofs.Firsts.{first_at, refused_first}
 use Rattle.relcache.specs.declared.fault.RelFault.{RelFault}
-use Rattle.relcache.specs.declared.fault.RelFault.TheVariants.{UnknownRelation, TableMissing, ColumnMissing, KeyNotSent, ColumnCount, BadValue, NullKey, OutOfMemory}
+use Rattle.relcache.specs.declared.fault.RelFault.TheVariants.{KeyNotSent, ColumnCount, BadValue, NullKey}
 use Rattle.relcache.specs.declared.mapping.Field.{Field}
 use Rattle.relcache.specs.declared.mapping.ColumnSource.{ColumnSource}
 use Rattle.relcache.specs.declared.mapping.ColumnSource.TheVariants.{Sent, Default}
 use Rattle.relcache.specs.Steps.{◌>>=◌, require, each}
 use Rattle.relcache.specs.Mapping.{Mapped}
-use Rattle.relcache.specs.Values.{value_of}
 use Rattle.relcache.specs.Planning.{sent_value, sent_patch, field_value, field_patch, column_value, column_patch, row_of, patch_of, lookup_key, old_columns, lookup_tuple, planned}
 use Rattle.relcache.specs.Laws.{order, Tells, Patches, IsRowOf, IsPatchOf, IsKeyOf, LooksUp, IsBadRow, AtKey, IsRowFault, Asks}
 use Rattle.relcache.proofs.Each.{length-each, each_gives, each_fails}
-use Rattle.relcache.proofs.Ordered.{first_refused}
-use Rattle.relcache.proofs.Spelled.{mapped, value_spelled, value_read}
 
 -- ---- what a column of a tuple tells
 
@@ -43,7 +43,7 @@ module _ (tuple : List SentColumn) (field : Field) where
       cc
   tells_at (Some (SentText text)) is (Some v) e =
       let read = mapped {B = Option Value} (λ w. Some w) (value_of field.kind text) (Some v) e in
-      (text, is, value_spelled field.kind text v (read.1 ∙ read.2))
+      (text, is, (value_spelled field.kind text v).0 (read.1 ∙ read.2))
 
   tells : (value : Option Value) → field_value tuple field ≡ Some value → Tells tuple field value
   tells value e = tells_at (slice_get tuple field.place) refl value e
@@ -51,7 +51,7 @@ module _ (tuple : List SentColumn) (field : Field) where
   told : (value : Option Value) → Tells tuple field value → field_value tuple field ≡ Some value
   told None is = ap (option_and_then (sent_value field.kind)) is
   told (Some v) (text, is, spelled) =
-      ap (option_and_then (sent_value field.kind)) is ∙ ap (option_map {U = Option Value} (λ w. Some w)) (value_read field.kind text v spelled)
+      ap (option_and_then (sent_value field.kind)) is ∙ ap (option_map {U = Option Value} (λ w. Some w)) ((value_spelled field.kind text v).1 spelled)
 
   patches_at : (o : Option SentColumn) → slice_get tuple field.place ≡ o → (column : ColumnPatch) → option_and_then (sent_patch field.kind) o ≡ Some column → Patches tuple field column
   patches_at None is column e = cc
@@ -70,7 +70,7 @@ module _ (tuple : List SentColumn) (field : Field) where
   patches_at (Some (SentText text)) is (Becomes v) e =
       let read = mapped Becomes (value_of field.kind text) (Becomes v) e in
       let same : read.0 ≡ v = cc in
-      (text, is, value_spelled field.kind text v (read.1 ∙ ap Some same))
+      (text, is, (value_spelled field.kind text v).0 (read.1 ∙ ap Some same))
 
   patches : (column : ColumnPatch) → field_patch tuple field ≡ Some column → Patches tuple field column
   patches column e = patches_at (slice_get tuple field.place) refl column e
@@ -79,12 +79,35 @@ module _ (tuple : List SentColumn) (field : Field) where
   patched Keep is = ap (option_and_then (sent_patch field.kind)) is
   patched BecomesNull is = ap (option_and_then (sent_patch field.kind)) is
   patched (Becomes v) (text, is, spelled) =
-      ap (option_and_then (sent_patch field.kind)) is ∙ ap (option_map Becomes) (value_read field.kind text v spelled)
+      ap (option_and_then (sent_patch field.kind)) is ∙ ap (option_map Becomes) ((value_spelled field.kind text v).1 spelled)
 
 none_some : {A : Type 0} (o : Option A) (x : A) → o ≡ None → ¬ (o ≡ Some x)
 none_some o x none some =
     let both : None ≡ Some x = sym none ∙ some in
     cc
+
+-- ---- the columns of a table, each made of its source
+
+module _ {B : Type 0} (m : Mapped) (make : ColumnSource → Option B) where
+  -- what a published column tells, and what stands in the others
+  module _ (Told : Field → B → Type 0) (sound : (field : Field) (x : B) → make (Sent field) ≡ Some x → Told field x) (made : List B) (e : each make m.columns ≡ Some made) where
+    sent_column : (number : ℕ) (field : Field) → slice_get m.columns number ≡ Some (Sent field) → (x : B) × Told field x × (slice_get made number ≡ Some x)
+    sent_column number field at =
+        let gives = each_gives make m.columns made number (Sent field) e at in
+        (gives.0, sound field gives.0 gives.1, gives.2)
+
+    unsent_column : (number : ℕ) (default : Option Value) → slice_get m.columns number ≡ Some (Default default) → slice_get made number ≡ make (Default default)
+    unsent_column number default at =
+        let gives = each_gives make m.columns made number (Default default) e at in
+        gives.2 ∙ sym gives.1
+
+  -- a published column that tells nothing
+  bad_column : (Bad : Field → Type 0) → ((source : ColumnSource) → make source ≡ None → (field : Field) × (source ≡ Sent field) × Bad field) → each make m.columns ≡ None
+      → (number : ℕ) × (field : Field) × (slice_get m.columns number ≡ Some (Sent field)) × Bad field
+  bad_column Bad unsent e =
+      let fails = each_fails make m.columns e in
+      let source = unsent fails.1 fails.3 in
+      (fails.0, source.0, fails.2 ∙ ap Some source.1, source.2)
 
 -- ---- the new row
 
@@ -98,48 +121,30 @@ module _ (m : Mapped) (new : List SentColumn) where
   source_patched (Default value) e = cc
 
   bad_row : row_of m new ≡ None → IsBadRow m (Insert new)
-  bad_row e =
-      let fails = each_fails (column_value new) m.columns e in
-      let source = source_told fails.1 fails.3 in
-      (fails.0, source.0, fails.2 ∙ ap Some source.1, source.2)
-
-  good_row : (row : List (Option Value)) → row_of m new ≡ Some row → ¬ (IsBadRow m (Insert new))
-  good_row row e (number, field, at, bad) =
-      let gives = each_gives (column_value new) m.columns row number (Sent field) e at in
-      bad gives.0 (tells new field gives.0 gives.1)
+  bad_row e = bad_column m (column_value new) (λ field. (value : Option Value) → ¬ (Tells new field value)) source_told e
 
   row_is : (row : List (Option Value)) → row_of m new ≡ Some row → IsRowOf m new row
   row_is row e = record {
     width = length-each (column_value new) m.columns row e;
-    sent = λ number field at.
-        let gives = each_gives (column_value new) m.columns row number (Sent field) e at in
-        (gives.0, tells new field gives.0 gives.1, gives.2);
-    default = λ number default at.
-        let gives = each_gives (column_value new) m.columns row number (Default default) e at in
-        gives.2 ∙ sym gives.1;
+    sent = sent_column m (column_value new) (λ field value. Tells new field value) (tells new) row e;
+    default = unsent_column m (column_value new) (λ field value. Tells new field value) (tells new) row e;
   }
 
-  bad_patch : (old : Option OldTuple) → patch_of m new ≡ None → IsBadRow m (Update old new)
-  bad_patch old e =
-      let fails = each_fails (column_patch new) m.columns e in
-      let source = source_patched fails.1 fails.3 in
-      (fails.0, source.0, fails.2 ∙ ap Some source.1, source.2)
+  good_row : (row : List (Option Value)) → row_of m new ≡ Some row → ¬ (IsBadRow m (Insert new))
+  good_row row e (number, field, at, bad) = let sent = (row_is row e).sent number field at in bad sent.0 sent.1
 
-  good_patch : (old : Option OldTuple) (patch : List ColumnPatch) → patch_of m new ≡ Some patch → ¬ (IsBadRow m (Update old new))
-  good_patch old patch e (number, field, at, bad) =
-      let gives = each_gives (column_patch new) m.columns patch number (Sent field) e at in
-      bad gives.0 (patches new field gives.0 gives.1)
+  bad_patch : (old : Option OldTuple) → patch_of m new ≡ None → IsBadRow m (Update old new)
+  bad_patch old e = bad_column m (column_patch new) (λ field. (column : ColumnPatch) → ¬ (Patches new field column)) source_patched e
 
   patch_is : (patch : List ColumnPatch) → patch_of m new ≡ Some patch → IsPatchOf m new patch
   patch_is patch e = record {
     width = length-each (column_patch new) m.columns patch e;
-    sent = λ number field at.
-        let gives = each_gives (column_patch new) m.columns patch number (Sent field) e at in
-        (gives.0, patches new field gives.0 gives.1, gives.2);
-    kept = λ number default at.
-        let gives = each_gives (column_patch new) m.columns patch number (Default default) e at in
-        gives.2 ∙ sym gives.1;
+    sent = sent_column m (column_patch new) (λ field column. Patches new field column) (patches new) patch e;
+    kept = unsent_column m (column_patch new) (λ field column. Patches new field column) (patches new) patch e;
   }
+
+  good_patch : (old : Option OldTuple) (patch : List ColumnPatch) → patch_of m new ≡ Some patch → ¬ (IsBadRow m (Update old new))
+  good_patch old patch e (number, field, at, bad) = let sent = (patch_is patch e).sent number field at in bad sent.0 sent.1
 
 -- ---- faults
 
@@ -149,54 +154,24 @@ module _ (m : Mapped) (row : RowMessage) where
   Comes (Ok change) = Asks m row change × ((fault : RelFault) → ¬ (IsRowFault m row fault))
   Comes (Err fault) = IsFirst order (IsRowFault m row) fault
 
-  -- where those below a limit are ruled out, none below it applies
-  none_below : (limit : ℕ) → (4 < limit → ¬ (IsRowFault m row KeyNotSent)) → (5 < limit → ¬ (IsRowFault m row ColumnCount)) → (6 < limit → ¬ (IsRowFault m row BadValue)) → (7 < limit → ¬ (IsRowFault m row NullKey))
-      → (fault : RelFault) → order fault < limit → ¬ (IsRowFault m row fault)
-  none_below limit key count value null UnknownRelation below applies = applies
-  none_below limit key count value null TableMissing below applies = applies
-  none_below limit key count value null ColumnMissing below applies = applies
-  none_below limit key count value null KeyNotSent below applies = key below applies
-  none_below limit key count value null ColumnCount below applies = count below applies
-  none_below limit key count value null BadValue below applies = value below applies
-  none_below limit key count value null NullKey below applies = null below applies
-  none_below limit key count value null OutOfMemory below applies = applies
-
-  order_small : (fault : RelFault) → order fault < 9
-  order_small UnknownRelation = omega arith
-  order_small TableMissing = omega arith
-  order_small ColumnMissing = omega arith
-  order_small KeyNotSent = omega arith
-  order_small ColumnCount = omega arith
-  order_small BadValue = omega arith
-  order_small NullKey = omega arith
-  order_small OutOfMemory = omega arith
-
   first_key : IsRowFault m row KeyNotSent → Comes (Err KeyNotSent)
-  first_key applies = record {
-    applies = applies;
-    before = none_below 4 (λ l. absurd (omega (arith, l))) (λ l. absurd (omega (arith, l))) (λ l. absurd (omega (arith, l))) (λ l. absurd (omega (arith, l)));
-  }
+  first_key applies = first_at order (IsRowFault m row) 3 KeyNotSent refl applies (λ x. x, (λ x. x, (λ x. x, tt)))
 
   first_count : ¬ (IsRowFault m row KeyNotSent) → IsRowFault m row ColumnCount → Comes (Err ColumnCount)
-  first_count key applies = record {
-    applies = applies;
-    before = none_below 5 (λ _. key) (λ l. absurd (omega (arith, l))) (λ l. absurd (omega (arith, l))) (λ l. absurd (omega (arith, l)));
-  }
+  first_count key applies = first_at order (IsRowFault m row) 4 ColumnCount refl applies (λ x. x, (λ x. x, (λ x. x, (key, tt))))
 
   first_value : ¬ (IsRowFault m row KeyNotSent) → ¬ (IsRowFault m row ColumnCount) → IsRowFault m row BadValue → Comes (Err BadValue)
-  first_value key count applies = record {
-    applies = applies;
-    before = none_below 6 (λ _. key) (λ _. count) (λ l. absurd (omega (arith, l))) (λ l. absurd (omega (arith, l)));
-  }
+  first_value key count applies = first_at order (IsRowFault m row) 5 BadValue refl applies (λ x. x, (λ x. x, (λ x. x, (key, (count, tt)))))
 
   first_null : ¬ (IsRowFault m row KeyNotSent) → ¬ (IsRowFault m row ColumnCount) → ¬ (IsRowFault m row BadValue) → IsRowFault m row NullKey → Comes (Err NullKey)
-  first_null key count value applies = record {
-    applies = applies;
-    before = none_below 7 (λ _. key) (λ _. count) (λ _. value) (λ l. absurd (omega (arith, l)));
-  }
+  first_null key count value applies = first_at order (IsRowFault m row) 6 NullKey refl applies (λ x. x, (λ x. x, (λ x. x, (key, (count, (value, tt))))))
 
   none_applies : ¬ (IsRowFault m row KeyNotSent) → ¬ (IsRowFault m row ColumnCount) → ¬ (IsRowFault m row BadValue) → ¬ (IsRowFault m row NullKey) → (fault : RelFault) → ¬ (IsRowFault m row fault)
-  none_applies key count value null fault = none_below 9 (λ _. key) (λ _. count) (λ _. value) (λ _. null) fault (order_small fault)
+  none_applies key count value null KeyNotSent = key
+  none_applies key count value null ColumnCount = count
+  none_applies key count value null BadValue = value
+  none_applies key count value null NullKey = null
+  none_applies key count value null _ = λ x. x
 
 -- ---- inserts
 
@@ -369,7 +344,7 @@ comes m (Delete old) = delete_comes m old m.key refl _ refl
 
 pub planned_first : (m : Mapped) (row : RowMessage) → IsRefusedFirst order (planned m row) (IsRowFault m row)
 planned_first m row =
-    first_refused (planned m row) (IsRowFault m row)
+    refused_first order (planned m row) (IsRowFault m row)
     (λ fault e. let come : Comes m row (Err fault) = subst (Comes m row) e (comes m row) in come)
     (λ change e. let come : Comes m row (Ok change) = subst (Comes m row) e (comes m row) in come.1)
 

@@ -4,9 +4,6 @@ pub mod Fitting
 pub mod Learnt
 pub mod Lookup
 pub mod Naming
-pub mod Numbers
-pub mod Ordered
 pub mod Planned
 pub mod Resolving
 pub mod Sources
-pub mod Spelled

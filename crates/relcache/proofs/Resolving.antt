@@ -1,17 +1,17 @@
 -- How a relation is resolved: the table and the mapping, or the first fault that applies.
-use Rattle.std.proofs.Common.{◌≡◌, ℕ, ◌<◌, ◌≤◌, Bool, true, false, not, List, Option, Some, None, Result, Ok, Err, refl, sym, ◌∙◌, subst, arith}
+use Rattle.std.proofs.Common.{◌≡◌, ℕ, Bool, true, false, not, List, Option, Some, None, Result, Ok, Err, refl, sym, ◌∙◌, subst}
 use Rattle.std.specs.List.{list_all}
 use Rattle.std.specs.Option.{ok_or}
 use Rattle.std.proofs.lemmas.Option.{same_Some}
 use Rattle.model.specs.Definition.{Definition}
 use Rattle.catalog.specs.First.{IsFirst, IsRefusedFirst}
 use Rattle.relcache.specs.declared.fault.RelFault.{RelFault}
-use Rattle.relcache.specs.declared.fault.RelFault.TheVariants.{UnknownRelation, TableMissing, ColumnMissing, KeyNotSent, ColumnCount}
+use Rattle.relcache.specs.declared.fault.RelFault.TheVariants.{UnknownRelation, TableMissing, ColumnMissing, ColumnCount}
 use Rattle.relcache.specs.Published.{Published, Relations, relation_of}
 use Rattle.relcache.specs.Steps.{◌>>=◌, require}
 use Rattle.relcache.specs.Mapping.{Mapped, table_of, has_column, has_twice, mapped, map_relation, resolved}
 use Rattle.relcache.specs.Laws.{order, HasNoTable, IsTableOf, PublishesOther, PublishesTwice, IsRelationFault, IsUseFault, Maps}
-use Rattle.relcache.proofs.Ordered.{first_refused}
+use Rattle.catalog.proofs.Firsts.{first_at, first_by, refused_first}
 use Rattle.relcache.proofs.Naming.{table_found, table_missing, one_table, columns_had, column_lacks, twice, once, maps}
 
 -- ---- a relation that was learnt
@@ -28,46 +28,27 @@ module _ (tables : List Definition) (r : Published) where
   Comes (Ok m) = (t : Definition) × IsUsable m.table t × Maps r.columns t m
   Comes (Err fault) = IsFirst order (IsRelationFault tables r) fault
 
-  before_missing : (other : RelFault) → order other < 2 → ¬ (IsRelationFault tables r other)
-  before_missing UnknownRelation below applies = applies
-  before_missing other below applies = absurd (omega (arith, below))
-
   no_table_missing : (place : ℕ) (t : Definition) → IsTableOf tables r place t → ¬ (HasNoTable tables r)
   no_table_missing place t is none = none place t is.stands is.named
-
-  before_column : (place : ℕ) (t : Definition) → IsTableOf tables r place t → (other : RelFault) → order other < 3 → ¬ (IsRelationFault tables r other)
-  before_column place t is UnknownRelation below applies = applies
-  before_column place t is TableMissing below applies = no_table_missing place t is applies
-  before_column place t is other below applies = absurd (omega (arith, below))
 
   no_column_missing : (place : ℕ) (t : Definition) → IsTableOf tables r place t → ¬ (PublishesOther r.columns t.columns) → ¬ (IsRelationFault tables r ColumnMissing)
   no_column_missing place t is had applies =
       let same = one_table tables r applies.0 place applies.1 t applies.2 is in
       had (subst (λ (u : Definition). PublishesOther r.columns u.columns) same.1 applies.3)
 
-  before_count : (place : ℕ) (t : Definition) → IsTableOf tables r place t → ¬ (PublishesOther r.columns t.columns) → (other : RelFault) → order other < 5 → ¬ (IsRelationFault tables r other)
-  before_count place t is had UnknownRelation below applies = applies
-  before_count place t is had TableMissing below applies = no_table_missing place t is applies
-  before_count place t is had ColumnMissing below applies = no_column_missing place t is had applies
-  before_count place t is had KeyNotSent below applies = applies
-  before_count place t is had other below applies = absurd (omega (arith, below))
-
   steps : (t : ℕ × Definition) → IsTableOf tables r t.0 t.1 → (all doubled : Bool) → list_all (has_column t.1.columns) r.columns ≡ all → has_twice r.columns ≡ doubled
       → Comes (require all ColumnMissing >>= (λ _. require (not doubled) ColumnCount >>= (λ _. Ok (mapped r t))))
-  steps t is false doubled lacks has = record {
-    applies = (t.0, t.1, is, column_lacks t.1.columns r.columns lacks);
-    before = before_column t.0 t.1 is;
-  }
-  steps t is true true all has = record {
-    applies = twice r.columns has;
-    before = before_count t.0 t.1 is (columns_had t.1.columns r.columns all);
-  }
+  steps t is false doubled lacks has =
+      first_at order (IsRelationFault tables r) 2 ColumnMissing refl (t.0, t.1, is, column_lacks t.1.columns r.columns lacks) (λ x. x, (no_table_missing t.0 t.1 is, tt))
+  steps t is true true all has =
+      first_at order (IsRelationFault tables r) 4 ColumnCount refl (twice r.columns has)
+      (λ x. x, (no_table_missing t.0 t.1 is, (no_column_missing t.0 t.1 is (columns_had t.1.columns r.columns all), (λ x. x, tt))))
   steps t is true false all has =
       (t.1, record { table = is; had = columns_had t.1.columns r.columns all; once = once r.columns has }, maps r.columns (once r.columns has) t.1 r t.0 refl)
 
   by_table : (o : Option (ℕ × Definition)) → table_of r tables ≡ o
       → Comes (ok_or o TableMissing >>= (λ t. require (list_all (has_column t.1.columns) r.columns) ColumnMissing >>= (λ _. require (not (has_twice r.columns)) ColumnCount >>= (λ _. Ok (mapped r t)))))
-  by_table None is = record { applies = table_missing r tables is; before = before_missing }
+  by_table None is = first_at order (IsRelationFault tables r) 1 TableMissing refl (table_missing r tables is) (λ x. x, tt)
   by_table (Some t) is = steps t (table_found r tables t is) _ _ refl refl
 
   pub comes : Comes (map_relation tables r)
@@ -82,10 +63,6 @@ module _ (tables : List Definition) (r : Published) where
 -- ---- an OID
 
 module _ (tables : List Definition) (relations : Relations) (oid : ℕ) where
-  order_positive : (fault : RelFault) → 1 ≤ order fault
-  order_positive UnknownRelation = omega arith
-  order_positive _ = omega arith
-
   module _ (r : Published) (learnt : relation_of relations oid ≡ Some r) where
     raised : (fault : RelFault) → IsRelationFault tables r fault → IsUseFault tables relations oid fault
     raised UnknownRelation applies = absurd applies
@@ -100,13 +77,10 @@ module _ (tables : List Definition) (relations : Relations) (oid : ℕ) where
   refusals : (o : Option Published) → relation_of relations oid ≡ o → (fault : RelFault) → (ok_or o UnknownRelation >>= map_relation tables) ≡ Err fault → IsFirst order (IsUseFault tables relations oid) fault
   refusals None is fault e =
       let same : UnknownRelation ≡ fault = cc in
-      subst (IsFirst order (IsUseFault tables relations oid)) same (record { applies = is; before = λ other below _. absurd (omega (arith, below, order_positive other)) })
+      subst (IsFirst order (IsUseFault tables relations oid)) same (first_at order (IsUseFault tables relations oid) 0 UnknownRelation refl is tt)
   refusals (Some r) is fault e =
       let first : Comes tables r (Err fault) = subst (Comes tables r) e (comes tables r) in
-      record {
-        applies = raised r is fault first.applies;
-        before = λ other below applies. first.before other below (lowered r is other applies);
-      }
+      first_by order (IsRelationFault tables r) (IsUseFault tables relations oid) fault first (raised r is) (lowered r is)
 
   pub answered : (o : Option Published) → relation_of relations oid ≡ o → (m : Mapped) → (ok_or o UnknownRelation >>= map_relation tables) ≡ Ok m
       → (r : Published) × (t : Definition) × (relation_of relations oid ≡ Some r) × IsUsable tables r m.table t × Maps r.columns t m
@@ -117,7 +91,7 @@ module _ (tables : List Definition) (relations : Relations) (oid : ℕ) where
 
   pub resolved_first : IsRefusedFirst order (resolved tables relations oid) (IsUseFault tables relations oid)
   resolved_first =
-      first_refused (resolved tables relations oid) (IsUseFault tables relations oid)
+      refused_first order (resolved tables relations oid) (IsUseFault tables relations oid)
       (λ fault e. refusals (relation_of relations oid) refl fault e)
       (λ m e fault applies.
       let given = answered (relation_of relations oid) refl m e in

@@ -1,5 +1,9 @@
 -- What a call that may be refused for memory answers.
-use Rattle.std.specs.Prelude.{◌≡◌, ◌≢◌, Result, Ok, Err, MatchResult}
+use Rattle.std.specs.Prelude.{◌≡◌, ◌≢◌, Option, Result, Ok, Err, MatchResult}
+use Rattle.std.specs.Option.{option_map}
+use Rattle.model.specs.declared.value.Value.{Value}
+use Rattle.model.specs.declared.value_ref.ValueRef.{ValueRef}
+use Rattle.model.specs.ValueRef.{read_value}
 use Rattle.relcache.specs.declared.fault.RelFault.{RelFault}
 use Rattle.relcache.specs.declared.fault.RelFault.TheVariants.{OutOfMemory}
 
@@ -10,3 +14,7 @@ IsFaultOf answer fault = fault ≢ OutOfMemory → answer ≡ Err fault
 -- the result is this answer, or says that memory was refused
 abbrev pub Answers : {A : Type 0} → Result A RelFault → Result A RelFault → Type 0
 Answers result answer = MatchResult result (λ x. answer ≡ Ok x) (IsFaultOf answer)
+
+-- the same of a column that is lent
+abbrev pub AnswersRead : Result (Option ValueRef) RelFault → Result (Option Value) RelFault → Type 0
+AnswersRead result answer = MatchResult result (λ column. answer ≡ Ok (option_map read_value column)) (IsFaultOf answer)

@@ -1,7 +1,6 @@
 -- The rules of relations, rows and values as sentences: what stands in which place of a list, and which names are
 -- the same. `src/laws.rt` says that the definitions keep them.
-use Rattle.std.specs.Prelude.{◌≡◌, ◌≢◌, ◌↔◌, ◌⊎◌, ◌<◌, ◌≤◌, ◌^◌, ℕ, codes, true, false, List, [], ◌∷◌, length, Option, Some, None, slice_get, pos, neg_ℤ}
-use Rattle.std.specs.Str.Parse.{IsNumeral, digits_value}
+use Rattle.std.specs.Prelude.{◌≡◌, ◌≢◌, ◌↔◌, ◌⊎◌, ◌<◌, ℕ, codes, true, List, [], ◌∷◌, length, Option, Some, None, slice_get}
 use Rattle.messages.specs.declared.relation.Relation.{Relation}
 use Rattle.messages.specs.declared.relation.RelationColumn.{RelationColumn}
 use Rattle.messages.specs.declared.tuple.Column.{Column as SentColumn}
@@ -11,15 +10,13 @@ use Rattle.messages.specs.declared.tuple.OldTuple.TheVariants.{Key as OldKey, Fu
 use Rattle.messages.specs.declared.row.RowMessage.{RowMessage}
 use Rattle.messages.specs.declared.row.RowMessage.TheVariants.{Insert, Update, Delete}
 use Rattle.model.specs.declared.table_def.Column.{Column}
-use Rattle.model.specs.declared.table_def.ColumnType.{ColumnType}
-use Rattle.model.specs.declared.table_def.ColumnType.TheVariants.{Int as IntType, Text as TextType, Bool as BoolType}
 use Rattle.model.specs.declared.value.Value.{Value}
-use Rattle.model.specs.declared.value.Value.TheVariants.{Int, Text, Bool as Truth}
 use Rattle.model.specs.declared.change.Change.{Change}
 use Rattle.model.specs.declared.change.Change.TheVariants.{Put, Set, Remove}
 use Rattle.model.specs.declared.change.ColumnPatch.{ColumnPatch}
 use Rattle.model.specs.declared.change.ColumnPatch.TheVariants.{Keep, Null as BecomesNull, Value as Becomes}
 use Rattle.model.specs.Definition.{Definition}
+use Rattle.model.specs.Types.{Spells}
 use Rattle.relcache.specs.declared.fault.RelFault.{RelFault}
 use Rattle.relcache.specs.declared.fault.RelFault.TheVariants.{UnknownRelation, TableMissing, ColumnMissing, KeyNotSent, ColumnCount, BadValue, NullKey, OutOfMemory}
 use Rattle.relcache.specs.declared.published.PublishedColumn.{PublishedColumn}
@@ -30,16 +27,9 @@ use Rattle.relcache.specs.Mapping.{Mapped}
 
 -- ---- which fault is answered
 
--- the order of faults: the first that applies is answered
-abbrev pub order : RelFault → ℕ
-order UnknownRelation = 1
-order TableMissing = 2
-order ColumnMissing = 3
-order KeyNotSent = 4
-order ColumnCount = 5
-order BadValue = 6
-order NullKey = 7
-order OutOfMemory = 8
+-- the faults in their order: the first that applies is answered
+abbrev pub order : List RelFault
+order = UnknownRelation ∷ TableMissing ∷ ColumnMissing ∷ KeyNotSent ∷ ColumnCount ∷ BadValue ∷ NullKey ∷ OutOfMemory ∷ []
 
 -- ---- what is learnt
 
@@ -141,22 +131,6 @@ pub record Maps (sent : List PublishedColumn) (t : Definition) (m : Mapped) : Ty
   pub key_width : (fields : List Field) → m.key ≡ Some fields → length fields ≡ length t.primary
   pub key : (fields : List Field) (k place : ℕ) (c : Column) → m.key ≡ Some fields
       → IsKeyColumn t k c → Flags sent place c.name → slice_get fields k ≡ Some (record { place = place; kind = c.kind })
-
--- ---- values
-
--- the text is one digit or more after an optional sign, and the number in base ten fits 64 bits
-abbrev pub SpellsInt : List ℕ → Value → Type 0
-SpellsInt text value =
-    (digits : List ℕ) × IsNumeral 10 digits
-    × (((text ≡ digits) × (digits_value 10 digits < 2 ^ 63) × (value ≡ Int (pos (digits_value 10 digits))))
-    ⊎ (((text ≡ 43 ∷ digits) × (digits_value 10 digits < 2 ^ 63) × (value ≡ Int (pos (digits_value 10 digits))))
-    ⊎ ((text ≡ 45 ∷ digits) × (digits_value 10 digits ≤ 2 ^ 63) × (value ≡ Int (neg_ℤ (pos (digits_value 10 digits)))))))
-
--- the text spells this value of the type: a bool by `t` or `f`, a text by itself
-abbrev pub Spells : ColumnType → List ℕ → Value → Type 0
-Spells IntType text value = SpellsInt text value
-Spells BoolType text value = ((text ≡ codes "t") × (value ≡ Truth true)) ⊎ ((text ≡ codes "f") × (value ≡ Truth false))
-Spells TextType text value = value ≡ Text text
 
 -- ---- tuples
 

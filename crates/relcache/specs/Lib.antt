@@ -1,7 +1,6 @@
 pub mod Published
 pub mod Steps
 pub mod Mapping
-pub mod Values
 pub mod Planning
 pub mod Fits
 pub mod Answer

@@ -19,7 +19,7 @@ use Rattle.relcache.specs.declared.mapping.ColumnSource.{ColumnSource}
 use Rattle.relcache.specs.declared.mapping.ColumnSource.TheVariants.{Sent, Default}
 use Rattle.relcache.specs.Mapping.{Mapped}
 use Rattle.relcache.specs.Steps.{◌>>=◌, require, each}
-use Rattle.relcache.specs.Values.{value_of}
+use Rattle.model.specs.Types.{value_of}
 
 -- ---- what a tuple says
 

@@ -1,12 +1,8 @@
-// The rules of relations, rows and values, each the contract of a function that does nothing: the definitions of
+// The rules of relations and rows, each the contract of a function that does nothing: the definitions of
 // `specs` keep them.
-ghost use Rattle.std.specs.Prelude.{◌≡◌, ◌≢◌, ◌↔◌, ℕ, List, [], Option, Some, None, Ok, codes, true, false, ℤ, FitsSigned, slice_get};
-ghost use Rattle.std.specs.Fmt.{signed_decimal};
-ghost use Rattle.std.specs.Int.{w64};
+ghost use Rattle.std.specs.Prelude.{◌≡◌, ◌≢◌, ℕ, List, [], Some, None, Ok, slice_get};
 ghost use Rattle.messages.specs.declared.relation.Relation.{Relation};
 ghost use Rattle.messages.specs.declared.row.RowMessage.{RowMessage};
-ghost use Rattle.model.specs.declared.table_def.ColumnType.{ColumnType};
-ghost use Rattle.model.specs.declared.value.Value.{Value};
 ghost use Rattle.model.specs.declared.change.Change.{Change};
 ghost use Rattle.model.specs.Definition.{Definition};
 ghost use Rattle.catalog.specs.First.{IsRefusedFirst};
@@ -14,8 +10,7 @@ ghost use Rattle.catalog.specs.Valid.{IsValid};
 ghost use Rattle.relcache.specs.Published.{Published, Relations, published, learnt, relation_of};
 ghost use Rattle.relcache.specs.Mapping.{Mapped, resolved};
 ghost use Rattle.relcache.specs.Planning.{planned};
-ghost use Rattle.relcache.specs.Values.{value_of};
-ghost use Rattle.relcache.specs.Laws.{order, Says, IsNamedBy, IsTableOf, IsUseFault, Maps, Spells, IsRowFault, Asks};
+ghost use Rattle.relcache.specs.Laws.{order, Says, IsNamedBy, IsTableOf, IsUseFault, Maps, IsRowFault, Asks};
 
 /// What is known of an OID is what the relation said that was last learnt for it: its names, and the name and the flag
 /// of each column, in their order.
@@ -56,18 +51,4 @@ pub fn row_messages_ask()
 /// is refused.
 pub fn row_messages_are_refused_first()
     ensures { (m : Mapped) (row : RowMessage) → IsRefusedFirst order (planned m row) (IsRowFault m row) }
-{}
-
-/// A text is read as the value of the type that it spells, and as none if it spells none.
-pub fn texts_are_read_as_spelled()
-    ensures { (kind : ColumnType) (text : List ℕ) (value : Value) →
-        (value_of kind text ≡ Some value) ↔ Spells kind text value }
-{}
-
-/// What is written of an int or a bool is read back.
-pub fn what_is_written_is_read()
-    ensures int { (n : ℤ) → FitsSigned w64 n →
-        value_of ColumnType.Int (signed_decimal n) ≡ Some (Value.Int n) }
-    ensures bool_true { value_of ColumnType.Bool (codes "t") ≡ Some (Value.Bool true) }
-    ensures bool_false { value_of ColumnType.Bool (codes "f") ≡ Some (Value.Bool false) }
 {}

@@ -18,7 +18,6 @@
 //
 //   specs/Published   what of a relation counts, and the relations that were learnt
 //   specs/Mapping     the table of a relation, where each column's value comes from, and the faults
-//   specs/Values      values in their text form
 //   specs/Planning    rows, patches and keys from tuples, the change of a row message, and the faults
 //   specs/Fits        a mapping fits its catalog, a change its mapping
 //   specs/Laws        the rules as sentences, by names and places, which `laws` proves of the others

@@ -65,7 +65,7 @@ fn plan_insert(alloc: Global, m: &Mapping, new: &Tuple) -> Result<Change, RelFau
     ensures { Answers result (spec.planned_insert m.now new.now) }
 {
     count_columns(m, new)?;
-    let row = row_of(alloc, m.columns(), new.columns())?;
+    let row = row_of(alloc, m, new)?;
     Ok(Change::Put {
         table: m.table(),
         row,
@@ -78,7 +78,7 @@ fn plan_update(alloc: Global, m: &Mapping, lookup: &Tuple, new: &Tuple) -> Resul
     let fields = key_fields(m)?;
     count_columns(m, lookup)?;
     count_columns(m, new)?;
-    let patch = patch_of(alloc, m.columns(), new.columns())?;
+    let patch = patch_of(alloc, m, new)?;
     let key = lookup_key(alloc, fields, lookup.columns())?;
     Ok(Change::Set {
         table: m.table(),

@@ -19,9 +19,9 @@ pub struct PublishedColumn {
 /// of `specs/Published`.
 #[derive(Debug, Drop)]
 pub struct Published {
-    namespace: ByteStr,
-    name: ByteStr,
-    columns: Vec<PublishedColumn>,
+    pub namespace: ByteStr,
+    pub name: ByteStr,
+    pub columns: Vec<PublishedColumn>,
 }
 
 impl Model for Published {
@@ -53,27 +53,6 @@ impl Published {
             name: r.name.as_byte_str().clone()?,
             columns,
         })
-    }
-
-    /// The namespace, as the relation spells it.
-    pub fn namespace(&self) -> &ByteStr
-        ensures { result.now ≡ self.now.namespace }
-    {
-        &self.namespace
-    }
-
-    /// The name.
-    pub fn name(&self) -> &ByteStr
-        ensures { result.now ≡ self.now.name }
-    {
-        &self.name
-    }
-
-    /// The columns, in the publisher's order.
-    pub fn columns(&self) -> &[PublishedColumn]
-        ensures { result.now ≡ self.now.columns }
-    {
-        self.columns.as_slice()
     }
 }
 

@@ -20,10 +20,10 @@ const SYSTEM_CATALOG: &str = "pg_catalog";
 fn namespace_of(r: &Published) -> &str
     ensures { result.now ≡ spec.namespace_of r.now.namespace }
 {
-    if r.namespace().is_empty() {
+    if r.namespace.is_empty() {
         SYSTEM_CATALOG
     } else {
-        r.namespace().as_str()
+        r.namespace.as_str()
     }
 }
 
@@ -31,7 +31,7 @@ fn namespace_of(r: &Published) -> &str
 fn is_table_of(r: &Published, table: &TableDef) -> bool
     ensures { result ≡ spec.is_table_of r.now table.now }
 {
-    table.namespace().as_str() == namespace_of(r) && table.name() == r.name()
+    table.namespace().as_str() == namespace_of(r) && *table.name() == r.name
 }
 
 /// The place of the relation's table in the catalog.
@@ -215,9 +215,9 @@ fn mapping_of(
 ) -> Result<Mapping, AllocError>
     ensures { IfOk result (λ m. m ≡ spec.mapped r.now (place, table.now)) }
 {
-    let columns = sources_of(alloc, r.columns(), table)?;
-    let key = key_of(alloc, r.columns(), table)?;
-    Ok(Mapping::new(place, r.columns().len(), columns, key))
+    let columns = sources_of(alloc, r.columns.as_slice(), table)?;
+    let key = key_of(alloc, r.columns.as_slice(), table)?;
+    Ok(Mapping::new(place, r.columns.len(), columns, key))
 }
 
 /// The mapping of a relation to its table among these.
@@ -231,10 +231,10 @@ pub(crate) fn map_relation(
     let Some((place, table)) = table_of(r, tables) else {
         return Err(RelFault::TableMissing);
     };
-    if !has_columns(table.columns(), r.columns()) {
+    if !has_columns(table.columns(), r.columns.as_slice()) {
         return Err(RelFault::ColumnMissing);
     }
-    if has_twice(r.columns()) {
+    if has_twice(r.columns.as_slice()) {
         return Err(RelFault::ColumnCount);
     }
     Ok(mapping_of(alloc, r, place, table)?)

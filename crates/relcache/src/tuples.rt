@@ -1,21 +1,20 @@
 // What the columns of a tuple make: a row, a patch, a key.
 
 ghost use Rattle.std.specs.Prelude.{◌≡◌, option_and_then, ok_or, slice_get};
-ghost use Rattle.relcache.specs.Answer.{Answers};
-ghost use Rattle.relcache.specs.Steps.{each};
+ghost use Rattle.relcache.specs.Answer.{Answers, AnswersRead};
 ghost use Rattle.relcache.specs.Planning as spec;
 ghost use Rattle.relcache.specs.declared.fault.RelFault.TheVariants.{BadValue};
 
 use crate::fault::RelFault;
-use crate::mapping::{ColumnSource, Field};
+use crate::mapping::{ColumnSource, Field, Mapping};
 use crate::values::{sent_patch, sent_value};
-use messages::Column;
-use model::{ColumnPatch, Key, Patch, Row, Value};
+use messages::{Column, Tuple};
+use model::{ColumnPatch, Key, Patch, Row, RowBuilder, ValueRef};
 use std::alloc::Global;
 
 /// The value of a field; `None` is null.
-fn field_value(tuple: &[Column], field: &Field) -> Result<Option<Value>, RelFault>
-    ensures { Answers result (ok_or (spec.field_value tuple.now field.now) BadValue) }
+fn field_value<'a>(tuple: &'a [Column], field: &Field) -> Result<Option<ValueRef<'a>>, RelFault>
+    ensures { AnswersRead result (ok_or (spec.field_value tuple.now field.now) BadValue) }
 {
     match tuple.get(field.place) {
         Some(column) => sent_value(field.kind, column),
@@ -24,63 +23,75 @@ fn field_value(tuple: &[Column], field: &Field) -> Result<Option<Value>, RelFaul
 }
 
 /// What an update does to a field.
-fn field_patch(tuple: &[Column], field: &Field) -> Result<ColumnPatch, RelFault>
+fn field_patch(alloc: Global, tuple: &[Column], field: &Field) -> Result<ColumnPatch, RelFault>
     ensures { Answers result (ok_or (spec.field_patch tuple.now field.now) BadValue) }
 {
     match tuple.get(field.place) {
-        Some(column) => sent_patch(field.kind, column),
+        Some(column) => sent_patch(alloc, field.kind, column),
         None => Err(RelFault::BadValue),
     }
 }
 
 /// A column of an inserted row.
-fn column_value(tuple: &[Column], source: &ColumnSource) -> Result<Option<Value>, RelFault>
-    ensures { Answers result (ok_or (spec.column_value tuple.now source.now) BadValue) }
+fn column_value<'a>(
+    tuple: &'a [Column],
+    source: &'a ColumnSource,
+) -> Result<Option<ValueRef<'a>>, RelFault>
+    ensures { AnswersRead result (ok_or (spec.column_value tuple.now source.now) BadValue) }
 {
     match source {
         ColumnSource::Sent(field) => field_value(tuple, field),
-        ColumnSource::Default(value) => Ok(value.clone()?),
+        ColumnSource::Default(value) => Ok(ValueRef::of_column(value)),
     }
 }
 
 /// A column of an updated row.
-fn column_patch(tuple: &[Column], source: &ColumnSource) -> Result<ColumnPatch, RelFault>
+fn column_patch(
+    alloc: Global,
+    tuple: &[Column],
+    source: &ColumnSource,
+) -> Result<ColumnPatch, RelFault>
     ensures { Answers result (ok_or (spec.column_patch tuple.now source.now) BadValue) }
 {
     match source {
-        ColumnSource::Sent(field) => field_patch(tuple, field),
+        ColumnSource::Sent(field) => field_patch(alloc, tuple, field),
         ColumnSource::Default(_) => Ok(ColumnPatch::Keep),
     }
 }
 
 /// An inserted row.
-pub(crate) fn row_of(
-    alloc: Global,
-    sources: &[ColumnSource],
-    tuple: &[Column],
-) -> Result<Row, RelFault>
-    ensures { Answers result (ok_or (each (spec.column_value tuple.now) sources.now) BadValue) }
+pub(crate) fn row_of(alloc: Global, m: &Mapping, tuple: &Tuple) -> Result<Row, RelFault>
+    ensures { Answers result (ok_or (spec.row_of m.now tuple.now) BadValue) }
 {
-    let mut values = Vec::with_capacity(alloc, sources.len())?;
+    let (sources, tuple) = (m.columns(), tuple.columns());
+    let mut row = RowBuilder::with_room(alloc, sources.len(), text_len(sources, tuple))?;
     for source in sources {
-        values.push(column_value(tuple, source)?)?;
+        row.push(column_value(tuple, source)?)?;
     }
-    Ok(Row::from_values(values)?)
+    Ok(row.finish()?)
+}
+
+/// How many bytes the texts of an inserted row have, or the greatest number where they are more.
+fn text_len(sources: &[ColumnSource], tuple: &[Column]) -> usize {
+    let mut len: usize = 0;
+    for source in sources {
+        if let Ok(Some(ValueRef::Text(text))) = column_value(tuple, source) {
+            len = len.saturating_add(text.len());
+        }
+    }
+    len
 }
 
 /// The patch of an update.
-pub(crate) fn patch_of(
-    alloc: Global,
-    sources: &[ColumnSource],
-    tuple: &[Column],
-) -> Result<Patch, RelFault>
-    ensures { Answers result (ok_or (each (spec.column_patch tuple.now) sources.now) BadValue) }
+pub(crate) fn patch_of(alloc: Global, m: &Mapping, tuple: &Tuple) -> Result<Patch, RelFault>
+    ensures { Answers result (ok_or (spec.patch_of m.now tuple.now) BadValue) }
 {
+    let (sources, tuple) = (m.columns(), tuple.columns());
     let mut columns = Vec::with_capacity(alloc, sources.len())?;
     for source in sources {
-        columns.push(column_patch(tuple, source)?)?;
+        columns.push(column_patch(alloc, tuple, source)?)?;
     }
-    Ok(Patch::from_columns(columns))
+    Ok(Patch::from_columns(columns)?)
 }
 
 /// The key that a row is looked up by. A bad value anywhere in it goes before a null.
@@ -91,7 +102,7 @@ pub(crate) fn lookup_key(alloc: Global, fields: &[Field], tuple: &[Column]) -> R
     let mut has_null = false;
     for field in fields {
         match field_value(tuple, field)? {
-            Some(value) => values.push(value)?,
+            Some(value) => values.push(value.to_value(alloc)?)?,
             None => has_null = true,
         }
     }

@@ -11,6 +11,7 @@ use Rattle.ring.specs.Steps.{took_next}
 use Rattle.ring.specs.Ends.{HandsOut}
 use Rattle.ring.specs.EndsKeep.{meeting, IsEnds}
 use Rattle.ring.specs.TakerKeeps.{out_of}
+use Rattle.ring.proofs.Seated.{seated_again}
 use Rattle.ring.proofs.Left.{rest_of, behind_acked, next_rest}
 
 module _ {T : Type 0} where
@@ -30,11 +31,8 @@ module _ {T : Type 0} where
       let counted : a.acked ≤ length v.acked = inv.counted in
       let sent : u.sent ≡ u.acked ++ others = ap (λ m. m.0.sent) now ∙ next_rest v.sent v.acked others x is ∙ ap (λ l. l ++ others) (sym acked) in let all : length u.sent ≡ length v.sent = ap (λ m. length m.0.sent) now in
       let far : a.base + length v.sent ≤ 2 ^ 63 = inv.far in record {
-        table = id ∙ inv.table;
+        seated = seated_again id inv.seated;
         spare = id ∙ inv.spare;
-        words = ap (λ t. t.words) id ∙ inv.words;
-        slots = inv.slots ∙ ap (λ t. t.slots) (sym id);
-        some_slot = inv.some_slot;
         sends = ap (λ m. m.0.sends) now ∙ inv.sends;
         takes = ap (λ m. m.0.takes) now ∙ inv.takes;
         idle = ap (λ m. m.0.writing) now ∙ inv.idle;
@@ -86,9 +84,13 @@ module _ {T : Type 0} where
   abbrev pub holding : View T → ℕ → T → ℕ → Option T → Me (Option T) (View T)
   holding v b x k item = (record v { known = b; taken = Some x }, (k, item) ∷ [])
 
+  -- the seat takes the first item that is left, out of the slot of the head
+  abbrev pub Finds : Inside T → Me (Option T) (View T) → Type 0
+  Finds a me' = (b : ℕ) × (x : T) × (others : List T) × (me' ≡ holding a.seat.me.0 b x (a.head % a.slots) (Some x)) × (a.seat.me.0.sent ≡ a.seat.me.0.acked ++ x ∷ others)
+
   pub finds_next : (a : Inside T) → IsEnds a → (n m : ℕ) (me' : Me (Option T) (View T))
       → took_next (step n TAIL 0 0 none) a.seat.me m me' → a.slots ≡ n → a.item ≡ None → m ≢ a.head
-      → (b : ℕ) × (x : T) × (others : List T) × (me' ≡ holding a.seat.me.0 b x (a.head % a.slots) (Some x)) × (a.seat.me.0.sent ≡ a.seat.me.0.acked ++ x ∷ others)
+      → Finds a me'
   finds_next a inv n m me' told wide nothing more = let v : View T = a.seat.me.0 in let b : ℕ = told.0 in
       let sees = told.1 in let tail : m ≡ v.acked_before + b = sees.shows in
       let ahead : length v.acked ≤ b = sees.ahead in

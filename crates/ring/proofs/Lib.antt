@@ -4,6 +4,7 @@ mod Handing
 mod Slots
 mod Words
 mod Seats
+mod Seated
 mod TakerSteps
 mod MetSteps
 mod SenderSteps

@@ -8,11 +8,10 @@ use Rattle.atomic_table.proofs.Lists.{at_set}
 use Rattle.ring.specs.declared.protocol.View.{View}
 use Rattle.ring.specs.declared.protocol.TheConstants.{HEAD, TAIL, DOOM, WORDS}
 use Rattle.ring.specs.Flow.{Course, Slots, SenderKnows, TakerKnows, Holds, Flow, head_of, tail_of, worth}
-use Rattle.ring.specs.Steps.{compared, undoomed, opened, sender_of, taker_of, met, spent}
+use Rattle.ring.specs.Steps.{Agrees, compared, undoomed, opened, sender_of, taker_of, met, spent}
 use Rattle.ring.proofs.Lists.{within, at_end}
-use Rattle.ring.proofs.Words.{loaded, doom_stored}
 use Rattle.ring.proofs.TakerSteps.{not_reading}
-use Rattle.ring.proofs.Seats.{reseats, sends_alone, takes_alone, sender_steps, slots_of}
+use Rattle.ring.proofs.Seats.{reseats, sends_alone, takes_alone, sender_steps, slots_of, looked, doomed_as}
 
 module _ {T : Type 0} where
   next_of : (reading : Bool) (left : List T) (taken : Option T) → Holds reading left taken
@@ -29,55 +28,32 @@ module _ {T : Type 0} where
       let all : length v.sent ≡ length (c.acked ++ c.left) = ap length a.sent_is in
       let base : v.sent_before ≡ c.before = a.before_is in
       let far : tail_of c ≤ 2 ^ 63 = law.counts.far in let seen : v.counted ≤ length c.acked = a.counted_is in
-      let known : v.known ≤ length (c.acked ++ c.left) = b.known_is in (
-        v,
-        keeps,
-        tt,
-        record {
-          course = c;
-          count = law.count;
-          counts = loaded s.words c HEAD law.counts;
-          slots = law.slots;
-          seats = sender_steps s.views c c id v v law.seats at on a refl (λ z. z) (λ _ z. z);
-        },
-        (
-          record {
-            left = c.left;
-            parts = a.sent_is ∙ ap (λ l. l ++ c.left) (sym b.acked_is);
-            near = sl.fits;
-            next = next_of c.reading c.left v.taken b.taken_is;
-            doomed = λ e. a.dooms_is ∙ b.doomed_is e;
-            counted = omega arith;
-            known = omega arith;
-            begun = b.before_is ∙ sym a.before_is;
-            far = omega arith;
-          },
-          refl,
-        ),
-      )
+      let known : v.known ≤ length (c.acked ++ c.left) = b.known_is in
+      let agrees : Agrees (step n HEAD 0 0 none) v = record {
+        left = c.left;
+        parts = a.sent_is ∙ ap (λ l. l ++ c.left) (sym b.acked_is);
+        near = sl.fits;
+        next = next_of c.reading c.left v.taken b.taken_is;
+        doomed = λ e. a.dooms_is ∙ b.doomed_is e;
+        counted = omega arith;
+        known = omega arith;
+        begun = b.before_is ∙ sym a.before_is;
+        far = omega arith;
+      } in
+      (v, keeps, tt, looked s law HEAD id me v (sender_steps s.views c c id v v law.seats at on a refl (λ z. z) (λ _ z. z)), (agrees, refl))
 
   pub undooms : (n id : ℕ) (me : Me (Option T) (View T)) → me.0.sends ≡ true → me.0.takes ≡ true
       → Allows Flow n id me DOOM (λ _. 0) (λ _ m. undoomed (step n DOOM 0 0 none) me 0 m)
   undooms n id me on takes s law wide at _ = let c = law.course in let v : View T = me.0 in
       let a = (law.seats.of_sender id v at on).1 in let b = (law.seats.of_taker id v at takes).1 in
       let w : View T = record v { dooms = false; doomed = false } in
-      let c' : Course T = record c { dooms = false } in (
-        w,
-        keeps,
-        tt,
-        record {
-          course = c';
-          count = law.count;
-          counts = doom_stored s.words c c' 0 law.counts refl refl refl;
-          slots = law.slots;
-          seats = reseats s.views c c' id v w law.seats at
-              (λ _. (on, record { before_is = a.before_is; sent_is = a.sent_is; counted_is = a.counted_is; dooms_is = refl; writing_is = a.writing_is }))
-              (λ _. (takes, record { before_is = b.before_is; acked_is = b.acked_is; known_is = b.known_is; doomed_is = λ (e : false ≡ true). cc; taken_is = b.taken_is }))
-              (λ i u other there sends. absurd (other (sends_alone s.views c id v law.seats at on i u there sends)))
-              (λ i u other there takes'. absurd (other (takes_alone s.views c id v law.seats at takes i u there takes')));
-        },
-        refl,
-      )
+      let c' : Course T = record c { dooms = false } in
+      let seats = reseats s.views c c' id v w law.seats at
+      (λ _. (on, record { before_is = a.before_is; sent_is = a.sent_is; counted_is = a.counted_is; dooms_is = refl; writing_is = a.writing_is }))
+      (λ _. (takes, record { before_is = b.before_is; acked_is = b.acked_is; known_is = b.known_is; doomed_is = λ (e : false ≡ true). cc; taken_is = b.taken_is }))
+      (λ i u other there sends. absurd (other (sends_alone s.views c id v law.seats at on i u there sends)))
+      (λ i u other there takes'. absurd (other (takes_alone s.views c id v law.seats at takes i u there takes'))) in
+      (w, keeps, tt, doomed_as s law id me w false seats, refl)
 
   -- the seat id takes in what the seat other knows
   pub joins : (id other : ℕ) (v w : View T) → v.takes ≡ true → w.sends ≡ true

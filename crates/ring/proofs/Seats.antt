@@ -1,11 +1,13 @@
 -- The view of one seat changes, and what has gone through the ring with it.
-use Rattle.std.proofs.Common.{◌≡◌, ℕ, ◌≢◌, true, List, length, get_or, set, sym, ◌∙◌, subst, ⊎_elim, Option}
+use Rattle.std.proofs.Common.{◌≡◌, ℕ, ◌≢◌, Bool, true, List, length, get_or, set, sym, refl, ◌∙◌, subst, ⊎_elim, Option}
 use mathlib.Core.Option.{some}
 use lib.ListN.{get_elem?}
-use Rattle.atomic_table.specs.Table.{State, Me, Act, Valid, stepped, carried_after}
+use Rattle.atomic_table.specs.Table.{State, Me, Act, Valid, keeps, stepped, carried_after}
 use Rattle.atomic_table.proofs.Lists.{at_set}
 use Rattle.ring.specs.declared.protocol.View.{View}
-use Rattle.ring.specs.Flow.{Course, Slots, Seats, SenderKnows, TakerKnows, Flow, head_of}
+use Rattle.ring.specs.declared.protocol.TheConstants.{DOOM}
+use Rattle.ring.specs.Flow.{Course, Slots, Seats, SenderKnows, TakerKnows, Flow, head_of, worth}
+use Rattle.ring.proofs.Words.{loaded, doom_stored}
 
 module _ {T : Type 0} where
   pub slots_of : (s : State (Option T) (View T)) (law : Flow s) (n : ℕ) → length s.homes ≡ n
@@ -16,6 +18,30 @@ module _ {T : Type 0} where
   abbrev pub Loads : (s : State (Option T) (View T)) → ℕ → ℕ → Me (Option T) (View T)
       → (ℕ → Me (Option T) (View T) → Type 0) → Type 0
   Loads s i id me then = (w : View T) × (a : Act (Option T)) × Valid s.homes me.1 a × Flow (stepped s i (get_or s.words i 0) id me.1 w a) × then (get_or s.words i 0) (w, carried_after me.1 a)
+
+  -- where a word is loaded and no slot taken, only a seat's view changes
+  pub looked : (s : State (Option T) (View T)) (law : Flow s) (i id : ℕ) (me : Me (Option T) (View T))
+      (w : View T) → Seats (set s.views id w) law.course
+      → Flow (stepped s i (get_or s.words i 0) id me.1 w keeps)
+  looked s law i id me w seats = let c = law.course in record {
+    course = c;
+    count = law.count;
+    counts = loaded s.words c c i law.counts refl refl refl;
+    slots = law.slots;
+    seats = seats;
+  }
+
+  -- where the doom is given or taken back, its word and a seat's view change
+  pub doomed_as : (s : State (Option T) (View T)) (law : Flow s) (id : ℕ) (me : Me (Option T) (View T))
+      (w : View T) (b : Bool) → Seats (set s.views id w) (record law.course { dooms = b })
+      → Flow (stepped s DOOM (worth b) id me.1 w keeps)
+  doomed_as s law id me w b seats = let c : Course T = record law.course { dooms = b } in record {
+    course = c;
+    count = law.count;
+    counts = doom_stored s.words law.course c (worth b) law.counts refl refl refl;
+    slots = law.slots;
+    seats = seats;
+  }
 
   -- what each seat is owed
   pub reseats : (views : List (View T)) (c c' : Course T) (id : ℕ) (v w : View T) (s : Seats views c)

@@ -8,11 +8,11 @@ use lib.ListN.{get_elem?}
 use Rattle.atomic_table.specs.Table.{State, Me, step, rest, put_back, keeps, takes, gives, Allows}
 use Rattle.ring.specs.declared.protocol.View.{View}
 use Rattle.ring.specs.declared.protocol.TheConstants.{HEAD, TAIL, DOOM}
-use Rattle.ring.specs.Flow.{Course, Slots, TakerKnows, Holds, Flow, head_of}
+use Rattle.ring.specs.Flow.{Course, Slots, Seats, SenderKnows, TakerKnows, Holds, Flow, head_of}
 use Rattle.ring.specs.Steps.{SeesHead, counted, sought, sent_next, dooms_now}
 use Rattle.ring.proofs.Slots.{claims, fills}
-use Rattle.ring.proofs.Words.{loaded, tail_stored, doom_stored}
-use Rattle.ring.proofs.Seats.{sender_steps, slots_of, Loads}
+use Rattle.ring.proofs.Words.{loaded, tail_stored}
+use Rattle.ring.proofs.Seats.{sender_steps, slots_of, Loads, looked, doomed_as}
 
 module _ {T : Type 0} where
   -- what a taker knows does not speak of what the sender does with its slot
@@ -34,22 +34,19 @@ module _ {T : Type 0} where
         near = omega arith;
       }
 
+  -- the sender has counted all that were acknowledged
+  counts_all : (s : State (Option T) (View T)) (law : Flow s) (id : ℕ) (v : View T)
+      → get_elem? s.views id ≡ some v → v.sends ≡ true
+      → Seats (set s.views id (record v { counted = length law.course.acked })) law.course
+  counts_all s law id v at on = let c = law.course in let a : ℕ = length c.acked in
+      let k = (law.seats.of_sender id v at on).1 in
+      sender_steps s.views c c id v (record v { counted = a }) law.seats at on record { before_is = k.before_is; sent_is = k.sent_is; counted_is = le_refl a; dooms_is = k.dooms_is; writing_is = k.writing_is } refl (λ t. t) (λ _ t. t)
+
   pub counts : (n id : ℕ) (me : Me (Option T) (View T)) → me.0.sends ≡ true
       → Allows Flow n id me HEAD (λ m. m) (counted (step n HEAD 0 0 none) me)
-  counts n id me on s law wide at _ = let c = law.course in let a : ℕ = length c.acked in
-      let w : View T = record me.0 { counted = a } in let k = (law.seats.of_sender id me.0 at on).1 in (
-        w,
-        keeps,
-        tt,
-        record {
-          course = c;
-          count = law.count;
-          counts = loaded s.words c HEAD law.counts;
-          slots = law.slots;
-          seats = sender_steps s.views c c id me.0 w law.seats at on record { before_is = k.before_is; sent_is = k.sent_is; counted_is = le_refl a; dooms_is = k.dooms_is; writing_is = k.writing_is } refl (λ t. t) (λ _ t. t);
-        },
-        (a, sees_head s law n id me.0 wide at on, refl),
-      )
+  counts n id me on s law wide at _ = let a : ℕ = length law.course.acked in
+      let w : View T = record me.0 { counted = a } in
+      (w, keeps, tt, looked s law HEAD id me w (counts_all s law id me.0 at on), (a, sees_head s law n id me.0 wide at on, refl))
 
   -- the slot that is taken where there is room
   slot_of : (s : State (Option T) (View T)) (law : Flow s) (n id : ℕ) (v : View T)
@@ -66,20 +63,13 @@ module _ {T : Type 0} where
       → (s : State (Option T) (View T)) (law : Flow s) → length s.homes ≡ n → get_elem? s.views id ≡ some me.0
       → ((length me.0.sent < length law.course.acked + n) × (me.0.sent_before + length me.0.sent < 2 ^ 63) → ⊥)
       → Loads s HEAD id me (sought (step n HEAD 0 0 none) me)
-  stays n id me on s law wide at full = let c = law.course in let a : ℕ = length c.acked in
-      let v : View T = me.0 in let w : View T = record v { counted = a } in
-      let k = (law.seats.of_sender id v at on).1 in (
+  stays n id me on s law wide at full = let a : ℕ = length law.course.acked in
+      let w : View T = record me.0 { counted = a } in (
         w,
         keeps,
         tt,
-        record {
-          course = c;
-          count = law.count;
-          counts = loaded s.words c HEAD law.counts;
-          slots = law.slots;
-          seats = sender_steps s.views c c id v w law.seats at on record { before_is = k.before_is; sent_is = k.sent_is; counted_is = le_refl a; dooms_is = k.dooms_is; writing_is = k.writing_is } refl (λ t. t) (λ _ t. t);
-        },
-        (a, sees_head s law n id v wide at on, (λ room far. absurd (full (room, far))), λ _. refl),
+        looked s law HEAD id me w (counts_all s law id me.0 at on),
+        (a, sees_head s law n id me.0 wide at on, (λ room far. absurd (full (room, far))), λ _. refl),
       )
 
   pub seeks : (n id : ℕ) (me : Me (Option T) (View T)) → me.0.sends ≡ true → me.0.writing ≡ false
@@ -102,7 +92,7 @@ module _ {T : Type 0} where
         record {
           course = c';
           count = n;
-          counts = (let h = loaded s.words c HEAD law.counts in record { wide = h.wide; head_is = h.head_is; tail_is = h.tail_is; doom_is = h.doom_is; far = h.far });
+          counts = loaded s.words c c' HEAD law.counts refl refl refl;
           slots = claims n s.homes (head_of c) c.left c.reading sl there;
           seats = sender_steps s.views c c' id v w law.seats at on record { before_is = k.before_is; sent_is = k.sent_is; counted_is = le_refl a; dooms_is = k.dooms_is; writing_is = refl } refl (taker_kept c true v) (taker_kept c true);
         },
@@ -149,16 +139,6 @@ module _ {T : Type 0} where
   dooms n id me on s law wide at _ = let c = law.course in let v : View T = me.0 in
       let k = (law.seats.of_sender id v at on).1 in let w : View T = record v { dooms = true } in
       let c' : Course T = record c { dooms = true } in
-      let told = λ (u : View T) (t : TakerKnows c u). let m : TakerKnows c' u = record { before_is = t.before_is; acked_is = t.acked_is; known_is = t.known_is; doomed_is = λ _. refl; taken_is = t.taken_is } in m in (
-        w,
-        keeps,
-        tt,
-        record {
-          course = c';
-          count = law.count;
-          counts = doom_stored s.words c c' 1 law.counts refl refl refl;
-          slots = law.slots;
-          seats = sender_steps s.views c c' id v w law.seats at on record { before_is = k.before_is; sent_is = k.sent_is; counted_is = k.counted_is; dooms_is = refl; writing_is = k.writing_is } refl (told v) told;
-        },
-        refl,
-      )
+      let told = λ (u : View T) (t : TakerKnows c u). let m : TakerKnows c' u = record { before_is = t.before_is; acked_is = t.acked_is; known_is = t.known_is; doomed_is = λ _. refl; taken_is = t.taken_is } in m in
+      let knows : SenderKnows c' w = record { before_is = k.before_is; sent_is = k.sent_is; counted_is = k.counted_is; dooms_is = refl; writing_is = k.writing_is } in
+      (w, keeps, tt, doomed_as s law id me w true (sender_steps s.views c c' id v w law.seats at on knows refl (told v) told), refl)

@@ -6,11 +6,11 @@ use lib.ListN.{get_elem?}
 use Rattle.atomic_table.specs.Table.{State, Me, step, put_back, keeps, takes, gives, Allows}
 use Rattle.ring.specs.declared.protocol.View.{View}
 use Rattle.ring.specs.declared.protocol.TheConstants.{HEAD, TAIL, DOOM}
-use Rattle.ring.specs.Flow.{Course, Slots, SenderKnows, Holds, Flow, head_of, tail_of}
+use Rattle.ring.specs.Flow.{Course, Slots, SenderKnows, TakerKnows, Holds, Flow, head_of, tail_of}
 use Rattle.ring.specs.Steps.{SeesTail, took_next, acked_next, heard}
 use Rattle.ring.proofs.Slots.{lends, frees}
 use Rattle.ring.proofs.Words.{loaded, head_stored}
-use Rattle.ring.proofs.Seats.{taker_steps, slots_of, Loads}
+use Rattle.ring.proofs.Seats.{taker_steps, slots_of, Loads, looked}
 
 module _ {T : Type 0} where
   -- what the taker learns of the tail
@@ -53,17 +53,12 @@ module _ {T : Type 0} where
       let b : ℕ = length (c.acked ++ c.left) in let w : View T = record v { known = b } in
       let k = (law.seats.of_taker id v at on).1 in
       let all : b ≡ length c.acked = ap length (ap (λ l. c.acked ++ l) is ∙ append-nil c.acked) in
-      let long : length v.acked ≡ length c.acked = ap length k.acked_is in (
+      let long : length v.acked ≡ length c.acked = ap length k.acked_is in
+      let knows : TakerKnows c w = record { before_is = k.before_is; acked_is = k.acked_is; known_is = le_refl b; doomed_is = k.doomed_is; taken_is = k.taken_is } in (
         w,
         keeps,
         tt,
-        record {
-          course = c;
-          count = law.count;
-          counts = loaded s.words c TAIL law.counts;
-          slots = law.slots;
-          seats = taker_steps s.views c c id v w law.seats at on record { before_is = k.before_is; acked_is = k.acked_is; known_is = le_refl b; doomed_is = k.doomed_is; taken_is = k.taken_is } refl (λ z. z) (λ _ z. z);
-        },
+        looked s law TAIL id me w (taker_steps s.views c c id v w law.seats at on knows refl (λ z. z) (λ _ z. z)),
         (b, sees_tail s law n id v wide at on, (λ more. absurd (let m : length v.acked < b = more in omega arith)), λ _. (refl, λ sends. sent_by s law id v at on [] is sends ∙ append-nil v.acked)),
       )
   finds_in n id me on idle s law wide at (x ∷ others) is = let c = law.course in let v : View T = me.0 in
@@ -82,7 +77,7 @@ module _ {T : Type 0} where
         record {
           course = c';
           count = n;
-          counts = (let l = loaded s.words c TAIL law.counts in record { wide = l.wide; head_is = l.head_is; tail_is = l.tail_is; doom_is = l.doom_is; far = l.far });
+          counts = loaded s.words c c' TAIL law.counts refl refl refl;
           slots = subst (λ l. Slots n (set s.homes (h % n) none) h l c.writing true) (sym is) got.1;
           seats = taker_steps s.views c c' id v w law.seats at on record { before_is = k.before_is; acked_is = k.acked_is; known_is = le_refl b; doomed_is = k.doomed_is; taken_is = (refl, (others, is)) } refl (sender_kept c true v) (sender_kept c true);
         },
@@ -139,16 +134,6 @@ module _ {T : Type 0} where
   pub hears : (n id : ℕ) (me : Me (Option T) (View T)) → me.0.takes ≡ true
       → Allows Flow n id me DOOM (λ m. m) (heard (step n DOOM 0 0 none) me)
   hears n id me on s law wide at _ = let c = law.course in let v : View T = me.0 in
-      let w : View T = record v { doomed = c.dooms } in let k = (law.seats.of_taker id v at on).1 in (
-        w,
-        keeps,
-        tt,
-        record {
-          course = c;
-          count = law.count;
-          counts = loaded s.words c DOOM law.counts;
-          slots = law.slots;
-          seats = taker_steps s.views c c id v w law.seats at on record { before_is = k.before_is; acked_is = k.acked_is; known_is = k.known_is; doomed_is = λ e. e; taken_is = k.taken_is } refl (λ z. z) (λ _ z. z);
-        },
-        (c.dooms, law.counts.doom_is, k.doomed_is, refl),
-      )
+      let w : View T = record v { doomed = c.dooms } in let k = (law.seats.of_taker id v at on).1 in
+      let knows : TakerKnows c w = record { before_is = k.before_is; acked_is = k.acked_is; known_is = k.known_is; doomed_is = λ e. e; taken_is = k.taken_is } in
+      (w, keeps, tt, looked s law DOOM id me w (taker_steps s.views c c id v w law.seats at on knows refl (λ z. z) (λ _ z. z)), (c.dooms, law.counts.doom_is, k.doomed_is, refl))

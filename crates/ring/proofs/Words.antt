@@ -5,8 +5,17 @@ use Rattle.ring.specs.declared.protocol.TheConstants.{HEAD, TAIL, DOOM, WORDS}
 use Rattle.ring.specs.Flow.{Course, Counts, head_of, tail_of, worth}
 
 module _ {T : Type 0} where
-  pub loaded : (words : List ℕ) (c : Course T) (i : ℕ) → Counts words c → Counts (set words i (get_or words i 0)) c
-  loaded words c i h = subst (λ ws. Counts ws c) (sym (set-get_or words i 0)) h
+  -- only slots and views changed
+  pub loaded : (words : List ℕ) (c c' : Course T) (i : ℕ) → Counts words c → head_of c' ≡ head_of c
+      → tail_of c' ≡ tail_of c → c'.dooms ≡ c.dooms → Counts (set words i (get_or words i 0)) c'
+  loaded words c c' i h head tail dooms = let far : tail_of c ≤ 2 ^ 63 = h.far in
+      subst (λ ws. Counts ws c') (sym (set-get_or words i 0)) record {
+        wide = h.wide;
+        head_is = h.head_is ∙ sym head;
+        tail_is = h.tail_is ∙ sym tail;
+        doom_is = h.doom_is ∙ (λ i. worth (sym dooms i));
+        far = omega arith;
+      }
 
   pub head_stored : (words : List ℕ) (c c' : Course T) (new : ℕ) → Counts words c → new ≡ head_of c'
       → tail_of c' ≡ tail_of c → c'.dooms ≡ c.dooms → Counts (set words HEAD new) c'

@@ -1,8 +1,8 @@
 -- The fields of an `Ends`.
-use Rattle.std.specs.Prelude.{◌≡◌, ◌+◌, ◌%◌, ◌^◌, ◌<◌, ◌≤◌, true, false, List, ◌∷◌, ◌++◌, length, take, drop, MatchOption}
+use Rattle.std.specs.Prelude.{◌≡◌, ◌+◌, ◌%◌, ◌^◌, ◌≤◌, true, false, List, ◌∷◌, ◌++◌, length, take, drop, MatchOption}
 use Rattle.std.specs.Arc.{arc_value}
 use Rattle.ring.specs.declared.ends.Ends.TheInside.{Inside}
-use Rattle.ring.specs.declared.protocol.TheConstants.{WORDS}
+use Rattle.ring.specs.Seat.{IsSeated}
 use Rattle.ring.specs.Ends.{Meeting}
 use Rattle.ring.specs.TakerKeeps.{out_of}
 
@@ -19,11 +19,8 @@ module _ {T : Type 0} where
 
   -- its seat is at the table of both ends and has the views of both
   pub record IsEnds (a : Inside T) : Type 0 where
-    pub table : a.seat.table_id ≡ (arc_value a.table).shared.table_id
+    pub seated : IsSeated (arc_value a.table).shared.table_id a.seat.table_id a.slots
     pub spare : a.seat.table_id ≡ (arc_value a.spare).shared.table_id
-    pub words : a.seat.table_id.words ≡ WORDS
-    pub slots : a.slots ≡ a.seat.table_id.slots
-    pub some_slot : 0 < a.slots
     pub sends : a.seat.me.0.sends ≡ true
     pub takes : a.seat.me.0.takes ≡ true
     pub idle : a.seat.me.0.writing ≡ false

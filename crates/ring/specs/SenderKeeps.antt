@@ -1,8 +1,8 @@
 -- The fields of a `Sender`.
-use Rattle.std.specs.Prelude.{◌≡◌, ◌+◌, ◌^◌, ◌<◌, ◌≤◌, true, false, [], length}
+use Rattle.std.specs.Prelude.{◌≡◌, ◌+◌, ◌^◌, ◌≤◌, true, false, [], length}
 use Rattle.std.specs.Arc.{arc_value}
 use Rattle.ring.specs.declared.sender.Sender.TheInside.{Inside}
-use Rattle.ring.specs.declared.protocol.TheConstants.{WORDS}
+use Rattle.ring.specs.Seat.{IsSeated}
 use Rattle.ring.specs.Ends.{Sending}
 
 module _ {T : Type 0} where
@@ -17,10 +17,7 @@ module _ {T : Type 0} where
 
   -- its seat is at its table and sends, no slot is out with it, and its counts are those of its view
   pub record IsSender (a : Inside T) : Type 0 where
-    pub table : a.seat.table_id ≡ (arc_value a.table).shared.table_id
-    pub words : a.seat.table_id.words ≡ WORDS
-    pub slots : a.slots ≡ a.seat.table_id.slots
-    pub some_slot : 0 < a.slots
+    pub seated : IsSeated (arc_value a.table).shared.table_id a.seat.table_id a.slots
     pub sends : a.seat.me.0.sends ≡ true
     pub idle : a.seat.me.0.writing ≡ false
     pub empty : a.seat.me.1 ≡ []

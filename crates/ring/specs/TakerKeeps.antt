@@ -2,7 +2,7 @@
 use Rattle.std.specs.Prelude.{◌≡◌, ℕ, ◌+◌, ◌%◌, ◌^◌, ◌<◌, ◌≤◌, true, List, [], ◌∷◌, length, Option, None, Some}
 use Rattle.std.specs.Arc.{arc_value}
 use Rattle.ring.specs.declared.taker.Taker.TheInside.{Inside}
-use Rattle.ring.specs.declared.protocol.TheConstants.{WORDS}
+use Rattle.ring.specs.Seat.{IsSeated}
 use Rattle.ring.specs.Ends.{Taking}
 
 -- the slots that are out with a taker: that of the item that it took, now empty
@@ -27,10 +27,7 @@ module _ {T : Type 0} where
 
   -- its seat is at its table and takes, and the item that it took lies in its field
   pub record IsTaker (a : Inside T) : Type 0 where
-    pub table : a.seat.table_id ≡ (arc_value a.table).shared.table_id
-    pub words : a.seat.table_id.words ≡ WORDS
-    pub slots : a.slots ≡ a.seat.table_id.slots
-    pub some_slot : 0 < a.slots
+    pub seated : IsSeated (arc_value a.table).shared.table_id a.seat.table_id a.slots
     pub takes : a.seat.me.0.takes ≡ true
     pub item : a.item ≡ a.seat.me.0.taken
     pub head : a.head ≡ a.seat.me.0.acked_before + length a.seat.me.0.acked

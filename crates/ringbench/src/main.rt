@@ -12,8 +12,8 @@
 ghost use Rattle.std.specs.Prelude.{◌≤◌};
 
 use anyhow::bail;
-use ring::{Full, Ring, Sender, Taker};
-use rtrb::{Consumer, Producer, PushError, RingBuffer};
+use ring::{Ring, Sender, Taker};
+use rtrb::{Consumer, Producer, RingBuffer};
 use std::alloc::{AllocError, Global};
 use std::sync::Wait;
 use std::thread::Threads;
@@ -89,19 +89,38 @@ fn through_ring<R: Threads + Wait + Sync>(
     };
     let ((), taken) = thread::join(
         rt,
-        || send_all(rt, sender, count),
+        || give_all(rt, sender, count),
         || take_all(rt, taker, count, sleeps),
     );
     Ok(taken)
 }
 
-fn send_all<R: Wait>(rt: &R, mut sender: Sender<u64>, count: u64) {
+/// The end of a ring that numbers go into.
+trait Giver {
+    /// Whether there was room for it.
+    fn give(&mut self, number: u64) -> bool;
+}
+
+impl Giver for Sender<u64> {
+    fn give(&mut self, number: u64) -> bool {
+        self.try_send(number).is_ok()
+    }
+}
+
+impl Giver for Producer<u64> {
+    fn give(&mut self, number: u64) -> bool {
+        self.push(number).is_ok()
+    }
+}
+
+/// Gives each number, again and again while there is no room.
+fn give_all<R: Wait, G: Giver + Drop>(rt: &R, mut giver: G, count: u64) {
     for number in 0..count {
         for _ in rt.forever() {
-            match sender.try_send(number) {
-                Ok(()) => break,
-                Err(Full(_)) => thread::yield_now(),
+            if giver.give(number) {
+                break;
             }
+            thread::yield_now();
         }
     }
 }
@@ -136,21 +155,10 @@ fn through_rtrb<R: Threads + Wait + Sync>(
     let (producer, consumer) = RingBuffer::new(alloc, capacity)?;
     let ((), taken) = thread::join(
         rt,
-        || push_all(rt, producer, count),
+        || give_all(rt, producer, count),
         || pop_all(rt, consumer, count),
     );
     Ok(taken)
-}
-
-fn push_all<R: Wait>(rt: &R, mut producer: Producer<u64>, count: u64) {
-    for number in 0..count {
-        for _ in rt.forever() {
-            match producer.push(number) {
-                Ok(()) => break,
-                Err(PushError::Full(_)) => thread::yield_now(),
-            }
-        }
-    }
 }
 
 fn pop_all<R: Wait>(rt: &R, mut consumer: Consumer<u64>, count: u64) -> u64 {

@@ -2,7 +2,6 @@ pub mod Slots
 pub mod Names
 pub mod Walking
 pub mod Making
-pub mod Blocks
 pub mod HashedSlots
 pub mod HashedMaking
 pub mod HashedCopies

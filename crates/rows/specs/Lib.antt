@@ -2,8 +2,6 @@ pub mod KeyLaws
 pub mod KeyedSlot
 pub mod Kept
 pub mod KeptCode
-pub mod View
-pub mod Block
 pub mod Hashing
 pub mod Slots
 pub mod Ordered

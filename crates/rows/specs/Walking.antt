@@ -8,11 +8,11 @@ use Rattle.rows.specs.Hashed.{slot_by}
 use Rattle.rows.specs.Slots.{rows_among}
 
 -- the rows in the slots of numbers
-abbrev pub rows_by : {S : Type 0} → Numbers S → List Row
+abbrev pub rows_by : Numbers → List Row
 rows_by n = rows_among (map (slot_by n.slots.now) n.numbers)
 
 -- the rows in the slots that are left, or in those of the numbers that are left
-abbrev pub rows_left : {S : Type 0} → Left S → List Row
+abbrev pub rows_left : Left → List Row
 rows_left (Slots slots) = rows_among slots
 rows_left (ByNumber numbers) = rows_by numbers
 

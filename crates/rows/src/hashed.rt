@@ -3,7 +3,7 @@ ghost use Rattle.std.specs.Prelude.{◌≡◌, ◌≢◌, ℕ, OnOk, OnErr, IfOk
 ghost use Rattle.std.specs.FinMap as map;
 ghost use Rattle.std.specs.HashMap as hash;
 ghost use Rattle.std.specs.Ordering.{eq_by_cmp};
-ghost use Rattle.std.specs.Option.{option_copied, option_map};
+ghost use Rattle.std.specs.Option.{option_copied};
 ghost use Rattle.slab.specs.Slab as slab;
 ghost use Rattle.slab.specs.Slab.{SameValues};
 ghost use Rattle.model.specs.Key.{key_cmp};
@@ -13,10 +13,9 @@ ghost use Rattle.rows.specs.Hashed.{row_for, row_of, key_of, number_for, number_
 ghost use Rattle.rows.specs.Slots.{with_row};
 
 use crate::hashing::{HashedKey, SoughtKey};
-use crate::store::StoredRow;
 use crate::view::RowView;
 use crate::walk::Walk;
-use model::{Key, OutOfMemory};
+use model::{Key, OutOfMemory, Row};
 use slab::Slab;
 use std::alloc::{AllocError, Global};
 use std::collections::{BTreeMap, HashMap};
@@ -27,9 +26,9 @@ use std::mem;
 /// A place for a row, with its key. It keeps its number while it is there, filled or empty. A clause
 /// sees its key and the row's values.
 #[derive(Debug, Drop)]
-pub(crate) struct HashedSlot<S: StoredRow> {
+pub(crate) struct HashedSlot {
     key: Key,
-    row: Option<S>,
+    row: Option<Row>,
 }
 
 /// The rows of one table by primary key, each in a slot that is found by a hash of its key.
@@ -38,25 +37,23 @@ pub(crate) struct HashedSlot<S: StoredRow> {
 /// the answers are the same; one with a fixed seed, as the default, is not for keys that somebody
 /// else chooses.
 #[derive(Debug, Drop)]
-pub struct HashedRows<S: StoredRow, H: BuildHasher = BuildHasherDefault<FoldHasher>> {
+pub struct HashedRows<H: BuildHasher = BuildHasherDefault<FoldHasher>> {
     // The number of each key's slot, by the key's hash, and in key order.
     numbers: HashMap<HashedKey, usize, H>,
     order: BTreeMap<Key, usize>,
-    slots: Slab<HashedSlot<S>>,
+    slots: Slab<HashedSlot>,
     alloc: Global,
 }
 
-impl<S: StoredRow> Model for HashedSlot<S> {
+impl Model for HashedSlot {
     ghost use Rattle.rows.specs.KeyedSlot.{KeyedSlot};
 
     ghost Value = { KeyedSlot };
 
-    ghost use Rattle.std.specs.Option.{option_map};
-
-    ghost view = { λ s. record { key = s.key; row = option_map S.values s.row } };
+    ghost view = { λ s. record { key = s.key; row = s.row } };
 }
 
-impl<S: StoredRow, H: BuildHasher> Model for HashedRows<S, H> {
+impl<H: BuildHasher> Model for HashedRows<H> {
     ghost use Rattle.rows.specs.Kept.{Kept};
 
     ghost Value = { Kept };
@@ -72,9 +69,9 @@ impl<S: StoredRow, H: BuildHasher> Model for HashedRows<S, H> {
     ghost invariant = { λ a. IsFound a.numbers a.order.entries a.slots };
 }
 
-impl<S: StoredRow> HashedSlot<S> {
+impl HashedSlot {
     // The empty slot of a key.
-    fn of_key(key: Key) -> HashedSlot<S>
+    fn of_key(key: Key) -> HashedSlot
         ensures { result ≡ record { key = key; row = None } }
     {
         HashedSlot { key, row: None }
@@ -92,23 +89,23 @@ impl<S: StoredRow> HashedSlot<S> {
         ensures { result ≡ self.now.row }
     {
         match &self.row {
-            Some(row) => Some(row.view()),
+            Some(row) => Some(RowView::of_row(row)),
             None => None,
         }
     }
 
     // Puts a row or none in. The answer is what was in it.
-    fn replace(&mut self, row: Option<S>) -> Option<S>
-        ensures stood { option_map S.values result ≡ self.old.row }
-        ensures set { self.new ≡ record self.old { row = option_map S.values row } }
+    fn replace(&mut self, row: Option<Row>) -> Option<Row>
+        ensures stood { result ≡ self.old.row }
+        ensures set { self.new ≡ record self.old { row = row } }
     {
         mem::replace(&mut self.row, row)
     }
 }
 
-impl<S: StoredRow, H: BuildHasher + Drop> HashedRows<S, H> {
+impl<H: BuildHasher + Drop> HashedRows<H> {
     /// No rows, and no slots.
-    pub fn with_hasher(alloc: Global, hasher: H) -> HashedRows<S, H>
+    pub fn with_hasher(alloc: Global, hasher: H) -> HashedRows<H>
         ensures { result ≡ record { rows = map.empty; slots = map.empty } }
     {
         HashedRows {
@@ -154,10 +151,10 @@ impl<S: StoredRow, H: BuildHasher + Drop> HashedRows<S, H> {
 
     /// Puts a row into the slot of a number, and answers the one that was there. It takes no
     /// memory, and looks for no key.
-    pub fn replace_at(&mut self, number: usize, row: S) -> Option<S>
+    pub fn replace_at(&mut self, number: usize, row: Row) -> Option<Row>
         requires { HasNumber self.old.slots number }
-        ensures stood { (key : Values) → map.get self.old.slots key ≡ Some number → option_map S.values result ≡ map.get self.old.rows key }
-        ensures rows { (key : Values) → map.get self.old.slots key ≡ Some number → self.new.rows ≡ map.insert self.old.rows key (S.values row) }
+        ensures stood { (key : Values) → map.get self.old.slots key ≡ Some number → result ≡ map.get self.old.rows key }
+        ensures rows { (key : Values) → map.get self.old.slots key ≡ Some number → self.new.rows ≡ map.insert self.old.rows key row }
         ensures slots { self.new.slots ≡ self.old.slots }
     {
         self.set_at(number, Some(row))
@@ -165,9 +162,9 @@ impl<S: StoredRow, H: BuildHasher + Drop> HashedRows<S, H> {
 
     /// Takes the row out of the slot of a number. The slot stays. It takes no memory, and looks for
     /// no key.
-    pub fn take_at(&mut self, number: usize) -> Option<S>
+    pub fn take_at(&mut self, number: usize) -> Option<Row>
         requires { HasNumber self.old.slots number }
-        ensures row { (key : Values) → map.get self.old.slots key ≡ Some number → option_map S.values result ≡ map.get self.old.rows key }
+        ensures row { (key : Values) → map.get self.old.slots key ≡ Some number → result ≡ map.get self.old.rows key }
         ensures rows { (key : Values) → map.get self.old.slots key ≡ Some number → self.new.rows ≡ map.remove self.old.rows key }
         ensures slots { self.new.slots ≡ self.old.slots }
     {
@@ -175,29 +172,29 @@ impl<S: StoredRow, H: BuildHasher + Drop> HashedRows<S, H> {
     }
 
     // Puts a row or none into the slot of a number. The answer is what was in it.
-    fn set_at(&mut self, number: usize, row: Option<S>) -> Option<S>
+    fn set_at(&mut self, number: usize, row: Option<Row>) -> Option<Row>
         requires { HasNumber self.old.slots number }
-        ensures stood { (key : Values) → map.get self.old.slots key ≡ Some number → option_map S.values result ≡ map.get self.old.rows key }
-        ensures rows { (key : Values) → map.get self.old.slots key ≡ Some number → self.new.rows ≡ with_row self.old.rows key (option_map S.values row) }
+        ensures stood { (key : Values) → map.get self.old.slots key ≡ Some number → result ≡ map.get self.old.rows key }
+        ensures rows { (key : Values) → map.get self.old.slots key ≡ Some number → self.new.rows ≡ with_row self.old.rows key (row) }
         ensures slots { self.new.slots ≡ self.old.slots }
     {
         set_row(&mut self.slots, number, row)
     }
 
     /// Puts a row into its key's slot. It takes no memory.
-    pub fn restore(&mut self, key: &Key, row: S)
+    pub fn restore(&mut self, key: &Key, row: Row)
         requires { IsSome (map.get self.old.slots key.now) }
-        ensures rows { self.new.rows ≡ map.insert self.old.rows key.now (S.values row) }
+        ensures rows { self.new.rows ≡ map.insert self.old.rows key.now row }
         ensures slots { self.new.slots ≡ self.old.slots }
     {
         self.replace(key, row);
     }
 
     /// Puts a row into its key's slot, and answers the one that was there. It takes no memory.
-    pub fn replace(&mut self, key: &Key, row: S) -> Option<S>
+    pub fn replace(&mut self, key: &Key, row: Row) -> Option<Row>
         requires { IsSome (map.get self.old.slots key.now) }
-        ensures stood { option_map S.values result ≡ map.get self.old.rows key.now }
-        ensures rows { self.new.rows ≡ map.insert self.old.rows key.now (S.values row) }
+        ensures stood { result ≡ map.get self.old.rows key.now }
+        ensures rows { self.new.rows ≡ map.insert self.old.rows key.now row }
         ensures slots { self.new.slots ≡ self.old.slots }
     {
         let number = self.slot(key)?;
@@ -205,8 +202,8 @@ impl<S: StoredRow, H: BuildHasher + Drop> HashedRows<S, H> {
     }
 
     /// Takes the row out of its slot. The slot stays, and it takes no memory.
-    pub fn take(&mut self, key: &Key) -> Option<S>
-        ensures row { option_map S.values result ≡ map.get self.old.rows key.now }
+    pub fn take(&mut self, key: &Key) -> Option<Row>
+        ensures row { result ≡ map.get self.old.rows key.now }
         ensures rows { self.new.rows ≡ map.remove self.old.rows key.now }
         ensures slots { self.new.slots ≡ self.old.slots }
     {
@@ -239,8 +236,8 @@ impl<S: StoredRow, H: BuildHasher + Drop> HashedRows<S, H> {
     }
 
     /// Puts a row at a key. A refusal changes no row and no slot.
-    pub fn put(&mut self, key: &Key, row: S) -> Result<(), OutOfMemory>
-        ensures ok { OnOk result (self.new.rows ≡ map.insert self.old.rows key.now (S.values row)) }
+    pub fn put(&mut self, key: &Key, row: Row) -> Result<(), OutOfMemory>
+        ensures ok { OnOk result (self.new.rows ≡ map.insert self.old.rows key.now row) }
         ensures slots { KeepsSlots self.old.slots self.new.slots }
         ensures slot { OnOk result (IsSome (map.get self.new.slots key.now)) }
         ensures err { OnErr result (self.new.rows ≡ self.old.rows) }
@@ -259,7 +256,7 @@ impl<S: StoredRow, H: BuildHasher + Drop> HashedRows<S, H> {
     }
 
     /// The rows, in key order. It takes no memory.
-    pub fn walk(&self) -> Walk<'_, S>
+    pub fn walk(&self) -> Walk<'_>
         ensures rows { result ≡ map.values self.now.rows }
         ensures fits { length result < 2 ^ 63 }
     {
@@ -267,9 +264,9 @@ impl<S: StoredRow, H: BuildHasher + Drop> HashedRows<S, H> {
     }
 }
 
-impl<S: StoredRow, H: BuildHasher + Drop + Copy> HashedRows<S, H> {
+impl<H: BuildHasher + Drop + Copy> HashedRows<H> {
     /// The same rows in the same slots. What a row keeps is shared, and not copied.
-    pub fn copy(&self) -> Result<HashedRows<S, H>, OutOfMemory>
+    pub fn copy(&self) -> Result<HashedRows<H>, OutOfMemory>
         ensures { IfOk result (λ copy. copy ≡ self.now) }
     {
         Ok(HashedRows {
@@ -281,7 +278,7 @@ impl<S: StoredRow, H: BuildHasher + Drop + Copy> HashedRows<S, H> {
     }
 
     /// Moves all rows and slots out. No row is copied, and it takes no memory.
-    pub fn wipe(&mut self) -> HashedRows<S, H>
+    pub fn wipe(&mut self) -> HashedRows<H>
         ensures out { result ≡ self.old }
         ensures left { self.new ≡ record { rows = map.empty; slots = map.empty } }
     {
@@ -291,19 +288,19 @@ impl<S: StoredRow, H: BuildHasher + Drop + Copy> HashedRows<S, H> {
     }
 }
 
-impl<S: StoredRow> HashedRows<S> {
+impl HashedRows {
     /// No rows, and no slots, with the hasher of fixed seed.
-    pub fn new(alloc: Global) -> HashedRows<S>
+    pub fn new(alloc: Global) -> HashedRows
         ensures { result ≡ record { rows = map.empty; slots = map.empty } }
     {
         HashedRows::with_hasher(alloc, BuildHasherDefault::new())
     }
 }
 
-impl<S: StoredRow> Clone for HashedSlot<S> {
+impl Clone for HashedSlot {
     ghost is_clone = { λ slot other. other ≡ slot };
 
-    fn clone(&self) -> Result<HashedSlot<S>, AllocError> {
+    fn clone(&self) -> Result<HashedSlot, AllocError> {
         Ok(HashedSlot {
             key: self.key.clone()?,
             row: copy_stored(&self.row)?,
@@ -312,8 +309,8 @@ impl<S: StoredRow> Clone for HashedSlot<S> {
 }
 
 // The row in a slot again, if one is in it.
-fn copy_stored<S: StoredRow>(row: &Option<S>) -> Result<Option<S>, AllocError>
-    ensures { IfOk result (λ copy. option_map S.values copy ≡ option_map S.values row.now) }
+fn copy_stored(row: &Option<Row>) -> Result<Option<Row>, AllocError>
+    ensures { IfOk result (λ copy. copy ≡ row.now) }
 {
     match row {
         None => Ok(None),
@@ -335,7 +332,7 @@ fn number_of<H: BuildHasher + Drop>(
 }
 
 // The key of the slot of a number, if there is one.
-fn key_in<S: StoredRow>(slots: &Slab<HashedSlot<S>>, number: usize) -> Option<&Key>
+fn key_in(slots: &Slab<HashedSlot>, number: usize) -> Option<&Key>
     ensures { option_copied result ≡ key_of (slab.get slots.now number) }
 {
     match slots.get(number) {
@@ -345,23 +342,16 @@ fn key_in<S: StoredRow>(slots: &Slab<HashedSlot<S>>, number: usize) -> Option<&K
 }
 
 // The row in the slot of a number, as it is read.
-pub(crate) fn view_at<S: StoredRow>(
-    slots: &Slab<HashedSlot<S>>,
-    number: Option<usize>,
-) -> Option<RowView<'_>>
+pub(crate) fn view_at(slots: &Slab<HashedSlot>, number: Option<usize>) -> Option<RowView<'_>>
     ensures { result ≡ row_for slots.now number }
 {
     slots.get(number?)?.view()
 }
 
 // A row or none into the slot of a number, if there is one. The answer is what was in it.
-fn set_row<S: StoredRow>(
-    slots: &mut Slab<HashedSlot<S>>,
-    number: usize,
-    row: Option<S>,
-) -> Option<S>
-    ensures row { option_map S.values result ≡ row_of (slab.get slots.old number) }
-    ensures set { SetsRow slots.old slots.new number (option_map S.values row) }
+fn set_row(slots: &mut Slab<HashedSlot>, number: usize, row: Option<Row>) -> Option<Row>
+    ensures row { result ≡ row_of (slab.get slots.old number) }
+    ensures set { SetsRow slots.old slots.new number (row) }
 {
     match slots.get_mut(number) {
         Some(slot) => slot.replace(row),
@@ -370,10 +360,10 @@ fn set_row<S: StoredRow>(
 }
 
 // An empty slot for a key that has none. The answer is its number, which no slot had.
-fn add_slot<S: StoredRow, H: BuildHasher + Drop>(
+fn add_slot<H: BuildHasher + Drop>(
     numbers: &mut HashMap<HashedKey, usize, H>,
     order: &mut BTreeMap<Key, usize>,
-    slots: &mut Slab<HashedSlot<S>>,
+    slots: &mut Slab<HashedSlot>,
     key: &Key,
 ) -> Result<usize, OutOfMemory>
     ensures slots { IfOk result (λ number. AddsSlot slots.old slots.new number key.now) }
@@ -397,10 +387,10 @@ fn add_slot<S: StoredRow, H: BuildHasher + Drop>(
 }
 
 // No slot of a key, where no row is in it.
-fn drop_slot<S: StoredRow, H: BuildHasher + Drop>(
+fn drop_slot<H: BuildHasher + Drop>(
     numbers: &mut HashMap<HashedKey, usize, H>,
     order: &mut BTreeMap<Key, usize>,
-    slots: &mut Slab<HashedSlot<S>>,
+    slots: &mut Slab<HashedSlot>,
     key: &Key,
 )
     ensures slots { DropsSlot slots.old slots.new (number_to_drop slots.old (hash.get (eq_by_cmp key_cmp) numbers.old key.now)) }
@@ -416,9 +406,9 @@ fn drop_slot<S: StoredRow, H: BuildHasher + Drop>(
 }
 
 // The number of a key's slot, if no row is in it.
-fn number_of_empty<S: StoredRow, H: BuildHasher + Drop>(
+fn number_of_empty<H: BuildHasher + Drop>(
     numbers: &HashMap<HashedKey, usize, H>,
-    slots: &Slab<HashedSlot<S>>,
+    slots: &Slab<HashedSlot>,
     key: &Key,
 ) -> Option<usize>
     ensures { result ≡ number_to_drop slots.now (hash.get (eq_by_cmp key_cmp) numbers.now key.now) }

@@ -1,9 +1,10 @@
 // Keys as a table of hashes sees them.
 ghost use Rattle.std.specs.Prelude.{◌≡◌, List};
 ghost use Rattle.std.specs.List.{fold, flat_map};
+ghost use Rattle.model.specs.ValueRef.{read_value};
 ghost use Rattle.rows.specs.Hashing.{value_writes, key_writes};
 
-use model::{Key, KeyValues, Value};
+use model::{Key, KeyValues, Value, ValueRef};
 use std::alloc::AllocError;
 use std::collections::hash_map::Equivalent;
 use std::hash::{Hash, Hasher};
@@ -157,7 +158,7 @@ fn hash_key<S: Hasher>(key: &Key, state: &mut S)
     ensures { state.new ≡ fold S.write state.old (key_writes key.now) }
 {
     match key.values() {
-        KeyValues::Int(number) => hash_value(&Value::Int(number), state),
+        KeyValues::Int(number) => hash_value(ValueRef::Int(number), state),
         KeyValues::List(values) => hash_values(values, state),
     }
 }
@@ -166,17 +167,17 @@ fn hash_values<S: Hasher>(values: &[Value], state: &mut S)
     ensures { state.new ≡ fold S.write state.old (key_writes values.now) }
 {
     for value in values {
-        hash_value(value, state);
+        hash_value(ValueRef::of(value), state);
     }
 }
 
 /// Feeds a value to a hasher.
-pub fn hash_value<S: Hasher>(value: &Value, state: &mut S)
-    ensures { state.new ≡ fold S.write state.old (value_writes value.now) }
+pub fn hash_value<S: Hasher>(value: ValueRef<'_>, state: &mut S)
+    ensures { state.new ≡ fold S.write state.old (value_writes (read_value value.entry)) }
 {
     match value {
-        Value::Int(number) => number.hash(state),
-        Value::Text(text) => text.as_str().hash(state),
-        Value::Bool(truth) => truth.hash(state),
+        ValueRef::Int(number) => number.hash(state),
+        ValueRef::Text(text) => text.hash(state),
+        ValueRef::Bool(truth) => truth.hash(state),
     }
 }

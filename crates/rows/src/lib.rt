@@ -12,14 +12,12 @@
 // number, and needs no memory to do so.
 //
 //   store      the trait `RowStore`: what an index asks of a store, whichever way rows are kept
-//   ordered    `OrderedRows`, the first form: lists of values in an ordered map
+//   ordered    `OrderedRows`, the first form: an ordered map
 //   hashed     `HashedRows`, the second form: slots that are found by a hash of the key, beside the
 //              keys in key order; tables use it
-//   block      `Block`: a row as one block of texts, and a cut for each column; tables keep lists
 //   hashing    keys as a table of hashes sees them, here and in the layers above
-//   view       a row as it is read: column by column
+//   view       a row of a store, as it is read: column by column
 //   walk       `Walk`: the rows one after another
-pub mod block;
 pub mod hashed;
 pub mod hashing;
 pub mod ordered;
@@ -27,9 +25,8 @@ pub mod store;
 pub mod view;
 pub mod walk;
 
-pub use block::Block;
 pub use hashed::HashedRows;
 pub use ordered::OrderedRows;
-pub use store::{RowStore, StoredRow};
-pub use view::{RowView, ValueRef};
+pub use store::RowStore;
+pub use view::RowView;
 pub use walk::Walk;

@@ -1,80 +1,19 @@
 // What tables ask of a store of rows, whichever way it keeps them.
 ghost use Rattle.std.specs.Prelude.{◌≡◌, ◌≢◌, OnOk, OnErr, IfOk, IfSome, IfNone, IsSome, Some, is_some, if◌then◌else◌, length, ◌<◌, ◌^◌};
 ghost use Rattle.std.specs.FinMap as map;
-ghost use Rattle.std.specs.Option.{option_map};
 ghost use Rattle.model.specs.declared.key.Key.{Key as Values};
-ghost use Rattle.model.specs.declared.row.Row.{Row as List};
 ghost use Rattle.rows.specs.Kept.{Kept, KeepsSlots, IsNumbered, IsSlotted};
 
-use crate::block::Block;
 use crate::hashed::HashedRows;
 use crate::ordered::OrderedRows;
 use crate::view::RowView;
 use crate::walk::Walk;
 use model::{Key, OutOfMemory, Row};
-use std::alloc::Global;
 use std::hash::BuildHasher;
-
-/// A row as a store keeps it.
-pub trait StoredRow: Drop {
-    /// The row's values.
-    ghost values: { Self → List };
-
-    /// The row with the values of a list.
-    fn from_row(alloc: Global, row: &Row) -> Result<Self, OutOfMemory>
-    where
-        Self: Sized,
-        ensures { IfOk result (λ stored. values stored ≡ row.now) };
-
-    /// The row as it is read.
-    fn view(&self) -> RowView<'_>
-        ensures { result ≡ values self.now };
-
-    /// An equal row, which shares what it keeps.
-    fn copy(&self) -> Result<Self, OutOfMemory>
-    where
-        Self: Sized,
-        ensures { IfOk result (λ copy. values copy ≡ values self.now) };
-}
-
-impl StoredRow for Row {
-    ghost values = { λ row. row };
-
-    fn from_row(_alloc: Global, row: &Row) -> Result<Row, OutOfMemory> {
-        row.copy()
-    }
-
-    fn view(&self) -> RowView<'_> {
-        RowView::of_row(self)
-    }
-
-    fn copy(&self) -> Result<Row, OutOfMemory> {
-        Row::copy(self)
-    }
-}
-
-impl StoredRow for Block {
-    ghost values = { λ block. block };
-
-    fn from_row(alloc: Global, row: &Row) -> Result<Block, OutOfMemory> {
-        Block::from_row(alloc, row)
-    }
-
-    fn view(&self) -> RowView<'_> {
-        RowView::of_block(self)
-    }
-
-    fn copy(&self) -> Result<Block, OutOfMemory> {
-        Block::copy(self)
-    }
-}
 
 /// A store of rows by primary key. `reserve` and `put` alone may be refused, and then change no
 /// row; the other calls take no memory and succeed.
 pub trait RowStore: Drop {
-    /// A row as it keeps it.
-    type Stored: StoredRow;
-
     /// The rows by their keys, and the slots.
     ghost kept: { Self → Kept };
 
@@ -101,29 +40,29 @@ pub trait RowStore: Drop {
         ensures numbered { IsNumbered (kept self.new).slots };
 
     /// Puts a row at a key.
-    fn put(&mut self, key: &Key, row: Self::Stored) -> Result<(), OutOfMemory>
-        ensures ok { OnOk result ((kept self.new).rows ≡ map.insert (kept self.old).rows key.now (Self.Stored.values row)) }
+    fn put(&mut self, key: &Key, row: Row) -> Result<(), OutOfMemory>
+        ensures ok { OnOk result ((kept self.new).rows ≡ map.insert (kept self.old).rows key.now row) }
         ensures slots { KeepsSlots (kept self.old).slots (kept self.new).slots }
         ensures slot { OnOk result (IsSome (map.get (kept self.new).slots key.now)) }
         ensures err { OnErr result ((kept self.new).rows ≡ (kept self.old).rows) };
 
     /// Puts a row into its key's slot, and answers the one that was there.
-    fn replace(&mut self, key: &Key, row: Self::Stored) -> Option<Self::Stored>
+    fn replace(&mut self, key: &Key, row: Row) -> Option<Row>
         requires { IsSome (map.get (kept self.old).slots key.now) }
-        ensures stood { option_map Self.Stored.values result ≡ map.get (kept self.old).rows key.now }
-        ensures rows { (kept self.new).rows ≡ map.insert (kept self.old).rows key.now (Self.Stored.values row) }
+        ensures stood { result ≡ map.get (kept self.old).rows key.now }
+        ensures rows { (kept self.new).rows ≡ map.insert (kept self.old).rows key.now row }
         ensures slots { (kept self.new).slots ≡ (kept self.old).slots };
 
     /// Takes the row out of its slot. The slot stays.
-    fn take(&mut self, key: &Key) -> Option<Self::Stored>
-        ensures row { option_map Self.Stored.values result ≡ map.get (kept self.old).rows key.now }
+    fn take(&mut self, key: &Key) -> Option<Row>
+        ensures row { result ≡ map.get (kept self.old).rows key.now }
         ensures rows { (kept self.new).rows ≡ map.remove (kept self.old).rows key.now }
         ensures slots { (kept self.new).slots ≡ (kept self.old).slots };
 
     /// Puts a row into its key's slot.
-    fn restore(&mut self, key: &Key, row: Self::Stored)
+    fn restore(&mut self, key: &Key, row: Row)
         requires { IsSome (map.get (kept self.old).slots key.now) }
-        ensures rows { (kept self.new).rows ≡ map.insert (kept self.old).rows key.now (Self.Stored.values row) }
+        ensures rows { (kept self.new).rows ≡ map.insert (kept self.old).rows key.now row }
         ensures slots { (kept self.new).slots ≡ (kept self.old).slots };
 
     /// Drops the slot of a key where no row is in it.
@@ -132,7 +71,7 @@ pub trait RowStore: Drop {
         ensures slots { (kept self.new).slots ≡ (if is_some (map.get (kept self.old).rows key.now) then (kept self.old).slots else map.remove (kept self.old).slots key.now) };
 
     /// The rows, in key order.
-    fn walk(&self) -> Walk<'_, Self::Stored>
+    fn walk(&self) -> Walk<'_>
         ensures rows { result ≡ map.values (kept self.now).rows }
         ensures fits { length result < 2 ^ 63 };
 
@@ -145,8 +84,6 @@ pub trait RowStore: Drop {
 }
 
 impl RowStore for OrderedRows {
-    type Stored = Row;
-
     ghost kept = { λ rows. rows };
 
     fn get(&self, key: &Key) -> Option<RowView<'_>> {
@@ -194,9 +131,7 @@ impl RowStore for OrderedRows {
     }
 }
 
-impl<S: StoredRow, H: BuildHasher + Drop + Copy> RowStore for HashedRows<S, H> {
-    type Stored = S;
-
+impl<H: BuildHasher + Drop + Copy> RowStore for HashedRows<H> {
     ghost kept = { λ rows. rows };
 
     fn get(&self, key: &Key) -> Option<RowView<'_>> {
@@ -215,19 +150,19 @@ impl<S: StoredRow, H: BuildHasher + Drop + Copy> RowStore for HashedRows<S, H> {
         HashedRows::reserve(self, key)
     }
 
-    fn put(&mut self, key: &Key, row: S) -> Result<(), OutOfMemory> {
+    fn put(&mut self, key: &Key, row: Row) -> Result<(), OutOfMemory> {
         HashedRows::put(self, key, row)
     }
 
-    fn replace(&mut self, key: &Key, row: S) -> Option<S> {
+    fn replace(&mut self, key: &Key, row: Row) -> Option<Row> {
         HashedRows::replace(self, key, row)
     }
 
-    fn take(&mut self, key: &Key) -> Option<S> {
+    fn take(&mut self, key: &Key) -> Option<Row> {
         HashedRows::take(self, key)
     }
 
-    fn restore(&mut self, key: &Key, row: S) {
+    fn restore(&mut self, key: &Key, row: Row) {
         HashedRows::restore(self, key, row);
     }
 
@@ -235,11 +170,11 @@ impl<S: StoredRow, H: BuildHasher + Drop + Copy> RowStore for HashedRows<S, H> {
         HashedRows::settle(self, key);
     }
 
-    fn walk(&self) -> Walk<'_, S> {
+    fn walk(&self) -> Walk<'_> {
         HashedRows::walk(self)
     }
 
-    fn wipe(&mut self) -> HashedRows<S, H> {
+    fn wipe(&mut self) -> HashedRows<H> {
         HashedRows::wipe(self)
     }
 }

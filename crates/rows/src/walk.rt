@@ -7,9 +7,8 @@ ghost use Rattle.rows.specs.Walking.{YieldsRow, rows_by};
 
 use crate::hashed::{HashedSlot, view_at};
 use crate::ordered::Slot;
-use crate::store::StoredRow;
 use crate::view::RowView;
-use model::{Key, Row};
+use model::Key;
 use slab::Slab;
 use std::collections::btree_map::Values;
 use std::iter::FusedIterator;
@@ -18,25 +17,25 @@ use std::marker::Model;
 /// The rows of a store, in key order. It takes no memory. A clause sees the list of the rows that
 /// are left.
 #[derive(Debug, Drop)]
-pub struct Walk<'a, S: StoredRow = Row> {
-    left: Left<'a, S>,
+pub struct Walk<'a> {
+    left: Left<'a>,
 }
 
 // The slots that are left, or their numbers.
 #[derive(Debug, Drop)]
-pub(crate) enum Left<'a, S: StoredRow> {
+pub(crate) enum Left<'a> {
     Slots(Values<'a, Key, Slot>),
-    Numbers(Numbers<'a, S>),
+    Numbers(Numbers<'a>),
 }
 
 // The numbers that are left, and the slots that have them.
 #[derive(Debug, Drop)]
-pub(crate) struct Numbers<'a, S: StoredRow> {
+pub(crate) struct Numbers<'a> {
     numbers: Values<'a, Key, usize>,
-    slots: &'a Slab<HashedSlot<S>>,
+    slots: &'a Slab<HashedSlot>,
 }
 
-impl<'a, S: StoredRow> Model for Walk<'a, S> {
+impl<'a> Model for Walk<'a> {
     ghost use Rattle.std.specs.Prelude.{List};
     ghost use Rattle.model.specs.declared.row.Row.{Row};
 
@@ -47,9 +46,9 @@ impl<'a, S: StoredRow> Model for Walk<'a, S> {
     ghost view = { λ w. rows_left w.left };
 }
 
-impl<'a, S: StoredRow> Walk<'a, S> {
+impl<'a> Walk<'a> {
     // Over the slots of a store.
-    pub(crate) fn over(slots: Values<'a, Key, Slot>) -> Walk<'a, S>
+    pub(crate) fn over(slots: Values<'a, Key, Slot>) -> Walk<'a>
         ensures { result ≡ rows_among slots.entry }
     {
         Walk {
@@ -60,8 +59,8 @@ impl<'a, S: StoredRow> Walk<'a, S> {
     // Over the slots with these numbers.
     pub(crate) fn over_numbers(
         numbers: Values<'a, Key, usize>,
-        slots: &'a Slab<HashedSlot<S>>,
-    ) -> Walk<'a, S>
+        slots: &'a Slab<HashedSlot>,
+    ) -> Walk<'a>
         ensures { result ≡ rows_among (map (slot_by slots.now) numbers.entry) }
     {
         Walk {
@@ -70,7 +69,7 @@ impl<'a, S: StoredRow> Walk<'a, S> {
     }
 }
 
-impl<'a, S: StoredRow> Iterator for Walk<'a, S> {
+impl<'a> Iterator for Walk<'a> {
     type Item = RowView<'a>;
 
     ghost next_gives = { YieldsFirst (λ rows. rows) };
@@ -85,9 +84,9 @@ impl<'a, S: StoredRow> Iterator for Walk<'a, S> {
     }
 }
 
-impl<'a, S: StoredRow> FusedIterator for Walk<'a, S> {}
+impl<'a> FusedIterator for Walk<'a> {}
 
-impl<'a, S: StoredRow> Numbers<'a, S> {
+impl<'a> Numbers<'a> {
     // The row of the next number whose slot is filled.
     fn next_row(&mut self) -> Option<RowView<'a>>
         ensures { YieldsRow (rows_by self.old) result (rows_by self.new) }
@@ -109,9 +108,9 @@ fn next_row<'a>(slots: &mut Values<'a, Key, Slot>) -> Option<RowView<'a>>
 }
 
 // The row of the next number whose slot is filled.
-fn next_numbered<'a, S: StoredRow>(
+fn next_numbered<'a>(
     numbers: &mut Values<'a, Key, usize>,
-    slots: &'a Slab<HashedSlot<S>>,
+    slots: &'a Slab<HashedSlot>,
 ) -> Option<RowView<'a>>
     ensures { YieldsRow (rows_among (map (slot_by slots.now) numbers.old)) result (rows_among (map (slot_by slots.now) numbers.new)) }
 {

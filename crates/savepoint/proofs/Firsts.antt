@@ -1,5 +1,5 @@
 -- Where a subtransaction's mark stands in the list of marks.
-use Rattle.std.proofs.Common.{◌≡◌, ℕ, zero, suc, ◌<◌, ◌==◌, true, not, List, [], ◌∷◌, length, Option, Some, None, refl, arith, is_some}
+use Rattle.std.proofs.Common.{◌≡◌, ℕ, zero, suc, ◌<◌, ◌==◌, true, not, List, [], ◌∷◌, length, Option, Some, None, refl, ap, ◌∙◌, arith, is_some}
 use Rattle.std.specs.Prelude.{slice_get}
 use Rattle.std.specs.List.{prefix_len}
 use Rattle.std.specs.Option.{option_map}
@@ -31,22 +31,6 @@ count_before-IsFirst sub (suc index) (m ∷ marks) h =
     let rest = count_before-IsFirst sub index marks (record { here = h.here; before = λ j lt e. h.before (suc j) (omega arith) e }) in
     grind (arith, common_steps)
 
-pub mark_at-IsFirst : {M : Type 0} (sub index : ℕ) (marks : List (ℕ × M)) → IsFirst sub index marks → mark_at sub marks ≡ mark_in marks index
-mark_at-IsFirst sub index [] h = let e = h.here in cc
-mark_at-IsFirst sub zero (m ∷ marks) h = let e = h.here in grind (arith, common_steps)
-mark_at-IsFirst sub (suc index) (m ∷ marks) h =
-    let other = h.before 0 (omega arith) in
-    let rest = mark_at-IsFirst sub index marks (record { here = h.here; before = λ j lt e. h.before (suc j) (omega arith) e }) in
-    grind (arith, common_steps)
-
-pub is_some-mark_at-IsFirst : {M : Type 0} (sub index : ℕ) (marks : List (ℕ × M)) → IsFirst sub index marks → is_some (mark_at sub marks) ≡ true
-is_some-mark_at-IsFirst sub index [] h = let e = h.here in cc
-is_some-mark_at-IsFirst sub zero (m ∷ marks) h = let e = h.here in grind (arith, common_steps)
-is_some-mark_at-IsFirst sub (suc index) (m ∷ marks) h =
-    let other = h.before 0 (omega arith) in
-    let rest = is_some-mark_at-IsFirst sub index marks (record { here = h.here; before = λ j lt e. h.before (suc j) (omega arith) e }) in
-    grind (arith, common_steps)
-
 pub count_before-IsUnmarked : {M : Type 0} (sub : ℕ) (marks : List (ℕ × M)) → IsUnmarked sub marks → count_before sub marks ≡ length marks
 count_before-IsUnmarked sub [] h = refl
 count_before-IsUnmarked sub (m ∷ marks) h =
@@ -54,9 +38,25 @@ count_before-IsUnmarked sub (m ∷ marks) h =
     let rest = count_before-IsUnmarked sub marks (λ j e. h (suc j) e) in
     grind (arith, common_steps)
 
+-- a subtransaction's mark is the one behind those that stand before it
+mark_at-count_before : {M : Type 0} (sub : ℕ) (marks : List (ℕ × M)) → mark_at sub marks ≡ mark_in marks (count_before sub marks)
+mark_at-count_before sub [] = refl
+mark_at-count_before sub (m ∷ marks) = let rest = mark_at-count_before sub marks in grind (arith, common_steps)
+
+pub mark_at-IsFirst : {M : Type 0} (sub index : ℕ) (marks : List (ℕ × M)) → IsFirst sub index marks → mark_at sub marks ≡ mark_in marks index
+mark_at-IsFirst sub index marks h = mark_at-count_before sub marks ∙ ap (mark_in marks) (count_before-IsFirst sub index marks h)
+
+there : {M : Type 0} (sub index : ℕ) (marks : List (ℕ × M)) → slice_get (subs_of marks) index ≡ Some sub → is_some (mark_in marks index) ≡ true
+there sub index [] e = cc
+there sub zero (m ∷ marks) e = refl
+there sub (suc index) (m ∷ marks) e = there sub index marks e
+
+pub is_some-mark_at-IsFirst : {M : Type 0} (sub index : ℕ) (marks : List (ℕ × M)) → IsFirst sub index marks → is_some (mark_at sub marks) ≡ true
+is_some-mark_at-IsFirst sub index marks h = ap is_some (mark_at-IsFirst sub index marks h) ∙ there sub index marks h.here
+
+none_behind : {M : Type 0} (marks : List (ℕ × M)) → mark_in marks (length marks) ≡ None
+none_behind [] = refl
+none_behind (m ∷ marks) = none_behind marks
+
 pub mark_at-IsUnmarked : {M : Type 0} (sub : ℕ) (marks : List (ℕ × M)) → IsUnmarked sub marks → mark_at sub marks ≡ None
-mark_at-IsUnmarked sub [] h = refl
-mark_at-IsUnmarked sub (m ∷ marks) h =
-    let other = h 0 in
-    let rest = mark_at-IsUnmarked sub marks (λ j e. h (suc j) e) in
-    grind (arith, common_steps)
+mark_at-IsUnmarked sub marks h = mark_at-count_before sub marks ∙ ap (mark_in marks) (count_before-IsUnmarked sub marks h) ∙ none_behind marks

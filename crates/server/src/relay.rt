@@ -90,6 +90,18 @@ struct Standing {
     told: u64,
 }
 
+impl Standing {
+    /// A stream of which this much was put before, as it begins at this moment.
+    fn new(relayed: Relayed, began: u64) -> Standing {
+        Standing {
+            relayed,
+            began,
+            heard: began,
+            told: began,
+        }
+    }
+}
+
 /// Hands the stream's frames to `output` until it ends. A fault comes behind the frames before it; an
 /// ErrorResponse is put too. `relayed` is what was put, whatever ended it.
 pub fn relay<L: Line + Drop, O: Output>(
@@ -98,13 +110,7 @@ pub fn relay<L: Line + Drop, O: Output>(
     bounds: Bounds,
     relayed: &mut Relayed,
 ) -> Result<End, Fault> {
-    let began = connection.millis();
-    let mut standing = Standing {
-        relayed: *relayed,
-        began,
-        heard: began,
-        told: began,
-    };
+    let mut standing = Standing::new(*relayed, connection.millis());
     for _ in 0..u64::MAX {
         let ended = turn(connection, output, bounds, &mut standing);
         *relayed = standing.relayed;

@@ -114,43 +114,30 @@ impl<'a> Fields<'a> {
 
     /// Byte1.
     pub fn byte(&mut self) -> Result<u8, Nonsense> {
-        match self.rest.split_first() {
-            Some((byte, rest)) => {
-                self.rest = rest;
-                Ok(*byte)
-            }
-            None => Err(Nonsense::BadFields),
-        }
+        let [byte] = self.front::<1>()?;
+        Ok(byte)
     }
 
     /// Int16.
     pub fn int16(&mut self) -> Result<u16, Nonsense> {
-        match self.rest.split_first_chunk::<2>() {
-            Some((bytes, rest)) => {
-                self.rest = rest;
-                Ok(u16::from_be_bytes(*bytes))
-            }
-            None => Err(Nonsense::BadFields),
-        }
+        Ok(u16::from_be_bytes(self.front()?))
     }
 
     /// Int32.
     pub fn int32(&mut self) -> Result<u32, Nonsense> {
-        match self.rest.split_first_chunk::<4>() {
-            Some((bytes, rest)) => {
-                self.rest = rest;
-                Ok(u32::from_be_bytes(*bytes))
-            }
-            None => Err(Nonsense::BadFields),
-        }
+        Ok(u32::from_be_bytes(self.front()?))
     }
 
     /// Int64.
     pub fn int64(&mut self) -> Result<u64, Nonsense> {
-        match self.rest.split_first_chunk::<8>() {
+        Ok(u64::from_be_bytes(self.front()?))
+    }
+
+    fn front<const N: usize>(&mut self) -> Result<[u8; N], Nonsense> {
+        match self.rest.split_first_chunk::<N>() {
             Some((bytes, rest)) => {
                 self.rest = rest;
-                Ok(u64::from_be_bytes(*bytes))
+                Ok(*bytes)
             }
             None => Err(Nonsense::BadFields),
         }

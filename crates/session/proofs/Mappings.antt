@@ -20,25 +20,15 @@ use Rattle.session.specs.Table.{tables_of, truncate_change}
 use Rattle.session.specs.KnownRelations.{IsMappingOf, Knows, IsPlanned}
 use Rattle.relcache.specs.Answer.{IsFaultOf}
 use Rattle.model.specs.declared.change.Change as change_type
+use Rattle.relcache.proofs.Learnt.{relation_of-learnt_other}
 use Rattle.session.proofs.Kept.{apart_at}
 
 -- ---- a relation more
 
-relation_of-learnt : (r : Relation) (oid : ℕ) (relations : Relations) → (r.oid ≡ oid → ⊥) → relation_of (learnt relations r) oid ≡ relation_of relations oid
-relation_of-learnt r oid [] apart = rw (ne_eqb oid r.oid (λ same. apart (sym same)))
-relation_of-learnt r oid (e ∷ es) apart =
-    ⊎_elim
-    (λ (here : nat_eq r.oid e.0 ≡ true).
-    let same : r.oid ≡ e.0 = eqb-true r.oid e.0 here in
-    let other : nat_eq oid e.0 ≡ false = ne_eqb oid e.0 (λ is. apart (same ∙ sym is)) in
-    rw (here, other))
-    (λ (later : nat_eq r.oid e.0 ≡ false). rw later (ap (cond (nat_eq oid e.0) (Some e.1)) (relation_of-learnt r oid es apart)))
-    (cases_Bool (nat_eq r.oid e.0))
-
 -- the relation of another OID stays
 resolved_elsewhere : (definitions : List Definition) (relations : Relations) (r : Relation) (oid : ℕ) → (r.oid ≡ oid → ⊥) → resolved definitions (learnt relations r) oid ≡ resolved definitions relations oid
 resolved_elsewhere definitions relations r oid apart =
-    ap (λ (o : Option Published). ok_or o UnknownRelation >>= map_relation definitions) (relation_of-learnt r oid relations apart)
+    ap (λ (o : Option Published). ok_or o UnknownRelation >>= map_relation definitions) (relation_of-learnt_other relations r oid (λ is. apart (sym is)))
 
 mapping_elsewhere : (g : Setting) (relations : Relations) (r : Relation) (oid : ℕ) (m : Mapped) → (r.oid ≡ oid → ⊥) → IsMappingOf g relations oid m → IsMappingOf g (learnt relations r) oid m
 mapping_elsewhere g relations r oid m apart is = record { resolves = resolved_elsewhere g.catalog relations r oid apart ∙ is.resolves; fits = is.fits }

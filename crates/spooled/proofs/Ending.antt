@@ -23,7 +23,8 @@ use Rattle.spooled.specs.Ends.{end_of_refusal, end_of_clash}
 use Rattle.spooled.specs.Cause.{schema_of}
 use Rattle.spooled.specs.Applier.{HasCommits, IsAt, EndsByMessage, TakesMessage}
 use Rattle.spooled.proofs.Working.{ClashesIn-behind}
-use Rattle.spooled.proofs.Taking.{rows_at, GoesOn, done_more, not_committed, commits_one, HasCommits-kept, IsCommitted, done_is}
+use Rattle.spooled.proofs.Admitted.{not_committed}
+use Rattle.spooled.proofs.Taking.{rows_at, GoesOn, done_more, commits_one, HasCommits-kept, IsCommitted, done_is}
 
 pub IsClear-front : (schema : Schema) (rows : Rows) (cs ds : List Change) → IsClear schema rows (cs ++ ds) → IsClear schema rows cs
 IsClear-front schema rows [] ds clear = tt

@@ -13,11 +13,8 @@ use Rattle.spooled.specs.Commits.{all_changes}
 use Rattle.spooled.specs.Cause.{schema_of}
 use Rattle.spooled.specs.Handler.{HandlesItem, HasHandled}
 use Rattle.spooled.specs.Applier.{IsAt, HasEnded, TakesMessage}
+use Rattle.spooled.proofs.Admitted.{with_seen, message_handled, ended_behind}
 use Rattle.spooled.proofs.Running.{with_item}
-
--- the same with a greater position seen
-abbrev pub with_seen : Progress → ℕ → Progress
-with_seen p seen = record { state = p.state; seen = seen; updates = p.updates }
 
 -- what is kept, but for the greatest position
 pub record IsSameBut (a b : Applier) : Type 0 where
@@ -48,17 +45,13 @@ IsAt-seen g rows a b p seen at same written = record {
 -- a message was taken, or ended the run
 pub handled_wal : (g : Setting) (rows : Rows) (b : Applier) (handled : List CopyItem) (p : Progress) (first last : ℕ) (payload : List ℕ) (result : Result Bool End) → Leads g start_progress handled p → IsClear (schema_of g) rows (all_changes p.state)
     → TakesMessage g rows b (with_seen p (max (max p.seen first) last)) payload result → HandlesItem g (IsAt g rows) (HasEnded g rows) b handled p (Wal first last payload) result
-handled_wal g rows b handled p first last payload (Ok is_commit) lawful clear taken = record {
-  progress = taken.progress;
-  handles = (taken.message, taken.admits, taken.seen, taken.updates ∙ ap (λ c. p.updates ++ due_updates c taken.progress.state taken.progress.seen) taken.commits);
-  updates = taken.updates;
-  at = taken.at;
-}
+handled_wal g rows b handled p first last payload (Ok is_commit) lawful clear taken =
+    message_handled g (IsAt g rows) b p (HasEnded g rows) first last payload is_commit taken
 handled_wal g rows b handled p first last payload (Err end) lawful clear (inl (commits, why)) = inl (λ more. (commits, inl (clear, why first last more)))
 handled_wal g rows b handled p first last payload (Err end) lawful clear (inr (m, s, admits, none, commits, committed, why)) =
     let q : Progress = record { state = s; seen = max (max p.seen first) last; updates = p.updates } in
-    let handles : Handles g p (Wal first last payload) q = (m, admits, refl, sym (append-nil p.updates) ∙ ap (λ c. p.updates ++ due_updates c s (max (max p.seen first) last)) (sym none)) in
-    inr (q, handles, refl, λ more. (commits, inr (with_item g handled (Wal first last payload) p q lawful handles, clear, committed, why)))
+    ended_behind g (IsAt g rows) b p (HasEnded g rows) handled first last payload m s end admits none
+    (λ handles more. (commits, inr (with_item g handled (Wal first last payload) p q lawful handles, clear, committed, why)))
 
 pub handled_keepalive : (g : Setting) (rows : Rows) (b : Applier) (p : Progress) (last : ℕ) (reply : Bool) → IsAt g rows b (with_seen p (max p.seen last)) → HasHandled g (IsAt g rows) (HasEnded g rows) b p (Keepalive last reply) reply
 handled_keepalive g rows b p last reply at =
@@ -79,9 +72,6 @@ handled_keepalive g rows b p last reply at =
         seen = at.seen;
       };
     }
-
-pub handled_done : (g : Setting) (rows : Rows) (b : Applier) (p : Progress) → IsAt g rows b p → HasHandled g (IsAt g rows) (HasEnded g rows) b p Done false
-handled_done g rows b p at = record { progress = p; handles = refl; updates = sym (append-nil p.updates); at = at }
 
 -- the greatest position of the log once positions more were seen
 pub seen_two : (written seen position first last : ℕ) → written ≡ max seen position → max (max written first) last ≡ max (max (max seen first) last) position

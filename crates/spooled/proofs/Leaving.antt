@@ -69,26 +69,17 @@ module _ (g : Setting) (rows : Rows) (old new : DeviceState) (handled : List Cop
 pub is_run : (g : Setting) (rows : Rows) (old new : DeviceState) (a : Applier) (o : Outcome) → IsRunOver g (IsAt g rows) (HasEnded g rows) old new a o.end → o.tables.rows ≡ a.work.base → o.tables.schema ≡ a.work.schema → o.journal ≡ a.journal → o.position ≡ a.position
     → IsRun g rows old new o
 is_run g rows old new a o over tables schema journal position =
-    let commits : HasCommits g rows a over.progress.state = elim over.why [
+    let commits : HasCommits g rows a over.part.progress.state = elim over.why [
       | inl ended ↦ ended.ended.0
-      | inr (inl send) ↦ (clear_at_send g (IsAt g rows a over.progress) old new over.handled over.progress over.times o.end send).commits
-      | inr (inr input) ↦ (clear_at_input g (IsAt g rows a over.progress) old new over.handled over.progress over.times over.bytes over.rest o.end input).commits
+      | inr (inl send) ↦ (clear_at_send g (IsAt g rows a over.part.progress) old new over.part.handled over.part.progress over.part.times o.end send).commits
+      | inr (inr input) ↦ (clear_at_input g (IsAt g rows a over.part.progress) old new over.part.handled over.part.progress over.part.times over.part.bytes over.part.rest o.end input).commits
     ] in
     record {
-      bytes = over.bytes;
-      read = over.read;
-      handled = over.handled;
-      rest = over.rest;
-      items = over.items;
-      progress = over.progress;
-      lawful = over.lawful;
-      times = over.times;
-      told = over.told;
-      counted = over.counted;
+      part = over.part;
       cause = elim over.why [
-        | inl ended ↦ by_item g rows old new over.handled over.progress over.times a over.bytes over.rest o.end ended
-        | inr (inl send) ↦ by_send g rows old new over.handled over.progress over.times a over.bytes over.rest o.end send
-        | inr (inr input) ↦ by_input g rows old new over.handled over.progress over.times a over.bytes over.rest o.end input
+        | inl ended ↦ by_item g rows old new over.part.handled over.part.progress over.part.times a over.part.bytes over.part.rest o.end ended
+        | inr (inl send) ↦ by_send g rows old new over.part.handled over.part.progress over.part.times a over.part.bytes over.part.rest o.end send
+        | inr (inr input) ↦ by_input g rows old new over.part.handled over.part.progress over.part.times a over.part.bytes over.part.rest o.end input
       ];
       journal = ap (λ j. map transaction_of j.items) journal ∙ commits.journal;
       position = position ∙ commits.position;

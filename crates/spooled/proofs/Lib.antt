@@ -7,4 +7,5 @@ pub mod Handling
 pub mod Running
 mod Reading
 mod Leaving
+pub mod Admitted
 mod ReportLoops

@@ -90,16 +90,18 @@ module _ {H : Type 0} (g : Setting) (IsAt : H → Progress → Type 0) (HasEnded
       → IsEnded g IsAt HasEnded old new a handled p times rest end ⊎ (IsSendCause g (IsAt a p) old new handled p times end ⊎ IsInputCause g (IsAt a p) old new handled p times bytes rest end)
       → Over old new a end
   over_so old new a bytes handled rest end read items p lawful times told counted why = record {
-    bytes = bytes;
-    read = read;
-    handled = handled;
-    rest = rest;
-    items = items;
-    progress = p;
-    lawful = lawful;
-    times = times;
-    told = told;
-    counted = counted;
+    part = record {
+      bytes = bytes;
+      read = read;
+      handled = handled;
+      rest = rest;
+      items = items;
+      progress = p;
+      lawful = lawful;
+      times = times;
+      told = told;
+      counted = counted;
+    };
     why = why;
   }
 

@@ -8,7 +8,7 @@ use Rattle.std.proofs.lemmas.Option.{unwrap_or-slice_get}
 use Rattle.std.proofs.Math.Seq.{take-suc}
 use Rattle.model.specs.declared.row.Row.{Row}
 use Rattle.model.specs.Rows.{value_at}
-use Rattle.spooled.specs.Text.{value_text}
+use Rattle.model.specs.Types.{value_text}
 
 -- what is appended unless memory is refused
 pub appended : {T E : Type 0} {new : List ℕ} (r : Result T E) (text a : List ℕ) → new ≡ if is_ok r then (text ++ a) else text → OnOk r (new ≡ text ++ a)

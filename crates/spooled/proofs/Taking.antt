@@ -33,7 +33,9 @@ use Rattle.spooled.specs.Work.{OpenWork, rows_now, IsClear}
 use Rattle.spooled.specs.Commits.{Transaction, transaction_of, transaction, changes_in, surviving_changes, commits, committed_changes, begun_changes, all_changes, last_end}
 use Rattle.spooled.specs.Progress.{Progress, commits_from, due_updates}
 use Rattle.spooled.specs.Cause.{schema_of}
-use Rattle.spooled.specs.Applier.{AreServed, HasCommits, IsAt, HasTaken}
+use Rattle.spooled.specs.Applier.{AreServed, HasCommits, IsAt}
+use Rattle.spooled.specs.Handler.{HasTaken}
+use Rattle.spooled.proofs.Admitted.{on_to, committed_to, one_committed, later_max, by_commit, taken_commit}
 use Rattle.spooled.proofs.Working.{with_changes, rows_with, IsClear-append}
 use Rattle.spooled.proofs.States.{last_end-push, changes_in-append, AreServed-insert, AreServed-remove}
 use Rattle.spooled.proofs.Begun.{IsSane, direct_begun, begun_stays, begun_opened, begun_beside, begun_given, begun_without, begun_outside, unbegun}
@@ -61,9 +63,6 @@ committed_same s t e = rw e
 pub done_more : (g : Setting) (s t : State) (cs : List change_type.Change) → GoesOn g s t cs → all_changes t ≡ all_changes s ++ cs
 done_more g s t cs on = ap (λ ds. ds ++ begun_changes t) (committed_same s t on.past) ∙ ap (λ ds. committed_changes s ++ ds) on.begun ∙ sym (append_assoc (committed_changes s) (begun_changes s) cs)
 
-pub not_committed : (s t : State) → t.past ≡ s.past → commits_from s t ≡ false
-not_committed s t e = rw e (le-ltb (length s.past) (length s.past) (omega arith))
-
 -- what is kept of the run once it went on
 pub record IsKept (a b : Applier) (cs : List change_type.Change) : Type 0 where
   pub catalog : b.catalog ≡ a.catalog
@@ -74,10 +73,6 @@ pub record IsKept (a b : Applier) (cs : List change_type.Change) : Type 0 where
 
 pub no_change : (w : OpenWork) → w ≡ with_changes w []
 no_change w = ap (λ (cs : List change_type.Change). record { schema = w.schema; base = w.base; changes = cs }) (sym (append-nil w.changes))
-
--- where it stands then
-abbrev pub on_to : Progress → State → Progress
-on_to p t = record { state = t; seen = p.seen; updates = p.updates }
 
 pub HasCommits-kept : (g : Setting) (rows : Rows) (a b : Applier) (s t : State) → HasCommits g rows a s → t.past ≡ s.past → b.work.schema ≡ a.work.schema → b.work.base ≡ a.work.base → b.journal.items ≡ a.journal.items → b.position ≡ a.position → HasCommits g rows b t
 HasCommits-kept g rows a b s t has past schema base journal position = record {
@@ -99,17 +94,6 @@ went_on g rows a b p t cs at on same session clear = record {
   begun = ap (λ (w : OpenWork). w.changes) same.work ∙ ap (λ ds. ds ++ cs) at.begun ∙ sym on.begun;
   clear = subst (IsClear (schema_of g) rows) (sym (done_more g p.state t cs on)) (IsClear-append (schema_of g) rows (all_changes p.state) cs at.clear clear);
   seen = same.written ∙ at.seen ∙ rw on.position;
-}
-
-pub taken_on : (g : Setting) (rows : Rows) (a b : Applier) (p : Progress) (payload : List ℕ) (m : Message) (t : State) (cs : List change_type.Change) → Admits g p.state payload m t → GoesOn g p.state t cs → IsAt g rows b (on_to p t) → HasTaken g rows b p payload false
-taken_on g rows a b p payload m t cs admits on at = record {
-  message = m;
-  progress = on_to p t;
-  admits = admits;
-  seen = refl;
-  commits = sym (not_committed p.state t on.past);
-  updates = sym (append-nil p.updates);
-  at = at;
 }
 
 -- ---- what is told
@@ -142,14 +126,6 @@ served_more g s xid o item size served there is =
 
 not_quiet : (step other : Step) → step ≡ other → IsQuiet step → IsQuiet other
 not_quiet step other e is = subst IsQuiet e is
-
-none_handed : (c : Committed) (step : Step) → HandsOut c step → IsQuiet step → ⊥
-none_handed c steps.Nothing hands is = hands
-none_handed c (steps.Begin xid) hands is = hands
-none_handed c (steps.Open xid) hands is = hands
-none_handed c (steps.Item xid item) hands is = hands
-none_handed c (steps.Commit xid info items) hands is = is
-none_handed c (steps.Abort xid) hands is = hands
 
 opened_served : (g : Setting) (s t : State) (xid : ℕ) (way : Way) → (way ≡ Worker → ⊥) → AreServed (length g.catalog) s.transactions → t.transactions ≡ finite.insert s.transactions xid (new_open way) → AreServed (length g.catalog) t.transactions
 opened_served g s t xid way unserved served e = subst (AreServed (length g.catalog)) (sym e) (AreServed-insert (length g.catalog) s.transactions xid (new_open way) served (record { way = unserved; items = All-nil (IsOfTables (length g.catalog)) }))
@@ -187,7 +163,7 @@ quiet g s t (Gives xid Spooled item size) step first second served none tells wi
       begun = begun_beside s t xid _ first second tells.2.transactions streamed (λ p there. let one : Some o ≡ Some p = sym tells.2.present ∙ there in let e : o ≡ p = cc in subst (λ (q : Open). q.way ≢ Direct) e streamed);
       served = subst (AreServed (length g.catalog)) (sym tells.2.transactions) (served_more g s xid o item size served tells.2.present within);
     }
-quiet g s t (Commits c) step first second served none tells within says is = absurd (none_handed c step says is)
+quiet g s t (Commits c) step first second served none tells within says is = absurd (by_commit IsQuiet (λ xid info items is. is) c step says is)
 quiet g s t (Aborts xid Direct) step first second served none tells within says is = absurd within
 quiet g s t (Aborts xid Worker) step first second served none tells within says is = absurd ((served xid tells.0 tells.2.present).way tells.1)
 quiet g s t (Aborts xid Spooled) step first second served none tells within says is = record {
@@ -200,10 +176,6 @@ quiet g s t (Aborts xid Spooled) step first second served none tells within says
 -- an item that is handed on is a change of the transaction that was begun
 pub given : (g : Setting) (s t : State) (told : Told) (x : ℕ) (i : Item) → IsSane s → IsSane t → AreServed (length g.catalog) s.transactions → Tells s t told → IsWithin g told → Says told (steps.Item x i)
     → IsOfTables (length g.catalog) i × GoesOn g s t (changes_of (i ∷ []))
-given g s t Nothing x i first second served tells within says = absurd cc
-given g s t (Opens xid Direct) x i first second served tells within says = absurd cc
-given g s t (Opens xid Worker) x i first second served tells within says = absurd cc
-given g s t (Opens xid Spooled) x i first second served tells within says = absurd cc
 given g s t (Gives xid Direct item size) x i first second served tells within says =
     let same : item ≡ i = cc in
     let o = tells.0 in (
@@ -216,11 +188,10 @@ given g s t (Gives xid Direct item size) x i first second served tells within sa
       },
     )
 given g s t (Gives xid Worker item size) x i first second served tells within says = absurd ((served xid tells.0 tells.2.present).way tells.1)
-given g s t (Gives xid Spooled item size) x i first second served tells within says = absurd cc
 given g s t (Commits c) x i first second served tells within says = absurd says
+given g s t (Opens xid Direct) x i first second served tells within says = absurd cc
 given g s t (Aborts xid Direct) x i first second served tells within says = absurd cc
-given g s t (Aborts xid Worker) x i first second served tells within says = absurd cc
-given g s t (Aborts xid Spooled) x i first second served tells within says = absurd cc
+given g s t told x i first second served tells within says = absurd cc
 
 -- ---- a commit
 
@@ -268,16 +239,6 @@ handed_named P xid Spooled items all =
 
 pub committed_by : (g : Setting) (s t : State) (told : Told) (xid commit end : ℕ) (items : Vec Item Global) → IsSane s → IsSane t → AreServed (length g.catalog) s.transactions → Tells s t told → Says told (steps.Commit xid (record { commit = commit; end = end }) items)
     → IsCommitted g s t xid commit end items.items
-committed_by g s t Nothing xid commit end items first second served tells says = absurd cc
-committed_by g s t (Opens x Direct) xid commit end items first second served tells says = absurd cc
-committed_by g s t (Opens x Worker) xid commit end items first second served tells says = absurd cc
-committed_by g s t (Opens x Spooled) xid commit end items first second served tells says = absurd cc
-committed_by g s t (Gives x Direct item size) xid commit end items first second served tells says = absurd cc
-committed_by g s t (Gives x Worker item size) xid commit end items first second served tells says = absurd cc
-committed_by g s t (Gives x Spooled item size) xid commit end items first second served tells says = absurd cc
-committed_by g s t (Aborts x Direct) xid commit end items first second served tells says = absurd cc
-committed_by g s t (Aborts x Worker) xid commit end items first second served tells says = absurd cc
-committed_by g s t (Aborts x Spooled) xid commit end items first second served tells says = absurd cc
 committed_by g s t (Commits c) xid commit end items first second served tells says =
     let was = served c.xid (record { way = c.way; items = c.items }) tells.present in
     let ends : c.info.end ≡ end = ap (λ (i : CommitInfo). i.end) (sym says.1) in
@@ -293,6 +254,10 @@ committed_by g s t (Commits c) xid commit end items first second served tells sa
       served = subst (AreServed (length g.catalog)) (sym tells.transactions) (AreServed-remove (length g.catalog) s.transactions c.xid served);
       named = subst (All (IsOfTables (length g.catalog))) (sym says.2) (handed_named (IsOfTables (length g.catalog)) c.xid c.way c.items was.items);
     }
+committed_by g s t (Opens x Direct) xid commit end items first second served tells says = absurd cc
+committed_by g s t (Gives x Direct item size) xid commit end items first second served tells says = absurd cc
+committed_by g s t (Aborts x Direct) xid commit end items first second served tells says = absurd cc
+committed_by g s t told xid commit end items first second served tells says = absurd cc
 
 -- ---- what a commit leaves of the run
 
@@ -321,54 +286,40 @@ module _ (g : Setting) (s t : State) (xid commit end : ℕ) (items : List Item) 
   ends_at = ap last_end is.past ∙ last_end-push s.past is.transaction ∙ ap (λ (i : CommitInfo). i.end) is.info_is
 
   pub commits_one : commits_from s t ≡ true
-  commits_one = lt-ltb (length s.past) (length t.past) (rw is.past (omega (arith, length-append s.past (is.transaction ∷ []))))
-
--- the progress that a commit leads to
-abbrev pub committed_to : Progress → State → Progress
-committed_to p t = record { state = t; seen = p.seen; updates = p.updates ++ due_updates true t p.seen }
+  commits_one = one_committed s t is.transaction is.past
 
 pub commit_taken : (g : Setting) (rows : Rows) (a b : Applier) (p : Progress) (payload : List ℕ) (m : Message) (t : State) (xid commit end : ℕ) (items : List Item) (w : OpenWork) → IsAt g rows a p → Admits g p.state payload m t → IsCommitted g p.state t xid commit end items → Represents g b.session t
     → IsClear (schema_of g) (serial (schema_of g) rows (all_changes p.state)) (changes_of items)
     → w ≡ with_changes a.work (changes_of items) → b.work ≡ record { schema = w.schema; base = rows_now w; changes = [] }
     → map transaction_of b.journal.items ≡ map transaction_of a.journal.items ++ record { xid = xid; changes = w.changes; commit = commit; end = end } ∷ []
     → b.position ≡ end → b.written ≡ max a.written end → b.catalog ≡ a.catalog
-    → HasTaken g rows b p payload true
-commit_taken g rows a b p payload m t xid commit end items w at admits is session clear more settled journal position written catalog = record {
-  message = m;
-  progress = committed_to p t;
-  admits = admits;
-  seen = refl;
-  commits = sym (commits_one g p.state t xid commit end items is);
-  updates = refl;
-  at = record {
-    workers = at.workers;
-    catalog = at.catalog ∙ rw catalog;
-    session = session;
-    served = is.served;
-    commits = record {
-      schema = ap (λ (v : OpenWork). v.schema) settled ∙ ap (λ (v : OpenWork). v.schema) more ∙ at.commits.schema;
-      base =
-          ap (λ (v : OpenWork). v.base) settled ∙ ap rows_now more ∙ rows_with a.work (changes_of items)
-          ∙ ap (λ (sch : Schema). serial sch (rows_now a.work) (changes_of items)) at.commits.schema
-          ∙ ap (λ (r : Rows). serial (schema_of g) r (changes_of items)) (rows_at g rows a p at)
-          ∙ sym (serial_append (schema_of g) rows (all_changes p.state) (changes_of items))
-          ∙ ap (serial (schema_of g) rows) (sym (committed_is g p.state t xid commit end items is));
-      journal =
-          journal
-          ∙ ap (λ ts. ts ++ record { xid = xid; changes = w.changes; commit = commit; end = end } ∷ []) at.commits.journal
-          ∙ ap (λ cs. commits p.state ++ record { xid = xid; changes = cs; commit = commit; end = end } ∷ []) (ap (λ (v : OpenWork). v.changes) more ∙ ap (λ cs. cs ++ changes_of items) at.begun)
-          ∙ sym (commits_more g p.state t xid commit end items is);
-      position = position ∙ sym (ends_at g p.state t xid commit end items is);
-    };
-    reached = is.position ∙ sym (ends_at g p.state t xid commit end items is);
-    begun = ap (λ (v : OpenWork). v.changes) settled ∙ sym is.begun;
-    clear = subst (IsClear (schema_of g) rows) (sym (done_is g p.state t xid commit end items is)) (IsClear-append (schema_of g) rows (all_changes p.state) (changes_of items) at.clear clear);
-    seen = written ∙ ap (λ n. max n end) at.seen ∙ ap (max (max p.seen p.state.position)) (sym is.position) ∙ later_max p.seen p.state.position t.position (subst (λ n. p.state.position < n) (sym is.position) is.later);
-  };
-}
-  where
-    later_max : (a b c : ℕ) → b < c → max (max a b) c ≡ max a c
-    later_max a b c lt = omega arith
+    → HasTaken g (IsAt g rows b) p payload true
+commit_taken g rows a b p payload m t xid commit end items w at admits is session clear more settled journal position written catalog =
+    taken_commit g (IsAt g rows b) p payload m t admits (commits_one g p.state t xid commit end items is) (record {
+      workers = at.workers;
+      catalog = at.catalog ∙ rw catalog;
+      session = session;
+      served = is.served;
+      commits = record {
+        schema = ap (λ (v : OpenWork). v.schema) settled ∙ ap (λ (v : OpenWork). v.schema) more ∙ at.commits.schema;
+        base =
+            ap (λ (v : OpenWork). v.base) settled ∙ ap rows_now more ∙ rows_with a.work (changes_of items)
+            ∙ ap (λ (sch : Schema). serial sch (rows_now a.work) (changes_of items)) at.commits.schema
+            ∙ ap (λ (r : Rows). serial (schema_of g) r (changes_of items)) (rows_at g rows a p at)
+            ∙ sym (serial_append (schema_of g) rows (all_changes p.state) (changes_of items))
+            ∙ ap (serial (schema_of g) rows) (sym (committed_is g p.state t xid commit end items is));
+        journal =
+            journal
+            ∙ ap (λ ts. ts ++ record { xid = xid; changes = w.changes; commit = commit; end = end } ∷ []) at.commits.journal
+            ∙ ap (λ cs. commits p.state ++ record { xid = xid; changes = cs; commit = commit; end = end } ∷ []) (ap (λ (v : OpenWork). v.changes) more ∙ ap (λ cs. cs ++ changes_of items) at.begun)
+            ∙ sym (commits_more g p.state t xid commit end items is);
+        position = position ∙ sym (ends_at g p.state t xid commit end items is);
+      };
+      reached = is.position ∙ sym (ends_at g p.state t xid commit end items is);
+      begun = ap (λ (v : OpenWork). v.changes) settled ∙ sym is.begun;
+      clear = subst (IsClear (schema_of g) rows) (sym (done_is g p.state t xid commit end items is)) (IsClear-append (schema_of g) rows (all_changes p.state) (changes_of items) at.clear clear);
+      seen = written ∙ ap (λ n. max n end) at.seen ∙ ap (max (max p.seen p.state.position)) (sym is.position) ∙ later_max p.seen p.state.position t.position (subst (λ n. p.state.position < n) (sym is.position) is.later);
+    })
 
 -- ---- between what the work has and what the definitions say
 

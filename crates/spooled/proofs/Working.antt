@@ -19,20 +19,8 @@ use Rattle.model.specs.declared.item.Item.{Item}
 use Rattle.model.specs.declared.item.Item.TheVariants.{Change as ItemChange}
 use Rattle.model.specs.Survivors.{changes_of}
 use Rattle.model.specs.SurvivorLaws.{changes_of_both}
-use Rattle.spooled.specs.Work.{OpenWork, rows_now, IsClear, ClashesAs, ClashesIn}
-
--- putting the inverse of a change back gives the rows before it
-pub rows_back : (old new : Content) (c : Change) (i : Inverse) → new.rows ≡ effect old.schema old.rows c → edits_of i ≡ inverse old.schema old.rows c → back new.rows (edits_of i) ≡ old.rows
-rows_back old new c i rows edits =
-    ap (λ (r : Rows). back r (edits_of i)) rows ∙ ap (back (effect old.schema old.rows c)) edits ∙ back_of_inverse old.schema old.rows c
-
--- the rows without the open work are the same with one change more
-pub base_back : (old new : Content) (is : List Inverse) (i : Inverse) → back new.rows (edits_of i) ≡ old.rows → all_back new.rows (map edits_of (is ++ i ∷ [])) ≡ all_back old.rows (map edits_of is)
-base_back old new is i rows =
-    sym (rows_undone new (is ++ i ∷ []))
-    ∙ ap (λ (t : Content). t.rows) (content_undone_last new is i)
-    ∙ rows_undone (content_back new i) is
-    ∙ ap (λ (r : Rows). all_back r (map edits_of is)) rows
+use Rattle.change.specs.Refusal.{ClashesAs}
+use Rattle.spooled.specs.Work.{OpenWork, rows_now, IsClear, ClashesIn}
 
 -- what can be undone is of tables that are there
 pub known_all : (t : Content) (is : List Inverse) → CanUndo t is → AreKnownAll t.schema is

@@ -16,6 +16,7 @@ use Rattle.spooled.specs.declared.applier.Applier.{Applier}
 use Rattle.spooled.specs.Work.{IsClear}
 use Rattle.spooled.specs.Commits.{transaction_of, commits, committed_changes, begun_changes, all_changes, last_end}
 use Rattle.spooled.specs.Progress.{Progress, due_updates, commits_from}
+use Rattle.spooled.specs.Handler.{HasTaken}
 use Rattle.spooled.specs.Cause.{LastStep, schema_of, IsNextCause, IsLastCause}
 
 -- The open transaction has no worker, and its items name tables among the first so many.
@@ -52,16 +53,6 @@ IsAtSome a = (g : Setting) × (rows : Rows) × (p : Progress) × IsAt g rows a p
 
 -- ---- a message
 
--- The message was taken. Whether it commits is answered.
-pub record HasTaken (g : Setting) (rows : Rows) (a : Applier) (p : Progress) (payload : List ℕ) (is_commit : Bool) : Type 0 where
-  pub message : Message
-  pub progress : Progress
-  pub admits : Admits g p.state payload message progress.state
-  pub seen : progress.seen ≡ p.seen
-  pub commits : is_commit ≡ commits_from p.state progress.state
-  pub updates : progress.updates ≡ p.updates ++ due_updates is_commit progress.state progress.seen
-  pub at : IsAt g rows a progress
-
 -- The message ended the run: it may not come or clashes as it commits, or it was taken and clashed then.
 abbrev pub EndsByMessage : Setting → Rows → Applier → Progress → List ℕ → End → Type 0
 EndsByMessage g rows a p payload end =
@@ -72,7 +63,7 @@ EndsByMessage g rows a p payload end =
 
 -- The message was taken, or it ended the run.
 abbrev pub TakesMessage : Setting → Rows → Applier → Progress → List ℕ → Result Bool End → Type 0
-TakesMessage g rows a p payload result = MatchResult result (HasTaken g rows a p payload) (EndsByMessage g rows a p payload)
+TakesMessage g rows a p payload result = MatchResult result (HasTaken g (IsAt g rows a) p payload) (EndsByMessage g rows a p payload)
 
 -- ---- an item
 

@@ -1,4 +1,5 @@
 -- What a run's loop knows of whatever takes the items of its stream.
+--     HasTaken      a message was taken
 --     HasHandled, EndsByItem, HandlesItem      an item was handled, or it ended the run
 --     HasTold      the status updates so far were sent
 --     HasCome, StopsAt      the items so far were handled; they were, and the run ends there
@@ -6,19 +7,22 @@
 --     IsUnderWay      some items were handled
 --     end_of, IsRunOver      the end that an answer says; the run is over
 use Rattle.std.specs.Prelude.{◌≡◌, ℕ, ℤ, Bool, List, [], ◌∷◌, ◌++◌, length, Result, Ok, Err, MatchResult, ◌⊎◌}
-use Rattle.std.specs.Io.KnownBytes.{Appends, Consumes}
+use Rattle.std.specs.Io.KnownBytes.{Appends}
 use Rattle.model.specs.Rows.{Rows}
 use Rattle.frames.specs.declared.item.CopyItem.{CopyItem}
 use Rattle.frames.specs.Device.{HasWorked}
 use Rattle.frames.specs.Stream.{Reading, copy_items}
 use Rattle.frames.specs.Reads.{HasRead}
+use Rattle.messages.specs.declared.message.Message.{Message}
 use Rattle.session.specs.State.{Setting}
+use Rattle.session.specs.Lawful.{Admits}
 use Rattle.spooled.specs.declared.end.End.{End}
 use Rattle.spooled.specs.declared.end.End.TheVariants as ends
-use Rattle.spooled.specs.Progress.{Progress, Handles, Leads, start_progress, Update, due_updates, status_bytes}
+use Rattle.spooled.specs.Progress.{Progress, Handles, Leads, start_progress, Update, due_updates, commits_from, status_bytes}
 use Rattle.spooled.specs.Clock.{Ticks}
 use Rattle.spooled.specs.Cause.{AreAllSent, IsSendCause, IsInputCause}
 use Rattle.spooled.specs.Devices.{DeviceState}
+use Rattle.spooled.specs.StreamPart.{StreamPart}
 
 -- The status updates so far were sent, each with its time, and the writer has not failed.
 pub record HasTold (old new : DeviceState) (updates : List Update) : Type 0 where
@@ -37,6 +41,16 @@ end_of (Err end) = end
 abbrev pub IsUnderWay : {H : Type 0} → (Setting → Rows → H → Progress → Type 0) → H → Type 0
 IsUnderWay IsAt h =
     (g : Setting) × (rows : Rows) × (handled : List CopyItem) × (p : Progress) × Leads g start_progress handled p × IsAt g rows h p
+
+-- A message was taken, which led to this progress, at which whatever took it stands. Whether it commits is answered.
+pub record HasTaken (g : Setting) (IsAt : Progress → Type 0) (p : Progress) (payload : List ℕ) (is_commit : Bool) : Type 0 where
+  pub message : Message
+  pub progress : Progress
+  pub admits : Admits g p.state payload message progress.state
+  pub seen : progress.seen ≡ p.seen
+  pub commits : is_commit ≡ commits_from p.state progress.state
+  pub updates : progress.updates ≡ p.updates ++ due_updates is_commit progress.state progress.seen
+  pub at : IsAt progress
 
 -- The handler stands at a progress; or it ended a run so, these items handled, which led to this progress, with those
 -- left. What it says by this is its own.
@@ -100,16 +114,7 @@ module _ {H : Type 0} (g : Setting) (IsAt : H → Progress → Type 0) (HasEnded
 
   -- The run is over, with these items of the bytes left: an item ended it, an update that was due, or the input.
   pub record IsRunOver (old new : DeviceState) (h : H) (end : End) : Type 0 where
-    pub bytes : List ℕ
-    pub read : Consumes old.unread new.unread bytes
-    pub handled : List CopyItem
-    pub rest : List CopyItem
-    pub items : handled ++ rest ≡ copy_items bytes
-    pub progress : Progress
-    pub lawful : Leads g start_progress handled progress
-    pub times : List ℤ
-    pub told : Ticks old.times new.times times
-    pub counted : length times ≡ length progress.updates
-    pub why : IsEnded old new h handled progress times rest end
-        ⊎ (IsSendCause g (IsAt h progress) old new handled progress times end
-        ⊎ IsInputCause g (IsAt h progress) old new handled progress times bytes rest end)
+    pub part : StreamPart g old new
+    pub why : IsEnded old new h part.handled part.progress part.times part.rest end
+        ⊎ (IsSendCause g (IsAt h part.progress) old new part.handled part.progress part.times end
+        ⊎ IsInputCause g (IsAt h part.progress) old new part.handled part.progress part.times part.bytes part.rest end)

@@ -8,6 +8,7 @@ pub mod Clock
 pub mod Ends
 pub mod Cause
 pub mod Devices
+pub mod StreamPart
 pub mod Run
 pub mod Handler
 pub mod Applier

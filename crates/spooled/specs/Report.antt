@@ -5,6 +5,8 @@ use Rattle.model.specs.Definition.{Definition}
 use Rattle.model.specs.declared.row.Row.{Row}
 use Rattle.model.specs.Rows.{Rows}
 use Rattle.model.specs.TableRows.{rows_of_table}
+use Rattle.model.specs.Types.{value_text}
+use Rattle.model.specs.Types.Text.{escaped_text}
 use Rattle.frames.specs.declared.fault.FrameFault.{FrameFault}
 use Rattle.frames.specs.declared.fault.FrameFault.TheVariants as frames
 use Rattle.messages.specs.declared.fault.MsgFault.{MsgFault}
@@ -15,7 +17,7 @@ use Rattle.relcache.specs.declared.fault.RelFault.{RelFault}
 use Rattle.relcache.specs.declared.fault.RelFault.TheVariants as relations
 use Rattle.spooled.specs.declared.end.End.{End}
 use Rattle.spooled.specs.declared.end.End.TheVariants as ends
-use Rattle.spooled.specs.Text.{escaped_text, value_text, lsn_text}
+use Rattle.spooled.specs.Text.{lsn_text}
 
 -- ---- the tables
 

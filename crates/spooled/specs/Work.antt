@@ -1,18 +1,18 @@
 -- The tables while the changes of one transaction are open in them.
 --     OpenWork      the rows without the open work, and the changes that are open
---     HasNoClash, IsClear      a change, or each of a list in turn, does not clash
+--     IsClear      each of a list in turn does not clash
 --     ClashesIn      the first of them that clashes, and why
-use Rattle.std.specs.Prelude.{◌≡◌, ◌≢◌, List, [], ◌∷◌, ◌++◌, refl}
+use Rattle.std.specs.Prelude.{◌≡◌, List, [], ◌∷◌, ◌++◌, refl}
 use Rattle.std.specs.Coded.{Coded, code_by, coded×, coded_list, coded_ℕ}
 use Rattle.std.specs.FinMap.{code}
 use Rattle.rows.specs.KeptCode.{key_code, row_code}
 use Rattle.indexes.specs.Codes.{keys_code}
 use Rattle.model.specs.Rows.{Schema, Rows}
-use Rattle.model.specs.Effect.{ClashCause, Clashes, NullKey, Unique, outcome, effect, serial}
+use Rattle.model.specs.Effect.{effect, serial}
 use Rattle.model.specs.contracts.change.Change as change_type
 use Rattle.model.specs.declared.change.Change.{Change}
 use Rattle.change.specs.declared.outcome.Clash.{Clash}
-use Rattle.change.specs.declared.outcome.Clash.TheVariants.{Unique as UniqueClash, NullKey as NullKeyClash, OutOfMemory}
+use Rattle.change.specs.Refusal.{HasNoClash, ClashesAs}
 
 -- the keys' columns, the rows without the open work, and the changes that are open
 pub record OpenWork : Type 0 where
@@ -24,20 +24,10 @@ pub record OpenWork : Type 0 where
 abbrev pub rows_now : OpenWork → Rows
 rows_now w = serial w.schema w.base w.changes
 
--- the change does not clash
-abbrev pub HasNoClash : Schema → Rows → Change → Type 0
-HasNoClash schema rows c = (cause : ClashCause) → outcome schema rows c ≢ Clashes cause
-
 -- none of the changes clashes, each after those before it
 abbrev pub IsClear : Schema → Rows → List Change → Type 0
 IsClear schema rows [] = Unit {0}
 IsClear schema rows (c ∷ cs) = HasNoClash schema rows c × IsClear schema (effect schema rows c) cs
-
--- the change clashes so; or memory was refused
-abbrev pub ClashesAs : Schema → Rows → Change → Clash → Type 0
-ClashesAs schema rows c (UniqueClash table key) = outcome schema rows c ≡ Clashes (Unique table key)
-ClashesAs schema rows c (NullKeyClash table) = outcome schema rows c ≡ Clashes (NullKey table)
-ClashesAs schema rows c OutOfMemory = Unit {0}
 
 -- one of the changes is the first that clashes, and it clashes so; or memory was refused
 pub record ClashesIn (schema : Schema) (rows : Rows) (cs : List Change) (clash : Clash) : Type 0 where

@@ -11,11 +11,11 @@ use crate::end::End;
 use crate::outcome::Outcome;
 use catalog::Catalog;
 use indexes::Tables;
-use model::{OutOfMemory, TableDef, TableId};
+use model::{OutOfMemory, TableDef, TableId, types};
 use names::{frame_fault, message_fault, relation_fault, session_fault};
 use rows::{RowView, Walk};
 use std::alloc::{AllocError, Global};
-use text::{push_escaped, push_lsn, push_number, push_value};
+use text::{push_lsn, push_number, push_value};
 
 /// Appends the report: for each table a line with its name and number of rows, and its rows in key
 /// order; then the position; then the end. Refused for memory, it leaves `out` as it was.
@@ -107,9 +107,9 @@ fn push_rows(text: &mut Vec<u8>, rows: Walk<'_>) -> Result<(), OutOfMemory>
 fn push_name(text: &mut Vec<u8>, definition: &TableDef) -> Result<(), AllocError>
     ensures { OnOk result (text.new.items ≡ text.old.items ++ name_text definition.now) }
 {
-    push_escaped(text, definition.namespace().as_bytes().as_slice())?;
+    types::text::push(text, definition.namespace().as_str())?;
     text.push(b'.')?;
-    push_escaped(text, definition.name().as_bytes().as_slice())
+    types::text::push(text, definition.name().as_str())
 }
 
 /// A row's values, divided by `|`.

@@ -1,14 +1,15 @@
 // The tables while work is open in them.
 ghost use Rattle.std.specs.Prelude.{◌≡◌, ◌<◌, [], ◌∷◌, ◌++◌, OnOk, OnErr, IfErr, All, length, map};
-ghost use Rattle.model.specs.Effect.{effect, all_back, serial};
+ghost use Rattle.model.specs.Effect.{all_back, serial};
 ghost use Rattle.change.specs.Inverse.{edits_of};
+ghost use Rattle.change.specs.Refusal.{HasNoClash, ClashesAs};
 ghost use Rattle.undo.specs.Undo.{CanUndo};
 ghost use Rattle.model.specs.Survivors.{changes_of};
 ghost use Rattle.model.specs.Named.{NamesTables};
 ghost use Rattle.session.specs.Answers.{IsOfTables};
-ghost use Rattle.spooled.specs.Work.{HasNoClash, IsClear, ClashesAs, ClashesIn, rows_now};
+ghost use Rattle.spooled.specs.Work.{IsClear, ClashesIn, rows_now};
 
-use change::{Applied, Clash, apply};
+use change::Clash;
 use engine::Changes;
 use indexes::Tables;
 use model::{Change, Xid};
@@ -63,7 +64,7 @@ impl Work {
         ensures err { OnErr result (self.new ≡ self.old) }
     {
         self.items.reserve(1)?;
-        apply_logged(alloc, &mut self.tables, &mut self.undo, &change)?;
+        self.undo.apply(alloc, &mut self.tables, &change)?;
         self.items.push_reserved(Item::Change { sub, change });
         Ok(())
     }
@@ -182,35 +183,7 @@ fn apply_item(
     ensures can_undo { CanUndo tables.new undo.new.inverses }
 {
     match item {
-        Item::Change { change, .. } => apply_logged(alloc, tables, undo, change),
+        Item::Change { change, .. } => undo.apply(alloc, tables, change),
         Item::Touch(_) | Item::BackTo(_) | Item::Last => Ok(()),
-    }
-}
-
-/// Applies a change, and logs what takes it back. A refusal changes no row.
-fn apply_logged(
-    alloc: Global,
-    tables: &mut Tables,
-    undo: &mut UndoLog,
-    change: &Change,
-) -> Result<(), Clash>
-    requires tables { NamesTables (length tables.old.schema) change.now }
-    requires can_undo { CanUndo tables.old undo.old.inverses }
-    ensures passes { OnOk result (HasNoClash tables.old.schema tables.old.rows change.now) }
-    ensures ok { OnOk result (tables.new.rows ≡ effect tables.old.schema tables.old.rows change.now) }
-    ensures refused { IfErr result (ClashesAs tables.old.schema tables.old.rows change.now) }
-    ensures err { OnErr result (tables.new.rows ≡ tables.old.rows) }
-    ensures base { all_back tables.new.rows (map edits_of undo.new.inverses) ≡ all_back tables.old.rows (map edits_of undo.old.inverses) }
-    ensures schema { tables.new.schema ≡ tables.old.schema }
-    ensures can_undo { CanUndo tables.new undo.new.inverses }
-{
-    undo.reserve()?;
-    match apply(alloc, tables, change) {
-        Ok(Applied::Done(inverse)) => {
-            undo.push_reserved(inverse);
-            Ok(())
-        }
-        Ok(Applied::Skipped) => Ok(()),
-        Err(clash) => Err(clash),
     }
 }

@@ -1,34 +1,26 @@
 -- What a scene of the tests keeps of its tickets and of what is open, once a call has altered its store.
-use Rattle.std.proofs.Common.{◌≡◌, ◌≢◌, ℕ, ◌⊎◌, Bool, true, false, List, [], Option, Some, None, refl, sym, ap, subst, ◌∙◌, inl, inr, is_some, true≢false}
+use Rattle.std.proofs.Common.{◌≡◌, ◌≢◌, ℕ, true, false, List, [], Option, Some, None, refl, sym, ap, subst, ◌∙◌, inl, inr, is_some, true≢false, length}
 use Rattle.std.specs.Prelude.{Result, Ok, Err, OnOk, OnErr}
 use Rattle.std.specs.Ordering.{nat_cmp}
 use Rattle.std.specs.Cmp.{unsigned_tied}
 use Rattle.std.specs.Map.{lookup}
 use Rattle.std.specs.BTreeMap as tree
-use Rattle.std.specs.BTreeMap.{BTreeMap, btree_map_len}
+use Rattle.std.specs.BTreeMap.{btree_map_len}
 use Rattle.std.specs.FinMap as finite
 use Rattle.std.proofs.lemmas.Bool.{ne_eqb}
 use Rattle.std.proofs.lemmas.List.{nil_from_length}
 use Rattle.model.specs.declared.change.Change as change_type
 use Rattle.model.specs.Rows.{Schema}
-use Rattle.tokens.specs.Half.{Name}
+use Rattle.tokens.specs.Half.{Name, Half}
 use Rattle.tokens.specs.Lists.{OpenList}
 use Rattle.world.specs.World.{Opened, OpenOnes, World}
-use Rattle.world.specs.ListingLaws.{xid_cases, got_same, got_other, gone_same, gone_other, same_by_xid}
+use Rattle.world.specs.ListingLaws.{xid_cases, got_other, gone_same, gone_other, same_by_xid}
 use Rattle.world.specs.Steps.{Fault, Acted, IsDone, IsSkipped, Held, Clashed, AlreadyOpen, TooManyOpen, Stopped, OutOfMemory, Opens, Acts, Touches}
 use Rattle.engine.specs.declared.events.Event.{Event}
-
--- the tickets that a scene has, by their numbers
-abbrev pub Tickets : Type 0
-Tickets = BTreeMap ℕ (OpenList Event)
-
--- each is of the store of this name, and lies at its own number
-abbrev pub Belong : Name → Tickets → Type 0
-Belong name tickets = (xid : ℕ) (t : OpenList Event) → tree.get nat_cmp tickets xid ≡ Some t → (t.name ≡ name) × (t.number ≡ xid)
-
--- there is one of each transaction that is open
-abbrev pub Know : OpenOnes → Tickets → Type 0
-Know opened tickets = (xid : ℕ) → is_some (finite.get opened xid) ≡ true → is_some (tree.get nat_cmp tickets xid) ≡ true
+use Rattle.engine.specs.declared.events.LineEvent.{LineEvent}
+use Rattle.engine.specs.Engine.{Engine, IsOtherwiseSame}
+use Rattle.engine.specs.Events.{last_end}
+use Rattle.table_tests.specs.Scenes.{Tickets, Belong, Know, IsScene}
 
 -- the same transactions but one are open
 abbrev pub AreOpenBeside : ℕ → OpenOnes → OpenOnes → Type 0
@@ -64,15 +56,28 @@ know_put old new was now xid t know update alike other there =
     ]
 
 -- a ticket was written through a borrow, and another call of its transaction was made
-pub written : (old new : Tickets) (name later : Name) (was now : OpenOnes) (xid : ℕ) (t u : OpenList Event) → Belong name old → Know was old
-    → tree.get nat_cmp old xid ≡ Some t → later ≡ name → tree.WritesThrough nat_cmp (nat_cmp xid) old u new
-    → (u.name ≡ t.name) × (u.number ≡ t.number) → AreOpenBeside t.number was now → Belong later new × Know now new
-written old new name later was now xid t u belong know at same writes alike_ticket alike =
-    let mine = belong xid t at in
-    let update = writes.3 (ap is_some at) in (
-      belong_put old new name later xid u belong same update (alike_ticket.0 ∙ mine.0 ∙ sym same) (alike_ticket.1 ∙ mine.1),
-      know_put old new was now xid u know update (subst (λ (n : ℕ). AreOpenBeside n was now) mine.1 alike),
-    )
+pub written : {old new : Engine} {line : Half LineEvent} {tickets later : Tickets} {end : ℕ} {t u : OpenList Event} (xid : ℕ) → IsScene old line tickets end
+    → IsOtherwiseSame old new → tree.get nat_cmp tickets xid ≡ Some t → tree.WritesThrough nat_cmp (nat_cmp xid) tickets u later
+    → (u.name ≡ t.name) × (u.number ≡ t.number) → AreOpenBeside t.number old.world.opened new.world.opened → IsScene new line later end
+written {old} {new} {line} {tickets} {later} {end} {t} {u} xid keeps same at writes alike_ticket alike =
+    let mine = keeps.belong xid t at in
+    let update = writes.3 (ap is_some at) in
+    record {
+      counted = ap (λ (s : Schema). length s) same.schema ∙ keeps.counted;
+      lined = keeps.lined ∙ sym same.line;
+      ended = keeps.ended;
+      belong = belong_put tickets later old.tickets new.tickets xid u keeps.belong same.tickets update
+          (alike_ticket.0 ∙ mine.0 ∙ sym same.tickets) (alike_ticket.1 ∙ mine.1);
+      known = know_put tickets later old.world.opened new.world.opened xid u keeps.known update (subst (λ (n : ℕ). AreOpenBeside n old.world.opened new.world.opened) mine.1 alike);
+    }
+
+-- a store that a call left as it was
+pub unaltered : (old new : Engine) → new ≡ old → IsOtherwiseSame old new
+unaltered old new is = record {
+  schema = ap (λ (e : Engine). e.schema) is;
+  tickets = ap (λ (e : Engine). e.tickets) is;
+  line = ap (λ (e : Engine). e.line.name) is;
+}
 
 -- a ticket of which a list is told
 pub told_more : (t u : OpenList Event) (more : List Event) → u ≡ record t { list = more } → (u.name ≡ t.name) × (u.number ≡ t.number)
@@ -104,6 +109,20 @@ know_gone old new was now xid know update gone other there =
       | inr apart ↦ ap is_some (beside xid None old new update other apart)
           ∙ know other (sym (ap is_some (ap (λ (m : OpenOnes). finite.get m other) gone ∙ gone_other was xid other apart)) ∙ there)
     ]
+
+-- its transaction has ended, which the line tells
+pub has_ended : (old new : Engine) (line told : Half LineEvent) (tickets later : Tickets) (end behind xid : ℕ) (t : OpenList Event) → IsScene old line tickets end
+    → IsOtherwiseSame old new → told ≡ new.line → last_end told.list ≡ behind → tree.get nat_cmp tickets xid ≡ Some t
+    → tree.Updates nat_cmp tickets later xid None → new.world.opened ≡ finite.remove old.world.opened t.number → IsScene new told later behind
+has_ended old new line told tickets later end behind xid t keeps same is ends at update gone =
+    record {
+      counted = ap (λ (s : Schema). length s) same.schema ∙ keeps.counted;
+      lined = ap (λ (l : Half LineEvent). l.name) is;
+      ended = ends;
+      belong = belong_gone tickets later old.tickets new.tickets xid keeps.belong same.tickets update;
+      known = know_gone tickets later old.world.opened new.world.opened xid keeps.known update
+          (gone ∙ ap (finite.remove old.world.opened) (keeps.belong xid t at).1);
+    }
 
 -- a ticket is handed back, and its transaction is gone again
 pub belong_again : (old new : Tickets) (name later : Name) → Belong name old → later ≡ name → new.entries ≡ old.entries → Belong later new

@@ -4,7 +4,7 @@
 --     slip_number, slip_list      the number and the list in the row of a badge
 --     IsBook      what a book's seat is
 --     joint_row, keeper_share, slip_share      rows joined, and cut
---     Opens, Appends, Meets, Closes      what the steps tell
+--     Opens, Appends, Closes      what the steps tell
 use Rattle.std.specs.Prelude.{◌≡◌, ℕ, List, [], ◌∷◌, ◌++◌, Option, Some, None}
 use Rattle.std.specs.FinMap as map
 use mathlib.Core.Option.{some}
@@ -92,9 +92,6 @@ module _ {X : Type 0} where
 
   abbrev pub Appends : List X → Me (Unit {0}) (Row X) → Me (Unit {0}) (Row X) → Type 0
   Appends items me next = IsOpenIn me.0 × (next ≡ (longer_row items me.0, []))
-
-  abbrev pub Meets : Me (Unit {0}) (Row X) → Me (Unit {0}) (Row X) → Type 0
-  Meets me next = IsOpenIn me.0 × (next ≡ me)
 
   -- the number is no longer open
   abbrev pub Closes : Me (Unit {0}) (Row X) → Me (Unit {0}) (Row X) → Type 0

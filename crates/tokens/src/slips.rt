@@ -149,14 +149,6 @@ impl<X, N: Items<X>> Play<(), Row<X>> for Appending<N> {
     ghost then = { λ _ me _ next. Appends N.items me next };
 }
 
-struct Meeting;
-
-impl<X> Play<(), Row<X>> for Meeting {
-    ghost use Rattle.tokens.specs.ManyLists.{Meets};
-
-    ghost then = { λ _ me _ next. Meets me next };
-}
-
 struct Closing;
 
 impl<X> Play<(), Row<X>> for Closing {
@@ -231,12 +223,7 @@ impl<X> Book<X> {
         ensures book { self.new ≡ self.old }
         ensures slip { slip.new ≡ slip.old }
     {
-        let table = &self.table;
-        let shared = &table.shared;
-        let badge = mem::replace(&mut slip.badge, Badge::blank());
-        shared.join_seat::<Joining>(&mut self.seat, badge.into_seat());
-        shared.load::<Meeting>(&mut self.seat, 0);
-        slip.badge = shared.split_seat::<SlipShare>(&mut self.seat).into_badge();
+        self.grow_by::<Brand>(slip);
     }
 
     /// Closes the slip's number, and learns that it was open, with just the slip's list.

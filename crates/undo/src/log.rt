@@ -1,15 +1,17 @@
 // The log of a transaction's inverses.
-ghost use Rattle.std.specs.Prelude.{◌≡◌, ◌+◌, ◌-◌, ◌<◌, ◌≤◌, [], ◌∷◌, ◌++◌, length, take, drop, map, slice_get, OnOk, vec_len, vec_capacity, Contains};
+ghost use Rattle.std.specs.Prelude.{◌≡◌, ◌+◌, ◌-◌, ◌<◌, ◌≤◌, [], ◌∷◌, ◌++◌, length, take, drop, map, slice_get, OnOk, OnErr, IfErr, vec_len, vec_capacity, Contains};
 ghost use Rattle.std.specs.Option.{option_map};
 ghost use Rattle.model.specs.declared.cell.Cell.{Cell};
-ghost use Rattle.model.specs.Effect.{all_back};
+ghost use Rattle.model.specs.Effect.{effect, all_back};
+ghost use Rattle.model.specs.Named.{NamesTables};
 ghost use Rattle.indexes.specs.Content.{Keeps};
 ghost use Rattle.change.specs.Inverse.{edits_of, IsKnown};
+ghost use Rattle.change.specs.Refusal.{HasNoClash, ClashesAs};
 ghost use Rattle.undo.specs.Undo.{content_undone, CanUndo, AreKnownAll, cells_settled, all_settled, IsSettled, AreSettled};
 
-use change::{Inverse, put_back};
+use change::{Applied, Clash, Inverse, apply, put_back};
 use indexes::Tables;
-use model::OutOfMemory;
+use model::{Change, OutOfMemory};
 use std::alloc::Global;
 use std::marker::Model;
 
@@ -61,6 +63,29 @@ impl UndoLog {
         ensures room { self.new.room + 1 ≡ self.old.room }
     {
         self.inverses.push_reserved(inverse);
+    }
+
+    /// Applies a change, and logs what takes it back. A refusal changes no row.
+    pub fn apply(&mut self, alloc: Global, t: &mut Tables, change: &Change) -> Result<(), Clash>
+        requires tables { NamesTables (length t.old.schema) change.now }
+        requires can { CanUndo t.old self.old.inverses }
+        ensures passes { OnOk result (HasNoClash t.old.schema t.old.rows change.now) }
+        ensures ok { OnOk result (t.new.rows ≡ effect t.old.schema t.old.rows change.now) }
+        ensures refused { IfErr result (ClashesAs t.old.schema t.old.rows change.now) }
+        ensures err { OnErr result (t.new.rows ≡ t.old.rows) }
+        ensures base { all_back t.new.rows (map edits_of self.new.inverses) ≡ all_back t.old.rows (map edits_of self.old.inverses) }
+        ensures schema { t.new.schema ≡ t.old.schema }
+        ensures can { CanUndo t.new self.new.inverses }
+    {
+        self.reserve()?;
+        match apply(alloc, t, change) {
+            Ok(Applied::Done(inverse)) => {
+                self.push_reserved(inverse);
+                Ok(())
+            }
+            Ok(Applied::Skipped) => Ok(()),
+            Err(clash) => Err(clash),
+        }
     }
 
     /// How many inverses there are: where `undo_to` can come back to.

@@ -1,5 +1,4 @@
 // A worker with its job.
-ghost use Rattle.std.specs.Prelude.{IfErr};
 ghost use Rattle.worker.specs.Working.{GoesOn, IsEndedBy};
 ghost use Rattle.worker.specs.declared.ended.Ended.{Ended as EndedBy};
 
@@ -43,37 +42,23 @@ pub fn work_on<N: StoreNames, L: LaneNames, G: Gate, R: Wait>(
     ensures goes_on { GoesOn job.old job.new }
     ensures ended { IsEndedBy result job.new }
 {
+    let xid = job.xid();
     let mut number = 1u64;
     for _ in rt.forever() {
-        if let Err(ended) = work_once(rt, alloc, store, changed, job, gate, number) {
+        if let Err(ended) = job.wait_next(rt) {
             return ended;
+        }
+        gate.pass(xid, Point::Before(number));
+        match job.do_next(rt, alloc, store, changed, gate) {
+            Ok(()) => gate.pass(xid, Point::After(number)),
+            Err(ended) => {
+                if ended == Ended::Clashed {
+                    gate.pass(xid, Point::Clash(number));
+                }
+                return ended;
+            }
         }
         number = number.saturating_add(1);
     }
     unreachable!()
-}
-
-// Does the next item, and tells the gate.
-fn work_once<N: StoreNames, L: LaneNames, G: Gate, R: Wait>(
-    rt: &R,
-    alloc: Global,
-    store: &Mutex<SharedStore<N>>,
-    changed: &Condvar,
-    job: &mut Job<N, L>,
-    gate: &mut G,
-    number: u64,
-) -> Result<(), Ended>
-    ensures goes_on { GoesOn job.old job.new }
-    ensures err { IfErr result (λ ended. IsEndedBy ended job.new) }
-{
-    let xid = job.xid();
-    job.wait_next(rt)?;
-    gate.pass(xid, Point::Before(number));
-    let done = job.do_next(rt, alloc, store, changed, gate);
-    match done {
-        Ok(()) => gate.pass(xid, Point::After(number)),
-        Err(Ended::Clashed) => gate.pass(xid, Point::Clash(number)),
-        Err(_) => {}
-    }
-    done
 }

@@ -46,7 +46,7 @@ pub no_live_change_clashes : NoLiveChangeClashes
 no_live_change_clashes schema start w reached = live_accepted schema w (fine schema start w reached)
 
 -- a call leaves the start rows
-start_stays : (schema : Schema) (w new : World) → Step schema w new → new.start ≡ w.start
+pub start_stays : (schema : Schema) (w new : World) → Step schema w new → new.start ≡ w.start
 start_stays schema w _ (opens xid (Ok u) new h) = ap (λ (v : World). v.start) h.3
 start_stays schema w _ (opens xid (Err AlreadyOpen) new h) = ap (λ (v : World). v.start) h.2
 start_stays schema w _ (opens xid (Err TooManyOpen) new h) = ap (λ (v : World). v.start) h.3
@@ -140,13 +140,13 @@ live_after_skip schema start w new reached rows live xid o is sub c h =
     (after schema start w new (done_with w xid o (Change sub c)) reached (acts xid o sub c (Ok IsSkipped) new is h) h.3)))
 
 pub live_after_held : LiveAfterHeld
-live_after_held schema start w new reached rows live xid o is sub c holder h =
+live_after_held holder schema start w new reached rows live xid o is sub c h =
     carried schema new (wanting w xid o sub c) rows h.2
     (live_wanting schema w (fine schema start w reached) rows live xid o is sub c w.stopped
     (after schema start w new (wanting w xid o sub c) reached (acts xid o sub c (Ok (Held holder)) new is h) h.2))
 
 pub live_after_clash : LiveAfterClash
-live_after_clash schema start w new reached rows live xid o is sub c cause h =
+live_after_clash cause schema start w new reached rows live xid o is sub c h =
     carried schema new (record (wanting w xid o sub c) { stopped = Some (ByClash xid c cause) }) rows h.3
     (live_wanting schema w (fine schema start w reached) rows live xid o is sub c (Some (ByClash xid c cause))
     (after schema start w new (record (wanting w xid o sub c) { stopped = Some (ByClash xid c cause) }) reached

@@ -238,6 +238,27 @@ fine_clashed schema w fine xid o sub c cause is free clashes =
         same_clashing schema new xid other after p c d cause why same.0 (same_open other p same.0 at) same.1 same.2
         (free_put schema w fine xid after (Some (ByClash xid c cause)) (footprint schema (own_rows schema w xid o) c) free, clashes)
 
+-- what clashed and was noted clashes still, where a transaction waits with nothing and holds no more cells than before
+pub noted_put : (schema : Schema) (w : World) → IsFine schema w → (xid : ℕ) (o after : Opened) → get w.opened xid ≡ Some o → after.wants ≡ None
+    → ((cells : List Cell) → shares_cell cells (holds schema w xid o) ≡ false → shares_cell cells (holds schema w xid after) ≡ false)
+    → StillClashes schema (record w { opened = finite.insert w.opened xid after })
+noted_put schema w fine xid o after is waits_not fewer other c cause stopped p named at wants =
+    elim (put_cases w.opened xid after other p at) [
+      | inl it ↦ absurd (not_none (named, c) (sym waits_not ∙ ap (λ (r : Opened). r.wants) (sym it.1) ∙ wants))
+      | inr was ↦
+          let before = fine.noted other c cause stopped p named was.1 wants in (
+            λ third q differs there.
+                elim (put_cases w.opened xid after third q there) [
+                  | inl it ↦
+                      ap (λ (n : ℕ). shares_cell (footprint schema (own_rows schema w other p) c) (holds schema w n q)) it.0
+                      ∙ ap (λ (r : Opened). shares_cell (footprint schema (own_rows schema w other p) c) (holds schema w xid r)) it.1
+                      ∙ fewer (footprint schema (own_rows schema w other p) c) (before.0 xid o (λ s. was.0 (sym s)) is)
+                  | inr too ↦ before.0 third q differs too.1
+                ],
+            before.1,
+          )
+    ]
+
 module _ (schema : Schema) (w : World) (fine : IsFine schema w) (xid : ℕ) (o : Opened) (sub : ℕ) (is : get w.opened xid ≡ Some o) where
   abbrev cut : Opened
   cut = record { items = o.items ++ BackTo sub ∷ []; wants = None }
@@ -258,28 +279,6 @@ module _ (schema : Schema) (w : World) (fine : IsFine schema w) (xid : ℕ) (o :
       apart_from_first cells (holds schema w xid cut) (held_cells schema (own_rows schema w xid cut) gone)
       (ap (shares_cell cells) (sym holds_were) ∙ free)
 
-  none_wanted : (sub : ℕ) (c : change_type.Change) (p : Opened) → p ≡ cut → ¬ (p.wants ≡ Some (sub, c))
-  none_wanted sub c p same wants = not_none (sub, c) (sym (ap (λ (r : Opened). r.wants) same) ∙ wants)
-
-  noted_cut : StillClashes schema (done_with w xid o (BackTo sub))
-  noted_cut other d why stopped p named at wants =
-      elim (put_cases w.opened xid cut other p at) [
-        | inl it ↦ absurd (none_wanted named d p it.1 wants)
-        | inr was ↦
-            let before = fine.noted other d why stopped p named was.1 wants in (
-              λ third q differs there.
-                  elim (put_cases w.opened xid cut third q there) [
-                    | inl it ↦
-                        ap (λ (n : ℕ). shares_cell (footprint schema (own_rows schema w other p) d) (holds schema w n q)) it.0
-                        ∙ ap (λ (r : Opened). shares_cell (footprint schema (own_rows schema w other p) d) (holds schema w xid r)) it.1
-                        ∙ free_of_cut (footprint schema (own_rows schema w other p) d)
-                        (before.0 xid o (λ s. was.0 (sym s)) is)
-                    | inr too ↦ before.0 third q differs too.1
-                  ],
-              before.1,
-            )
-      ]
-
   pub fine_back : IsFine schema (done_with w xid o (BackTo sub))
   fine_back =
       fine_put schema w fine xid cut w.stopped
@@ -288,7 +287,7 @@ module _ (schema : Schema) (w : World) (fine : IsFine schema w) (xid : ℕ) (o :
       shares_either_way (holds schema w other p) (holds schema w xid cut)
       (free_of_cut (holds schema w other p)
       (shares_either_way (holds schema w xid o) (holds schema w other p) (holds_free schema w fine xid o is other p differs at))))
-      noted_cut
+      (noted_put schema w fine xid o cut is refl free_of_cut)
 
 -- ---- once a transaction is gone
 

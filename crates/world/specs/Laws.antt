@@ -17,7 +17,7 @@ use Rattle.model.specs.Footprint.{looked_up, footprint, held_cells}
 use Rattle.world.specs.World.{Opened, Past, ByClash, World, OpenOnes, starting, work, changes_in, own_rows, holds, IsFree}
 use Rattle.model.specs.Accepted.{AreAccepted}
 use Rattle.world.specs.Live.{IsListing, works, live_rows, IsLive}
-use Rattle.world.specs.Steps.{IsDone, IsSkipped, Held, Clashed, Fault, Opens, Acts, Touches, GoesBack, Commits, Aborts, done_with, Step, Reaches}
+use Rattle.world.specs.Steps.{Acted, IsDone, IsSkipped, Held, Clashed, Fault, Opens, Acts, Touches, GoesBack, Commits, Aborts, done_with, Step, Reaches}
 
 -- Calls lead to the world from these rows, which are valid.
 abbrev pub IsReached : Schema → Rows → World → Type 0
@@ -144,29 +144,25 @@ LiveAfterDone =
     → Acts schema w xid o sub c (Ok IsDone) new
     → IsLive schema new (effect schema rows c)
 
--- so does a change that is skipped
-abbrev pub LiveAfterSkip : Type 0
-LiveAfterSkip =
+-- a change that was tried with this answer leaves the live rows
+abbrev pub StayAfter : Acted → Type 0
+StayAfter answer =
     (schema : Schema) (start : Rows) (w new : World) → IsReached schema start w → (rows : Rows) → IsLive schema w rows
     → (xid : ℕ) (o : Opened) → get w.opened xid ≡ Some o → (sub : ℕ) (c : change_type.Change)
-    → Acts schema w xid o sub c (Ok IsSkipped) new
+    → Acts schema w xid o sub c (Ok answer) new
     → IsLive schema new rows
+
+-- so does a change that is skipped
+abbrev pub LiveAfterSkip : Type 0
+LiveAfterSkip = StayAfter IsSkipped
 
 -- so does one that is held
 abbrev pub LiveAfterHeld : Type 0
-LiveAfterHeld =
-    (schema : Schema) (start : Rows) (w new : World) → IsReached schema start w → (rows : Rows) → IsLive schema w rows
-    → (xid : ℕ) (o : Opened) → get w.opened xid ≡ Some o → (sub : ℕ) (c : change_type.Change) (holder : ℕ)
-    → Acts schema w xid o sub c (Ok (Held holder)) new
-    → IsLive schema new rows
+LiveAfterHeld = (holder : ℕ) → StayAfter (Held holder)
 
 -- so does one that clashes
 abbrev pub LiveAfterClash : Type 0
-LiveAfterClash =
-    (schema : Schema) (start : Rows) (w new : World) → IsReached schema start w → (rows : Rows) → IsLive schema w rows
-    → (xid : ℕ) (o : Opened) → get w.opened xid ≡ Some o → (sub : ℕ) (c : change_type.Change) (cause : ClashCause)
-    → Acts schema w xid o sub c (Ok (Clashed cause)) new
-    → IsLive schema new rows
+LiveAfterClash = (cause : ClashCause) → StayAfter (Clashed cause)
 
 -- so does a touch
 abbrev pub LiveAfterTouch : Type 0

@@ -5,9 +5,10 @@
 --     still_apart, acted, cut_back      its changes with one more, and with the last of them undone
 use Rattle.std.specs.Prelude.{◌≡◌, false, List, [], ◌∷◌, ◌++◌}
 use Rattle.std.proofs.Common.{sym, ◌∙◌, ap, subst}
-use Rattle.std.specs.List.{AllByRecursion}
+use Rattle.std.specs.List.{list_any, AllByRecursion}
 use Rattle.model.specs.declared.change.Change.{Change}
 use Rattle.model.specs.declared.cell.Cell.{Cell}
+use Rattle.model.specs.Cells.{overlaps}
 use Rattle.model.specs.Rows.{Rows, Schema, IsValid}
 use Rattle.model.specs.Effect.{outcome, inverse, serial, inverses, all_back}
 use Rattle.model.specs.EffectLaws.{serial_valid, serial_append, all_back_serial}
@@ -25,41 +26,41 @@ abbrev pub AreFreeOfAll : Schema → Rows → List Cell → List (List Change) �
 AreFreeOfAll schema rows cells lists =
     AllByRecursion (λ (cs : List Change). shares_cell cells (held_cells schema rows cs) ≡ false) lists
 
-first_free : (schema : Schema) (rows : Rows) (cell : Cell) (cells : List Cell) (lists : List (List Change))
-    → AreFreeOfAll schema rows (cell ∷ cells) lists
-    → IsFreeOfAll schema rows cell lists
-first_free schema rows cell cells [] free = tt
-first_free schema rows cell cells (cs ∷ lists) free =
-    (neither_first _ _ free.0, first_free schema rows cell cells lists free.1)
+-- what is so of the cells that each list holds, and what follows from it
+in_each : (schema : Schema) (rows : Rows) (P Q : List Cell → Type 0) → ((held : List Cell) → P held → Q held) → (lists : List (List Change))
+    → AllByRecursion (λ (cs : List Change). P (held_cells schema rows cs)) lists
+    → AllByRecursion (λ (cs : List Change). Q (held_cells schema rows cs)) lists
+in_each schema rows P Q so [] all = tt
+in_each schema rows P Q so (cs ∷ lists) all = (so (held_cells schema rows cs) all.0, in_each schema rows P Q so lists all.1)
 
-rest_free : (schema : Schema) (rows : Rows) (cell : Cell) (cells : List Cell) (lists : List (List Change))
-    → AreFreeOfAll schema rows (cell ∷ cells) lists
-    → AreFreeOfAll schema rows cells lists
-rest_free schema rows cell cells [] free = tt
-rest_free schema rows cell cells (cs ∷ lists) free =
-    (neither_second _ _ free.0, rest_free schema rows cell cells lists free.1)
+-- cells that meet what a list holds only where others do are free where these are
+fewer_cells_free : (schema : Schema) (rows : Rows) (cells fewer : List Cell)
+    → ((held : List Cell) → shares_cell cells held ≡ false → shares_cell fewer held ≡ false) → (lists : List (List Change))
+    → AreFreeOfAll schema rows cells lists → AreFreeOfAll schema rows fewer lists
+fewer_cells_free schema rows cells fewer so lists =
+    in_each schema rows (λ held. shares_cell cells held ≡ false) (λ held. shares_cell fewer held ≡ false) so lists
 
 each_free : (schema : Schema) (rows : Rows) (cells : List Cell) (lists : List (List Change))
     → AreFreeOfAll schema rows cells lists
     → Each (λ cell. IsFreeOfAll schema rows cell lists) cells
 each_free schema rows [] lists free = tt
-each_free schema rows (cell ∷ cells) lists free =
-    (first_free schema rows cell cells lists free, each_free schema rows cells lists (rest_free schema rows cell cells lists free))
+each_free schema rows (cell ∷ cells) lists free = (
+  in_each schema rows (λ held. shares_cell (cell ∷ cells) held ≡ false) (λ held. list_any (overlaps cell) held ≡ false) (λ held e. neither_first _ _ e) lists free,
+  each_free schema rows cells lists (fewer_cells_free schema rows (cell ∷ cells) cells (λ held e. neither_second _ _ e) lists free),
+)
 
 -- some cells of them
 pub fewer_free : (schema : Schema) (rows : Rows) (cells more : List Cell) (lists : List (List Change))
     → AreFreeOfAll schema rows (cells ++ more) lists
     → AreFreeOfAll schema rows cells lists
-fewer_free schema rows cells more [] free = tt
-fewer_free schema rows cells more (cs ∷ lists) free =
-    (neither_first _ _ (sym (shares_append cells more (held_cells schema rows cs)) ∙ free.0), fewer_free schema rows cells more lists free.1)
+fewer_free schema rows cells more =
+    fewer_cells_free schema rows (cells ++ more) cells (λ held e. neither_first _ _ (sym (shares_append cells more held) ∙ e))
 
 pub later_free : (schema : Schema) (rows : Rows) (cells more : List Cell) (lists : List (List Change))
     → AreFreeOfAll schema rows (cells ++ more) lists
     → AreFreeOfAll schema rows more lists
-later_free schema rows cells more [] free = tt
-later_free schema rows cells more (cs ∷ lists) free =
-    (neither_second _ _ (sym (shares_append cells more (held_cells schema rows cs)) ∙ free.0), later_free schema rows cells more lists free.1)
+later_free schema rows cells more =
+    fewer_cells_free schema rows (cells ++ more) more (λ held e. neither_second _ _ (sym (shares_append cells more held) ∙ e))
 
 pub both_free : (schema : Schema) (rows : Rows) (cells more : List Cell) (lists : List (List Change))
     → AreFreeOfAll schema rows cells lists

@@ -210,19 +210,24 @@ module _ (schema : Schema) (w : World) (fine : IsFine schema w) (xid : ℕ) (o :
         sym (footprint_by_looked_up schema (own_rows schema w xid o) rows c (same_cells (looked_up c) free))
 
     module _ (c : change_type.Change) (free : IsFree schema w xid (footprint schema (own_rows schema w xid o) c)) where
+      -- what is on its own view as it is once the others' work follows is so on the live rows
+      as_live : {A : Type 0} (f : Rows → A) → f (in_turn schema (own_rows schema w xid o) others) ≡ f (own_rows schema w xid o)
+          → f rows ≡ f (own_rows schema w xid o)
+      as_live f agrees = ap f (live_is rows live) ∙ agrees
+
+      -- its cells are free of the others' work
+      its_cells_free : AreFreeOfAll schema w.committed (footprint schema (own_rows schema w xid o) c) others
+      its_cells_free = free_of_others (footprint schema (own_rows schema w xid o) c) free
+
       pub outcome_live : outcome schema rows c ≡ outcome schema (own_rows schema w xid o) c
       outcome_live =
-          ap (λ (r : Rows). outcome schema r c) (live_is rows live)
-          ∙ outcome_on_live schema w.committed (committed_valid schema w fine)
-          (work xid o) others from_others others_apart c
-          (free_of_others (footprint schema (own_rows schema w xid o) c) free)
+          as_live (λ r. outcome schema r c)
+          (outcome_on_live schema w.committed (committed_valid schema w fine) (work xid o) others from_others others_apart c its_cells_free)
 
       pub inverse_live : inverse schema rows c ≡ inverse schema (own_rows schema w xid o) c
       inverse_live =
-          ap (λ (r : Rows). inverse schema r c) (live_is rows live)
-          ∙ inverse_on_live schema w.committed (committed_valid schema w fine)
-          (work xid o) others from_others others_apart c
-          (free_of_others (footprint schema (own_rows schema w xid o) c) free)
+          as_live (λ r. inverse schema r c)
+          (inverse_on_live schema w.committed (committed_valid schema w fine) (work xid o) others from_others others_apart c its_cells_free)
 
       -- the live rows after it
       effect_live : effect schema rows c ≡ in_turn schema (serial schema w.committed (work xid o ++ c ∷ [])) others
@@ -230,8 +235,7 @@ module _ (schema : Schema) (w : World) (fine : IsFine schema w) (xid : ℕ) (o :
           ap (λ (r : Rows). effect schema r c) (live_is rows live)
           ∙ sym (live_with_more schema w.committed (committed_valid schema w fine) (work xid o) (c ∷ []) others
           (still_apart schema w.committed (committed_valid schema w fine) (work xid o) (c ∷ []) others from_others
-          (subst (λ cells. AreFreeOfAll schema w.committed cells others) (sym (append-nil (footprint schema (own_rows schema w xid o) c)))
-          (free_of_others (footprint schema (own_rows schema w xid o) c) free)))
+          (subst (λ cells. AreFreeOfAll schema w.committed cells others) (sym (append-nil (footprint schema (own_rows schema w xid o) c))) its_cells_free))
           others_apart)
 
   -- ---- with another record of it

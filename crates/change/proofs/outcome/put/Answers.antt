@@ -1,11 +1,14 @@
-use Rattle.std.proofs.Common.{sym, ◌∙◌, ap}
+use Rattle.std.proofs.Common.{rules, sym, ◌∙◌, ap}
 use Rattle.std.proofs.lemmas.Result.{err_from_is_err_and}
 use Rattle.std.specs.FinMap.{insert}
-use Rattle.change.proofs.Outcomes.{none_is_some, put_leaves}
+use Rattle.model.specs.declared.change.Change.TheVariants.{Put}
+use Rattle.change.proofs.Outcomes.{none_is_some, put_leaves, refused_leaves}
 use Rattle.change.proofs.outcome.put.Goals as goal
 
-pub returns-in_err-put-clause-room : goal.returns-in_err-put-clause-room
-returns-in_err-put-clause-room c = rw ((err_from_is_err_and c.from_residual-in_err-put.result c.from_residual-in_err-put.ensures.1).1) c.put.ensures.kept
+pub returns-in_err-put : goal.returns-in_err-put
+returns-in_err-put c =
+    rw ((err_from_is_err_and c.from_residual-in_err-put.result c.from_residual-in_err-put.ensures.1).1)
+    (refused_leaves c.args.t.now c.put.new.self (Put c.args.table c.args.row.now) _ (search rules) (search rules) c.put.ensures.kept (search rules))
 
 pub returns : goal.returns
 returns c =

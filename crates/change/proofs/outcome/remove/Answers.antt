@@ -1,14 +1,13 @@
-use Rattle.std.proofs.Common.{sym, ap}
+use Rattle.std.proofs.Common.{ap}
 use Rattle.model.specs.declared.change.Change.TheVariants.{Remove}
 use Rattle.model.specs.Effect.{remove_outcome}
-use Rattle.model.specs.EffectLaws.{effect_skipped}
-use Rattle.change.proofs.Outcomes.{nothing_there, remove_leaves}
+use Rattle.change.proofs.Outcomes.{nothing_there, remove_leaves, skipped_leaves}
 use Rattle.change.proofs.outcome.remove.Goals as goal
 
-pub returns-then-is_none-clause-ok : goal.returns-then-is_none-clause-ok
-returns-then-is_none-clause-ok c =
-    let none = nothing_there _ _ _ c.get.ensures c.is_none.ensures c.if-is_none.true in
-    sym (effect_skipped c.args.t.now.schema c.args.t.now.rows (Remove c.args.table c.args.key.now) (ap (remove_outcome (c.args.table, c.args.key.now)) none))
+pub returns-then-is_none : goal.returns-then-is_none
+returns-then-is_none c =
+    skipped_leaves c.args.t.now (Remove c.args.table c.args.key.now)
+    (ap (remove_outcome (c.args.table, c.args.key.now)) (nothing_there _ _ _ c.get.ensures c.is_none.ensures c.if-is_none.true))
 
 pub returns : goal.returns
 returns c =

@@ -1,36 +1,42 @@
-use Rattle.std.proofs.Common.{◌≡◌, None, sym, ◌∙◌, ap}
+use Rattle.std.proofs.Common.{rules, ◌≡◌, None, refl, sym, ◌∙◌, ap}
 use Rattle.std.proofs.lemmas.Result.{err_from_is_err_and}
 use Rattle.std.specs.FinMap.{remove}
 use Rattle.model.specs.declared.change.Change.TheVariants.{Set}
 use Rattle.model.specs.Effect.{one_edit, patch_row, set_outcome}
-use Rattle.model.specs.EffectLaws.{effect_skipped, row_outcome_taken}
-use Rattle.change.proofs.Outcomes.{set_as_placed, placed_held, none_of, same_there, set_leaves}
+use Rattle.model.specs.EffectLaws.{row_outcome_taken}
+use Rattle.change.proofs.Outcomes.{set_as_placed, placed_held, none_of, same_there, set_leaves, skipped_leaves, refused_leaves}
 use Rattle.change.proofs.outcome.set.Goals as goal
 
-pub returns-in_default-clause-ok : goal.returns-in_default-clause-ok
-returns-in_default-clause-ok c =
-    sym (effect_skipped c.args.t.now.schema c.args.t.now.rows (Set c.args.table c.args.key.now c.args.patch.now)
-    (ap (set_outcome c.args.t.now.schema c.args.t.now.rows (c.args.table, c.args.key.now) c.args.patch.now) (sym c.get.ensures ∙ c.in_default.is)))
+pub returns-in_default : goal.returns-in_default
+returns-in_default c =
+    skipped_leaves c.args.t.now (Set c.args.table c.args.key.now c.args.patch.now)
+    (ap (set_outcome c.args.t.now.schema c.args.t.now.rows (c.args.table, c.args.key.now) c.args.patch.now) (sym c.get.ensures ∙ c.in_default.is))
 
-pub returns-then-is_key_held-clause-answer : goal.returns-then-is_key_held-clause-answer
-returns-then-is_key_held-clause-answer c =
-    set_as_placed c.args.t.now.schema c.args.t.now.rows c.args.table c.args.key.now c.args.patch.now c.in-Some.old c.in_ok-row.row
+pub returns-then-is_key_held : goal.returns-then-is_key_held
+returns-then-is_key_held c =
+    refused_leaves c.args.t.now c.args.t.now (Set c.args.table c.args.key.now c.args.patch.now) _
+    (set_as_placed c.args.t.now.schema c.args.t.now.rows c.args.table c.args.key.now c.args.patch.now c.in-Some.old c.in_ok-row.row
     (sym c.get.ensures ∙ c.in-Some.is) c.in_ok-row.ensures
     ∙ placed_held c.args.t.now.schema (remove c.args.t.now.rows (c.args.table, c.args.key.now)) (one_edit (c.args.table, c.args.key.now) None) c.args.table c.in_ok-row.row c.in-Some-2.new_key
-    (sym c.in_ok-new_key.ensures ∙ c.in-Some-2.is) (sym c.is_key_held.ensures ∙ c.if-is_key_held.true)
+    (sym c.in_ok-new_key.ensures ∙ c.in-Some-2.is) (sym c.is_key_held.ensures ∙ c.if-is_key_held.true))
+    refl (λ cell is. is) refl
 
-pub returns-in-Some-first_clash-clause-answer : goal.returns-in-Some-first_clash-clause-answer
-returns-in-Some-first_clash-clause-answer c =
-    set_as_placed c.args.t.now.schema c.args.t.now.rows c.args.table c.args.key.now c.args.patch.now c.in-Some.old c.in_ok-row.row
+pub returns-in-Some-first_clash : goal.returns-in-Some-first_clash
+returns-in-Some-first_clash c =
+    refused_leaves c.args.t.now c.args.t.now (Set c.args.table c.args.key.now c.args.patch.now) _
+    (set_as_placed c.args.t.now.schema c.args.t.now.rows c.args.table c.args.key.now c.args.patch.now c.in-Some.old c.in_ok-row.row
     (sym c.get.ensures ∙ c.in-Some.is) c.in_ok-row.ensures
     ∙ row_outcome_taken c.args.t.now.schema (remove c.args.t.now.rows (c.args.table, c.args.key.now)) (one_edit (c.args.table, c.args.key.now) None) c.args.table c.in_ok-row.row c.in-Some-2.new_key c.in-Some-first_clash.number
-    (sym c.in_ok-new_key.ensures ∙ c.in-Some-2.is) (none_of _ (sym c.is_key_held.ensures ∙ c.if-is_key_held.false)) (sym c.first_clash.ensures ∙ c.in-Some-first_clash.is)
+    (sym c.in_ok-new_key.ensures ∙ c.in-Some-2.is) (none_of _ (sym c.is_key_held.ensures ∙ c.if-is_key_held.false)) (sym c.first_clash.ensures ∙ c.in-Some-first_clash.is))
+    refl (λ cell is. is) refl
 
 pub replace-requires-clause-free : goal.replace-requires-clause-free
 replace-requires-clause-free c = none_of _ (sym c.is_key_held.ensures ∙ c.if-is_key_held.false)
 
-pub returns-in_err-old-clause-room : goal.returns-in_err-old-clause-room
-returns-in_err-old-clause-room c = rw ((err_from_is_err_and c.from_residual-in_err-old.result c.from_residual-in_err-old.ensures.1).1) c.replace.ensures.kept
+pub returns-in_err-old : goal.returns-in_err-old
+returns-in_err-old c =
+    rw ((err_from_is_err_and c.from_residual-in_err-old.result c.from_residual-in_err-old.ensures.1).1)
+    (refused_leaves c.args.t.now c.replace.new.self (Set c.args.table c.args.key.now c.args.patch.now) _ (search rules) (search rules) c.replace.ensures.kept (search rules))
 
 pub returns : goal.returns
 returns c =

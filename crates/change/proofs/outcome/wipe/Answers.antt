@@ -1,8 +1,10 @@
-use Rattle.std.proofs.Common.{◌+◌, ◌<◌, length, take, [], sym, subst, arith, get_or}
+use Rattle.std.proofs.Common.{rules, ◌+◌, ◌<◌, length, take, [], sym, subst, arith, get_or}
 use Rattle.indexes.specs.Content.{Content, Keeps}
 use Rattle.model.specs.Rows.{Schema}
 use Rattle.change.specs.Inverse.{room_unwiped}
 use Rattle.change.proofs.Wiping.{IsWiped, nothing_wiped, read_again, one_more_wiped, wipe_leaves}
+use Rattle.model.specs.declared.change.Change.TheVariants.{Wipe}
+use Rattle.change.proofs.Outcomes.{refused_leaves}
 use Rattle.change.proofs.outcome.wipe.Goals as goal
 
 pub loop-table-init : goal.loop-table-init
@@ -12,10 +14,13 @@ loop-table-init c = record {
   room = c.in_ok-wiped.ensures.capacity;
 }
 
-pub returns-in-Err-clause-room : goal.returns-in-Err-clause-room
-returns-in-Err-clause-room c = λ cell is.
+pub returns-in-Err : goal.returns-in-Err
+returns-in-Err c =
+    refused_leaves c.args.t.now c.unwipe_all.new.t (Wipe c.args.tables.now) _ (search rules) (search rules)
+    (λ cell is.
     c.unwipe_all.ensures.room cell
-    (subst (λ (t : Content). Keeps c.args.t.now.room (room_unwiped t.room c.loop-table.wiped.items)) (sym c.in-Err.ensures.err) c.loop-table.invariant.far.room cell is)
+    (subst (λ (t : Content). Keeps c.args.t.now.room (room_unwiped t.room c.loop-table.wiped.items)) (sym c.in-Err.ensures.err) c.loop-table.invariant.far.room cell is))
+    (search rules)
 
 pub loop-table-preserved : goal.loop-table-preserved
 loop-table-preserved c =

@@ -38,6 +38,6 @@ returns g c =
       run = run;
     } in
     elim c.tell-ended.ensures [
-      | inl told ↦ inr (inl (record { ran = ran; told = told }))
+      | inl told ↦ inr (inl (record { ran = ran; told = record { report = told.report; said = told.said } }))
       | inr none ↦ inr (inr (record { when = inr ran; said = none }))
     ]

@@ -5,4 +5,4 @@ use Rattle.indexes.proofs.unique.agree_in_each.Given as goal
 
 abbrev pub invariant-loop-unique : goal.invariant-loop-unique
 invariant-loop-unique l =
-    (k : ℕ) (d : Unique) → k < l.unique-index → values_in (get_or l.uniques k d).columns.items l.row ≡ values_in (get_or l.uniques k d).columns.items l.other
+    (k : ℕ) (d : Unique) → k < l.unique-index → values_in (get_or l.uniques k d).columns l.row ≡ values_in (get_or l.uniques k d).columns l.other

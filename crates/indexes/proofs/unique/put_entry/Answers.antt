@@ -8,5 +8,4 @@ use Rattle.indexes.proofs.unique.put_entry.Goals as goal
 pub returns-in_ok-insert-clause-ok : goal.returns-in_ok-insert-clause-ok
 returns-in_ok-insert-clause-ok c =
     number_put c.args.columns.now c.args.row.now c.args.number c.args.entries.now c.insert.new.self c.in-Some.values (sym c.in_ok-values.ensures ∙ c.in-Some.is)
-    (subst (λ (v : Key). entry_at c.insert.new.self v ≡ Some (Some c.args.number)) c.of.ensures c.in_ok-insert.ensures.updates.1)
-    (subst (λ (v : Key). SameApart v c.args.entries.now c.insert.new.self) c.of.ensures c.in_ok-insert.ensures.updates.2)
+    c.in_ok-insert.ensures.updates.1 c.in_ok-insert.ensures.updates.2

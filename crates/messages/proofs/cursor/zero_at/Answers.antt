@@ -1,4 +1,4 @@
-use Rattle.std.proofs.Common.{sym, refl, eq-eqb, arith}
+use Rattle.std.proofs.Common.{sym, eq-eqb, arith}
 use Rattle.std.proofs.lemmas.List.Sums.{position_or_len_is}
 use Rattle.messages.specs.Field.{is_zero}
 use Rattle.messages.proofs.cursor.zero_at.Goals as goal

@@ -6,10 +6,8 @@ use Rattle.relcache.proofs.planning.plan_insert.Goals as goal
 pub returns-in_err-row : goal.returns-in_err-row
 returns-in_err-row c =
     let fault = err_from_is_err_and c.from_residual-in_err-row.result c.from_residual-in_err-row.ensures.1 in
-    let read = rw (c.columns.ensures, c.columns-2.ensures.value) at c.in_err-row.ensures in
-    rw (fault.1, fault.2) (planned_insert-fault c.args.m.now c.args.new.now (sym c.in_ok-count_columns.ensures) _ read)
+    rw (fault.1, fault.2) (planned_insert-fault c.args.m.now c.args.new.now (sym c.in_ok-count_columns.ensures) _ c.in_err-row.ensures)
 
 pub returns : goal.returns
 returns c =
-    let read = rw (c.columns.ensures, c.columns-2.ensures.value) at c.in_ok-row.ensures in
-    rw c.table.ensures (planned_insert-row c.args.m.now c.args.new.now (sym c.in_ok-count_columns.ensures) _ read)
+    rw c.table.ensures (planned_insert-row c.args.m.now c.args.new.now (sym c.in_ok-count_columns.ensures) _ c.in_ok-row.ensures)

@@ -3,6 +3,7 @@ use mathlib.Core.Option.{none}
 use Rattle.atomic_table.specs.Table.{step}
 use Rattle.ring.specs.declared.protocol.TheConstants.{HEAD}
 use Rattle.ring.specs.Steps.{Agrees}
+use Rattle.ring.proofs.Seated.{seated_again}
 use Rattle.ring.proofs.Left.{behind_acked, first_sent}
 use Rattle.ring.proofs.MetSteps.{joins, compares}
 use Rattle.ring.proofs.ends.meet.Goals as goal
@@ -10,7 +11,7 @@ use Rattle.ring.proofs.ends.meet.Goals as goal
 pub join_seat-requires : goal.join_seat-requires
 join_seat-requires g c = let a = c.taker.invariant in let b = c.sender.invariant in
     let same = ap (λ s. s.ring) c.sender.view_is ∙ c.requires ∙ sym (ap (λ t. t.ring) c.taker.view_is) in
-    let here = a.table ∙ ap (λ t. t.shared.table_id) (sym c.deref.ensures) in
+    let here = a.seated.here ∙ ap (λ t. t.shared.table_id) (sym c.deref.ensures) in
     (here, same ∙ here, b.empty, search rules, joins _ _ _ _ a.takes b.sends)
 
 pub load-requires : goal.load-requires
@@ -28,11 +29,8 @@ invariant_of-result g c = let tk = c.taker.invariant in let sd = c.sender.invari
     let head : t.head ≡ v.acked_before + length v.acked = tk.head in
     let long : length u.acked ≡ length v.acked = ap (λ m. length m.0.acked) now in
     let far : u.sent_before + length u.sent ≤ 2 ^ 63 = told.far in record {
-      table = id ∙ tk.table;
-      spare = id ∙ sym (ap (λ z. z.ring) c.sender.view_is ∙ c.requires ∙ sym (ap (λ z. z.ring) c.taker.view_is)) ∙ sd.table;
-      words = ap (λ z. z.words) id ∙ tk.words;
-      slots = tk.slots ∙ ap (λ z. z.slots) (sym id);
-      some_slot = tk.some_slot;
+      seated = seated_again id tk.seated;
+      spare = id ∙ sym (ap (λ z. z.ring) c.sender.view_is ∙ c.requires ∙ sym (ap (λ z. z.ring) c.taker.view_is)) ∙ sd.seated.here;
       sends = ap (λ m. m.0.sends) now ∙ sd.sends;
       takes = ap (λ m. m.0.takes) now;
       idle = ap (λ m. m.0.writing) now ∙ sd.idle;

@@ -5,7 +5,7 @@ use Rattle.rows.proofs.walk.next_numbered.Given as goal
 
 -- the slots passed over so far are empty
 abbrev pub invariant-loop-number : goal.invariant-loop-number
-invariant-loop-number g l = rows_among (map (slot_by l.slots) l.numbers) ≡ rows_among (map (slot_by l.slots) l.initial.numbers)
+invariant-loop-number l = rows_among (map (slot_by l.slots) l.numbers) ≡ rows_among (map (slot_by l.slots) l.initial.numbers)
 
 abbrev pub decreases-loop-number : goal.decreases-loop-number
-decreases-loop-number g l = length l.numbers
+decreases-loop-number l = length l.numbers

@@ -1,6 +1,6 @@
 use Rattle.std.proofs.Common.{◌∙◌, ap, ◌++◌, arith}
 use Rattle.model.specs.Rows.{value_at}
-use Rattle.spooled.specs.Text.{value_text}
+use Rattle.model.specs.Types.{value_text}
 use Rattle.spooled.proofs.ReportLoops.{row_first, row_more}
 use Rattle.spooled.proofs.printing.push_row.Goals.{then-column-gt0+in_ok-push, else-column-gt0}
 use Rattle.spooled.proofs.printing.push_row.Goals as goal

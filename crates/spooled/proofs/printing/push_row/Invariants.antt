@@ -1,6 +1,6 @@
 use Rattle.std.proofs.Common.{◌≡◌, ◌++◌, take, codes}
 use Rattle.std.specs.List.{join_by}
-use Rattle.spooled.specs.Text.{value_text}
+use Rattle.model.specs.Types.{value_text}
 use Rattle.spooled.proofs.printing.push_row.Given as goal
 
 -- the columns so far

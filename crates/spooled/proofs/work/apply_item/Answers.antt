@@ -9,5 +9,5 @@ pub returns-in-Change-clause-refused : goal.returns-in-Change-clause-refused
 returns-in-Change-clause-refused c =
     let schema = c.args.tables.now.schema in
     let rows = c.args.tables.now.rows in
-    subst (λ (item : Item). IfErr c.apply_logged.result (ClashesIn schema rows (changes_of (item ∷ [])))) (sym c.in-Change.is)
-    (one_refused schema rows c.in-Change.change c.apply_logged.result c.apply_logged.ensures.refused)
+    subst (λ (item : Item). IfErr c.apply.result (ClashesIn schema rows (changes_of (item ∷ [])))) (sym c.in-Change.is)
+    (one_refused schema rows c.in-Change.change c.apply.result c.apply.ensures.refused)

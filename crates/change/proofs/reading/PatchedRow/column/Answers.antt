@@ -30,4 +30,4 @@ pub returns-in-Value : goal.returns-in-Value
 returns-in-Value c =
     let within : c.args.number < length c.args.self.row.now = omega arith in
     let below : c.args.number < length c.args.self.patch.now = omega arith in
-    ap Some c.lent_value.ensures ∙ patched_column c.args.self.patch.now c.args.self.row.now c.args.number (Value c.in-Value.value) _ within below (sym c.in-Value.is)
+    ap Some c.of.ensures ∙ patched_column c.args.self.patch.now c.args.self.row.now c.args.number (Value c.in-Value.value) _ within below (sym c.in-Value.is)

@@ -1,18 +1,16 @@
-use Rattle.std.proofs.Common.{[], ap, is_some, refl, sym, true≢false, ◌∙◌}
+use Rattle.std.proofs.Common.{[], refl, sym, ◌∙◌}
 use Rattle.keyholds.specs.Holds.{holds_of, cells_held}
 use Rattle.world.specs.Steps.{aborted_with}
 use Rattle.engine.specs.declared.live.Live.{Live}
 use Rattle.engine.specs.CellLaws.{stood_is_held}
 use Rattle.engine.specs.Stood.{IsStoodAt}
 use Rattle.engine.specs.GivenUp.{IsLetGo, are_given_up, lets_go_free, tied_given_up}
-use Rattle.engine.specs.TiedBasics.{is_there, puts_by_update, its_can}
+use Rattle.engine.specs.TiedBasics.{never_missing, puts_by_update, its_can}
 use Rattle.engine.specs.TiedEnds.{tied_aborted}
 use Rattle.engine.proofs.live.Live.abort.Goals as goal
 
 pub unreachable-requires : goal.unreachable-requires
-unreachable-requires c =
-    let (w, o, tied, is) = c.requires in
-    true≢false (sym (is_there w c.args.self.now tied c.args.xid o is) ∙ ap is_some (sym c.in_default.ensures.value))
+unreachable-requires c = never_missing c.args.self.now c.args.xid c.requires c.in_default.ensures.value
 
 pub undo_all-requires : goal.undo_all-requires
 undo_all-requires c =

@@ -1,16 +1,36 @@
-use Rattle.std.proofs.Common.{refl, sym, subst, ◌∙◌}
-use Rattle.std.specs.Prelude.{Ok}
+use Rattle.std.proofs.Common.{◌≡◌, rules, refl, sym, subst, ◌∙◌}
+use Rattle.std.specs.Prelude.{Result, Ok, Err}
 use Rattle.model.specs.declared.change.Change as change_type
 use Rattle.keyholds.specs.Holds.{cells_held}
 use Rattle.world.specs.Steps.{Acts, Held as WasHeld, wanting}
+use Rattle.engine.specs.declared.answers.Acted as acted_type
+use Rattle.engine.specs.declared.answers.EngineFault as fault_type
+use Rattle.engine.specs.declared.answers.EngineFault.TheVariants.{OutOfMemory}
 use Rattle.engine.specs.declared.cells.Found as found_type
+use Rattle.engine.specs.Answers.{told, after_act}
 use Rattle.engine.specs.Cells.{IsHeldIn, IsFound}
+use Rattle.engine.specs.Tied.{IsTied}
 use Rattle.engine.specs.TiedBasics.{is_there}
 use Rattle.engine.specs.TiedActs.{has_stopped}
 use Rattle.engine.proofs.live.Live.act.Goals as goal
 
-pub returns-then-is_some-clause-acts : goal.returns-then-is_some-clause-acts
-returns-then-is_some-clause-acts c = λ w o tied is. (has_stopped w c.args.self.now tied (sym c.is_some.ensures ∙ c.if-is_some.true), refl)
+pub returns-then-is_some : goal.returns-then-is_some
+returns-then-is_some c = record {
+  acts = λ w o tied is. (has_stopped w c.args.self.now tied (sym c.is_some.ensures ∙ c.if-is_some.true), refl);
+  tied = search rules;
+  cause = search rules;
+  schema = search rules;
+}
+
+pub returns-in_err-holder : goal.returns-in_err-holder
+returns-in_err-holder c = record {
+  acts = search rules;
+  tied = λ w o tied is.
+      let refused : c.from_residual-in_err-holder.result ≡ Err OutOfMemory = search rules in
+      subst (λ (r : Result acted_type.Acted fault_type.EngineFault). IsTied (after_act w c.args.xid o c.args.sub c.args.c.now (told r)) c.args.self.now) (sym refused) tied;
+  cause = search rules;
+  schema = search rules;
+}
 
 pub wait-requires-clause-there : goal.wait-requires-clause-there
 wait-requires-clause-there c = let tied = c.requires.tied in is_there tied.0 c.args.self.now tied.2 c.args.xid tied.1 tied.3
@@ -25,7 +45,12 @@ wait-requires-clause-found c =
 pub act_on_free-requires-clause-there : goal.act_on_free-requires-clause-there
 act_on_free-requires-clause-there c = let tied = c.requires.tied in is_there tied.0 c.args.self.now tied.2 c.args.xid tied.1 tied.3
 
-pub returns-in-Held-clause-acts : goal.returns-in-Held-clause-acts
-returns-in-Held-clause-acts c = λ w o tied is.
-    subst (λ (change : change_type.Change). Acts c.args.self.now.tables.schema w c.args.xid o c.args.sub change (Ok (WasHeld c.in-Held.holder)) (wanting w c.args.xid o c.args.sub change))
-    c.in_ok-change.ensures (c.wait.ensures.acts w o tied is)
+pub returns-in-Held : goal.returns-in-Held
+returns-in-Held c = record {
+  acts = λ w o tied is.
+      subst (λ (change : change_type.Change). Acts c.args.self.now.tables.schema w c.args.xid o c.args.sub change (Ok (WasHeld c.in-Held.holder)) (wanting w c.args.xid o c.args.sub change))
+      c.in_ok-change.ensures (c.wait.ensures.acts w o tied is);
+  tied = search rules;
+  cause = search rules;
+  schema = search rules;
+}

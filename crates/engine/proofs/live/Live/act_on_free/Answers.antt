@@ -40,18 +40,28 @@ told_refused : (r : Result acted_type.Acted fault_type.EngineFault) → IsErrAnd
 told_refused (Ok acted) refused = absurd refused
 told_refused (Err fault) refused = ap (λ (f : fault_type.EngineFault). told (Err f)) refused
 
-pub returns-in_err-cells-clause-tied : goal.returns-in_err-cells-clause-tied
-returns-in_err-cells-clause-tied c = λ w o tied is.
-    subst (λ (answer : Result Acted Fault). IsTied (after_act w c.args.xid o c.args.tried.sub c.args.tried.change answer) c.args.self.now)
-    (sym (told_refused c.from_residual.result c.from_residual.ensures.1)) tied
+pub returns-in_err-cells : goal.returns-in_err-cells
+returns-in_err-cells c = record {
+  acts = search rules;
+  tied = λ w o tied is.
+      subst (λ (answer : Result Acted Fault). IsTied (after_act w c.args.xid o c.args.tried.sub c.args.tried.change answer) c.args.self.now)
+      (sym (told_refused c.from_residual.result c.from_residual.ensures.1)) tied;
+  cause = search rules;
+  schema = search rules;
+}
 
-pub returns-in_err-take-clause-tied : goal.returns-in_err-take-clause-tied
-returns-in_err-take-clause-tied c = λ w o tied is.
-    subst (λ (answer : Result Acted Fault). IsTied (after_act w c.args.xid o c.args.tried.sub c.args.tried.change answer)
-    (record { tables = c.args.self.now.tables; holds = c.take.new.self; transactions = c.args.self.now.transactions; stopped = c.args.self.now.stopped }))
-    (sym (told_refused c.from_residual-in_err-take.result c.from_residual-in_err-take.ensures.1))
-    (subst (λ (l : Live). IsTied w l)
-    (ap (λ holds. record { tables = c.args.self.now.tables; holds = holds; transactions = c.args.self.now.transactions; stopped = c.args.self.now.stopped }) (sym c.in_err-take.ensures.err)) tied)
+pub returns-in_err-take : goal.returns-in_err-take
+returns-in_err-take c = record {
+  acts = search rules;
+  tied = λ w o tied is.
+      subst (λ (answer : Result Acted Fault). IsTied (after_act w c.args.xid o c.args.tried.sub c.args.tried.change answer)
+      (record { tables = c.args.self.now.tables; holds = c.take.new.self; transactions = c.args.self.now.transactions; stopped = c.args.self.now.stopped }))
+      (sym (told_refused c.from_residual-in_err-take.result c.from_residual-in_err-take.ensures.1))
+      (subst (λ (l : Live). IsTied w l)
+      (ap (λ holds. record { tables = c.args.self.now.tables; holds = holds; transactions = c.args.self.now.transactions; stopped = c.args.self.now.stopped }) (sym c.in_err-take.ensures.err)) tied);
+  cause = search rules;
+  schema = search rules;
+}
 
 pub apply-requires-clause-named : goal.apply-requires-clause-named
 apply-requires-clause-named c =
@@ -113,15 +123,17 @@ released c w o tied is =
     c.in_ok-take.ensures.others c.release_since.ensures.own c.release_since.ensures.others)
     refl
 
-pub returns-in-Err-clause-acts : goal.returns-in-Err-clause-acts
-returns-in-Err-clause-acts c = λ w o tied is.
-    subst (λ (schema : Schema). Acts schema w c.args.xid o c.args.tried.sub c.args.tried.change (told c.refuse.result)
-    (after_act w c.args.xid o c.args.tried.sub c.args.tried.change (told c.refuse.result))) c.in-Err.ensures.err.tables.schema_is
-    (subst (λ (change : change_type.Change). Acts c.apply.new.tables.schema w c.args.xid o c.args.tried.sub change (told c.refuse.result)
-    (after_act w c.args.xid o c.args.tried.sub change (told c.refuse.result))) c.in-Err.ensures.err.change_is
-    (c.refuse.ensures.acts w o (released c w o tied is) is))
-
-pub returns-in-Err-clause-tied : goal.returns-in-Err-clause-tied
-returns-in-Err-clause-tied c = λ w o tied is.
-    subst (λ (change : change_type.Change). IsTied (after_act w c.args.xid o c.args.tried.sub change (told c.refuse.result)) c.refuse.new.self) c.in-Err.ensures.err.change_is
-    (c.refuse.ensures.tied w o (released c w o tied is) is)
+pub returns-in-Err : goal.returns-in-Err
+returns-in-Err c = record {
+  acts = λ w o tied is.
+      subst (λ (schema : Schema). Acts schema w c.args.xid o c.args.tried.sub c.args.tried.change (told c.refuse.result)
+      (after_act w c.args.xid o c.args.tried.sub c.args.tried.change (told c.refuse.result))) c.in-Err.ensures.err.tables.schema_is
+      (subst (λ (change : change_type.Change). Acts c.apply.new.tables.schema w c.args.xid o c.args.tried.sub change (told c.refuse.result)
+      (after_act w c.args.xid o c.args.tried.sub change (told c.refuse.result))) c.in-Err.ensures.err.change_is
+      (c.refuse.ensures.acts w o (released c w o tied is) is));
+  tied = λ w o tied is.
+      subst (λ (change : change_type.Change). IsTied (after_act w c.args.xid o c.args.tried.sub change (told c.refuse.result)) c.refuse.new.self) c.in-Err.ensures.err.change_is
+      (c.refuse.ensures.tied w o (released c w o tied is) is);
+  cause = search rules;
+  schema = search rules;
+}

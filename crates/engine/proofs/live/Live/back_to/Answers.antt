@@ -1,4 +1,4 @@
-use Rattle.std.proofs.Common.{◌≡◌, Some, ap, is_some, refl, subst, sym, true≢false, ◌∙◌}
+use Rattle.std.proofs.Common.{◌≡◌, Some, ap, refl, subst, sym, ◌∙◌}
 use Rattle.std.specs.Prelude.{option_map}
 use Rattle.model.specs.declared.item.Item.TheVariants.{BackTo}
 use Rattle.model.specs.ValidLaws.{not_none}
@@ -13,14 +13,12 @@ use Rattle.engine.specs.declared.transaction.OpenTransaction.{OpenTransaction}
 use Rattle.engine.specs.declared.live.Live.{Live}
 use Rattle.engine.specs.CellLaws.{stood_is_held}
 use Rattle.engine.specs.GivenUp.{IsLetGo, AreGivenUp, are_given_up, lets_go_free, tied_given_up}
-use Rattle.engine.specs.TiedBasics.{is_there, writes_by_borrow, its_names, its_can}
+use Rattle.engine.specs.TiedBasics.{never_missing, writes_by_borrow, its_names, its_can}
 use Rattle.engine.specs.TiedEnds.{tied_back, stood_since, stood_still}
 use Rattle.engine.proofs.live.Live.back_to.Goals as goal
 
 pub unreachable-requires : goal.unreachable-requires
-unreachable-requires c =
-    let (w, o, tied, is) = c.requires in
-    true≢false (sym (is_there w c.args.self.now tied c.args.xid o is) ∙ ap is_some (sym c.in_default.ensures.value))
+unreachable-requires c = never_missing c.args.self.now c.args.xid c.requires c.in_default.ensures.value
 
 pub go_back-requires-clause-can_undo : goal.go_back-requires-clause-can_undo
 go_back-requires-clause-can_undo c =

@@ -1,13 +1,11 @@
-use Rattle.std.proofs.Common.{ap, is_some, refl, sym, true≢false, ◌∙◌}
-use Rattle.engine.specs.TiedBasics.{is_there, puts_by_update, its_can, its_tells}
+use Rattle.std.proofs.Common.{refl, sym, ◌∙◌}
+use Rattle.engine.specs.TiedBasics.{never_missing, puts_by_update, its_can, its_tells}
 use Rattle.engine.specs.TiedEnds.{tied_committed}
 use Rattle.engine.specs.CallLaws.{known_all}
 use Rattle.engine.proofs.live.Live.commit.Goals as goal
 
 pub unreachable-requires : goal.unreachable-requires
-unreachable-requires c =
-    let (w, o, tied, is) = c.requires in
-    true≢false (sym (is_there w c.args.self.now tied c.args.xid o is) ∙ ap is_some (sym c.in_default.ensures.value))
+unreachable-requires c = never_missing c.args.self.now c.args.xid c.requires c.in_default.ensures.value
 
 pub settle-items-requires : goal.settle-items-requires
 settle-items-requires c =

@@ -1,4 +1,4 @@
-use Rattle.std.proofs.Common.{◌≡◌, ◌≢◌, Some, refl, sym, ap, arith}
+use Rattle.std.proofs.Common.{rules, ◌≡◌, ◌≢◌, Some, refl, sym, ap, arith}
 use Rattle.std.proofs.lemmas.Grind.{common_steps}
 use Rattle.std.specs.FinMap.{get}
 use Rattle.change.specs.declared.outcome.Clash.TheVariants.{OutOfMemory as NoMemoryClash}
@@ -38,8 +38,5 @@ both c w o tied is =
     c.args.sub c.args.refused.change c.requires.names c.requires.running (record { wants = refl; record_is = refl; done = refl }) refl refl c.args.refused.clash (clashed c) c.requires.clash
     c.requires.free (ap (λ change. Some (StoppedByClash c.args.xid change c.args.refused.clash)) c.in_ok-copy.ensures)
 
-pub returns-clause-acts : goal.returns-clause-acts
-returns-clause-acts c = λ w o tied is. (both c w o tied is).0
-
-pub returns-clause-tied : goal.returns-clause-tied
-returns-clause-tied c = λ w o tied is. (both c w o tied is).1
+pub returns : goal.returns
+returns c = record { acts = λ w o tied is. (both c w o tied is).0; tied = λ w o tied is. (both c w o tied is).1; cause = search rules; schema = search rules }

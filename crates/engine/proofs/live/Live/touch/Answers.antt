@@ -1,8 +1,8 @@
-use Rattle.std.proofs.Common.{ap, is_some, refl, rules, subst, sym, true≢false, ℕ, ◌∙◌}
+use Rattle.std.proofs.Common.{refl, rules, subst, sym, ℕ, ◌∙◌}
 use Rattle.std.specs.Prelude.{Result, Ok, Err, OnOk, OnErr}
 use Rattle.std.proofs.lemmas.Map.Entries.{length-keys_of}
 use Rattle.keyholds.specs.Holds.{holds_of}
-use Rattle.engine.specs.TiedBasics.{is_there, writes_by_borrow, its_names}
+use Rattle.engine.specs.TiedBasics.{never_missing, writes_by_borrow, its_names}
 use Rattle.engine.specs.TiedEnds.{tied_touched}
 use Rattle.engine.specs.TiedActs.{tied_refused}
 use Rattle.engine.specs.Transactions.{HasTouched}
@@ -17,9 +17,7 @@ on_err (Ok x) P Q so is = tt
 on_err (Err e) P Q so is = so is
 
 pub unreachable-requires : goal.unreachable-requires
-unreachable-requires c =
-    let (w, o, tied, is) = c.requires in
-    true≢false (sym (is_there w c.args.self.now tied c.args.xid o is) ∙ ap is_some (sym c.in_default.ensures.value))
+unreachable-requires c = never_missing c.args.self.now c.args.xid c.requires c.in_default.ensures.value
 
 pub touch-requires : goal.touch-requires
 touch-requires c =

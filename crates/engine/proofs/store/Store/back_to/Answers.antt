@@ -11,17 +11,13 @@ use Rattle.engine.specs.Events.{opened_by}
 use Rattle.engine.specs.EventLaws.{work_back}
 use Rattle.engine.specs.Engine.{world_in, IsStore}
 use Rattle.engine.specs.StoreLaws.{with_parts, store_done}
-use Rattle.engine.proofs.StoreTickets.{IsTicket, its_ticket, may_call, seen_open, tied_after, seen_step}
+use Rattle.engine.proofs.StoreTickets.{IsTicket, its_ticket, met_call, tied_after, seen_step}
 use Rattle.engine.proofs.store.Store.back_to.Goals as goal
 
 pub back_to-requires : goal.back_to-requires
-back_to-requires c = may_call c.self.invariant (its_ticket c.t.view_is c.number-xid.ensures c.t.view_is c.meet.ensures.listed)
+back_to-requires c = met_call c.t.inside.slip c.self.invariant c.number-xid.ensures c.meet.ensures.listed
 
 module _ (c : goal.Joined-this) where
-  -- its ticket, whose number was read
-  its : IsTicket c.self.inside c.args.t.now c.number-xid.result
-  its = its_ticket c.t.view_is c.number-xid.ensures c.t.view_is c.meet.ensures.listed
-
   -- the world that the call leads to, and that it is the store's
   abbrev later : World → ℕ → Opened → World
   later w n o = done_with w n o (BackTo c.args.sub)
@@ -29,6 +25,7 @@ module _ (c : goal.Joined-this) where
   moved : (world_in (with_parts c.self.inside c.back_to.new.self c.grow.new.self) ≡ later (world_in c.self.inside) c.args.t.now.number (opened_by c.args.t.now.list))
       × IsStore (with_parts c.self.inside c.back_to.new.self c.grow.new.self)
   moved =
+      let its : IsTicket c.self.inside c.args.t.now c.number-xid.result = its_ticket c.t.view_is c.number-xid.ensures c.t.view_is c.meet.ensures.listed in
       store_done c.self.inside c.self.invariant c.args.t.now.number c.args.t.now.list its.listed c.back_to.new.self c.grow.new.self (BackTo c.args.sub)
       c.back_to.ensures.schema
       (c.grow.ensures.book
@@ -38,12 +35,9 @@ module _ (c : goal.Joined-this) where
 pub invariant_of-self : goal.invariant_of-self
 invariant_of-self c = (moved c).1
 
-pub returns-clause-stood : goal.returns-clause-stood
-returns-clause-stood c = seen_open c.self.invariant (its c) c.args.self.now c.self.view_is
-
 pub returns-clause-goes_back : goal.returns-clause-goes_back
 returns-clause-goes_back c =
-    seen_step c.self.invariant (its c) c.args.self.now c.self.view_is (λ _ w n o next. GoesBack w n o c.args.sub next)
+    seen_step c.self.invariant (its_ticket c.t.view_is c.number-xid.ensures c.t.view_is c.meet.ensures.listed) c.args.self.now c.self.view_is (λ _ w n o next. GoesBack w n o c.args.sub next)
     (later c) (world_in (with_parts c.self.inside c.back_to.new.self c.grow.new.self)) (moved c).0 (λ w o tied is. refl)
 
 -- what its ticket lists

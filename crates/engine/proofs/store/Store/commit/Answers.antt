@@ -13,21 +13,21 @@ use Rattle.engine.specs.declared.events.LineEvent.{LineEvent}
 use Rattle.engine.specs.Events.{opened_by, last_end}
 use Rattle.engine.specs.Engine.{Engine, entry_in, world_in, IsStore}
 use Rattle.engine.specs.StoreLaws.{has_room, store_committed}
-use Rattle.engine.proofs.StoreTickets.{IsTicket, its_ticket, open_under, may_call, seen_open, tied_after}
+use Rattle.engine.proofs.StoreTickets.{IsTicket, its_ticket, open_under, may_call, tied_after}
 use Rattle.engine.proofs.store.Store.commit.Goals as goal
 
 pub commit-items-requires : goal.commit-items-requires
-commit-items-requires c = may_call c.self.invariant (its_ticket c.t.view_is c.number-xid.ensures c.into_slip.ensures c.close.ensures.listed)
+commit-items-requires c = may_call c.self.invariant (its_ticket c.t.view_is c.number-xid.ensures c.t.view_is c.close.ensures.listed)
 
 pub push_reserved-requires : goal.push_reserved-requires
 push_reserved-requires c =
     has_room c.self.inside c.self.invariant c.args.t.number c.args.t.list
-    (subst (λ (t : OpenList Event). get c.self.inside.book.lists t.number ≡ Some t.list) c.into_slip.ensures c.close.ensures.listed)
+    (subst (λ (t : OpenList Event). get c.self.inside.book.lists t.number ≡ Some t.list) c.t.view_is c.close.ensures.listed)
 
 module _ (c : goal.After-push_reserved) where
   -- its ticket, whose number was read
   its : IsTicket c.self.inside c.args.t c.number-xid.result
-  its = its_ticket c.t.view_is c.number-xid.ensures c.into_slip.ensures c.close.ensures.listed
+  its = its_ticket c.t.view_is c.number-xid.ensures c.t.view_is c.close.ensures.listed
 
   -- the entry of the journal, which tells the commit
   abbrev entry : Entry
@@ -57,7 +57,7 @@ module _ (c : goal.After-push_reserved) where
   moved =
       store_committed c.self.inside c.self.invariant c.args.t.number c.args.t.list its.listed c.commit-items.new.self c.push_reserved.new.self c.close.new.self c.tell_commit.new.kept
       c.args.info entry c.commit-items.ensures.schema
-      (c.close.ensures.book ∙ (λ i. without_list c.self.inside.book (c.into_slip.ensures i).number))
+      (c.close.ensures.book ∙ (λ i. without_list c.self.inside.book (c.t.view_is i).number))
       c.tell_commit.ensures.kept
       (tied_after c.self.invariant its (λ w n o. committed_with c.self.inside.live.tables.schema w n o c.args.info) c.commit-items.new.self (λ w o. c.commit-items.ensures.tied w o c.args.info))
       c.push_reserved.ensures.items c.push_reserved.ensures.len c.push_reserved.ensures.capacity entry_tells
@@ -65,9 +65,6 @@ module _ (c : goal.After-push_reserved) where
 
 pub invariant_of-self : goal.invariant_of-self
 invariant_of-self c = (moved c).1
-
-pub returns-clause-stood : goal.returns-clause-stood
-returns-clause-stood c = seen_open c.self.invariant (its c) c.args.self.now c.self.view_is
 
 pub returns-clause-commits : goal.returns-clause-commits
 returns-clause-commits c =

@@ -10,17 +10,13 @@ use Rattle.engine.specs.Answers.{told_call, after_touch}
 use Rattle.engine.specs.Events.{opened_by, events_of_touch}
 use Rattle.engine.specs.Engine.{world_in, IsStore}
 use Rattle.engine.specs.StoreLaws.{with_parts, store_touched}
-use Rattle.engine.proofs.StoreTickets.{IsTicket, its_ticket, may_call, seen_open, tied_after, seen_step}
+use Rattle.engine.proofs.StoreTickets.{IsTicket, its_ticket, met_call, tied_after, seen_step}
 use Rattle.engine.proofs.store.Store.touch.Goals as goal
 
 pub touch_live-answer-requires : goal.touch_live-answer-requires
-touch_live-answer-requires c = may_call c.self.invariant (its_ticket c.t.view_is c.number-xid.ensures c.t.view_is c.meet.ensures.listed)
+touch_live-answer-requires c = met_call c.t.inside.slip c.self.invariant c.number-xid.ensures c.meet.ensures.listed
 
 module _ (c : goal.After-tell_touch) where
-  -- its ticket, whose number was read
-  its : IsTicket c.self.inside c.args.t.now c.number-xid.result
-  its = its_ticket c.t.view_is c.number-xid.ensures c.t.view_is c.meet.ensures.listed
-
   -- the world that the call leads to, and that it is the store's
   abbrev later : World → ℕ → Opened → World
   later w n o = after_touch w n o c.args.sub (told_call c.touch_live-answer.result)
@@ -28,6 +24,7 @@ module _ (c : goal.After-tell_touch) where
   moved : (world_in (with_parts c.self.inside c.touch_live-answer.new.live c.tell_touch.new.book) ≡ later (world_in c.self.inside) c.args.t.now.number (opened_by c.args.t.now.list))
       × IsStore (with_parts c.self.inside c.touch_live-answer.new.live c.tell_touch.new.book)
   moved =
+      let its : IsTicket c.self.inside c.args.t.now c.number-xid.result = its_ticket c.t.view_is c.number-xid.ensures c.t.view_is c.meet.ensures.listed in
       store_touched c.self.inside c.self.invariant c.args.t.now.number c.args.t.now.list its.listed c.touch_live-answer.new.live c.tell_touch.new.book
       c.args.sub (told_call c.touch_live-answer.result) c.touch_live-answer.ensures.schema
       (c.tell_touch.ensures.book
@@ -54,12 +51,9 @@ same_err new old sub (Err fault) is = is ∙ ap (λ (events : List Event). recor
 pub invariant_of-self : goal.invariant_of-self
 invariant_of-self c = (moved c).1
 
-pub returns-clause-stood : goal.returns-clause-stood
-returns-clause-stood c = seen_open c.self.invariant (its c) c.args.self.now c.self.view_is
-
 pub returns-clause-touches : goal.returns-clause-touches
 returns-clause-touches c =
-    seen_step c.self.invariant (its c) c.args.self.now c.self.view_is (λ _ w n o next. Touches w n o c.args.sub (told_call c.touch_live-answer.result) next)
+    seen_step c.self.invariant (its_ticket c.t.view_is c.number-xid.ensures c.t.view_is c.meet.ensures.listed) c.args.self.now c.self.view_is (λ _ w n o next. Touches w n o c.args.sub (told_call c.touch_live-answer.result) next)
     (later c) (world_in (with_parts c.self.inside c.touch_live-answer.new.live c.tell_touch.new.book)) (moved c).0 c.touch_live-answer.ensures.touches
 
 pub returns-clause-ok : goal.returns-clause-ok

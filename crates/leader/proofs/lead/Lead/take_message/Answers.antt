@@ -7,7 +7,7 @@ use Rattle.spooled.specs.Ends.{end_of_refusal}
 use Rattle.leader.specs.declared.lead.Stream.{Stream}
 use Rattle.leader.specs.Standing.{Standing}
 use Rattle.leader.specs.Threads.{Led, led}
-use Rattle.leader.proofs.Leading.{IsNoCommit, keeps_on, item_named, nothing_agreed, begin_agreed, open_agreed, handed_on, item_agreed, abort_agreed, takes_err, led_on, led_commit, rises, led_to_commit, begun_line, handed_out_line, taken_line, aborted_line, stops_refused, stops_before, stops_item, stops_open, stops_at_commit}
+use Rattle.leader.proofs.Leading.{IsNoCommit, keeps_on, led_by_step, same_but_open, item_named, nothing_agreed, begin_agreed, open_agreed, handed_on, item_agreed, abort_agreed, takes_err, led_commit, rises, led_to_commit, begun_line, handed_out_line, taken_line, aborted_line, stops_refused, stops_before, stops_item, stops_open, stops_at_commit}
 use Rattle.leader.proofs.lead.Lead.take_message.Goals as goal
 
 pub take-requires : goal.take-requires
@@ -30,46 +30,41 @@ commit-requires g c =
 pub returns-in-Nothing : goal.returns-in-Nothing
 returns-in-Nothing g c = λ s rows p at.
     let t = c.in_ok-admit.ensures s p.state at.catalog at.session in
-    led_on s rows (led c.args.self.now.stream c.args.self.now.transactions) _ p c.args.payload.now t.message t.state at t.admits
-    (keeps_on s p.state t.state t.told c.in_ok-admit.field-0 at.named t.tells t.within t.says (subst IsNoCommit (sym c.in-Nothing.is) tt))
-    (record { catalog = refl; tables = refl; line = refl; position = refl; written = refl })
-    (nothing_agreed s p.state t.state t.told c.args.self.now.transactions at.agreed t.tells t.within (subst (Says t.told) c.in-Nothing.is t.says)) t.represents
+    led_by_step s rows (led c.args.self.now.stream c.args.self.now.transactions) _ p c.args.payload.now c.in_ok-admit.field-0 at t (subst IsNoCommit (sym c.in-Nothing.is) tt)
+    (same_but_open c.args.self.now.stream _ _ _ refl refl)
+    (nothing_agreed s p.state t.state t.told c.args.self.now.transactions at.agreed t.tells t.within (subst (Says t.told) c.in-Nothing.is t.says))
 
 pub returns-in_ok-begin-in-Begin : goal.returns-in_ok-begin-in-Begin
 returns-in_ok-begin-in-Begin g c = λ s rows p at.
     let t = c.in_ok-admit.ensures s p.state at.catalog at.session in
     let is = c.in_ok-begin-in-Begin.ensures.ok in
-    led_on s rows (led c.args.self.now.stream c.args.self.now.transactions) _ p c.args.payload.now t.message t.state at t.admits
-    (keeps_on s p.state t.state t.told c.in_ok-admit.field-0 at.named t.tells t.within t.says (subst IsNoCommit (sym c.in-Begin.is) tt))
-    (record { catalog = refl; tables = ap (λ (st : Standing). st.tables) is.is; line = begun_line c.args.self.now.transactions c.begin.new.self c.in-Begin.xid is; position = refl; written = refl })
-    (begin_agreed s p.state t.state t.told c.in-Begin.xid c.args.self.now.transactions c.begin.new.self at.agreed t.tells t.within (subst (Says t.told) c.in-Begin.is t.says) is) t.represents
+    led_by_step s rows (led c.args.self.now.stream c.args.self.now.transactions) _ p c.args.payload.now c.in_ok-admit.field-0 at t (subst IsNoCommit (sym c.in-Begin.is) tt)
+    (same_but_open c.args.self.now.stream _ _ _ (ap (λ (st : Standing). st.tables) is.is) (begun_line c.args.self.now.transactions c.begin.new.self c.in-Begin.xid is))
+    (begin_agreed s p.state t.state t.told c.in-Begin.xid c.args.self.now.transactions c.begin.new.self at.agreed t.tells t.within (subst (Says t.told) c.in-Begin.is t.says) is)
 
 pub returns-in_ok-hand_out-in-Open : goal.returns-in_ok-hand_out-in-Open
 returns-in_ok-hand_out-in-Open g c = λ s rows p at.
     let t = c.in_ok-admit.ensures s p.state at.catalog at.session in
     let is = c.in_ok-hand_out-in-Open.ensures.ok in
-    led_on s rows (led c.args.self.now.stream c.args.self.now.transactions) _ p c.args.payload.now t.message t.state at t.admits
-    (keeps_on s p.state t.state t.told c.in_ok-admit.field-0 at.named t.tells t.within t.says (subst IsNoCommit (sym c.in-Open.is) tt))
-    (record { catalog = refl; tables = ap (λ (st : Standing). st.tables) is.is; line = handed_out_line c.args.self.now.transactions c.hand_out.new.self c.in-Open.xid is; position = refl; written = refl })
-    (open_agreed s p.state t.state t.told c.in-Open.xid c.args.self.now.transactions c.hand_out.new.self at.agreed t.tells t.within (subst (Says t.told) c.in-Open.is t.says) is) t.represents
+    led_by_step s rows (led c.args.self.now.stream c.args.self.now.transactions) _ p c.args.payload.now c.in_ok-admit.field-0 at t (subst IsNoCommit (sym c.in-Open.is) tt)
+    (same_but_open c.args.self.now.stream _ _ _ (ap (λ (st : Standing). st.tables) is.is) (handed_out_line c.args.self.now.transactions c.hand_out.new.self c.in-Open.xid is))
+    (open_agreed s p.state t.state t.told c.in-Open.xid c.args.self.now.transactions c.hand_out.new.self at.agreed t.tells t.within (subst (Says t.told) c.in-Open.is t.says) is)
 
 pub returns-in_ok-take-in-Item : goal.returns-in_ok-take-in-Item
 returns-in_ok-take-in-Item g c = λ s rows p at.
     let t = c.in_ok-admit.ensures s p.state at.catalog at.session in
     let is = c.in_ok-take-in-Item.ensures.ok in
-    led_on s rows (led c.args.self.now.stream c.args.self.now.transactions) _ p c.args.payload.now t.message t.state at t.admits
-    (keeps_on s p.state t.state t.told c.in_ok-admit.field-0 at.named t.tells t.within t.says (subst IsNoCommit (sym c.in-Item.is) tt))
-    (record { catalog = refl; tables = (taken_line c.args.self.now.transactions c.take.new.self c.in-Item.xid c.in-Item.item is).1; line = ap commits_in (taken_line c.args.self.now.transactions c.take.new.self c.in-Item.xid c.in-Item.item is).0; position = refl; written = refl })
-    (item_agreed p.state t.state c.in-Item.xid c.in-Item.item c.args.self.now.transactions c.take.new.self at.agreed (handed_on s p.state t.state t.told c.in-Item.xid c.in-Item.item t.tells t.within (subst (Says t.told) c.in-Item.is t.says)) is) t.represents
+    led_by_step s rows (led c.args.self.now.stream c.args.self.now.transactions) _ p c.args.payload.now c.in_ok-admit.field-0 at t (subst IsNoCommit (sym c.in-Item.is) tt)
+    (same_but_open c.args.self.now.stream _ _ _ ((taken_line c.args.self.now.transactions c.take.new.self c.in-Item.xid c.in-Item.item is).1) (ap commits_in (taken_line c.args.self.now.transactions c.take.new.self c.in-Item.xid c.in-Item.item is).0))
+    (item_agreed p.state t.state c.in-Item.xid c.in-Item.item c.args.self.now.transactions c.take.new.self at.agreed (handed_on s p.state t.state t.told c.in-Item.xid c.in-Item.item t.tells t.within (subst (Says t.told) c.in-Item.is t.says)) is)
 
 pub returns-in_ok-abort-in-Abort : goal.returns-in_ok-abort-in-Abort
 returns-in_ok-abort-in-Abort g c = λ s rows p at.
     let t = c.in_ok-admit.ensures s p.state at.catalog at.session in
     let is = c.in_ok-abort-in-Abort.ensures.ok in
-    led_on s rows (led c.args.self.now.stream c.args.self.now.transactions) _ p c.args.payload.now t.message t.state at t.admits
-    (keeps_on s p.state t.state t.told c.in_ok-admit.field-0 at.named t.tells t.within t.says (subst IsNoCommit (sym c.in-Abort.is) tt))
-    (record { catalog = refl; tables = ap (λ (st : Standing). st.tables) is.is; line = aborted_line c.args.self.now.transactions c.abort.new.self c.in-Abort.xid is; position = refl; written = refl })
-    (abort_agreed s p.state t.state t.told c.in-Abort.xid c.args.self.now.transactions c.abort.new.self at.agreed t.tells t.within (subst (Says t.told) c.in-Abort.is t.says) is) t.represents
+    led_by_step s rows (led c.args.self.now.stream c.args.self.now.transactions) _ p c.args.payload.now c.in_ok-admit.field-0 at t (subst IsNoCommit (sym c.in-Abort.is) tt)
+    (same_but_open c.args.self.now.stream _ _ _ (ap (λ (st : Standing). st.tables) is.is) (aborted_line c.args.self.now.transactions c.abort.new.self c.in-Abort.xid is))
+    (abort_agreed s p.state t.state t.told c.in-Abort.xid c.args.self.now.transactions c.abort.new.self at.agreed t.tells t.within (subst (Says t.told) c.in-Abort.is t.says) is)
 
 pub returns-in-Commit : goal.returns-in-Commit
 returns-in-Commit g c = λ s rows p at.
@@ -82,19 +77,19 @@ returns-in-Commit g c = λ s rows p at.
 pub returns-in_err-admit : goal.returns-in_err-admit
 returns-in_err-admit g c = λ s rows p at.
     takes_err s rows (led (record c.args.self.now.stream { session = c.admit.new.self }) c.args.self.now.transactions) p c.args.payload.now c.from_residual.result (end_of_refusal c.in_err-admit.field-0.0) c.from_residual.ensures.1
-    (stops_refused s rows (led c.args.self.now.stream c.args.self.now.transactions) (led (record c.args.self.now.stream { session = c.admit.new.self }) c.args.self.now.transactions) p c.args.payload.now c.in_err-admit.field-0.0 (end_of_refusal c.in_err-admit.field-0.0) at (record { catalog = refl; tables = refl; line = refl; position = refl; written = refl }) refl (c.in_err-admit.ensures s p.state at.catalog at.session).cause refl)
+    (stops_refused s rows (led c.args.self.now.stream c.args.self.now.transactions) (led (record c.args.self.now.stream { session = c.admit.new.self }) c.args.self.now.transactions) p c.args.payload.now c.in_err-admit.field-0.0 (end_of_refusal c.in_err-admit.field-0.0) at (same_but_open c.args.self.now.stream _ _ _ refl refl) refl (c.in_err-admit.ensures s p.state at.catalog at.session).cause refl)
 
 pub returns-in_err-begin-in-Begin : goal.returns-in_err-begin-in-Begin
 returns-in_err-begin-in-Begin g c = λ s rows p at.
     let same = c.in_err-begin-in-Begin.ensures.same in
     takes_err s rows (led (record c.args.self.now.stream { session = c.admit.new.self }) c.begin.new.self) p c.args.payload.now c.from_residual-in_err-begin-in-Begin.result c.in_err-begin-in-Begin.field-0.0 c.from_residual-in_err-begin-in-Begin.ensures.1
-    (stops_before s rows (led c.args.self.now.stream c.args.self.now.transactions) (led (record c.args.self.now.stream { session = c.admit.new.self }) c.begin.new.self) p c.args.payload.now c.in_err-begin-in-Begin.field-0.0 at (record { catalog = refl; tables = ap (λ (st : Standing). st.tables) same; line = ap (λ (st : Standing). commits_in st.line) same; position = refl; written = refl }) same c.in_err-begin-in-Begin.ensures.err)
+    (stops_before s rows (led c.args.self.now.stream c.args.self.now.transactions) (led (record c.args.self.now.stream { session = c.admit.new.self }) c.begin.new.self) p c.args.payload.now c.in_err-begin-in-Begin.field-0.0 at (same_but_open c.args.self.now.stream _ _ _ (ap (λ (st : Standing). st.tables) same) (ap (λ (st : Standing). commits_in st.line) same)) same c.in_err-begin-in-Begin.ensures.err)
 
 pub returns-in_err-abort-in-Abort : goal.returns-in_err-abort-in-Abort
 returns-in_err-abort-in-Abort g c = λ s rows p at.
     let same = c.in_err-abort-in-Abort.ensures.same in
     takes_err s rows (led (record c.args.self.now.stream { session = c.admit.new.self }) c.abort.new.self) p c.args.payload.now c.from_residual-in_err-abort-in-Abort.result c.in_err-abort-in-Abort.field-0.0 c.from_residual-in_err-abort-in-Abort.ensures.1
-    (stops_before s rows (led c.args.self.now.stream c.args.self.now.transactions) (led (record c.args.self.now.stream { session = c.admit.new.self }) c.abort.new.self) p c.args.payload.now c.in_err-abort-in-Abort.field-0.0 at (record { catalog = refl; tables = ap (λ (st : Standing). st.tables) same; line = ap (λ (st : Standing). commits_in st.line) same; position = refl; written = refl }) same c.in_err-abort-in-Abort.ensures.err)
+    (stops_before s rows (led c.args.self.now.stream c.args.self.now.transactions) (led (record c.args.self.now.stream { session = c.admit.new.self }) c.abort.new.self) p c.args.payload.now c.in_err-abort-in-Abort.field-0.0 at (same_but_open c.args.self.now.stream _ _ _ (ap (λ (st : Standing). st.tables) same) (ap (λ (st : Standing). commits_in st.line) same)) same c.in_err-abort-in-Abort.ensures.err)
 
 pub returns-in_err-hand_out-in-Open : goal.returns-in_err-hand_out-in-Open
 returns-in_err-hand_out-in-Open g c = λ s rows p at.

@@ -1,10 +1,14 @@
-use Rattle.std.proofs.Common.{sym, ap, subst, ◌∙◌, false}
+use Rattle.std.proofs.Common.{List, sym, ap, subst, ◌∙◌, false}
 use Rattle.std.specs.Prelude.{max}
+use Rattle.frames.specs.declared.item.CopyItem.{CopyItem}
+use Rattle.spooled.specs.declared.end.End.{End}
 use Rattle.spooled.specs.Handler.{HandlesItem, HasHandled}
+use Rattle.spooled.specs.Progress.{Progress}
 use Rattle.leader.specs.declared.lead.Lead.{Lead}
 use Rattle.leader.specs.Threads.{led, IsLeadAt, HasLedTo}
-use Rattle.spooled.proofs.Handling.{with_seen, seen_one}
-use Rattle.leader.proofs.Leading.{seen_stream, seen_both, handled_led_wal, handled_led_keepalive, handled_led_done}
+use Rattle.spooled.proofs.Admitted.{with_seen, done_handled}
+use Rattle.spooled.proofs.Handling.{seen_one}
+use Rattle.leader.proofs.Leading.{seen_stream, seen_both, handled_led_wal, handled_led_keepalive}
 use Rattle.leader.proofs.lead.LeadHandler.handle.Goals as goal
 
 pub take_message-requires : goal.take_message-requires
@@ -44,7 +48,6 @@ returns-in-Keepalive g c = λ s rows handled p lawful at.
 
 pub returns-in-Done : goal.returns-in-Done
 returns-in-Done g c = λ s rows handled p lawful at.
-    subst
-    (λ i. HasHandled s (λ (l : Lead g.row.N.Denot g.row.L.Denot g.row.R.Denot g.row.G.Denot) q. IsLeadAt s rows (led l.stream l.transactions) q) (λ l done q rest end. HasLedTo s rows (led l.stream l.transactions) done q rest end)
-    c.args.self.now p i false) (sym c.in-Done.is)
-    (handled_led_done (λ (l : Lead g.row.N.Denot g.row.L.Denot g.row.R.Denot g.row.G.Denot). led l.stream l.transactions) s rows c.args.self.now p at)
+    let At : Lead g.row.N.Denot g.row.L.Denot g.row.R.Denot g.row.G.Denot → Progress → Type 0 = λ l q. IsLeadAt s rows (led l.stream l.transactions) q in
+    let Ended : Lead g.row.N.Denot g.row.L.Denot g.row.R.Denot g.row.G.Denot → List CopyItem → Progress → List CopyItem → End → Type 0 = λ l done q rest end. HasLedTo s rows (led l.stream l.transactions) done q rest end in
+    subst (λ i. HasHandled s At Ended c.args.self.now p i false) (sym c.in-Done.is) (done_handled s At c.args.self.now p Ended at)

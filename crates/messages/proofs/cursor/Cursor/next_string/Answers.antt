@@ -1,4 +1,4 @@
-use Rattle.std.proofs.Common.{◌≡◌, ◌<◌, Bool, true, length, sym, ap, subst, arith}
+use Rattle.std.proofs.Common.{◌≡◌, ◌<◌, true, length, sym, ap, subst, arith}
 use Rattle.std.specs.Str.{is_utf8}
 use Rattle.std.specs.List.{position_or_len, before_first}
 use Rattle.messages.specs.Field.{is_zero, HasNoZero}

@@ -1,5 +1,6 @@
 use Rattle.std.proofs.Common.{rules, arith, ℕ, ◌≡◌, ◌+◌, ◌%◌, ◌<◌, ◌≤◌, ◌^◌, ◌∷◌, sym, ap, ap₂, ◌∙◌, length, Some}
 use Rattle.atomic_table.specs.Table.{rest}
+use Rattle.ring.proofs.Seated.{all_slots}
 use Rattle.ring.proofs.SenderSteps.{seeks, puts}
 use Rattle.ring.proofs.sender.Sender.try_send.Goals as goal
 
@@ -12,8 +13,8 @@ store-requires g c = let told = c.load-head.ensures.2 in let a : ℕ = told.0 in
     let k : ℕ = c.self.inside.tail % c.self.inside.slots in
     let long : ℕ = length v.sent in let n : ℕ = c.deref.result.now.shared.table_id.slots in
     let n' : ℕ = c.deref-3.result.now.shared.table_id.slots in
-    let wide : c.self.inside.slots ≡ n = inv.slots ∙ ap (λ t. t.slots) inv.table ∙ ap (λ t. t.shared.table_id.slots) (sym c.deref.ensures) in
-    let wide' : c.self.inside.slots ≡ n' = inv.slots ∙ ap (λ t. t.slots) inv.table ∙ ap (λ t. t.shared.table_id.slots) (sym c.deref-3.ensures) in
+    let wide : c.self.inside.slots ≡ n = all_slots inv.seated ∙ ap (λ t. t.shared.table_id.slots) (sym c.deref.ensures) in
+    let wide' : c.self.inside.slots ≡ n' = all_slots inv.seated ∙ ap (λ t. t.shared.table_id.slots) (sym c.deref-3.ensures) in
     let tail : c.self.inside.tail ≡ c.self.inside.base + long = inv.tail in
     let base : c.self.inside.base ≡ v.sent_before = inv.base in
     let head : c.load-head.result ≡ v.sent_before + a = sees.shows in

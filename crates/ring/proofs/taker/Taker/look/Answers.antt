@@ -1,5 +1,6 @@
 use Rattle.std.proofs.Common.{rules, arith, ℕ, ◌≡◌, ◌≢◌, ◌+◌, ◌%◌, ◌<◌, ◌≤◌, ◌∷◌, length, sym, ap, ap₂, ◌∙◌, Some}
 use Rattle.atomic_table.specs.Table.{rest}
+use Rattle.ring.proofs.Seated.{all_slots}
 use Rattle.ring.proofs.TakerSteps.{finds}
 use Rattle.ring.proofs.taker.Taker.look.Goals as goal
 
@@ -14,5 +15,5 @@ exchange-item-requires g c = let told = c.load-tail.ensures.2 in let sees = told
     let ahead : length v.acked ≤ told.0 = sees.ahead in
     let more : c.load-tail.result ≢ a.head = c.if-tail-self.false in
     let got = told.2 (let lt : length v.acked < told.0 = omega arith in lt) in let has = ap (λ m. m.1) got.3 in
-    let wide = inv.slots ∙ ap (λ t. t.slots) inv.table ∙ ap (λ t. t.shared.table_id.slots) (sym c.deref.ensures) in
+    let wide = all_slots inv.seated ∙ ap (λ t. t.shared.table_id.slots) (sym c.deref.ensures) in
     let slot = ap₂ (λ (x y : ℕ). x % y) inv.head wide in (search rules, (Some got.0, has ∙ (λ i. (sym slot i, Some got.0) ∷ sym (ap rest has) i)))

@@ -7,44 +7,43 @@ use Rattle.model.specs.Key.{key_cmp}
 use Rattle.rows.specs.Hashed.{number_for, number_to_drop, DropsSlot, Unnumbers}
 use Rattle.rows.specs.Kept.{Kept}
 use Rattle.rows.proofs.HashedMaking.{settled_rows, settled_numbers, found_after_settle}
+use Rattle.rows.proofs.hashed.HashedRows.settle.Given.{Over}
 use Rattle.rows.proofs.hashed.HashedRows.settle.Goals as goal
+use Rattle.rows.proofs.hashed.HashedRows.settle.Goals.{After-drop_slot}
+
+-- the number in the order is the hashed one, so the slot and the number that went are those that the order had
+dropped : (g : Over) (c : After-drop_slot g)
+    → (let was = c.self.inside in let now = c.drop_slot.new in let drops = number_to_drop was.slots (number_for was.order.entries c.args.key.now)
+    in DropsSlot was.slots now.slots drops × Unnumbers (number_for was.order.entries) (number_for now.order.entries) c.args.key.now drops
+    × Unnumbers (hash.get (eq_by_cmp key_cmp) was.numbers) (hash.get (eq_by_cmp key_cmp) now.numbers) c.args.key.now drops)
+dropped g c =
+    let was = c.self.inside in
+    let now = c.drop_slot.new in
+    let key = c.args.key.now in
+    let told = c.drop_slot.ensures in
+    subst (λ (number : Option ℕ).
+    DropsSlot was.slots now.slots (number_to_drop was.slots number) × Unnumbers (number_for was.order.entries) (number_for now.order.entries) key (number_to_drop was.slots number)
+    × Unnumbers (hash.get (eq_by_cmp key_cmp) was.numbers) (hash.get (eq_by_cmp key_cmp) now.numbers) key (number_to_drop was.slots number))
+    (c.self.invariant.hashed key) (told.slots, told.order, told.hashed)
 
 pub invariant_of-self : goal.invariant_of-self
 invariant_of-self g c =
-    let s = c.self.inside.slots in
-    let t = c.drop_slot.new.slots in
-    let es = c.self.inside.order.entries in
-    let fs = c.drop_slot.new.order.entries in
-    let key = c.args.key.now in
-    let at = c.self.invariant.hashed key in
-    let drops = subst (λ (o : Option ℕ). DropsSlot s t (number_to_drop s o)) at c.drop_slot.ensures.slots in
-    let order = subst (λ (o : Option ℕ). Unnumbers (number_for es) (number_for fs) key (number_to_drop s o)) at c.drop_slot.ensures.order in
-    let before = c.self.inside.numbers in
-    let after = c.drop_slot.new.numbers in
-    let hashes = subst (λ (o : Option ℕ). Unnumbers (hash.get (eq_by_cmp key_cmp) before) (hash.get (eq_by_cmp key_cmp) after) key (number_to_drop s o)) at c.drop_slot.ensures.hashed in
-    found_after_settle before after es fs s t key c.self.invariant drops order hashes
+    let was = c.self.inside in
+    let now = c.drop_slot.new in
+    let went = dropped g (goal.at.invariant_of-self g c).After-drop_slot in
+    found_after_settle was.numbers now.numbers was.order.entries now.order.entries was.slots now.slots c.args.key.now c.self.invariant went.0 went.1 went.2
 
-pub returns-clause-rows : goal.returns-clause-rows
-returns-clause-rows g c =
-    let s = c.self.inside.slots in
-    let t = c.drop_slot.new.slots in
-    let es = c.self.inside.order.entries in
-    let fs = c.drop_slot.new.order.entries in
+pub returns : goal.returns
+returns g c =
+    let was = c.self.inside in
+    let now = c.drop_slot.new in
     let key = c.args.key.now in
-    let at = c.self.invariant.hashed key in
-    let drops = subst (λ (o : Option ℕ). DropsSlot s t (number_to_drop s o)) at c.drop_slot.ensures.slots in
-    let order = subst (λ (o : Option ℕ). Unnumbers (number_for es) (number_for fs) key (number_to_drop s o)) at c.drop_slot.ensures.order in
-    settled_rows c.self.inside.numbers c.drop_slot.new.numbers es fs s t key c.self.invariant drops order ∙ ap (λ (k : Kept). k.rows) c.self.view_is
-
-pub returns-clause-slots : goal.returns-clause-slots
-returns-clause-slots g c =
-    let s = c.self.inside.slots in
-    let t = c.drop_slot.new.slots in
-    let es = c.self.inside.order.entries in
-    let fs = c.drop_slot.new.order.entries in
-    let key = c.args.key.now in
-    let at = c.self.invariant.hashed key in
-    let drops = subst (λ (o : Option ℕ). DropsSlot s t (number_to_drop s o)) at c.drop_slot.ensures.slots in
-    let order = subst (λ (o : Option ℕ). Unnumbers (number_for es) (number_for fs) key (number_to_drop s o)) at c.drop_slot.ensures.order in
-    settled_numbers c.self.inside.numbers c.drop_slot.new.numbers es fs s t key c.self.invariant drops order
-    ∙ ap (λ (k : Kept). if is_some (get k.rows key) then k.slots else remove k.slots key) c.self.view_is
+    let went = dropped g (goal.at.returns g c).After-drop_slot in
+    record {
+      rows =
+          settled_rows was.numbers now.numbers was.order.entries now.order.entries was.slots now.slots key c.self.invariant went.0 went.1
+          ∙ ap (λ (k : Kept). k.rows) c.self.view_is;
+      slots =
+          settled_numbers was.numbers now.numbers was.order.entries now.order.entries was.slots now.slots key c.self.invariant went.0 went.1
+          ∙ ap (λ (k : Kept). if is_some (get k.rows key) then k.slots else remove k.slots key) c.self.view_is;
+    }

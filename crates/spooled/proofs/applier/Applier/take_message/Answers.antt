@@ -7,7 +7,8 @@ use Rattle.session.specs.declared.step.Step.TheVariants as steps
 use Rattle.spooled.specs.Work.{OpenWork}
 use Rattle.spooled.specs.Progress.{Progress}
 use Rattle.spooled.specs.Applier.{IsAt}
-use Rattle.spooled.proofs.Taking.{given, committed_by, quiet, is_quiet, no_change, sane, went_on, taken_on, commit_taken, clear_behind, tables_counted, all_counted}
+use Rattle.spooled.proofs.Admitted.{taken_on}
+use Rattle.spooled.proofs.Taking.{given, committed_by, quiet, is_quiet, no_change, sane, went_on, commit_taken, clear_behind, tables_counted, all_counted}
 use Rattle.spooled.proofs.Ending.{ends_with, turned_away, out_of_memory, clashed_on, clashed_at_commit}
 use Rattle.spooled.proofs.applier.Applier.take_message.Goals as goal
 use Rattle.spooled.proofs.applier.Applier.take_message.Goals.{In-Item, In-Commit}
@@ -44,7 +45,7 @@ returns-in_ok-take-in-Item c = λ g rows p at.
     let t = taken (goal.at.returns-in_ok-take-in-Item c).In-Item g rows p at in
     let on = (given g p.state t.state t.told c.in-Item.field-0 c.in-Item.item (sane _ _ _ at.session) (sane _ _ _ t.represents) at.served t.tells t.within t.says).1 in
     let cs = changes_of (c.in-Item.item ∷ []) in
-    taken_on g rows c.args.self.now _ p c.args.payload.now t.message t.state cs t.admits on
+    taken_on g (IsAt g rows _) p c.args.payload.now t.message t.state t.admits on.past
     (went_on g rows c.args.self.now _ p t.state cs at on (record { catalog = refl; work = c.in_ok-take-in-Item.ensures.ok; journal = refl; position = refl; written = refl }) t.represents
     (clear_behind g rows c.args.self.now p cs at c.in_ok-take-in-Item.ensures.clear))
 
@@ -89,5 +90,5 @@ pub returns-in-Nothing : goal.returns-in-Nothing
 returns-in-Nothing c = λ g rows p at.
     let t = c.in_ok-item.ensures g p.state at.catalog at.session in
     let on = quiet g p.state t.state t.told c.in_ok-item.field-0 (sane _ _ _ at.session) (sane _ _ _ t.represents) at.served at.workers t.tells t.within t.says (is_quiet c.in_ok-item.field-0 c.in-Nothing.is) in
-    taken_on g rows c.args.self.now _ p c.args.payload.now t.message t.state [] t.admits on
+    taken_on g (IsAt g rows _) p c.args.payload.now t.message t.state t.admits on.past
     (went_on g rows c.args.self.now _ p t.state [] at on (record { catalog = refl; work = no_change c.args.self.now.work; journal = refl; position = refl; written = refl }) t.represents tt)

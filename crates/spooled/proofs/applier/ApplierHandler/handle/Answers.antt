@@ -3,7 +3,8 @@ use Rattle.std.specs.Prelude.{max}
 use Rattle.spooled.specs.declared.applier.Applier.{Applier}
 use Rattle.spooled.specs.Handler.{HandlesItem, HasHandled}
 use Rattle.spooled.specs.Applier.{IsAt, HasEnded}
-use Rattle.spooled.proofs.Handling.{with_seen, IsAt-seen, handled_wal, handled_keepalive, handled_done, seen_two, seen_one}
+use Rattle.spooled.proofs.Admitted.{with_seen, done_handled}
+use Rattle.spooled.proofs.Handling.{IsAt-seen, handled_wal, handled_keepalive, seen_two, seen_one}
 use Rattle.spooled.proofs.applier.ApplierHandler.handle.Goals as goal
 
 pub take_message-requires : goal.take_message-requires
@@ -36,4 +37,4 @@ returns-in-Keepalive c = λ g rows handled p lawful at.
     (c.max-self-in-Keepalive.ensures ∙ seen_one now.written p.seen p.state.position c.in-Keepalive.end at.seen)))
 
 pub returns-in-Done : goal.returns-in-Done
-returns-in-Done c = λ g rows handled p lawful at. subst (λ i. HasHandled g (IsAt g rows) (HasEnded g rows) c.args.self.now p i false) (sym c.in-Done.is) (handled_done g rows c.args.self.now p at)
+returns-in-Done c = λ g rows handled p lawful at. subst (λ i. HasHandled g (IsAt g rows) (HasEnded g rows) c.args.self.now p i false) (sym c.in-Done.is) (done_handled g (IsAt g rows) c.args.self.now p (HasEnded g rows) at)

@@ -1,0 +1,18 @@
+// The files, and what each tests or gives the others.
+//
+//   runs           a command over a stream that a test gives: its devices, and what it prints
+//   cases          streams and their reports
+//   devices        streams in pieces, cut, and over devices that fail
+//   follow         a stream over a connection, and the status updates that go back
+//   accounts       what `--verbose` says of a command that did not end well
+//   progress       what `--progress` says, by a clock of the test's own
+//   output         what is said where a command can't go on
+//   command_line   options, their limits, and help
+mod accounts;
+mod cases;
+mod command_line;
+mod devices;
+mod follow;
+mod output;
+mod progress;
+mod runs;

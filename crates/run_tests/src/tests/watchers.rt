@@ -1,0 +1,354 @@
+// Those who watch a run: what they read while it goes on, and in their last turn.
+use super::runs::{Plan, Ran, config_of, one, reports, run_on, run_watched};
+use super::schedules::{NOWHERE, Place, Sign, TURNS, Withheld, doors};
+use super::streams::{ACCOUNTS, Column, Message, Stream};
+use super::worked::{NOTE, P};
+use leader::{
+    Key, OutOfMemory, Point, Position, ReadFault, Reader, Row, StoreNames, Value, ValueRef, Watch,
+    Xid,
+};
+use std::alloc::Global;
+use std::fmt::Write;
+use std::process::Abort;
+use std::rt::Clock as Host;
+use std::sync::{Mutex, Wait};
+use std::thread::Threads;
+
+// 700 changes the first row, and is still open.
+const OPEN: &[Message] = &[
+    Message::Start(700, true),
+    Message::Update(
+        700,
+        (Column::Number(1), Column::Text("a"), Column::Text("v")),
+    ),
+    Message::Stop,
+];
+
+const COMMIT: &[Message] = &[Message::StreamCommit(700, 0x200, 0x220)];
+
+// Appends a row as `1|a|n`.
+fn push_row(out: &mut String, row: &Row) -> Result<(), OutOfMemory> {
+    let mut between = "";
+    for column in 0..row.len() {
+        out.push_str(between)?;
+        between = "|";
+        match row.column(column) {
+            Some(ValueRef::Int(number)) => write!(out, "{number}")?,
+            Some(ValueRef::Text(text)) => out.push_str(text)?,
+            _ => out.push_str("\\N")?,
+        }
+    }
+    Ok(())
+}
+
+// Notes the first row once a transaction was committed, once more when 700 has changed it, and in its
+// last turn; each time with the position.
+#[derive(Drop)]
+struct Onlooker<'a> {
+    alloc: Global,
+    changed: &'a Sign,
+    read: &'a Sign,
+    notes: &'a Mutex<String>,
+    times: u8,
+}
+
+impl Onlooker<'_> {
+    // Whether it waits for what it is to note next.
+    fn waits(&self, found: Position) -> bool {
+        match self.times {
+            0 => found.commits == 0,
+            1 => !self.changed.is_passed(),
+            _ => false,
+        }
+    }
+
+    fn note<N: StoreNames, R: Wait>(
+        &self,
+        rt: &R,
+        reader: &mut Reader<'_, N>,
+        found: Position,
+    ) -> Result<(), OutOfMemory> {
+        let key = Key::from_value(self.alloc, Value::Int(1))?;
+        let row = reader.get(rt, 0, &key);
+        let mut notes = self.notes.lock(rt);
+        push_note(&mut *notes, row, found)
+    }
+}
+
+// Appends a row, if there is one, and a position.
+fn push_note(
+    out: &mut String,
+    row: Result<Option<Row>, ReadFault>,
+    found: Position,
+) -> Result<(), OutOfMemory> {
+    if let Ok(Some(row)) = row {
+        push_row(out, &row)?;
+    }
+    write!(out, " at {} {};", found.commits, found.end_lsn)?;
+    Ok(())
+}
+
+impl Watch for Onlooker<'_> {
+    fn turn<N: StoreNames, R: Wait>(&mut self, rt: &R, reader: &mut Reader<'_, N>) -> bool {
+        let found = reader.position(rt);
+        if self.waits(found) {
+            return true;
+        }
+        let _ = self.note(rt, reader, found);
+        if self.times == 1 {
+            self.read.pass();
+        }
+        self.times = self.times.saturating_add(1);
+        self.times < 2
+    }
+}
+
+// What an onlooker notes where the commit of 700 is withheld until it has read what 700 changed, and
+// what the run leaves.
+fn looked_on<R: Threads + Wait + Sync + Host>(
+    rt: &R,
+    alloc: Global,
+) -> Result<(String, Ran), OutOfMemory> {
+    let front = Stream::of(alloc, &[P, OPEN])?;
+    let back = Stream::of(alloc, &[COMMIT])?;
+    let changed = Sign::new(Place(700, Point::After(1)));
+    let read = Sign::new(NOWHERE);
+    let notes = Mutex::new(String::new(alloc));
+    let gates = doors(rt, alloc, &changed, NOWHERE, 1)?;
+    let onlooker = Onlooker {
+        alloc,
+        changed: &changed,
+        read: &read,
+        notes: &notes,
+        times: 0,
+    };
+    let watchers = one(alloc, onlooker)?;
+    let source = Withheld::new(rt, &read, front.bytes(), back.bytes(), TURNS, true);
+    let config = config_of(1, 1);
+    let ran = run_on(rt, alloc, source, u64::MAX, &config, gates, watchers)?;
+    Ok((notes.into_inner(), ran))
+}
+
+#[test]
+fn a_watcher_reads_committed_rows_alone(rt: HostRuntime) -> Result<(), OutOfMemory> {
+    let want = "table public.accounts 2\n1|a|v\n2|b|n\nposition 0/220\nend 0 Clean\n";
+    let seen = "1|a|n at 1 320;1|a|n at 1 320;1|a|v at 2 544;";
+    for _ in 0..100 {
+        let (notes, ran) = looked_on(&rt, rt.alloc())?;
+        assert_eq!(rt; notes.as_str(), seen);
+        reports(&rt, &ran, want.as_bytes(), "watched");
+    }
+    Ok(())
+}
+
+// How many transactions are committed while others watch.
+const COMMITS: u64 = 100;
+
+// The position behind so many of them, each of which takes 32 bytes of the log.
+fn position_of(commits: u64) -> Position {
+    Position {
+        commits,
+        end_lsn: commits.saturating_mul(32),
+    }
+}
+
+// The stream of all of them: each inserts the row with its number.
+fn committing(alloc: Global) -> Result<Stream, OutOfMemory> {
+    let mut stream = Stream::new(alloc);
+    stream.push(&Message::Other(b'R', 0, ACCOUNTS))?;
+    for number in 1..COMMITS + 1 {
+        let xid = number as Xid;
+        let end = position_of(number).end_lsn;
+        let at = end.saturating_sub(8);
+        stream.push(&Message::Begin(xid, at))?;
+        stream.push(&Message::Insert(0, (Column::Number(xid), Column::Null, NOTE)))?;
+        stream.push(&Message::Commit(at, end))?;
+    }
+    Ok(stream)
+}
+
+// What a follower saw: the commits of its last turn, how many turns it had, and whether all was well.
+#[derive(Drop)]
+struct Log {
+    commits: u64,
+    turns: u64,
+    is_well: bool,
+}
+
+fn new_log() -> Mutex<Log> {
+    Mutex::new(Log {
+        commits: 0,
+        turns: 0,
+        is_well: true,
+    })
+}
+
+// Whether the row of this transaction is there, or there is none yet.
+fn has_row<N: StoreNames, R: Wait>(
+    rt: &R,
+    alloc: Global,
+    reader: &mut Reader<'_, N>,
+    number: u64,
+) -> bool {
+    if number == 0 {
+        return true;
+    }
+    let id = i64::try_from(number).unwrap_or(0);
+    match Key::from_value(alloc, Value::Int(id)) {
+        Err(_) => false,
+        Ok(key) => matches!(reader.get(rt, 0, &key), Ok(Some(_))),
+    }
+}
+
+// Follows the position of a run, and sees that it is one of it, that none is before an earlier one, and
+// that the row of its last commit is there.
+#[derive(Drop)]
+struct Follower<'a> {
+    alloc: Global,
+    wants_more: bool,
+    log: &'a Mutex<Log>,
+}
+
+impl Watch for Follower<'_> {
+    fn turn<N: StoreNames, R: Wait>(&mut self, rt: &R, reader: &mut Reader<'_, N>) -> bool {
+        let found = reader.position(rt);
+        let is_there = has_row(rt, self.alloc, reader, found.commits);
+        let mut log = self.log.lock(rt);
+        if found.commits < log.commits || found != position_of(found.commits) || !is_there {
+            log.is_well = false;
+        }
+        log.commits = found.commits;
+        log.turns = log.turns.saturating_add(1);
+        self.wants_more
+    }
+}
+
+// One follows a run by so many workers, and one wants no turn.
+fn followed<R: Threads + Wait + Sync + Host>(
+    rt: &R,
+    alloc: Global,
+    stream: &[u8],
+    workers: usize,
+) -> Result<(Log, Log), OutOfMemory> {
+    let (eager, idle) = (new_log(), new_log());
+    let follower = Follower {
+        alloc,
+        wants_more: true,
+        log: &eager,
+    };
+    let mut watchers = one(alloc, follower)?;
+    watchers.push(Follower {
+        alloc,
+        wants_more: false,
+        log: &idle,
+    })?;
+    let config = config_of(workers, 1);
+    let _ran = run_watched(rt, alloc, &Plan::new(stream), &config, 1, watchers)?;
+    Ok((eager.into_inner(), idle.into_inner()))
+}
+
+// It followed all of the run.
+fn is_well(rt: &impl Abort, log: &Log) {
+    assert!(rt; log.is_well && log.commits == COMMITS);
+}
+
+#[test]
+fn no_position_goes_back_and_the_last_turn_sees_all(rt: HostRuntime) -> Result<(), OutOfMemory> {
+    let stream = committing(rt.alloc())?;
+    for turn in 0..40 {
+        let (eager, idle) = followed(&rt, rt.alloc(), stream.bytes(), turn % 2)?;
+        is_well(&rt, &eager);
+        is_well(&rt, &idle);
+        assert!(rt; idle.turns == 1 || idle.turns == 2);
+    }
+    Ok(())
+}
+
+// Appends rows, or why there are none.
+fn push_rows(out: &mut String, rows: Result<Vec<Row>, ReadFault>) -> Result<(), OutOfMemory> {
+    match rows {
+        Err(fault) => write!(out, "{fault};")?,
+        Ok(rows) => {
+            for row in rows.iter() {
+                push_row(out, row)?;
+                out.push_str(" ")?;
+            }
+            out.push_str(";")?;
+        }
+    }
+    Ok(())
+}
+
+// The rows at some positions.
+fn history<N: StoreNames, R: Wait>(
+    rt: &R,
+    alloc: Global,
+    reader: &mut Reader<'_, N>,
+) -> Result<String, OutOfMemory> {
+    let mut note = String::new(alloc);
+    for position in [0, 320, 544, 321] {
+        push_rows(&mut note, reader.rows_at(rt, alloc, 0, position))?;
+    }
+    Ok(note)
+}
+
+// Notes in each turn the rows at some positions, in place of what it noted before.
+#[derive(Drop)]
+struct Historian<'a> {
+    alloc: Global,
+    notes: &'a Mutex<String>,
+}
+
+impl Watch for Historian<'_> {
+    fn turn<N: StoreNames, R: Wait>(&mut self, rt: &R, reader: &mut Reader<'_, N>) -> bool {
+        if let Ok(note) = history(rt, self.alloc, reader) {
+            let mut notes = self.notes.lock(rt);
+            *notes = note;
+        }
+        true
+    }
+}
+
+// What a historian notes of a stream last.
+fn noted<R: Threads + Wait + Sync + Host>(
+    rt: &R,
+    alloc: Global,
+    stream: &[u8],
+    workers: usize,
+) -> Result<String, OutOfMemory> {
+    let notes = Mutex::new(String::new(alloc));
+    let historian = Historian {
+        alloc,
+        notes: &notes,
+    };
+    let watchers = one(alloc, historian)?;
+    let config = config_of(workers, 1);
+    let _ran = run_watched(rt, alloc, &Plan::new(stream), &config, 1, watchers)?;
+    Ok(notes.into_inner())
+}
+
+// Streams, and what a historian notes last: of work that is still open at the end it sees nothing.
+static HISTORIES: [(&[&[Message]], &str); 2] = [
+    (
+        &[P, OPEN, COMMIT],
+        ";1|a|n 2|b|n ;1|a|v 2|b|n ;unknown position;",
+    ),
+    (
+        &[P, OPEN],
+        ";1|a|n 2|b|n ;unknown position;unknown position;",
+    ),
+];
+
+#[test]
+fn a_last_turn_sees_the_rows_at_each_position(rt: HostRuntime) -> Result<(), OutOfMemory> {
+    for (parts, want) in &HISTORIES {
+        let stream = Stream::of(rt.alloc(), *parts)?;
+        for workers in 0..3 {
+            for _ in 0..20 {
+                let notes = noted(&rt, rt.alloc(), stream.bytes(), workers)?;
+                assert_eq!(rt; notes.as_str(), *want);
+            }
+        }
+    }
+    Ok(())
+}

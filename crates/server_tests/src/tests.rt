@@ -1,0 +1,18 @@
+// The files, and what each tests or gives the others.
+//
+//   catalogs   `publication`
+//   lines      `server`, questions and their rows
+//   logins     `server`, logging in
+//   loopback   `server`, over sockets of this machine
+//   refusals   `server`, what a login, a question and a stream make of other answers
+//   relays     `server`, the stream
+//   script     a line in memory: what the server says is written before
+//   vectors    `server`, hashes and SCRAM
+mod catalogs;
+mod lines;
+mod logins;
+mod loopback;
+mod refusals;
+mod relays;
+mod script;
+mod vectors;

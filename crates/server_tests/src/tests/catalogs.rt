@@ -1,0 +1,172 @@
+// The catalog of what a server says of a publication, and defaults as `pg_get_expr` prints them.
+use super::script::{Behind, assert_fault, connect, say, say_row};
+use publication::catalog::{Answers, ask, print};
+use publication::columns::{Kind, read_default};
+use server::fault::Fault;
+use std::alloc::Global;
+use std::test::Fail;
+use testing::accounts::CATALOG;
+use testing::asserts::{assert_holds, assert_same};
+
+/// Appends the answer to one question.
+fn answer(out: &mut Vec<u8>, rows: &[&str]) -> Result<(), Fail> {
+    say(out, b'T', b"\0\0")?;
+    for row in rows {
+        say_row(out, *row)?;
+    }
+    say(out, b'C', b"SELECT\0")?;
+    say(out, b'Z', b"I")
+}
+
+/// What is made of a scripted server's answers to one question after another.
+fn asked(alloc: Global, answers: &[&[&str]]) -> Result<Result<Answers, Fault>, Fail> {
+    let mut input = Vec::new(alloc);
+    for rows in answers {
+        answer(&mut input, *rows)?;
+    }
+    let mut sent = Vec::new(alloc);
+    let mut connection = connect(input.as_slice(), 100, Behind::Close, &mut sent)?;
+    Ok(ask(&mut connection, "it's"))
+}
+
+const TABLES: [&str; 5] = [
+    "1|public|odd \"\\\n|i|t",
+    "2|public|bare|d|f",
+    "3|public|late|d|f",
+    "4|public|accounts|d|f",
+    "5|public|other|i|f",
+];
+
+const COLUMNS: [&str; 13] = [
+    "1|1|ok|16|b|0| |f|t|true|boolean",
+    "1|2|n|20|b|0| |f|t|'-5'::integer|bigint",
+    "1|4|a\u{7f}|21|b|0| |f|t|\\N|smallint",
+    "3|1|id|23|b|0| |f|t|nextval('s'::regclass)|integer",
+    "4|1|id|23|b|0| |f|t|\\N|integer",
+    "4|2|email|25|b|0| |f|t|\\N|text",
+    "4|4|note|1043|b|0| |f|t|'x'::character varying|character varying(9)",
+    "4|5|twice|23|b|0| |t|t|(n * 2)|integer",
+    "4|6|hidden|23|b|0| |f|f|\\N|integer",
+    "4|7|price|1700|b|0| |f|t|0.5|numeric",
+    "4|8|face|99999|e|0| |f|t|\\N|mood",
+    "4|9|page|142|b|0| |f|t|\\N|xml",
+    "5|1|id|23|b|0| |f|t|\\N|integer",
+];
+
+const KEYS: [&str; 11] = [
+    "1|10|odd_pkey|t|t|t|f|f|t|f|4",
+    "1|11|both|f|f|t|f|f|t|f|2",
+    "1|11|both|f|f|t|f|f|t|f|4",
+    "3|30|late_pkey|t|f|f|f|f|t|f|1",
+    "4|40|accounts_pkey|t|f|t|f|f|t|f|1",
+    "4|41|email|f|f|t|f|f|t|f|2",
+    "4|42|late|f|f|f|f|f|t|f|2",
+    "4|43|some|f|f|t|t|f|t|f|2",
+    "4|44|lower|f|f|t|f|t|t|f|0",
+    "4|45|nulls|f|f|t|f|f|t|t|2",
+    "4|46|priced|f|f|t|f|f|t|f|7",
+];
+
+/// What a server says of a publication: its version, how many publications have the name, and the tables.
+const SHOP: [&[&str]; 5] = [&["170002"], &["1"], &TABLES, &COLUMNS, &KEYS];
+
+/// The first of these tables, whose names need escapes and whose key is not its first column.
+const ODD: &str = r#"[[table]]
+namespace = "public"
+name = "odd \"\\\u000A"
+primary = ["a\u007F"]
+unique = [["n", "a\u007F"]]
+[[table.column]]
+name = "ok"
+type = "bool"
+default = true
+[[table.column]]
+name = "n"
+type = "int"
+default = -5
+[[table.column]]
+name = "a\u007F"
+type = "int"
+"#;
+
+/// A server's version, how many publications have the name, and the fault where it then closes.
+const REFUSED: [(&str, &str, &str); 3] = [
+    ("139999", "1", "OldServer"),
+    ("140000", "0", "NoPublication"),
+    ("140000", "1", "Closed"),
+];
+
+#[test]
+fn an_old_server_and_a_publication_that_is_not_there(rt: HostRuntime) -> Result<(), Fail> {
+    for (case, (version, count, want)) in REFUSED.iter().enumerate() {
+        let refused = asked(rt.alloc(), &[&[*version], &[*count]])?;
+        assert_fault(rt.alloc(), refused, *want, case)?;
+    }
+    Ok(())
+}
+
+#[test]
+fn what_is_kept_and_what_is_left_out(rt: HostRuntime) -> Result<(), Fail> {
+    let answers = asked(rt.alloc(), &SHOP)??;
+    let plain = print(rt.alloc(), &answers, false)?;
+    let mut want = String::from_str(rt.alloc(), ODD)?;
+    want.push_str(CATALOG)?;
+    assert_same(plain.toml.as_str(), want.as_str(), "plain")?;
+    // Five columns, five keys, two tables of the first three, the filter, and the last table.
+    assert_same(plain.notes.len(), 15, "notes")?;
+    let toml = plain.toml.as_str();
+    assert_holds(toml::table_from_str(rt.alloc(), toml).is_ok(), "plain")
+}
+
+/// What stands in the catalog where columns of other types are kept as text, and what doesn't.
+const PARTS: [(&str, bool); 4] = [
+    ("name = \"price\"\ntype = \"text\"\n[[", true),
+    ("name = \"face\"\ntype = \"text\"\n", true),
+    ("page", false),
+    ("[\"email\"], [\"price\"]]", true),
+];
+
+#[test]
+fn what_is_kept_as_text(rt: HostRuntime) -> Result<(), Fail> {
+    let answers = asked(rt.alloc(), &SHOP)??;
+    let printed = print(rt.alloc(), &answers, true)?;
+    let toml = printed.toml.as_str();
+    for (part, want) in &PARTS {
+        assert_same(toml.find(*part).is_some(), *want, *part)?;
+    }
+    assert_holds(toml::table_from_str(rt.alloc(), toml).is_ok(), "as text")
+}
+
+/// Defaults as a server prints them, and what each is.
+const DEFAULTS: [(Kind, &str, &str); 20] = [
+    (Kind::Int, "7", "Int(7)"),
+    (Kind::Int, "'-7'::integer", "Int(-7)"),
+    (Kind::Int, "(-7)", "Int(-7)"),
+    (Kind::Int, "'7'::bigint", "Int(7)"),
+    (Kind::Int, "NULL::integer", "Null"),
+    (Kind::Int, "9223372036854775808", "Other"),
+    (Kind::Int, "nextval('s'::regclass)", "Other"),
+    (Kind::Int, "(1 + 2)", "Other"),
+    (Kind::Bool, "true", "Bool(true)"),
+    (Kind::Bool, "false", "Bool(false)"),
+    (Kind::Bool, "'f'::boolean", "Bool(false)"),
+    (Kind::Bool, "(NOT true)", "Other"),
+    (Kind::Text, "'it''s'::text", "Text(\"it's\")"),
+    (Kind::Text, "''::character varying", "Text(\"\")"),
+    (Kind::Text, "''''''::text", "Text(\"''\")"),
+    (Kind::Text, "'a'", "Text(\"a\")"),
+    (Kind::Text, "'a'::text || 'b'::text", "Other"),
+    (Kind::Text, "'a", "Other"),
+    (Kind::Text, "CURRENT_USER", "Other"),
+    (Kind::Text, "upper('x'::text)", "Other"),
+];
+
+#[test]
+fn defaults_as_the_server_prints_them(rt: HostRuntime) -> Result<(), Fail> {
+    for (kind, expression, want) in &DEFAULTS {
+        let read = read_default(rt.alloc(), *kind, *expression)?;
+        let text = format!(in rt.alloc(); "{read:?}")?;
+        assert_same(text.as_str(), *want, *expression)?;
+    }
+    Ok(())
+}

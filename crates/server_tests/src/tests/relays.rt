@@ -1,0 +1,411 @@
+// A stream from a scripted server, in pieces of each length, cut anywhere, and whatever ends it.
+use super::script::{Behind, Message, assert_fault, connect, name_of, say, spell};
+use server::fault::Fault;
+use server::relay::{Bounds, End, Output, Relayed, relay};
+use server::serve::{Told, farewell};
+use server::stream::status;
+use std::alloc::Global;
+use std::io;
+use std::test::Fail;
+use testing::asserts::{assert_holds, assert_same};
+
+/// Keeps frames as long as there is room.
+#[derive(Drop)]
+struct Kept<'a> {
+    bytes: &'a mut Vec<u8>,
+    room: usize,
+    wanted: bool,
+}
+
+impl Output for Kept<'_> {
+    fn put(&mut self, frames: &[u8]) -> Result<(), Fault> {
+        if frames.len() > self.room {
+            return Err(Fault::CannotWrite(io::Error::from(io::ErrorKind::StorageFull)));
+        }
+        self.room -= frames.len();
+        self.bytes.extend_from_slice(frames)?;
+        Ok(())
+    }
+
+    fn tell(&mut self, put: &Relayed, due: bool, updates: &mut Vec<u8>) -> Result<bool, Fault> {
+        if due {
+            let update = status(*updates.allocator(), put.position, true)?;
+            updates.extend_from_slice(update.as_slice())?;
+        }
+        Ok(self.wanted)
+    }
+}
+
+/// What came of a stream: what was put and sent, what ended it, and the fault's name.
+#[derive(Drop)]
+struct Came {
+    put: Vec<u8>,
+    sent: Vec<u8>,
+    relayed: Relayed,
+    end: Option<End>,
+    fault: String,
+}
+
+/// A server that says this, and what takes its stream.
+#[derive(Clone, Copy)]
+struct Trial<'a> {
+    input: &'a [u8],
+    piece: usize,
+    behind: Behind,
+    bounds: Bounds,
+    room: usize,
+    wanted: bool,
+}
+
+impl<'a> Trial<'a> {
+    /// Without bounds, and with room for all; behind its words the server closes.
+    fn of(input: &'a [u8]) -> Trial<'a> {
+        Trial {
+            input,
+            piece: 1000,
+            behind: Behind::Close,
+            bounds: Bounds::NONE,
+            room: 100000,
+            wanted: true,
+        }
+    }
+
+    fn run(&self, alloc: Global) -> Result<Came, Fail> {
+        let mut sent = Vec::new(alloc);
+        let mut put = Vec::new(alloc);
+        let mut relayed = Relayed::NOTHING;
+        let answer = self.relay(&mut sent, &mut put, &mut relayed)?;
+        let end = end_of(&answer);
+        Ok(Came {
+            put,
+            sent,
+            relayed,
+            end,
+            fault: name_of(alloc, answer)?,
+        })
+    }
+
+    /// What ended the stream: `sent` is what the server heard, `put` what was put.
+    fn relay(
+        &self,
+        sent: &mut Vec<u8>,
+        put: &mut Vec<u8>,
+        relayed: &mut Relayed,
+    ) -> Result<Result<End, Fault>, Fail> {
+        let mut connection = connect(self.input, self.piece, self.behind, sent)?;
+        let mut kept = Kept {
+            bytes: put,
+            room: self.room,
+            wanted: self.wanted,
+        };
+        Ok(relay(&mut connection, &mut kept, self.bounds, relayed))
+    }
+}
+
+fn end_of(answer: &Result<End, Fault>) -> Option<End> {
+    match answer {
+        Ok(end) => Some(*end),
+        Err(_) => None,
+    }
+}
+
+/// Three pieces of the log, at 16, 48 and 64, notices and a keepalive at 32 that wants an answer among them:
+/// 151 bytes, 6 frames.
+const STREAM: [Message<'static>; 6] = [
+    (
+        b'd',
+        b"w\0\0\0\0\0\0\0\x10\0\0\0\0\0\0\0\x10\0\0\0\0\0\0\0\0B",
+    ),
+    (b'N', b"SNOTICE\0\0"),
+    (
+        b'd',
+        b"w\0\0\0\0\0\0\0\x30\0\0\0\0\0\0\0\x30\0\0\0\0\0\0\0\0",
+    ),
+    (b'd', b"k\0\0\0\0\0\0\0\x20\0\0\0\0\0\0\0\0\x01"),
+    (b'S', b"a\0b\0"),
+    (
+        b'd',
+        b"w\0\0\0\0\0\0\0\x40\0\0\0\0\0\0\0\x40\0\0\0\0\0\0\0\0longer payload",
+    ),
+];
+
+/// How many bytes the stream has.
+const LENGTH: usize = 151;
+
+/// Where its frames end.
+const EDGES: [usize; 7] = [0, 31, 45, 75, 98, 107, LENGTH];
+
+/// A status update at a place that asks for a keepalive, as the manual spells it.
+fn update_at(place: u8) -> [u8; 39] {
+    update_of(place, place)
+}
+
+fn update_of(written: u8, flushed: u8) -> [u8; 39] {
+    [
+        b'd', 0, 0, 0, 38, b'r', 0, 0, 0, 0, 0, 0, 0, written, 0, 0, 0, 0, 0, 0, 0, flushed, 0, 0,
+        0, 0, 0, 0, 0, flushed, 0, 0, 0, 0, 0, 0, 0, 0, 1,
+    ]
+}
+
+const COPY_DONE: [u8; 5] = [b'c', 0, 0, 0, 4];
+
+/// The stream and CopyDone.
+fn whole_stream(alloc: Global) -> Result<Vec<u8>, Fail> {
+    spell(alloc, &[&STREAM, &[(b'c', b"")]])
+}
+
+/// The place of the first status update where the server's words come in pieces of this length: the keepalive,
+/// whose frame ends at 98, wants an answer; of the last frame too, if it came along.
+fn first_told(piece: usize) -> u8 {
+    if 98usize.div_ceil(piece.max(1)).saturating_mul(piece) < LENGTH {
+        48
+    } else {
+        64
+    }
+}
+
+/// All of the stream was put, and is counted.
+fn assert_put(came: &Came, input: &[u8]) -> Result<(), Fail> {
+    assert_same(came.end, Some(End::Done), "end")?;
+    assert_same(came.put.as_slice(), input, "put")?;
+    let all = Relayed {
+        frames: 7,
+        bytes: 156,
+        position: 64,
+        committed: 0,
+    };
+    assert_same(came.relayed, all, "relayed")
+}
+
+/// The server heard status updates from this place up to 64, and at last CopyDone.
+fn assert_told(alloc: Global, sent: &[u8], first: u8) -> Result<(), Fail> {
+    assert_holds(sent.starts_with(&update_at(first)), "first")?;
+    let mut last = update_at(64).to_vec(alloc)?;
+    last.extend_from_slice(&COPY_DONE)?;
+    assert_holds(sent.strip_suffix(last.as_slice()).is_some(), "last")
+}
+
+#[test]
+fn in_pieces_of_each_length(rt: HostRuntime) -> Result<(), Fail> {
+    let input = whole_stream(rt.alloc())?;
+    for piece in 1..=input.len() {
+        let mut trial = Trial::of(input.as_slice());
+        trial.piece = piece;
+        let came = trial.run(rt.alloc())?;
+        assert_put(&came, input.as_slice())?;
+        assert_told(rt.alloc(), came.sent.as_slice(), first_told(piece))?;
+    }
+    Ok(())
+}
+
+/// Where the last frame ends that is whole within so many bytes of the stream.
+fn last_edge(count: usize) -> usize {
+    let mut whole = 0;
+    for edge in &EDGES {
+        if *edge <= count {
+            whole = *edge;
+        }
+    }
+    whole
+}
+
+#[test]
+fn cut_anywhere_only_whole_frames_are_put(rt: HostRuntime) -> Result<(), Fail> {
+    let input = spell(rt.alloc(), &[&STREAM])?;
+    for count in 0..=input.len() {
+        for (behind, want) in [(Behind::Close, "Closed"), (Behind::Silence, "TimedOut")] {
+            let mut trial = Trial::of(input.as_slice().get(..count).unwrap_or(&[]));
+            trial.behind = behind;
+            let came = trial.run(rt.alloc())?;
+            assert_same(came.put.len(), last_edge(count), count)?;
+            assert_same(came.fault.as_str(), want, count)?;
+        }
+    }
+    Ok(())
+}
+
+/// What a server sends behind the stream, what is put of it, what it ends with, and the name of the fault.
+const BEHIND: [(Message<'static>, &[u8], Option<End>, &str); 9] = [
+    ((b'C', b"COPY 0\0"), &COPY_DONE, Some(End::Shutdown), "none"),
+    (
+        (b'E', b"SFATAL\0C57P01\0Mbye\0\0"),
+        b"E\0\0\0\x18SFATAL\0C57P01\0Mbye\0\0",
+        None,
+        "Server",
+    ),
+    ((b'E', b"SFATAL"), b"E\0\0\0\x0aSFATAL", None, "Nonsense"),
+    ((b'Z', b"I"), b"", None, "Nonsense"),
+    ((b'd', b""), b"", None, "Nonsense"),
+    ((b'd', b"x"), b"", None, "Nonsense"),
+    ((b'd', b"w1234"), b"", None, "Nonsense"),
+    ((b'd', b"k12345678123456781more"), b"", None, "Nonsense"),
+    ((b'N', b""), b"N\0\0\0\x04", None, "Closed"),
+];
+
+#[test]
+fn what_ends_a_stream(rt: HostRuntime) -> Result<(), Fail> {
+    for (case, ((tag, body), put, end, want)) in BEHIND.iter().enumerate() {
+        let mut input = spell(rt.alloc(), &[&STREAM])?;
+        say(&mut input, *tag, *body)?;
+        let came = Trial::of(input.as_slice()).run(rt.alloc())?;
+        assert_same(came.fault.as_str(), *want, case)?;
+        assert_same(came.end, *end, case)?;
+        assert_same(came.put.as_slice().get(LENGTH..), Some(*put), case)?;
+    }
+    Ok(())
+}
+
+/// A place where a stream is to end, how much is put at most, what ends it, and the name of the fault.
+const PLACES: [(u64, usize, Option<End>, &str); 4] = [
+    (8, 0, Some(End::Reached), "none"),
+    (16, 98, Some(End::Reached), "none"),
+    (48, 107, Some(End::Reached), "none"),
+    (64, 151, None, "Closed"),
+];
+
+#[test]
+fn a_place_where_a_stream_ends(rt: HostRuntime) -> Result<(), Fail> {
+    let input = spell(rt.alloc(), &[&STREAM])?;
+    for (place, put, end, want) in &PLACES {
+        let mut trial = Trial::of(input.as_slice());
+        trial.piece = 1;
+        trial.bounds = Bounds {
+            until: Some(*place),
+            millis: None,
+        };
+        let came = trial.run(rt.alloc())?;
+        assert_same(came.end, *end, *place)?;
+        assert_same(came.fault.as_str(), *want, *place)?;
+        assert_holds(came.put.len() <= *put, *place)?;
+    }
+    Ok(())
+}
+
+/// Whether more is wanted, and what ends a stream whose server is silent behind it.
+const TIMES: [(bool, End); 2] = [(true, End::Elapsed), (false, End::Enough)];
+
+#[test]
+fn a_time_after_which_a_stream_ends(rt: HostRuntime) -> Result<(), Fail> {
+    let input = spell(rt.alloc(), &[&STREAM])?;
+    for (wanted, end) in &TIMES {
+        let mut trial = Trial::of(input.as_slice());
+        trial.behind = Behind::Silence;
+        trial.bounds = Bounds {
+            until: None,
+            millis: Some(3000),
+        };
+        trial.wanted = *wanted;
+        let came = trial.run(rt.alloc())?;
+        assert_same(came.end, Some(*end), "end")?;
+        assert_holds(!*wanted || came.put.as_slice() == input.as_slice(), "put")?;
+    }
+    Ok(())
+}
+
+#[test]
+fn a_disk_that_is_full_at_each_byte(rt: HostRuntime) -> Result<(), Fail> {
+    let input = spell(rt.alloc(), &[&STREAM])?;
+    for room in 0..input.len() {
+        let mut trial = Trial::of(input.as_slice());
+        trial.piece = 1;
+        trial.room = room;
+        let came = trial.run(rt.alloc())?;
+        assert_same(came.fault.as_str(), "CannotWrite", room)?;
+        assert_holds(came.put.len() <= room, room)?;
+        assert_holds(input.as_slice().starts_with(came.put.as_slice()), room)?;
+    }
+    Ok(())
+}
+
+/// What a follower is understood to say in pieces of this length, and whether it goes on behind them.
+fn heard(alloc: Global, said: &[u8], piece: usize) -> Result<(Vec<u8>, bool), Fail> {
+    let mut told = Told::new(alloc);
+    let mut heard = Vec::new(alloc);
+    let mut goes_on = true;
+    for part in said.chunks(piece.max(1)) {
+        goes_on = told.hear(part, 0, &mut heard)?;
+    }
+    Ok((heard, goes_on))
+}
+
+#[test]
+fn a_follower_is_heard_in_pieces(rt: HostRuntime) -> Result<(), Fail> {
+    let mut said = update_at(16).to_vec(rt.alloc())?;
+    said.extend_from_slice(&update_at(32))?;
+    let updates = said.clone()?;
+    said.extend_from_slice(&COPY_DONE)?;
+    for piece in 1..=said.len() {
+        let (heard, goes_on) = heard(rt.alloc(), said.as_slice(), piece)?;
+        assert_holds(!goes_on, piece)?;
+        assert_same(heard.as_slice(), updates.as_slice(), piece)?;
+    }
+    Ok(())
+}
+
+/// What no follower says.
+const NO_FOLLOWER: [&[u8]; 4] = [
+    b"GET / HTTP",
+    b"d\0\0\0\x05r",
+    b"d\0\0\0\x04",
+    b"Q\0\0\0\x05\0",
+];
+
+#[test]
+fn what_no_follower_says_is_refused(rt: HostRuntime) -> Result<(), Fail> {
+    for (case, bytes) in NO_FOLLOWER.iter().enumerate() {
+        let mut told = Told::new(rt.alloc());
+        let mut heard = Vec::new(rt.alloc());
+        let answer = told.hear(*bytes, 0, &mut heard);
+        assert_holds(heard.is_empty(), case)?;
+        assert_fault(rt.alloc(), answer, "Follower", case)?;
+    }
+    Ok(())
+}
+
+/// Commits that end at 24 and 40, the latter of a streamed transaction, and what is none.
+const COMMITS: [Message<'static>; 4] = [
+    (
+        b'd',
+        b"w\0\0\0\0\0\0\0\x10\0\0\0\0\0\0\0\x10\0\0\0\0\0\0\0\0\
+        C\0\0\0\0\0\0\0\0\x10\0\0\0\0\0\0\0\x18\0\0\0\0\0\0\0\0",
+    ),
+    (
+        b'd',
+        b"w\0\0\0\0\0\0\0\x20\0\0\0\0\0\0\0\x20\0\0\0\0\0\0\0\0\
+        c\0\0\x02\xbc\0\0\0\0\0\0\0\0\x20\0\0\0\0\0\0\0\x28\0\0\0\0\0\0\0\0",
+    ),
+    (
+        b'd',
+        b"w\0\0\0\0\0\0\0\x30\0\0\0\0\0\0\0\x30\0\0\0\0\0\0\0\0c\0",
+    ),
+    (b'c', b""),
+];
+
+#[test]
+fn commits_that_were_put_are_known(rt: HostRuntime) -> Result<(), Fail> {
+    let input = spell(rt.alloc(), &[&COMMITS])?;
+    let came = Trial::of(input.as_slice()).run(rt.alloc())?;
+    assert_same(came.relayed.committed, 40, "committed")
+}
+
+#[test]
+fn all_commits_applied_is_all_flushed(rt: HostRuntime) -> Result<(), Fail> {
+    for (committed, flushed) in [(0, 48), (32, 48), (33, 32)] {
+        let mut told = Told::new(rt.alloc());
+        let mut heard = Vec::new(rt.alloc());
+        told.hear(&update_of(48, 32), committed, &mut heard)?;
+        assert_same(
+            heard.as_slice(),
+            update_of(48, flushed).as_slice(),
+            committed,
+        )?;
+    }
+    Ok(())
+}
+
+#[test]
+fn a_farewell_is_an_error_response(rt: HostRuntime) -> Result<(), Fail> {
+    let frame = farewell(rt.alloc(), &Fault::Closed)?;
+    let want = b"E\x00\x00\x00\x3dSFATAL\0C08006\0MClosed: the server closed the connection\0\0";
+    assert_same(frame.as_slice(), want.as_slice(), "farewell")
+}

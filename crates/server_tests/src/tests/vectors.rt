@@ -1,0 +1,80 @@
+// Vectors of the standards, and of PostgreSQL's password hash.
+use server::auth::md5_password;
+use server::scram::{Exchange, hmac};
+use std::alloc::Global;
+use std::test::Fail;
+use testing::asserts::assert_same;
+
+/// The exchange of RFC 7677, whose user is `user` and whose password `pencil`.
+fn exchange(alloc: Global) -> Result<Exchange, Fail> {
+    Ok(Exchange::new(alloc, "user", "rOprNGfwEbeRWgbNEkqO")?)
+}
+
+/// The server's first message, the client's answer, and the server's last messages: which of them show that it
+/// knows the password.
+const CHALLENGE: &str =
+    "r=rOprNGfwEbeRWgbNEkqO%hvYDpWUa2RaTCAfuxFIlj)hNlF$k0,s=W22ZaJ0SNY7soEsUEjb6gQ==,i=4096";
+
+const ANSWER: &str =
+    "c=biws,r=rOprNGfwEbeRWgbNEkqO%hvYDpWUa2RaTCAfuxFIlj)hNlF$k0,p=dHzbZapWIk4jUhN+Ute9ytag9zjfMHgsqmmiz7AndVQ=";
+
+const FINALS: [(&str, bool); 5] = [
+    ("v=6rriTRBi23WpRR/wtup+mMhUZUn/dB5nLTJRsjl95G4=", true),
+    ("v=7rriTRBi23WpRR/wtup+mMhUZUn/dB5nLTJRsjl95G4=", false),
+    ("v=6rriTRBi23WpRR/wtup+mMhUZUn/dB5nLTJRsjl95A==", false),
+    ("v=", false),
+    ("e=invalid-proof", false),
+];
+
+#[test]
+fn scram_is_that_of_rfc_7677(rt: HostRuntime) -> Result<(), Fail> {
+    let exchange = exchange(rt.alloc())?;
+    let first = exchange.first()?;
+    assert_same(first.as_str(), "n,,n=user,r=rOprNGfwEbeRWgbNEkqO", "first")?;
+    let proof = exchange.proof("pencil", CHALLENGE)?;
+    assert_same(proof.message.as_str(), ANSWER, "answer")
+}
+
+#[test]
+fn a_server_is_known_by_its_last_message(rt: HostRuntime) -> Result<(), Fail> {
+    let proof = exchange(rt.alloc())?.proof("pencil", CHALLENGE)?;
+    for (text, want) in &FINALS {
+        let answer = proof.is_answered_by(rt.alloc(), *text);
+        assert_same(answer, *want, *text)?;
+    }
+    Ok(())
+}
+
+/// A key, a message in two parts, and its hash.
+const HASHED: [(&[u8], &[u8], &[u8], &str); 2] = [
+    (
+        b"Jefe",
+        b"what do ya want ",
+        b"for nothing?",
+        "5bdcc146bf60754e6a042426089575c75a003f089d2739839dec58b964ec3843",
+    ),
+    (
+        &[0xaa; 131],
+        b"Test Using Larger Than Block-Size Key - Hash Key First",
+        b"",
+        "60e431591ee0b67f0d8a26aacbf5b77f8e0bc6213728c5140546040f0ee37f54",
+    ),
+];
+
+#[test]
+fn hmac_is_that_of_rfc_4231(rt: HostRuntime) -> Result<(), Fail> {
+    for (key, first, second, hex) in &HASHED {
+        let mut text = String::new(rt.alloc());
+        for byte in &hmac(*key, *first, *second) {
+            write!(text, "{:02x}", *byte)?;
+        }
+        assert_same(text.as_str(), *hex, *hex)?;
+    }
+    Ok(())
+}
+
+#[test]
+fn an_md5_password_is_that_of_python(rt: HostRuntime) -> Result<(), Fail> {
+    let text = md5_password(rt.alloc(), "alice", "secret", &[1, 2, 3, 4])?;
+    assert_same(text.as_str(), "md598a0412b9c31436fc53776e863350083", "")
+}

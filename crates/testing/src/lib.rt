@@ -1,0 +1,13 @@
+// What the tests of several crates share, and programs that measure. No other program stands on it.
+//
+//   asserts    assertions, whose failure is the test's result
+//   accounts   the table of most tests: its catalog, and the relation that a publisher sends of it
+//   devices    a source that gives a stream in pieces and a sink that keeps what it takes, which fail where
+//              a test wants it
+//
+// It stands on `frames` for the traits of the devices, and on std.
+#![tactic(auto)]
+
+pub mod accounts;
+pub mod asserts;
+pub mod devices;

@@ -1,0 +1,248 @@
+// What no clause says of workers: that they work at the same time, that each job comes back, that the
+// leader is woken, that all threads end however the leader leaves, and when a job is dropped.
+ghost use Rattle.std.specs.Prelude.{◌≡◌, IfOk};
+
+use crate::tests::asserts::assert_same;
+use crew::{Bell, Desk, Work, make_desks, with_workers};
+use model::OutOfMemory;
+use std::alloc::Global;
+use std::sync::{Arc, Condvar, Mutex, Wait};
+use std::test::Fail;
+use std::thread::Threads;
+
+#[derive(Drop)]
+struct Job {
+    number: usize,
+    done: u64,
+    held: Arc<u8, Global>,
+}
+
+// Where a job is done once so many have been in work.
+#[derive(Drop)]
+struct Shop {
+    wanted: u64,
+    begun: Mutex<u64>,
+    changed: Condvar,
+    bell: Bell,
+}
+
+impl Shop {
+    fn new(wanted: u64) -> Shop {
+        Shop {
+            wanted,
+            begun: Mutex::new(0),
+            changed: Condvar::new(),
+            bell: Bell::new(),
+        }
+    }
+}
+
+impl Work<Job> for Shop {
+    ghost use Rattle.std.specs.Prelude.{◌≡◌};
+
+    ghost keeps = { λ old new. new.number ≡ old.number };
+
+    fn work<R: Wait>(&self, rt: &R, job: &mut Job) {
+        let mut begun = self.begun.lock(rt);
+        *begun = begun.saturating_add(1);
+        self.changed.notify_all();
+        let _ = self
+            .changed
+            .wait_while(rt, begun, |begun| *begun < self.wanted);
+        job.done = job.done.saturating_add(1);
+    }
+
+    fn came_back<R: Wait>(&self, rt: &R) {
+        self.bell.ring(rt);
+    }
+}
+
+// A new job for each desk.
+fn jobs(alloc: Global, count: usize, held: &Arc<u8, Global>) -> Result<Vec<Job>, OutOfMemory> {
+    let mut jobs = Vec::new(alloc);
+    for number in 0..count {
+        let held = Arc::try_clone(held)?;
+        jobs.push(Job {
+            number,
+            done: 0,
+            held,
+        })?;
+    }
+    Ok(jobs)
+}
+
+// Lays a job on each desk. Says whether all desks took theirs.
+fn give_all<R: Wait>(rt: &R, desks: &[Desk<Job>], jobs: Vec<Job>) -> bool {
+    let mut all = true;
+    for (desk, job) in desks.iter().zip(jobs) {
+        all = desk.give(rt, job).is_ok() && all;
+    }
+    all
+}
+
+// The job of a desk, once the bell has told that something moved and it was done.
+fn wait_for<R: Wait>(rt: &R, desk: &Desk<Job>, bell: &Bell) -> Job {
+    for _ in rt.forever() {
+        let seen = bell.rung(rt);
+        if let Some(job) = desk.try_back(rt) {
+            return job;
+        }
+        bell.wait_past(rt, seen);
+    }
+    unreachable!()
+}
+
+// How many of the desks' jobs came back, each to its own desk and done once.
+fn count_back<R: Wait>(rt: &R, desks: &[Desk<Job>], bell: &Bell) -> u64 {
+    let mut count = 0u64;
+    for (number, desk) in desks.iter().enumerate() {
+        let job = wait_for(rt, desk, bell);
+        if job.number == number && job.done == 1 {
+            count = count.saturating_add(1);
+        }
+    }
+    count
+}
+
+// No job is done before all are in work, so this ends only if all workers work at the same time.
+#[test]
+fn all_at_once(rt: HostRuntime) -> Result<(), Fail> {
+    let held = Arc::new(rt.alloc(), 0u8)?;
+    for workers in [1u64, 2, 3, 4, 16] {
+        let desks = make_desks(rt.alloc(), workers as usize)?;
+        let shop = Shop::new(workers);
+        let mut laid = Some(jobs(rt.alloc(), workers as usize, &held)?);
+        let back = with_workers(
+            &rt,
+            &desks,
+            &shop,
+            &mut |serving| {
+                let Some(jobs) = laid.take() else { return 0 };
+                if serving < desks.len() || !give_all(&rt, &desks, jobs) {
+                    return 0;
+                }
+                count_back(&rt, &desks, &shop.bell)
+            },
+        );
+        assert_same(&rt, back, workers, "back");
+    }
+    assert_same(&rt, Arc::strong_count(&held), 1, "jobs that are held");
+    Ok(())
+}
+
+// A leader that leaves at a turn: at once, once jobs were given, once the first came back, once all
+// did, or once all were given again. Answers how many came back.
+fn leave_at<R: Wait>(
+    rt: &R,
+    turn: u64,
+    desks: &[Desk<Job>],
+    bell: &Bell,
+    first: Vec<Job>,
+    second: Vec<Job>,
+) -> u64 {
+    if turn == 0 {
+        return 0;
+    }
+    give_all(rt, desks, first);
+    if turn == 1 {
+        return 0;
+    }
+    if turn == 2 {
+        return count_back(rt, desks.get(..1).unwrap_or(&[]), bell);
+    }
+    let back = count_back(rt, desks, bell);
+    if turn == 4 {
+        give_all(rt, desks, second);
+    }
+    back
+}
+
+// How many jobs have come back where the leader leaves at a turn.
+fn expected(turn: u64, workers: u64) -> u64 {
+    match turn {
+        0 | 1 => 0,
+        2 => workers.min(1),
+        _ => workers,
+    }
+}
+
+// Each of them ends, and each job is dropped once, wherever it is then.
+#[test]
+fn the_leader_leaves_at_each_turn(rt: HostRuntime) -> Result<(), Fail> {
+    let held = Arc::new(rt.alloc(), 0u8)?;
+    for workers in 0..5u64 {
+        for turn in 0..5u64 {
+            let desks = make_desks(rt.alloc(), workers as usize)?;
+            let shop = Shop::new(1);
+            let first = jobs(rt.alloc(), workers as usize, &held)?;
+            let second = jobs(rt.alloc(), workers as usize, &held)?;
+            let mut laid = Some((first, second));
+            let back = with_workers(
+                &rt,
+                &desks,
+                &shop,
+                &mut |_| {
+                    let Some((first, second)) = laid.take() else {
+                        return 0;
+                    };
+                    leave_at(&rt, turn, &desks, &shop.bell, first, second)
+                },
+            );
+            assert_same(&rt, back, expected(turn, workers), turn);
+        }
+    }
+    assert_same(&rt, Arc::strong_count(&held), 1, "jobs that are held");
+    Ok(())
+}
+
+// The number of a job, and how often it was done.
+fn seen(job: Option<Job>) -> Option<(usize, u64)> {
+    match job {
+        Some(job) => Some((job.number, job.done)),
+        None => None,
+    }
+}
+
+// A desk on one thread: a second job is handed back while one is there, the first where the desk
+// closes, and a closed desk takes none and starts none.
+#[test]
+fn a_desk_on_one_thread(rt: HostRuntime) -> Result<(), Fail> {
+    let held = Arc::new(rt.alloc(), 0u8)?;
+    let desks = make_desks(rt.alloc(), 1)?;
+    let [desk] = desks.as_slice() else {
+        panic!(rt; "one desk was made")
+    };
+    let shop = Shop::new(1);
+    assert_same(&rt, seen(desk.wait_back(&rt)), None, "no job");
+    let mut jobs = jobs(rt.alloc(), 3, &held)?.into_iter();
+    let (Some(first), Some(second), Some(third)) = (jobs.next(), jobs.next(), jobs.next()) else {
+        panic!(rt; "a job is missing")
+    };
+    assert_same(&rt, seen(desk.give(&rt, first).err()), None, "the first");
+    assert_same(
+        &rt,
+        seen(desk.give(&rt, second).err()),
+        Some((1, 0)),
+        "the second",
+    );
+    assert_same(&rt, seen(desk.try_back(&rt)), None, "not done");
+    assert_same(&rt, seen(desk.close(&rt)), Some((0, 0)), "closed");
+    assert_same(
+        &rt,
+        seen(desk.give(&rt, third).err()),
+        Some((2, 0)),
+        "the third",
+    );
+    desk.serve(&rt, &shop);
+    assert_same(&rt, seen(desk.close(&rt)), None, "closed again");
+    Ok(())
+}
+
+// A refused allocation is told.
+#[test]
+fn desks_where_memory_is_refused(rt: HostRuntime) {
+    match make_desks::<Job>(rt.alloc(), 16) {
+        Ok(desks) => assert_same(&rt, desks.len(), 16, "desks"),
+        Err(refused) => assert_same(&rt, refused, OutOfMemory, "refused"),
+    }
+}

@@ -1,0 +1,187 @@
+// One worker with its lane.
+ghost use Rattle.std.specs.Prelude.{◌≡◌, []};
+ghost use Rattle.worker.specs.Working.{GoesOn};
+
+use super::flags::{Flag, Plan, Stops};
+use super::shop::Shop;
+use super::steps::{Step, item_of};
+use engine::{StoreNames, Ticket};
+use model::Item;
+use ring::{Ring, Sender, Taker, meet};
+use std::alloc::Global;
+use std::marker::{Brand, PhantomData};
+use std::process::Abort;
+use std::sync::Wait;
+use std::thread;
+use std::thread::Threads;
+use std::time::Clock;
+use worker::{Ended, Job, LaneNames, WorkItem, work_on};
+
+/// How many slots a ring has.
+const SLOTS: usize = 16;
+
+/// What came back of a worker: why, how many items it acknowledged, and those that were left.
+#[derive(Drop)]
+pub(super) struct Came<N: StoreNames> {
+    pub(super) ticket: Ticket,
+    pub(super) ended: Ended,
+    pub(super) acked: u64,
+    pub(super) left: Vec<Item>,
+    of: PhantomData<N>,
+    ghost belongs: { ticket.name ≡ N.tickets },
+}
+
+impl<N: StoreNames> Came<N> {
+    /// Whether it came back for this reason, with so many items acknowledged and so many left.
+    pub(super) fn is(&self, ended: Ended, acked: u64, left: usize) -> bool {
+        self.ended == ended && self.acked == acked && self.left.len() == left
+    }
+
+    /// Its ticket.
+    pub(super) fn into_ticket(self) -> Ticket
+        ensures { result.name ≡ N.tickets }
+    {
+        let Came {
+            ticket,
+            ended: _,
+            acked: _,
+            left: _,
+            of: _,
+        } = self;
+        ticket
+    }
+}
+
+/// A worker is doomed once one came to the first flag. Then the second is raised.
+#[derive(Clone, Copy)]
+pub(super) struct Doom<'a>(pub(super) &'a Flag, pub(super) &'a Flag);
+
+// Sends the items, all of which the ring has room for.
+fn send_all<N: StoreNames, R: Abort>(
+    rt: &R,
+    alloc: Global,
+    shop: &Shop<N>,
+    mut sender: Sender<WorkItem<N>>,
+    steps: &[Step],
+) -> Sender<WorkItem<N>>
+    ensures { result.ring ≡ sender.ring }
+{
+    let _ = &shop.changed;
+    for step in steps {
+        let Ok(item) = item_of(alloc, *step) else {
+            panic!(rt; "no memory")
+        };
+        assert!(rt; sender.try_send(WorkItem::new(item)).is_ok());
+    }
+    sender
+}
+
+// Dooms the worker when it is time, and tells it under the lock.
+fn lead<N: StoreNames, R: Wait + Abort + Clock>(
+    rt: &R,
+    shop: &Shop<N>,
+    mut sender: Sender<WorkItem<N>>,
+    doom: Option<Doom<'_>>,
+) -> Sender<WorkItem<N>>
+    ensures { result.ring ≡ sender.ring }
+{
+    if let Some(Doom(seen, told)) = doom {
+        seen.wait(rt, 1);
+        sender.doom();
+        let store = shop.store.lock(rt);
+        shop.changed.notify_all();
+        drop(store);
+        told.raise();
+    }
+    sender
+}
+
+// The worker's part.
+fn work_alone<N: StoreNames, L: LaneNames, R: Wait + Abort + Clock>(
+    rt: &R,
+    alloc: Global,
+    shop: &Shop<N>,
+    mut job: Job<N, L>,
+    plan: Plan<'_>,
+) -> (Job<N, L>, Ended)
+    ensures { GoesOn job result.0 }
+{
+    let mut gate = Stops::new(rt, plan);
+    let ended = work_on(rt, alloc, &shop.store, &shop.changed, &mut job, &mut gate);
+    (job, ended)
+}
+
+// Both ends meet.
+fn bring_together<N: StoreNames, L: LaneNames, R: Abort>(
+    rt: &R,
+    alloc: Global,
+    sender: Sender<WorkItem<N>>,
+    job: Job<N, L>,
+    ended: Ended,
+) -> Came<N>
+    requires { (job.lane ≡ 0) × (sender.ring ≡ L.ring 0) }
+{
+    let (ticket, taker) = job.split();
+    let mut ends = meet(sender, taker);
+    let acked = ends.acked();
+    let mut left = Vec::new(alloc);
+    for _ in 0..SLOTS {
+        if let Some(item) = ends.next_left() {
+            assert!(rt; left.push(item.into_item()).is_ok());
+        }
+    }
+    Came {
+        ticket,
+        ended,
+        acked,
+        left,
+        of: PhantomData,
+    }
+}
+
+// The ring's name is known only here.
+fn run_named<
+    N: StoreNames + Send + Sync,
+    L: LaneNames + Send + Sync,
+    R: Threads + Wait + Abort + Clock + Sync,
+>(
+    rt: &R,
+    alloc: Global,
+    shop: &Shop<N>,
+    sender: Sender<WorkItem<N>>,
+    taker: Taker<WorkItem<N>>,
+    ticket: Ticket,
+    plan: Plan<'_>,
+    doom: Option<Doom<'_>>,
+) -> Came<N>
+    requires rings { (sender.ring ≡ L.ring 0) × (taker.ring ≡ L.ring 0) }
+    requires acked { taker.acked ≡ [] }
+    requires ticket { (ticket.name ≡ N.tickets) × (ticket.list ≡ []) }
+{
+    let job: Job<N, L> = Job::new(ticket, taker, 0);
+    let (sender, (job, ended)) = thread::join(
+        rt,
+        move || lead(rt, shop, sender, doom),
+        move || work_alone(rt, alloc, shop, job, plan),
+    );
+    bring_together(rt, alloc, sender, job, ended)
+}
+
+/// A worker does the items of a new transaction.
+pub(super) fn run_worker<N: StoreNames + Send + Sync, R: Threads + Wait + Abort + Clock + Sync>(
+    rt: &R,
+    alloc: Global,
+    shop: &Shop<N>,
+    ticket: Ticket,
+    steps: &[Step],
+    plan: Plan<'_>,
+    doom: Option<Doom<'_>>,
+) -> Came<N>
+    requires { (ticket.name ≡ N.tickets) × (ticket.list ≡ []) }
+{
+    let Ok((sender, taker)) = Ring::new::<WorkItem<N>>(alloc, SLOTS) else {
+        panic!(rt; "no memory")
+    };
+    let sender = send_all(rt, alloc, shop, sender, steps);
+    run_named::<N, Brand, R>(rt, alloc, shop, sender, taker, ticket, plan, doom)
+}

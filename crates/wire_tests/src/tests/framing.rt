@@ -1,0 +1,328 @@
+// A caller that rests on the public contracts alone, and what no clause says.
+ghost use Rattle.std.specs.Prelude.{◌≡◌, ℕ, None, List, [], ◌++◌, OnOk, IfOk};
+ghost use Rattle.std.specs.Io.KnownBytes.{Consumes};
+ghost use Rattle.frames.specs.Stream.{ending_of};
+ghost use Rattle.frames.specs.Reads.{HasRead, HasEnded, AtEndOf};
+
+use bytes::Bytes;
+use frames::{
+    CopyItem, FrameFault, Frames, Lsn, ReadSource, Source, Status, WriteSink, send_status,
+    write_status,
+};
+use std::alloc::{AllocError, Global};
+use std::io::Cursor;
+use std::test::Fail;
+use testing::asserts::{assert_holds, assert_same};
+use testing::devices::{Kept, Pieces};
+
+// One transaction of an insert: Begin, Relation, Insert and Commit, each in a frame of its own.
+const STREAM: &[u8] = b"\
+    d\x00\x00\x00\x32w\0\0\0\0\0\0\0\0\0\0\0\0\0\0\0\0\0\0\0\0\0\0\0\0\
+    B\0\0\0\0\0\0\x01\x00\0\0\0\0\0\0\0\0\x00\x00\x03\x84\
+    d\x00\x00\x00\x5ew\0\0\0\0\0\0\0\0\0\0\0\0\0\0\0\0\0\0\0\0\0\0\0\0\
+    R\x00\x00\x40\x01public\0accounts\0d\x00\x03\
+    \x01id\0\x00\x00\x00\x17\xff\xff\xff\xff\
+    \x00email\0\x00\x00\x00\x19\xff\xff\xff\xff\
+    \x00note\0\x00\x00\x00\x19\xff\xff\xff\xff\
+    d\x00\x00\x00\x37w\0\0\0\0\0\0\0\0\0\0\0\0\0\0\0\0\0\0\0\0\0\0\0\0\
+    I\x00\x00\x40\x01N\x00\x03t\x00\x00\x00\x011t\x00\x00\x00\x01at\x00\x00\x00\x01n\
+    d\x00\x00\x00\x37w\0\0\0\0\0\0\0\0\0\0\0\0\0\0\0\0\0\0\0\0\0\0\0\0\
+    C\x00\0\0\0\0\0\0\x01\x00\0\0\0\0\0\0\x01\x20\0\0\0\0\0\0\0\0";
+
+// Where its frames end.
+const EDGES: [usize; 5] = [0, 51, 146, 202, 258];
+
+fn take_kept(frames: &mut Frames, items: &mut Vec<CopyItem>) -> Result<(), AllocError>
+    ensures none { OnOk result (frames.new.items ≡ []) }
+    ensures ending { frames.new.ending ≡ frames.old.ending }
+    ensures read { (fed : List ℕ) → HasRead fed items.old.items frames.old
+        → OnOk result (HasRead fed items.new.items frames.new) }
+{
+    while let Some(item) = frames.next() {
+        items.push(item)?;
+    }
+    Ok(())
+}
+
+// All items of a source, and the answer at its end. The items are the copy items of the bytes that the source gave.
+fn read_all<R: Source>(
+    alloc: Global,
+    source: &mut R,
+) -> Result<(Vec<CopyItem>, Result<(), FrameFault>), AllocError>
+    ensures { IfOk result (λ all. (bytes : List ℕ)
+        × Consumes (R.remaining source.old) (R.remaining source.new) bytes
+        × HasEnded all.1 bytes all.0.items
+        × OnOk all.1 (AtEndOf (ending_of bytes) (R.remaining source.new))) }
+{
+    let mut frames = Frames::new(alloc);
+    let mut items = Vec::new(alloc);
+    'pulls: loop {
+        let pulled = frames.pull(source);
+        take_kept(&mut frames, &mut items)?;
+        match pulled {
+            Ok(true) => {}
+            Ok(false) => return Ok((items, frames.finish())),
+            Err(_) => return Ok((items, frames.finish())),
+        }
+    }
+}
+
+// What these bytes give in pieces of a size.
+fn read_pieces(
+    alloc: Global,
+    bytes: &[u8],
+    size: usize,
+) -> Result<(Vec<CopyItem>, Result<(), FrameFault>), AllocError> {
+    let mut frames = Frames::new(alloc);
+    let mut items = Vec::new(alloc);
+    for piece in bytes.chunks(size.max(1)) {
+        let _ = frames.feed(piece);
+        take_kept(&mut frames, &mut items)?;
+    }
+    Ok((items, frames.finish()))
+}
+
+// Frames, and how they end.
+const ENDS: [(&[u8], Result<(), FrameFault>); 17] = [
+    (b"d\x00\x00\x00\x04", Err(FrameFault::BadLength)),
+    (b"d\x80\x00\x00\x00", Err(FrameFault::BadLength)),
+    (b"c\x00\x00\x00\x05", Err(FrameFault::BadLength)),
+    (b"d\x00\x00\x00\x05w", Err(FrameFault::BadLength)),
+    (
+        b"d\x00\x00\x00\x15k\0\0\0\0\0\0\0\x02\0\0\0\0\0\0\0\0",
+        Err(FrameFault::BadLength),
+    ),
+    (
+        b"d\x00\x00\x00\x17k\0\0\0\0\0\0\0\x02\0\0\0\0\0\0\0\0\x01\0",
+        Err(FrameFault::BadLength),
+    ),
+    (
+        b"d\x00\x00\x00\x1cw\0\0\0\0\0\0\0\0\0\0\0\0\0\0\0\0\0\0\0\0\0\0\0",
+        Err(FrameFault::BadLength),
+    ),
+    (b"d\x04\x00\x00\x01", Err(FrameFault::TooLarge)),
+    (b"d\x04\x00\x00\x00", Err(FrameFault::Truncated)),
+    (b"X\x00\x00\x00\x04", Err(FrameFault::UnknownFrame)),
+    (b"X\x00\x00\x00", Err(FrameFault::Truncated)),
+    (b"E\x00\x00\x00\x04", Err(FrameFault::ServerError)),
+    (b"E\x00\x00\x00\x05", Err(FrameFault::Truncated)),
+    (b"d\x00\x00\x00\x05x", Err(FrameFault::UnknownCopyTag)),
+    (b"N\x00\x00\x00\x04", Ok(())),
+    (b"S\x00\x00\x00\x06a\0", Ok(())),
+    (b"c\x00\x00\x00\x04further", Ok(())),
+];
+
+#[test]
+fn frames_that_are_refused(rt: HostRuntime) -> Result<(), Fail> {
+    for (case, (bytes, want)) in ENDS.iter().enumerate() {
+        for size in [1, bytes.len()] {
+            let (_, end) = read_pieces(rt.alloc(), *bytes, size)?;
+            assert_same(end, *want, case)?;
+        }
+    }
+    Ok(())
+}
+
+// How many frames of the stream are whole within so many bytes.
+fn whole_within(count: usize) -> usize {
+    EDGES
+        .iter()
+        .filter(|edge| **edge > 0 && **edge <= count)
+        .count()
+}
+
+// How the stream ends where it is cut.
+fn end_of_cut(cut: usize) -> Result<(), FrameFault> {
+    if EDGES.contains(&cut) {
+        Ok(())
+    } else {
+        Err(FrameFault::Truncated)
+    }
+}
+
+// The stream that is cut gives a beginning of all items.
+fn assert_cut(alloc: Global, whole: &[CopyItem], cut: usize, size: usize) -> Result<(), Fail> {
+    let (items, end) = read_pieces(alloc, STREAM.get(..cut).unwrap_or(&[]), size)?;
+    assert_same(end, end_of_cut(cut), cut)?;
+    assert_same(items.len(), whole_within(cut), cut)?;
+    assert_holds(whole.starts_with(items.as_slice()), cut)
+}
+
+#[test]
+fn a_stream_cut_at_each_byte(rt: HostRuntime) -> Result<(), Fail> {
+    let (whole, _) = read_pieces(rt.alloc(), STREAM, STREAM.len())?;
+    assert_same(whole.len(), 4, "whole")?;
+    for cut in 0..=STREAM.len() {
+        for size in [1, 7, cut] {
+            assert_cut(rt.alloc(), whole.as_slice(), cut, size)?;
+        }
+    }
+    Ok(())
+}
+
+#[test]
+fn a_source_that_fails_at_each_read(rt: HostRuntime) -> Result<(), Fail> {
+    for fails_at in 0..=STREAM.len() {
+        let mut source = Pieces::with_reads(STREAM, 1, fails_at as u64);
+        let (items, end) = read_all(rt.alloc(), &mut source)?;
+        assert_same(end, Err(FrameFault::Device), fails_at)?;
+        assert_same(source.failures(), 1, "failures")?;
+        assert_same(items.len(), whole_within(fails_at), fails_at)?;
+    }
+    Ok(())
+}
+
+// Whatever is fed or read behind it, the fault is answered.
+fn assert_comes_again(frames: &mut Frames) -> Result<(), Fail> {
+    let fault = Err(FrameFault::ServerError);
+    assert_same(frames.feed(b"c\x00\x00\x00\x04"), fault, "feed")?;
+    let pulled = frames.pull(&mut ReadSource::new(Cursor::new(STREAM)));
+    assert_same(pulled, Err(FrameFault::ServerError), "pulled")?;
+    assert_same(frames.finish(), fault, "finish")
+}
+
+// A fault comes behind the items before it, and comes again.
+#[test]
+fn a_fault_comes_again(rt: HostRuntime) -> Result<(), Fail> {
+    let mut frames = Frames::new(rt.alloc());
+    let bytes = b"d\x00\x00\x00\x16k\0\0\0\0\0\0\x02\x00\0\0\0\0\0\0\0\0\x02E\x00\x00\x00\x04";
+    assert_same(frames.feed(bytes), Err(FrameFault::ServerError), "feed")?;
+    assert_comes_again(&mut frames)?;
+    let keepalive = CopyItem::Keepalive {
+        end: 0x200,
+        reply: true,
+    };
+    assert_same(&frames.next(), &Some(keepalive), "next")?;
+    assert_same(&frames.next(), &None, "next")
+}
+
+// Where the payloads of its frames lie.
+const PAYLOADS: [(usize, usize); 4] = [(30, 51), (81, 146), (176, 202), (232, 258)];
+
+// The item of the stream's frame whose payload lies here.
+fn item_at(place: Option<&(usize, usize)>) -> CopyItem {
+    let payload = place.and_then(|(from, to)| STREAM.get(*from..*to));
+    CopyItem::Wal {
+        start: 0,
+        end: 0,
+        payload: Bytes::from_static(payload.unwrap_or(&[])),
+    }
+}
+
+// Where memory is refused, the items are a beginning of all, and the refusal comes again. With ample memory it isn't.
+#[test]
+fn items_where_memory_is_refused(rt: HostRuntime) -> Result<(), Fail> {
+    let mut frames = Frames::new(rt.alloc());
+    let mut payloads = PAYLOADS.iter();
+    for piece in STREAM.chunks(40) {
+        let answer = frames.feed(piece);
+        while let Some(item) = frames.next() {
+            assert_same(&item, &item_at(payloads.next()), "item")?;
+        }
+        if let Err(fault) = answer {
+            assert_same(fault, FrameFault::OutOfMemory, "fault")?;
+            assert_same(frames.feed(piece), Err(FrameFault::OutOfMemory), "feed")?;
+            assert_same(frames.finish(), Err(FrameFault::OutOfMemory), "finish")?;
+            return Ok(());
+        }
+    }
+    assert_same(payloads.next(), None, "payload")?;
+    assert_same(frames.finish(), Ok(()), "finish")
+}
+
+// Over std's readers: the payloads, and CopyDone, after which nothing is read.
+#[test]
+fn a_reader_up_to_copy_done(rt: HostRuntime) -> Result<(), Fail> {
+    let mut bytes = STREAM.to_vec(rt.alloc())?;
+    bytes.extend_from_slice(b"c\x00\x00\x00\x04d\x00")?;
+    let mut source = ReadSource::new(Cursor::new(bytes.as_slice()));
+    let (items, end) = read_all(rt.alloc(), &mut source)?;
+    assert_same(end, Ok(()), "end")?;
+    assert_same(items.len(), 5, "items")?;
+    let commit = CopyItem::Wal {
+        start: 0,
+        end: 0,
+        payload: Bytes::from_static(&STREAM[232..]),
+    };
+    assert_same(items.as_slice().get(3), Some(&commit), "commit")?;
+    assert_same(items.as_slice().get(4), Some(&CopyItem::Done), "done")
+}
+
+// Where a run is that has applied the stream's commit and has so much of the log, with the clock at 5.
+fn status(written: Lsn) -> Status {
+    Status {
+        written,
+        flushed: 0x120,
+        applied: 0x120,
+        clock: 5,
+    }
+}
+
+// The update of the stream's commit, and one of a run that has more of the log.
+const UPDATE: &[u8] = b"\
+    d\x00\x00\x00\x26r\0\0\0\0\0\0\x01\x20\0\0\0\0\0\0\x01\x20\0\0\0\0\0\0\x01\x20\0\0\0\0\0\0\0\x05\0";
+
+const UPDATES: [(Lsn, &[u8]); 2] = [
+    (0x120, UPDATE),
+    (
+        0x200,
+        b"d\x00\x00\x00\x26r\0\0\0\0\0\0\x02\x00\0\0\0\0\0\0\x01\x20\0\0\0\0\0\0\x01\x20\0\0\0\0\0\0\0\x05\0",
+    ),
+];
+
+// How many writes of three bytes come before one that fails, how many bytes of an update were taken by
+// them, and what is answered.
+const SENT: [(u64, usize, Result<(), FrameFault>); 3] = [
+    (0, 0, Err(FrameFault::Device)),
+    (12, 36, Err(FrameFault::Device)),
+    (13, 39, Ok(())),
+];
+
+#[test]
+fn status_updates(rt: HostRuntime) -> Result<(), Fail> {
+    for (written, want) in UPDATES {
+        let mut out = Vec::new(rt.alloc());
+        out.push(7)?;
+        assert_same(write_status(&status(written), &mut out), Ok(()), "written")?;
+        assert_same(out.as_slice().split_at(1).1, want, "update")?;
+        let mut sink = WriteSink::new(Vec::new(rt.alloc()));
+        assert_same(
+            send_status(rt.alloc(), &status(written), &mut sink),
+            Ok(()),
+            "sent",
+        )?;
+    }
+    Ok(())
+}
+
+#[test]
+fn status_updates_to_a_sink_that_fails(rt: HostRuntime) -> Result<(), Fail> {
+    for (written, want) in UPDATES {
+        for (writes, taken, answer) in SENT {
+            let mut bytes = Vec::new(rt.alloc());
+            let mut sink = Kept::with_writes(&mut bytes, 3, writes);
+            let sent = send_status(rt.alloc(), &status(written), &mut sink);
+            drop(sink);
+            assert_same(sent, answer, writes)?;
+            assert_same(Some(bytes.as_slice()), want.get(..taken), writes)?;
+        }
+    }
+    Ok(())
+}
+
+// Where memory is refused, a status update is not written, and what was written before stays.
+#[test]
+fn status_updates_where_memory_is_refused(rt: HostRuntime) -> Result<(), Fail> {
+    let mut out = Vec::new(rt.alloc());
+    for _ in 0..3 {
+        let before = out.len();
+        if let Err(fault) = write_status(&status(0x120), &mut out) {
+            assert_same(fault, FrameFault::OutOfMemory, "fault")?;
+            assert_same(out.len(), before, "out")?;
+        }
+    }
+    for frame in out.chunks(UPDATE.len()) {
+        assert_same(frame, UPDATE, "frame")?;
+    }
+    Ok(())
+}
