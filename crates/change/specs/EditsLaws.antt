@@ -12,7 +12,7 @@ use Rattle.model.specs.declared.row.Row.{Row}
 use Rattle.model.specs.Key.{key_cmp}
 use Rattle.model.specs.Rows.{Place, Rows, place_cmp, place_cmp_total}
 use Rattle.model.specs.Effect.{Edits, back, all_back}
-use Rattle.model.specs.EditLaws.{is_place, place_is, same_rows, get_overlay, get_edit, overlay_empty}
+use Rattle.model.specs.EditLaws.{is_place, place_is, same_rows, get_overlay, get_edit, overlay_empty, cond_inside}
 use Rattle.indexes.specs.Content.{IsTable, SameElsewhere}
 use Rattle.change.specs.declared.inverse.Wiped.{Wiped}
 use Rattle.change.specs.Edits.{insert_all, laid_over, laid_together}
@@ -25,16 +25,12 @@ abbrev pub or_else : {X : Type 0} → Option X → Option X → Option X
 or_else None other = other
 or_else (Some x) other = Some x
 
-found_first : {X : Type 0} (b : Bool) (x : X) (rest other : Option X) → cond b (Some x) (or_else rest other) ≡ or_else (cond b (Some x) rest) other
-found_first true x rest other = refl
-found_first false x rest other = refl
-
 get_insert_all : (edits : Edits) (p : Place) (es : List (Place × Option Row)) → get (insert_all es edits) p ≡ or_else (find place_cmp p es) (get edits p)
 get_insert_all edits p [] = refl
 get_insert_all edits p (e ∷ es) =
     get_edit (insert_all es edits) e.0 e.1 p
     ∙ ap (cond (is_place p e.0) (Some e.1)) (get_insert_all edits p es)
-    ∙ found_first (is_place p e.0) e.1 (find place_cmp p es) (get edits p)
+    ∙ cond_inside (λ first. or_else first (get edits p)) (is_place p e.0) (Some e.1) (find place_cmp p es)
 
 pub get_over : (edits others : Edits) (p : Place) → get (laid_over edits others) p ≡ or_else (get edits p) (get others p)
 get_over edits others p = get_insert_all others p (entries edits) ∙ ap (λ e. or_else e (get others p)) (sym (get-entries edits p))

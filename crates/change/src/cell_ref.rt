@@ -2,11 +2,12 @@
 ghost use Rattle.std.specs.Prelude.{◌≡◌};
 ghost use Rattle.model.specs.Key.{key_cmp};
 ghost use Rattle.model.specs.Cells.{overlaps, table_of};
-ghost use Rattle.model.specs.CellOrder.{cell_cmp, within_table_cmp};
+ghost use Rattle.model.specs.CellOrder.{cell_cmp};
 ghost use Rattle.model.specs.Hashing.{hash_of, hash_cell};
 ghost use Rattle.change.specs.Reading.{cell_read, values_read};
 
-use crate::reading::{PatchedRow, compare_key, hash_values};
+use crate::reading::{PatchedRow, hash_values};
+use indexes::columns::compare_key;
 use model::hashing::{hash_key, hash_natural};
 use model::{Cell, Key, TableId};
 use std::cmp::Ordering;
@@ -39,7 +40,7 @@ impl<'a> KeyRef<'a> {
     {
         match self {
             KeyRef::Key(own) => own.cmp(key),
-            KeyRef::Columns(columns, row) => compare_key(columns, row, key),
+            KeyRef::Columns(columns, row) => compare_key(columns, &row, key),
         }
     }
 
@@ -82,9 +83,20 @@ impl<'a> CellRef<'a> {
     pub fn order(self, cell: &Cell) -> Ordering
         ensures { result ≡ cell_cmp (cell_read self.entry) cell.now }
     {
-        match self.table().cmp(&cell.table()) {
-            Ordering::Equal => compare_in_table(self, cell),
-            differ => differ,
+        match (self, cell) {
+            (CellRef::Row(table, own), Cell::Row(other, key)) => match table.cmp(other) {
+                Ordering::Equal => own.order(key),
+                differ => differ,
+            },
+            (CellRef::Uniq(table, i, own), Cell::Uniq(other, j, values)) => {
+                match (table, i).cmp(&(*other, *j)) {
+                    Ordering::Equal => own.order(values),
+                    differ => differ,
+                }
+            }
+            (CellRef::Whole(table), Cell::Whole(other)) => table.cmp(other),
+            (CellRef::Row(_, _), _) | (CellRef::Uniq(_, _, _), Cell::Whole(_)) => Ordering::Less,
+            (CellRef::Whole(_), _) | (CellRef::Uniq(_, _, _), Cell::Row(_, _)) => Ordering::Greater,
         }
     }
 
@@ -119,21 +131,5 @@ impl<'a> Comparable<Cell> for CellRef<'a> {
 
     fn compare(&self, key: &Cell) -> Ordering {
         self.order(key)
-    }
-}
-
-// The order of two cells of one table: rows, then the values of each unique key, then the table.
-fn compare_in_table(own: CellRef<'_>, cell: &Cell) -> Ordering
-    ensures { result ≡ within_table_cmp (cell_read own.entry) cell.now }
-{
-    match (own, cell) {
-        (CellRef::Row(_, own), Cell::Row(_, key)) => own.order(key),
-        (CellRef::Uniq(_, i, own), Cell::Uniq(_, j, values)) => match i.cmp(j) {
-            Ordering::Equal => own.order(values),
-            differ => differ,
-        },
-        (CellRef::Whole(_), Cell::Whole(_)) => Ordering::Equal,
-        (CellRef::Row(_, _), _) | (CellRef::Uniq(_, _, _), Cell::Whole(_)) => Ordering::Less,
-        (CellRef::Whole(_), _) | (CellRef::Uniq(_, _, _), Cell::Row(_, _)) => Ordering::Greater,
     }
 }

@@ -9,8 +9,9 @@ ghost use Rattle.model.specs.Named.{NamesTables};
 ghost use Rattle.change.specs.Footprint.{one_or_none};
 ghost use Rattle.change.specs.Reading.{read_row};
 
-use crate::reading::{PatchedRow, has_key, has_same, key_of};
+use crate::reading::{PatchedRow, has_key, has_same};
 use indexes::Tables;
+use indexes::columns::{ReadRow, key_of};
 use model::{Cell, Change, Key, OutOfMemory, Patch, Row, TableId};
 use std::alloc::Global;
 
@@ -48,7 +49,7 @@ fn put_cells(alloc: Global, t: &Tables, table: TableId, row: &Row) -> Result<Vec
     if let Some(key) = t.key_of(table, row)? {
         cells.push(Cell::Row(table, key))?;
     }
-    add_unique(&mut cells, t, table, row)?;
+    add_unique(alloc, &mut cells, t, table, row)?;
     Ok(cells)
 }
 
@@ -129,7 +130,7 @@ fn add_removed(
     ensures { OnOk result (cells.new.items ≡ cells.old.items ++ removed_cells t.now.schema table (get t.now.rows (table, key.now))) }
 {
     match t.get(table, key) {
-        Some(view) => add_read(alloc, cells, t, table, PatchedRow::of_row(&view)),
+        Some(view) => add_unique(alloc, cells, t, table, &PatchedRow::of_row(&view)),
         None => Ok(()),
     }
 }
@@ -148,40 +149,22 @@ fn add_new_place(
     if has_key(columns, new, key) {
         return Ok(());
     }
-    if let Some(new_key) = key_of(alloc, columns, new)? {
+    if let Some(new_key) = key_of(alloc, columns, &new)? {
         cells.push(Cell::Row(table, new_key))?;
     }
     Ok(())
 }
 
-// A row's values in each unique key, if none of them is null: their texts are shared.
-fn add_unique(
-    cells: &mut Vec<Cell>,
-    t: &Tables,
-    table: TableId,
-    row: &Row,
-) -> Result<(), OutOfMemory>
-    requires { table < length t.now.schema }
-    ensures { OnOk result (cells.new.items ≡ cells.old.items ++ unique_cells table row.now 1 (keys_at t.now.schema table).uniques) }
-{
-    for index in 0..t.unique_count(table) {
-        let number = index + 1;
-        let values = t.unique_of(table, number, row)?;
-        add_values(cells, table, number, values)?;
-    }
-    Ok(())
-}
-
-// The same of a row that is read in place: their texts are copied.
-fn add_read(
+// A row's values in each unique key, if none of them is null.
+fn add_unique<R: ReadRow>(
     alloc: Global,
     cells: &mut Vec<Cell>,
     t: &Tables,
     table: TableId,
-    row: PatchedRow<'_>,
+    row: &R,
 ) -> Result<(), OutOfMemory>
     requires { table < length t.now.schema }
-    ensures { OnOk result (cells.new.items ≡ cells.old.items ++ unique_cells table (read_row row.entry) 1 (keys_at t.now.schema table).uniques) }
+    ensures { OnOk result (cells.new.items ≡ cells.old.items ++ unique_cells table (R.read row.now) 1 (keys_at t.now.schema table).uniques) }
 {
     for index in 0..t.unique_count(table) {
         let number = index + 1;
@@ -227,9 +210,9 @@ fn add_moved_values(
     if has_same(columns, old, new) {
         return Ok(());
     }
-    let before = key_of(alloc, columns, old)?;
+    let before = key_of(alloc, columns, &old)?;
     add_values(cells, table, number, before)?;
-    let after = key_of(alloc, columns, new)?;
+    let after = key_of(alloc, columns, &new)?;
     add_values(cells, table, number, after)
 }
 

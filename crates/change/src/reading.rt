@@ -1,9 +1,6 @@
 // A row as a patch leaves it, read in place.
-ghost use Rattle.std.specs.Prelude.{◌≡◌, IfOk, is_some};
+ghost use Rattle.std.specs.Prelude.{◌≡◌, IfOk};
 ghost use Rattle.std.specs.Option.{option_map};
-ghost use Rattle.std.specs.Ordering.{eq_by_cmp};
-ghost use Rattle.model.specs.Value.{value_cmp};
-ghost use Rattle.model.specs.Key.{key_cmp};
 ghost use Rattle.model.specs.Rows.{is_key, value_at, values_in};
 ghost use Rattle.model.specs.Effect.{patch_row};
 ghost use Rattle.model.specs.Footprint.{both_have};
@@ -12,12 +9,11 @@ ghost use Rattle.indexes.specs.Columns.{present};
 ghost use Rattle.model.specs.Hashing.{hash_of, hash_value as hashed_value};
 ghost use Rattle.change.specs.Reading.{read_row};
 
+use indexes::columns::{ReadRow, compare_key, has_values};
 use model::hashing::{hash_number, hash_text};
-use model::{ColumnPatch, Key, KeyValues, OutOfMemory, Patch, Row, RowBuilder, Value, ValueRef};
+use model::{ColumnPatch, Key, OutOfMemory, Patch, Row, RowBuilder, ValueRef};
 use rows::RowView;
 use std::alloc::Global;
-use std::cmp::Ordering;
-use std::slice;
 
 /// A row, and a patch of it. It is read as the row that the patch leaves, and nothing is copied.
 #[derive(Clone, Copy, Debug)]
@@ -84,16 +80,14 @@ impl<'a> PatchedRow<'a> {
     }
 }
 
-// Whether none of these columns is null.
-pub(crate) fn has_values(columns: &[usize], row: PatchedRow<'_>) -> bool
-    ensures { result ≡ is_some (values_in columns.now (read_row row.entry)) }
-{
-    for column in columns {
-        if row.column(*column).is_none() {
-            return false;
-        }
+impl<'a> ReadRow for PatchedRow<'a> {
+    ghost use Rattle.change.specs.Reading.{read_row};
+
+    ghost read = { read_row };
+
+    fn value_at(&self, column: usize) -> Option<ValueRef<'_>> {
+        self.column(column)
     }
-    true
 }
 
 // Whether both rows have the same values in these columns, none of them null.
@@ -113,67 +107,7 @@ pub(crate) fn has_same(columns: &[usize], old: PatchedRow<'_>, new: PatchedRow<'
 pub(crate) fn has_key(columns: &[usize], row: PatchedRow<'_>, key: &Key) -> bool
     ensures { result ≡ is_key (values_in columns.now (read_row row.entry)) key.now }
 {
-    has_values(columns, row) && compare_key(columns, row, key).is_eq()
-}
-
-// The values in these columns as a key of its own; none if one of them is null. Texts are copied.
-pub(crate) fn key_of(
-    alloc: Global,
-    columns: &[usize],
-    row: PatchedRow<'_>,
-) -> Result<Option<Key>, OutOfMemory>
-    ensures { IfOk result (λ key. key ≡ values_in columns.now (read_row row.entry)) }
-{
-    if let [column] = columns {
-        return match row.column(*column) {
-            Some(value) => Ok(Some(Key::from_value(alloc, value.to_value(alloc)?)?)),
-            None => Ok(None),
-        };
-    }
-    let mut values = Vec::with_capacity(alloc, columns.len())?;
-    for column in columns {
-        match row.column(*column) {
-            Some(value) => values.push(value.to_value(alloc)?)?,
-            None => return Ok(None),
-        }
-    }
-    Ok(Some(Key::from_values(values)?))
-}
-
-// The order of the values that a row has in some columns, nulls left out, and a key.
-pub(crate) fn compare_key(columns: &[usize], row: PatchedRow<'_>, key: &Key) -> Ordering
-    ensures { result ≡ key_cmp (present columns.now (read_row row.entry)) key.now }
-{
-    match key.values() {
-        KeyValues::Int(number) => {
-            let value = Value::Int(number);
-            compare_values(columns, row, slice::from_ref(&value))
-        }
-        KeyValues::List(values) => compare_values(columns, row, values),
-    }
-}
-
-fn compare_values(columns: &[usize], row: PatchedRow<'_>, key: &[Value]) -> Ordering
-    ensures { result ≡ key_cmp (present columns.now (read_row row.entry)) key.now }
-{
-    let mut rest = key;
-    for column in columns {
-        let Some(value) = row.column(*column) else {
-            continue;
-        };
-        let Some((first, tail)) = rest.split_first() else {
-            return Ordering::Greater;
-        };
-        match value.compare(ValueRef::of(first)) {
-            Ordering::Equal => rest = tail,
-            other => return other,
-        }
-    }
-    if rest.is_empty() {
-        Ordering::Equal
-    } else {
-        Ordering::Less
-    }
+    has_values(columns, &row) && compare_key(columns, &row, key).is_eq()
 }
 
 // The hash of the values that a row has in some columns, nulls left out.

@@ -10,8 +10,9 @@ ghost use Rattle.model.specs.Named.{NamesTables};
 ghost use Rattle.change.specs.Reading.{cell_read, read_row};
 
 use crate::cell_ref::{CellRef, KeyRef};
-use crate::reading::{PatchedRow, has_key, has_same, has_values};
+use crate::reading::{PatchedRow, has_key, has_same};
 use indexes::Tables;
+use indexes::columns::has_values;
 use model::{Change, Key, Patch, TableId};
 use rows::RowView;
 
@@ -109,7 +110,7 @@ fn any_removed<T: CellTest>(t: &Tables, table: TableId, key: &Key, test: &T) -> 
 fn any_place<T: CellTest>(columns: &[usize], table: TableId, row: PatchedRow<'_>, test: &T) -> bool
     ensures { result ≡ list_any (T.passes test.now) (row_cell table (values_in columns.now (read_row row.entry))) }
 {
-    has_values(columns, row) && test.test(CellRef::Row(table, KeyRef::Columns(columns, row)))
+    has_values(columns, &row) && test.test(CellRef::Row(table, KeyRef::Columns(columns, row)))
 }
 
 // The same, if the key differs from the one before.
@@ -135,7 +136,7 @@ fn any_values<T: CellTest>(
 ) -> bool
     ensures { result ≡ list_any (T.passes test.now) (unique_cell table number (values_in columns.now (read_row row.entry))) }
 {
-    has_values(columns, row)
+    has_values(columns, &row)
         && test.test(CellRef::Uniq(table, number, KeyRef::Columns(columns, row)))
 }
 

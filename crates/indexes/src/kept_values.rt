@@ -7,10 +7,9 @@
 ghost use Rattle.std.specs.Prelude.{◌≡◌, IfOk};
 ghost use Rattle.model.specs.Rows.{values_in};
 
-use crate::columns::has_values;
-use crate::sought::{Sought, compare_key, compare_rows, hash_row};
-use model::{OutOfMemory, Row};
-use rows::hashing::SoughtKey;
+use crate::columns::{compare_key, has_values};
+use crate::sought::{Sought, compare_rows, hash_row};
+use model::{Key, OutOfMemory, Row};
 use std::alloc::{AllocError, Global};
 use std::collections::hash_map::Equivalent;
 use std::hash::{Hash, Hasher};
@@ -134,7 +133,7 @@ impl Eq for KeptValues {
 }
 
 impl Hash for KeptValues {
-    ghost use Rattle.rows.specs.Hashing.{key_writes, same_writes};
+    ghost use Rattle.model.specs.HasherInput.{key_writes, same_writes};
 
     ghost hash_input = { key_writes };
 
@@ -149,7 +148,7 @@ impl<'a> Equivalent<KeptValues> for Sought<'a> {
     ghost use Rattle.std.specs.Ordering.{eq_by_cmp};
     ghost use Rattle.std.specs.Cmp.{eq_by_cmp_equiv};
     ghost use Rattle.model.specs.Key.{key_cmp, key_cmp_total};
-    ghost use Rattle.rows.specs.Hashing.{same_writes};
+    ghost use Rattle.model.specs.HasherInput.{same_writes};
     ghost use Rattle.indexes.specs.Columns.{present};
 
     ghost equivalent = { λ q k. eq_by_cmp key_cmp (present q.columns.now q.row.now) k };
@@ -164,19 +163,19 @@ impl<'a> Equivalent<KeptValues> for Sought<'a> {
     }
 }
 
-impl<'a> Equivalent<KeptValues> for SoughtKey<'a> {
+impl<'a> Equivalent<KeptValues> for &'a Key {
     ghost use Rattle.std.specs.Ordering.{eq_by_cmp};
     ghost use Rattle.std.specs.Cmp.{eq_by_cmp_equiv};
     ghost use Rattle.model.specs.Key.{key_cmp, key_cmp_total};
-    ghost use Rattle.rows.specs.Hashing.{same_writes};
+    ghost use Rattle.model.specs.HasherInput.{same_writes};
 
-    ghost equivalent = { λ q k. eq_by_cmp key_cmp q.key.now k };
+    ghost equivalent = { λ q k. eq_by_cmp key_cmp q.now k };
 
-    ghost respects_hash = { λ q. same_writes q.key.now };
+    ghost respects_hash = { λ q. same_writes q.now };
 
-    ghost respects_eq = { λ q. (eq_by_cmp_equiv key_cmp_total).congr q.key.now };
+    ghost respects_eq = { λ q. (eq_by_cmp_equiv key_cmp_total).congr q.now };
 
     fn equivalent(&self, values: &KeptValues) -> bool {
-        compare_key(values.columns.as_slice(), &values.row, self.key).is_eq()
+        compare_key(values.columns.as_slice(), &values.row, self).is_eq()
     }
 }

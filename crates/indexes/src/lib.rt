@@ -21,7 +21,7 @@
 //   sought       what an index is asked for: values as they lie in a row
 //   seed         what the hashes of indexes begin with
 //   columns      a row's values in the columns of a key
-mod columns;
+pub mod columns;
 mod kept_values;
 pub mod seed;
 mod sought;

@@ -6,14 +6,12 @@ ghost use Rattle.std.specs.Prelude.{◌≡◌, ◌∷◌, [], IfSome, IfNone};
 ghost use Rattle.std.specs.List.{fold};
 ghost use Rattle.model.specs.Key.{key_cmp};
 ghost use Rattle.model.specs.ValueRef.{read_value};
-ghost use Rattle.rows.specs.Hashing.{key_writes};
+ghost use Rattle.model.specs.HasherInput.{key_writes};
 ghost use Rattle.indexes.specs.Columns.{present};
 
-use model::{Key, KeyValues, Row, Value, ValueRef};
-use rows::hashing::hash_value;
+use model::{Row, ValueRef};
 use std::cmp::Ordering;
 use std::hash::{Hash, Hasher};
-use std::slice;
 
 /// The values that a row has in some columns, those that aren't null, as they stand in the row.
 #[derive(Clone, Copy)]
@@ -54,7 +52,7 @@ impl<'a> Eq for Sought<'a> {
 }
 
 impl<'a> Hash for Sought<'a> {
-    ghost use Rattle.rows.specs.Hashing.{key_writes, same_writes};
+    ghost use Rattle.model.specs.HasherInput.{key_writes, same_writes};
     ghost use Rattle.indexes.specs.Columns.{present};
 
     ghost hash_input = { λ q. key_writes (present q.columns.now q.row.now) };
@@ -63,43 +61,6 @@ impl<'a> Hash for Sought<'a> {
 
     fn hash<S: Hasher>(&self, state: &mut S) {
         hash_row(self.columns, self.row, state);
-    }
-}
-
-// The order of the values that a row has in some columns, nulls left out, and a key.
-#[inline(never)]
-pub(crate) fn compare_key(columns: &[usize], row: &Row, key: &Key) -> Ordering
-    ensures { result ≡ key_cmp (present columns.now row.now) key.now }
-{
-    match key.values() {
-        KeyValues::Int(number) => {
-            let value = Value::Int(number);
-            compare_values(columns, row, slice::from_ref(&value))
-        }
-        KeyValues::List(values) => compare_values(columns, row, values),
-    }
-}
-
-fn compare_values(columns: &[usize], row: &Row, key: &[Value]) -> Ordering
-    ensures { result ≡ key_cmp (present columns.now row.now) key.now }
-{
-    let mut rest = key;
-    for column in columns {
-        let Some(value) = row.get(*column) else {
-            continue;
-        };
-        let Some((first, tail)) = rest.split_first() else {
-            return Ordering::Greater;
-        };
-        match value.compare(ValueRef::of(first)) {
-            Ordering::Equal => rest = tail,
-            other => return other,
-        }
-    }
-    if rest.is_empty() {
-        Ordering::Equal
-    } else {
-        Ordering::Less
     }
 }
 
@@ -145,7 +106,7 @@ pub(crate) fn hash_row<S: Hasher>(columns: &[usize], row: &Row, state: &mut S)
 {
     for column in columns {
         if let Some(value) = row.get(*column) {
-            hash_value(value, state);
+            value.feed(state);
         }
     }
 }

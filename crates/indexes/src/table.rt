@@ -7,7 +7,7 @@ ghost use Rattle.indexes.specs.Unique.{HasNone, columns_of};
 ghost use Rattle.model.specs.declared.key.Key.{Key as AnyKey};
 ghost use Rattle.indexes.specs.Table.{Spot, IsSound, IsOfSettled, IsFilled, GivesUpSpot, HasValues, IsTwin, KeepsValues, NoClash, KeepsSpots, spots_of, unique_at};
 
-use crate::columns::values_of;
+use crate::columns::key_of;
 use crate::seed::Seed;
 use crate::unique::{
     Unique, agree_in_each, copy_each, copy_numbers, put_each, reserve_each, set_each, settle_each,
@@ -164,7 +164,7 @@ impl Table {
     pub fn key_of(&self, row: &Row) -> Result<Option<Key>, OutOfMemory>
         ensures { IfOk result (λ key. key ≡ values_in self.now.keys.primary row.now) }
     {
-        values_of(self.alloc, self.primary.as_slice(), row)
+        key_of(self.alloc, self.primary.as_slice(), row)
     }
 
     /// The columns of its primary key. It takes no memory.
@@ -187,7 +187,7 @@ impl Table {
         requires { (1 ≤ number) × (number ≤ length self.now.keys.uniques) }
         ensures { IfOk result (λ key. key ≡ values_in (unique_at self.now.keys number) row.now) }
     {
-        values_of(self.alloc, self.unique_columns(number), row)
+        key_of(self.alloc, self.unique_columns(number), row)
     }
 
     /// The key of the row that has these values in a unique key, by the key's number from 1. It

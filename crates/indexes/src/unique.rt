@@ -11,7 +11,6 @@ use crate::kept_values::{KeptValues, SharedColumns};
 use crate::seed::Seed;
 use crate::sought::Sought;
 use model::{Key, OutOfMemory, Row};
-use rows::hashing::SoughtKey;
 use std::alloc::Global;
 use std::collections::HashMap;
 
@@ -49,7 +48,7 @@ impl Unique {
     pub(crate) fn find(&self, values: &Key) -> Option<usize>
         ensures { result ≡ held self.now.entries values.now }
     {
-        match self.entries.get(SoughtKey::of(values)) {
+        match self.entries.get(values) {
             Some(number) => *number,
             None => None,
         }
@@ -328,10 +327,10 @@ fn drop_entry(entries: &mut HashMap<KeptValues, Option<usize>, Seed>, values: So
 }
 
 // The same, for values that lie in a key.
-fn give_up_entry(entries: &mut HashMap<KeptValues, Option<usize>, Seed>, values: &Key)
-    ensures { DropsEntry values.now entries.old entries.new }
+fn give_up_entry(entries: &mut HashMap<KeptValues, Option<usize>, Seed>, key: &Key)
+    ensures { DropsEntry key.now entries.old entries.new }
 {
-    if let Some(None) = entries.get(SoughtKey::of(values)) {
-        entries.remove(SoughtKey::of(values));
+    if let Some(None) = entries.get(key) {
+        entries.remove(key);
     }
 }

@@ -56,7 +56,7 @@ impl PartialEq for HashedCell {
     ghost laws = { partial_equiv_from_equiv (eq_by_cmp_equiv cell_cmp_total) };
 
     fn eq(&self, other: &HashedCell) -> bool {
-        self.cell.eq(&other.cell)
+        self.cell.cmp(&other.cell).is_eq()
     }
 }
 

@@ -63,12 +63,12 @@ impl<'a> SoughtCell for SoughtRow<'a> {
     }
 
     fn compare(&self, other: &Cell) -> Ordering {
-        match self.table.cmp(&other.table()) {
-            Ordering::Equal => match other {
-                Cell::Row(_, key) => self.key.cmp(key),
-                Cell::Uniq(_, _, _) | Cell::Whole(_) => Ordering::Less,
+        match other {
+            Cell::Row(table, key) => match self.table.cmp(table) {
+                Ordering::Equal => self.key.cmp(key),
+                differ => differ,
             },
-            differ => differ,
+            Cell::Uniq(_, _, _) | Cell::Whole(_) => Ordering::Less,
         }
     }
 

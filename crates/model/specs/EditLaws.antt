@@ -67,16 +67,17 @@ pub get_put_at : (rows : Rows) (q : Place) (row : Option Row) (p : Place) → ge
 get_put_at rows q None p = get_remove rows q p
 get_put_at rows q (Some row) p = get_insert rows q row p
 
-first_or_rest : {X : Type 0} (b : Bool) (x d : X) (rest : Option X) → cond b x (unwrap_or rest d) ≡ unwrap_or (cond b (Some x) rest) d
-first_or_rest true x d rest = refl
-first_or_rest false x d rest = refl
+-- what is made of either is made of the one that is chosen
+pub cond_inside : {X Y : Type 0} (f : X → Y) (b : Bool) (x y : X) → cond b (f x) (f y) ≡ f (cond b x y)
+cond_inside f true x y = refl
+cond_inside f false x y = refl
 
 get_put_all : (rows : Rows) (p : Place) (es : List (Place × Option Row)) → get (put_all es rows) p ≡ unwrap_or (find place_cmp p es) (get rows p)
 get_put_all rows p [] = refl
 get_put_all rows p (e ∷ es) =
     get_put_at (put_all es rows) e.0 e.1 p
     ∙ ap (cond (is_place p e.0) e.1) (get_put_all rows p es)
-    ∙ first_or_rest (is_place p e.0) e.1 (get rows p) (find place_cmp p es)
+    ∙ cond_inside (λ edit. unwrap_or edit (get rows p)) (is_place p e.0) (Some e.1) (find place_cmp p es)
 
 -- the edit at the place, or else the row
 pub get_overlay : (rows : Rows) (edits : Edits) (p : Place) → get (overlay rows edits) p ≡ unwrap_or (get edits p) (get rows p)
@@ -155,7 +156,7 @@ pub overlay_more : (rows : Rows) (edits : Edits) (q : Place) (row : Option Row) 
 overlay_more rows edits q row = same_rows _ _ (λ p.
     get_overlay rows (insert edits q row) p
     ∙ ap (λ e. unwrap_or e (get rows p)) (get_edit edits q row p)
-    ∙ sym (first_or_rest (is_place p q) row (get rows p) (get edits p))
+    ∙ sym (cond_inside (λ edit. unwrap_or edit (get rows p)) (is_place p q) (Some row) (get edits p))
     ∙ ap (cond (is_place p q) row) (sym (get_overlay rows edits p))
     ∙ sym (get_put_at (overlay rows edits) q row p))
 

@@ -34,3 +34,4 @@ pub mod SurvivorLaws
 pub mod LawsOfCells
 pub mod CellOrder
 pub mod Hashing
+pub mod HasherInput

@@ -1,17 +1,17 @@
-// What a change may look up or alter, as small as two transactions can share, and the order of cells.
+// What a change may look up or alter, as small as two transactions can share.
 ghost use Rattle.std.specs.Prelude.{◌≡◌, IfOk};
 ghost use Rattle.model.specs.Cells.{table_of};
-ghost use Rattle.model.specs.CellOrder.{within_table_cmp};
 ghost use Rattle.model.specs.Hashing.{hash_cell};
 
 use crate::TableId;
 use crate::hashing::{hash_key, hash_natural};
 use crate::key::Key;
 use crate::memory::OutOfMemory;
-use std::cmp::Ordering;
 
 /// A place in the tables that a transaction can hold, whether a row is there or not.
-#[derive(Debug, Drop)]
+///
+/// Rows come before values of unique keys, and those before whole tables; then the fields decide.
+#[derive(PartialEq, Eq, PartialOrd, Ord, Debug, Drop)]
 pub enum Cell {
     /// The row at a primary key.
     Row(TableId, Key),
@@ -54,76 +54,5 @@ impl Cell {
             Cell::Uniq(table, number, values) => Ok(Cell::Uniq(*table, *number, values.copy()?)),
             Cell::Whole(table) => Ok(Cell::Whole(*table)),
         }
-    }
-}
-
-impl PartialEq for Cell {
-    ghost use Rattle.std.specs.Ordering.{eq_by_cmp};
-    ghost use Rattle.std.specs.Cmp.{partial_equiv_from_equiv, eq_by_cmp_equiv};
-    ghost use Rattle.model.specs.CellOrder.{cell_cmp, cell_cmp_total};
-
-    ghost eq = { eq_by_cmp cell_cmp };
-
-    ghost laws = { partial_equiv_from_equiv (eq_by_cmp_equiv cell_cmp_total) };
-
-    fn eq(&self, other: &Cell) -> bool {
-        self.cmp(other).is_eq()
-    }
-}
-
-impl Eq for Cell {
-    ghost use Rattle.std.specs.Cmp.{eq_by_cmp_equiv};
-    ghost use Rattle.model.specs.CellOrder.{cell_cmp_total};
-
-    ghost laws = { eq_by_cmp_equiv cell_cmp_total };
-}
-
-impl PartialOrd for Cell {
-    ghost use Rattle.std.specs.Prelude.{Some, refl};
-    ghost use Rattle.std.specs.Cmp.{partial_order_from_agreeing_total};
-    ghost use Rattle.model.specs.CellOrder.{cell_cmp, cell_cmp_total};
-
-    ghost partial_cmp = { λ x y. Some (cell_cmp x y) };
-
-    ghost laws = { partial_order_from_agreeing_total cell_cmp cell_cmp_total (λ x y. refl) (λ x y. refl) };
-
-    fn partial_cmp(&self, other: &Cell) -> Option<Ordering> {
-        Some(self.cmp(other))
-    }
-}
-
-impl Ord for Cell {
-    ghost use Rattle.std.specs.Prelude.{refl};
-    ghost use Rattle.model.specs.CellOrder.{cell_cmp, cell_cmp_total};
-
-    ghost cmp = { cell_cmp };
-
-    ghost total = { cell_cmp_total };
-
-    ghost matches_partial_cmp = { λ x y. refl };
-
-    ghost matches_eq = { λ x y. refl };
-
-    fn cmp(&self, other: &Cell) -> Ordering {
-        match self.table().cmp(&other.table()) {
-            Ordering::Equal => compare_in_table(self, other),
-            differ => differ,
-        }
-    }
-}
-
-// The order of two cells of one table: rows, then the values of each unique key, then the table.
-fn compare_in_table(cell: &Cell, other: &Cell) -> Ordering
-    ensures { result ≡ within_table_cmp cell.now other.now }
-{
-    match (cell, other) {
-        (Cell::Row(_, a), Cell::Row(_, b)) => a.cmp(b),
-        (Cell::Uniq(_, i, a), Cell::Uniq(_, j, b)) => match i.cmp(j) {
-            Ordering::Equal => a.cmp(b),
-            differ => differ,
-        },
-        (Cell::Whole(_), Cell::Whole(_)) => Ordering::Equal,
-        (Cell::Row(_, _), _) | (Cell::Uniq(_, _, _), Cell::Whole(_)) => Ordering::Less,
-        (Cell::Whole(_), _) | (Cell::Uniq(_, _, _), Cell::Row(_, _)) => Ordering::Greater,
     }
 }

@@ -1,12 +1,16 @@
 // The key of a row: its values in the columns of the primary key, or of a unique key.
 ghost use Rattle.std.specs.Prelude.{◌≡◌, [], ◌∷◌, IfOk};
+ghost use Rattle.std.specs.List.{fold};
 ghost use Rattle.model.specs.Key.{key_cmp};
 ghost use Rattle.model.specs.KeyCode.{values_lent};
+ghost use Rattle.model.specs.HasherInput.{key_writes};
 
 use crate::memory::OutOfMemory;
 use crate::value::Value;
+use crate::value_ref::ValueRef;
 use std::alloc::{AllocError, Global};
 use std::cmp::Ordering;
+use std::hash::{Hash, Hasher};
 use std::marker::Model;
 use std::slice;
 use std::sync::{Arc, ArcSlice};
@@ -189,5 +193,29 @@ impl Ord for Key {
             (Values::Int(own), Values::Int(others)) => own.cmp(others),
             _ => self.values().compare(other.values()),
         }
+    }
+}
+
+impl Hash for Key {
+    ghost use Rattle.model.specs.HasherInput.{key_writes, same_writes};
+
+    ghost hash_input = { key_writes };
+
+    ghost respects_eq = { same_writes };
+
+    fn hash<S: Hasher>(&self, state: &mut S) {
+        match self.values() {
+            KeyValues::Int(number) => ValueRef::Int(number).feed(state),
+            KeyValues::List(values) => feed_values(values, state),
+        }
+    }
+}
+
+// Feeds each value in turn to a hasher.
+fn feed_values<S: Hasher>(values: &[Value], state: &mut S)
+    ensures { state.new ≡ fold S.write state.old (key_writes values.now) }
+{
+    for value in values {
+        ValueRef::of(value).feed(state);
     }
 }

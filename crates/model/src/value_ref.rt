@@ -1,6 +1,8 @@
 // A value as it is read, wherever it lies.
 ghost use Rattle.std.specs.Prelude.{◌≡◌, IfOk};
+ghost use Rattle.std.specs.List.{fold};
 ghost use Rattle.std.specs.Option.{option_map};
+ghost use Rattle.model.specs.HasherInput.{value_writes};
 ghost use Rattle.model.specs.Value.{value_cmp};
 ghost use Rattle.model.specs.ValueRef.{read_value};
 
@@ -9,6 +11,7 @@ use crate::types::text::KeptText;
 use crate::value::Value;
 use std::alloc::Global;
 use std::cmp::Ordering;
+use std::hash::{Hash, Hasher};
 
 /// A value of a row, as it is read. A text is lent.
 #[derive(Clone, Copy, Debug)]
@@ -62,6 +65,17 @@ impl<'a> ValueRef<'a> {
             (ValueRef::Bool(own), ValueRef::Bool(others)) => own.cmp(&others),
             (ValueRef::Int(_), _) | (ValueRef::Text(_), ValueRef::Bool(_)) => Ordering::Less,
             (ValueRef::Bool(_), _) | (ValueRef::Text(_), ValueRef::Int(_)) => Ordering::Greater,
+        }
+    }
+
+    /// Feeds the value to a hasher.
+    pub fn feed<S: Hasher>(self, state: &mut S)
+        ensures { state.new ≡ fold S.write state.old (value_writes (read_value self.entry)) }
+    {
+        match self {
+            ValueRef::Int(number) => number.hash(state),
+            ValueRef::Text(text) => text.hash(state),
+            ValueRef::Bool(truth) => truth.hash(state),
         }
     }
 }

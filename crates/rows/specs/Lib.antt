@@ -2,7 +2,6 @@ pub mod KeyLaws
 pub mod KeyedSlot
 pub mod Kept
 pub mod KeptCode
-pub mod Hashing
 pub mod Slots
 pub mod Ordered
 pub mod Hashed

@@ -12,7 +12,6 @@ ghost use Rattle.rows.specs.Kept.{HasNumber, KeepsSlots, IsNumbered, IsSlotted};
 ghost use Rattle.rows.specs.Hashed.{row_for, row_of, key_of, number_for, number_to_drop, SetsRow, AddsSlot, DropsSlot, Renumbers, SameNumbers, Unnumbers};
 ghost use Rattle.rows.specs.Slots.{with_row};
 
-use crate::hashing::{HashedKey, SoughtKey};
 use crate::view::RowView;
 use crate::walk::Walk;
 use model::{Key, OutOfMemory, Row};
@@ -39,7 +38,7 @@ pub(crate) struct HashedSlot {
 #[derive(Debug, Drop)]
 pub struct HashedRows<H: BuildHasher = BuildHasherDefault<FoldHasher>> {
     // The number of each key's slot, by the key's hash, and in key order.
-    numbers: HashMap<HashedKey, usize, H>,
+    numbers: HashMap<Key, usize, H>,
     order: BTreeMap<Key, usize>,
     slots: Slab<HashedSlot>,
     alloc: Global,
@@ -322,13 +321,10 @@ fn copy_stored(row: &Option<Row>) -> Result<Option<Row>, AllocError>
 }
 
 // The number of a key's slot, if it has one.
-fn number_of<H: BuildHasher + Drop>(
-    numbers: &HashMap<HashedKey, usize, H>,
-    key: &Key,
-) -> Option<usize>
+fn number_of<H: BuildHasher + Drop>(numbers: &HashMap<Key, usize, H>, key: &Key) -> Option<usize>
     ensures { result ≡ hash.get (eq_by_cmp key_cmp) numbers.now key.now }
 {
-    numbers.get(SoughtKey::of(key)).copied()
+    numbers.get(key).copied()
 }
 
 // The key of the slot of a number, if there is one.
@@ -361,7 +357,7 @@ fn set_row(slots: &mut Slab<HashedSlot>, number: usize, row: Option<Row>) -> Opt
 
 // An empty slot for a key that has none. The answer is its number, which no slot had.
 fn add_slot<H: BuildHasher + Drop>(
-    numbers: &mut HashMap<HashedKey, usize, H>,
+    numbers: &mut HashMap<Key, usize, H>,
     order: &mut BTreeMap<Key, usize>,
     slots: &mut Slab<HashedSlot>,
     key: &Key,
@@ -374,7 +370,7 @@ fn add_slot<H: BuildHasher + Drop>(
     ensures same_hashed { OnErr result (SameNumbers (hash.get (eq_by_cmp key_cmp) numbers.old) (hash.get (eq_by_cmp key_cmp) numbers.new)) }
 {
     let own = key.copy()?;
-    let name = HashedKey::of(key.copy()?);
+    let name = key.copy()?;
     let slot = HashedSlot::of_key(key.copy()?);
     numbers.reserve(1)?;
     slots.reserve(1)?;
@@ -388,7 +384,7 @@ fn add_slot<H: BuildHasher + Drop>(
 
 // No slot of a key, where no row is in it.
 fn drop_slot<H: BuildHasher + Drop>(
-    numbers: &mut HashMap<HashedKey, usize, H>,
+    numbers: &mut HashMap<Key, usize, H>,
     order: &mut BTreeMap<Key, usize>,
     slots: &mut Slab<HashedSlot>,
     key: &Key,
@@ -400,14 +396,14 @@ fn drop_slot<H: BuildHasher + Drop>(
     let Some(number) = number_of_empty(numbers, slots, key) else {
         return;
     };
-    numbers.remove(SoughtKey::of(key));
+    numbers.remove(key);
     order.remove(key);
     slots.try_remove(number);
 }
 
 // The number of a key's slot, if no row is in it.
 fn number_of_empty<H: BuildHasher + Drop>(
-    numbers: &HashMap<HashedKey, usize, H>,
+    numbers: &HashMap<Key, usize, H>,
     slots: &Slab<HashedSlot>,
     key: &Key,
 ) -> Option<usize>

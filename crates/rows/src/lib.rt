@@ -15,11 +15,9 @@
 //   ordered    `OrderedRows`, the first form: an ordered map
 //   hashed     `HashedRows`, the second form: slots that are found by a hash of the key, beside the
 //              keys in key order; tables use it
-//   hashing    keys as a table of hashes sees them, here and in the layers above
 //   view       a row of a store, as it is read: column by column
 //   walk       `Walk`: the rows one after another
 pub mod hashed;
-pub mod hashing;
 pub mod ordered;
 pub mod store;
 pub mod view;

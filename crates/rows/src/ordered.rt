@@ -8,6 +8,7 @@ ghost use Rattle.rows.specs.Kept.{KeepsSlots, IsNumbered, IsSlotted};
 ghost use Rattle.rows.specs.Ordered.{AddsName};
 ghost use Rattle.rows.specs.Slots.{found, with_row_at, row_at, number_at, SameBeside, without_empty, number_of_empty};
 
+use crate::store::RowStore;
 use crate::view::RowView;
 use crate::walk::Walk;
 use model::{Key, OutOfMemory, Row};
@@ -85,49 +86,6 @@ impl OrderedRows {
         }
     }
 
-    /// The row at a key.
-    #[tactic(auto, using(crate::proofs::Slots::found_row))]
-    pub fn get(&self, key: &Key) -> Option<RowView<'_>>
-        ensures { result ≡ map.get self.now.rows key.now }
-    {
-        match self.slots.get(key) {
-            Some(slot) => slot.view(),
-            None => None,
-        }
-    }
-
-    /// The number of a key's slot, if it has one.
-    pub fn slot(&self, key: &Key) -> Option<usize>
-        ensures number { result ≡ map.get self.now.slots key.now }
-
-        // No two slots have one number, and each row lies in a slot.
-        ensures numbered { IsNumbered self.now.slots }
-        ensures slotted { IsSlotted self.now }
-    {
-        number_of(&self.slots, key)
-    }
-
-    /// The key whose slot has this number.
-    pub fn key_at(&self, number: usize) -> Option<&Key>
-        ensures found { IfSome result (λ key. map.get self.now.slots key.now ≡ Some number) }
-        ensures missed { IfNone result ((key : Values) → map.get self.now.slots key ≢ Some number) }
-    {
-        self.keys.get(number)
-    }
-
-    /// Makes a slot for a key that has none. A refusal changes no row and no slot.
-    pub fn reserve(&mut self, key: &Key) -> Result<usize, OutOfMemory>
-        ensures rows { self.new.rows ≡ self.old.rows }
-        ensures slots { KeepsSlots self.old.slots self.new.slots }
-        ensures ok { IfOk result (λ number. map.get self.new.slots key.now ≡ Some number) }
-        ensures numbered { IsNumbered self.new.slots }
-    {
-        match self.slot(key) {
-            Some(number) => Ok(number),
-            None => self.make_slot(key),
-        }
-    }
-
     // The slot of a key that has none.
     fn make_slot(&mut self, key: &Key) -> Result<usize, OutOfMemory>
         requires { map.get self.old.slots key.now ≡ None }
@@ -137,62 +95,6 @@ impl OrderedRows {
         ensures numbered { IsNumbered self.new.slots }
     {
         add_slot(&mut self.slots, &mut self.keys, key)
-    }
-
-    /// Puts a row into its key's slot. It takes no memory.
-    pub fn restore(&mut self, key: &Key, row: Row)
-        requires { IsSome (map.get self.old.slots key.now) }
-        ensures rows { self.new.rows ≡ map.insert self.old.rows key.now row }
-        ensures slots { self.new.slots ≡ self.old.slots }
-    {
-        self.replace(key, row);
-    }
-
-    /// Puts a row into its key's slot, and answers the one that was there. It takes no memory.
-    pub fn replace(&mut self, key: &Key, row: Row) -> Option<Row>
-        requires { IsSome (map.get self.old.slots key.now) }
-        ensures stood { result ≡ map.get self.old.rows key.now }
-        ensures rows { self.new.rows ≡ map.insert self.old.rows key.now row }
-        ensures slots { self.new.slots ≡ self.old.slots }
-    {
-        set_row(&mut self.slots, key, Some(row))
-    }
-
-    /// Puts a row at a key. A refusal changes no row and no slot.
-    pub fn put(&mut self, key: &Key, row: Row) -> Result<(), OutOfMemory>
-        ensures ok { OnOk result (self.new.rows ≡ map.insert self.old.rows key.now row) }
-        ensures slots { KeepsSlots self.old.slots self.new.slots }
-        ensures slot { OnOk result (IsSome (map.get self.new.slots key.now)) }
-        ensures err { OnErr result (self.new.rows ≡ self.old.rows) }
-    {
-        self.reserve(key)?;
-        self.restore(key, row);
-        Ok(())
-    }
-
-    /// Takes the row out of its slot. The slot stays, and it takes no memory.
-    pub fn take(&mut self, key: &Key) -> Option<Row>
-        ensures row { result ≡ map.get self.old.rows key.now }
-        ensures rows { self.new.rows ≡ map.remove self.old.rows key.now }
-        ensures slots { self.new.slots ≡ self.old.slots }
-    {
-        set_row(&mut self.slots, key, None)
-    }
-
-    /// Drops the slot of a key where no row is in it. It takes no memory.
-    pub fn settle(&mut self, key: &Key)
-        ensures rows { self.new.rows ≡ self.old.rows }
-        ensures slots { self.new.slots ≡ (if is_some (map.get self.old.rows key.now) then self.old.slots else map.remove self.old.slots key.now) }
-    {
-        drop_slot(&mut self.slots, &mut self.keys, key);
-    }
-
-    /// The rows, in key order. It takes no memory.
-    pub fn walk(&self) -> Walk<'_>
-        ensures rows { result ≡ map.values self.now.rows }
-        ensures fits { length result < 2 ^ 63 }
-    {
-        Walk::over(self.slots.values())
     }
 
     /// The same rows in the same slots.
@@ -205,12 +107,61 @@ impl OrderedRows {
             alloc: self.alloc,
         })
     }
+}
 
-    /// Moves all rows and slots out. No row is copied, and it takes no memory.
-    pub fn wipe(&mut self) -> OrderedRows
-        ensures out { result ≡ self.old }
-        ensures left { self.new ≡ record { rows = map.empty; slots = map.empty } }
-    {
+impl RowStore for OrderedRows {
+    ghost kept = { λ rows. rows };
+
+    #[tactic(auto, using(crate::proofs::Slots::found_row))]
+    fn get(&self, key: &Key) -> Option<RowView<'_>> {
+        match self.slots.get(key) {
+            Some(slot) => slot.view(),
+            None => None,
+        }
+    }
+
+    fn slot(&self, key: &Key) -> Option<usize> {
+        number_of(&self.slots, key)
+    }
+
+    fn key_at(&self, number: usize) -> Option<&Key> {
+        self.keys.get(number)
+    }
+
+    fn reserve(&mut self, key: &Key) -> Result<usize, OutOfMemory> {
+        match self.slot(key) {
+            Some(number) => Ok(number),
+            None => self.make_slot(key),
+        }
+    }
+
+    fn put(&mut self, key: &Key, row: Row) -> Result<(), OutOfMemory> {
+        self.reserve(key)?;
+        self.restore(key, row);
+        Ok(())
+    }
+
+    fn replace(&mut self, key: &Key, row: Row) -> Option<Row> {
+        set_row(&mut self.slots, key, Some(row))
+    }
+
+    fn take(&mut self, key: &Key) -> Option<Row> {
+        set_row(&mut self.slots, key, None)
+    }
+
+    fn restore(&mut self, key: &Key, row: Row) {
+        self.replace(key, row);
+    }
+
+    fn settle(&mut self, key: &Key) {
+        drop_slot(&mut self.slots, &mut self.keys, key);
+    }
+
+    fn walk(&self) -> Walk<'_> {
+        Walk::over(self.slots.values())
+    }
+
+    fn wipe(&mut self) -> OrderedRows {
         let alloc = self.alloc;
         mem::replace(self, OrderedRows::new(alloc))
     }

@@ -5,7 +5,6 @@ ghost use Rattle.model.specs.declared.key.Key.{Key as Values};
 ghost use Rattle.rows.specs.Kept.{Kept, KeepsSlots, IsNumbered, IsSlotted};
 
 use crate::hashed::HashedRows;
-use crate::ordered::OrderedRows;
 use crate::view::RowView;
 use crate::walk::Walk;
 use model::{Key, OutOfMemory, Row};
@@ -81,54 +80,6 @@ pub trait RowStore: Drop {
         Self: Sized,
         ensures out { kept result ≡ kept self.old }
         ensures left { kept self.new ≡ record { rows = map.empty; slots = map.empty } };
-}
-
-impl RowStore for OrderedRows {
-    ghost kept = { λ rows. rows };
-
-    fn get(&self, key: &Key) -> Option<RowView<'_>> {
-        OrderedRows::get(self, key)
-    }
-
-    fn slot(&self, key: &Key) -> Option<usize> {
-        OrderedRows::slot(self, key)
-    }
-
-    fn key_at(&self, number: usize) -> Option<&Key> {
-        OrderedRows::key_at(self, number)
-    }
-
-    fn reserve(&mut self, key: &Key) -> Result<usize, OutOfMemory> {
-        OrderedRows::reserve(self, key)
-    }
-
-    fn put(&mut self, key: &Key, row: Row) -> Result<(), OutOfMemory> {
-        OrderedRows::put(self, key, row)
-    }
-
-    fn replace(&mut self, key: &Key, row: Row) -> Option<Row> {
-        OrderedRows::replace(self, key, row)
-    }
-
-    fn take(&mut self, key: &Key) -> Option<Row> {
-        OrderedRows::take(self, key)
-    }
-
-    fn restore(&mut self, key: &Key, row: Row) {
-        OrderedRows::restore(self, key, row);
-    }
-
-    fn settle(&mut self, key: &Key) {
-        OrderedRows::settle(self, key);
-    }
-
-    fn walk(&self) -> Walk<'_> {
-        OrderedRows::walk(self)
-    }
-
-    fn wipe(&mut self) -> OrderedRows {
-        OrderedRows::wipe(self)
-    }
 }
 
 impl<H: BuildHasher + Drop + Copy> RowStore for HashedRows<H> {

@@ -3,4 +3,4 @@ use Rattle.model.specs.Rows.{values_in}
 use Rattle.indexes.proofs.columns.has_values.Given as goal
 
 abbrev pub invariant-loop-column : goal.invariant-loop-column
-invariant-loop-column l = is_some (values_in (drop l.column-index l.columns) l.row) ≡ is_some (values_in l.columns l.row)
+invariant-loop-column g l = is_some (values_in (drop l.column-index l.columns) (g.R.ReadRow.read l.row)) ≡ is_some (values_in l.columns (g.R.ReadRow.read l.row))

@@ -1,6 +1,6 @@
 use Rattle.std.proofs.Common.{◌≡◌, drop}
 use Rattle.std.specs.List.{fold}
-use Rattle.rows.specs.Hashing.{key_writes}
+use Rattle.model.specs.HasherInput.{key_writes}
 use Rattle.indexes.specs.Columns.{present}
 use Rattle.indexes.proofs.sought.hash_row.Given as goal
 

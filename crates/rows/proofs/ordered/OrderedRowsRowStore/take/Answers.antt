@@ -3,7 +3,7 @@ use Rattle.std.proofs.Common.{sym, ◌∙◌, ap}
 use Rattle.std.specs.FinMap.{get, remove}
 use Rattle.rows.specs.Kept.{Kept}
 use Rattle.rows.proofs.Slots.{numbers_in-set, rows_in-taken, get-rows_in}
-use Rattle.rows.proofs.ordered.OrderedRows.take.Goals as goal
+use Rattle.rows.proofs.ordered.OrderedRowsRowStore.take.Goals as goal
 
 pub invariant_of-self : goal.invariant_of-self
 invariant_of-self c =

@@ -3,7 +3,7 @@ use Rattle.std.proofs.Common.{sym, ◌∙◌, ap, subst}
 use Rattle.std.specs.FinMap.{get, insert}
 use Rattle.rows.specs.Kept.{Kept}
 use Rattle.rows.proofs.Slots.{numbers_in-set, rows_in-set, get-rows_in}
-use Rattle.rows.proofs.ordered.OrderedRows.replace.Goals as goal
+use Rattle.rows.proofs.ordered.OrderedRowsRowStore.replace.Goals as goal
 
 pub invariant_of-self : goal.invariant_of-self
 invariant_of-self c =

@@ -7,7 +7,7 @@ use Rattle.rows.proofs.Names.{named_after_settle}
 use Rattle.rows.specs.Slots.{found, rows_in, numbers_in, number_of_empty}
 use Rattle.rows.specs.Ordered.{IsNamed}
 use Rattle.model.specs.Key.{key_cmp}
-use Rattle.rows.proofs.ordered.OrderedRows.settle.Goals as goal
+use Rattle.rows.proofs.ordered.OrderedRowsRowStore.settle.Goals as goal
 
 pub returns-clause-rows : goal.returns-clause-rows
 returns-clause-rows c =

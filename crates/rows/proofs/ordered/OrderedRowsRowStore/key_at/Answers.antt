@@ -7,7 +7,7 @@ use Rattle.model.specs.Key.{key_cmp}
 use Rattle.std.specs.Borrow.{Bor}
 use Rattle.std.specs.Option.{option_copied}
 use Rattle.rows.specs.Kept.{Kept}
-use Rattle.rows.proofs.ordered.OrderedRows.key_at.Goals as goal
+use Rattle.rows.proofs.ordered.OrderedRowsRowStore.key_at.Goals as goal
 
 missed : (o : Option (Bor Key)) (slots : FinMap key_cmp ℕ) (number : ℕ) (at : Option Key) → option_copied o ≡ at → ((key : Key) → get slots key ≡ Some number → at ≡ Some key) → IfNone o ((key : Key) → get slots key ≡ Some number → ⊥)
 missed None slots number at is named = λ key e. let there = named key e in absurd cc

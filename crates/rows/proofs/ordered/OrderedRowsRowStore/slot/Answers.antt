@@ -4,7 +4,7 @@ use Rattle.rows.specs.Kept.{Kept}
 use Rattle.rows.proofs.Slots.{row_has_slot, get-numbers_in}
 use Rattle.rows.proofs.Names.{numbered}
 use Rattle.rows.specs.Slots.{numbers_in}
-use Rattle.rows.proofs.ordered.OrderedRows.slot.Goals as goal
+use Rattle.rows.proofs.ordered.OrderedRowsRowStore.slot.Goals as goal
 
 pub returns-clause-numbered : goal.returns-clause-numbered
 returns-clause-numbered c = λ key other number e f.

@@ -3,7 +3,7 @@ use Rattle.std.specs.FinMap.{values}
 use Rattle.rows.specs.Kept.{Kept}
 use Rattle.rows.specs.Slots.{rows_among}
 use Rattle.rows.proofs.Walking.{rows_among-values, length-rows_among}
-use Rattle.rows.proofs.ordered.OrderedRows.walk.Goals as goal
+use Rattle.rows.proofs.ordered.OrderedRowsRowStore.walk.Goals as goal
 
 pub returns-clause-rows : goal.returns-clause-rows
 returns-clause-rows c =

@@ -1,7 +1,7 @@
 use Rattle.std.proofs.Common.{◌≡◌, drop}
 use Rattle.std.specs.List.{fold}
-use Rattle.rows.specs.Hashing.{key_writes}
-use Rattle.rows.proofs.hashing.hash_values.Given as goal
+use Rattle.model.specs.HasherInput.{key_writes}
+use Rattle.model.proofs.key.feed_values.Given as goal
 
 -- the values that are left lead to where all of them lead
 abbrev pub invariant-loop-value : goal.invariant-loop-value

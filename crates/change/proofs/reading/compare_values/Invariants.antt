@@ -1,8 +1,0 @@
-use Rattle.std.proofs.Common.{◌≡◌, drop}
-use Rattle.model.specs.Key.{key_cmp}
-use Rattle.indexes.specs.Columns.{present}
-use Rattle.change.specs.Reading.{read_row}
-use Rattle.change.proofs.reading.compare_values.Given as goal
-
-abbrev pub invariant-loop-column : goal.invariant-loop-column
-invariant-loop-column l = key_cmp (present (drop l.column-index l.columns) (read_row l.row)) l.rest ≡ key_cmp (present l.columns (read_row l.row)) l.key

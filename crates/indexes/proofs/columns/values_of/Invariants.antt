@@ -1,7 +1,0 @@
-use Rattle.std.proofs.Common.{◌≡◌, drop}
-use Rattle.model.specs.Rows.{values_in}
-use Rattle.indexes.specs.Columns.{behind}
-use Rattle.indexes.proofs.columns.values_of.Given as goal
-
-abbrev pub invariant-loop-column : goal.invariant-loop-column
-invariant-loop-column l = behind l.values.items (values_in (drop l.column-index l.columns) l.row) ≡ values_in l.columns l.row

@@ -1,7 +1,0 @@
-use Rattle.std.proofs.Common.{◌≡◌, drop}
-use Rattle.model.specs.Key.{key_cmp}
-use Rattle.indexes.specs.Columns.{present}
-use Rattle.indexes.proofs.sought.compare_values.Given as goal
-
-abbrev pub invariant-loop-column : goal.invariant-loop-column
-invariant-loop-column l = key_cmp (present (drop l.column-index l.columns) l.row) l.rest ≡ key_cmp (present l.columns l.row) l.key
