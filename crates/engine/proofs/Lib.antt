@@ -4,4 +4,5 @@ mod MergedLaws
 mod MergeSteps
 mod Standing
 mod StoreTickets
+mod Refusals
 pub mod LettingGo

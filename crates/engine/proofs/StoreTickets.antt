@@ -4,17 +4,21 @@
 --     seen_open      callers see the transaction open
 --     met_open, met_call      the same of a book that met the ticket's slip
 --     tied_after, seen_step      the world that the live part's call leads to, and what callers see of that call
-use Rattle.std.proofs.Common.{◌≡◌, ℕ, Some, refl, sym, ap, subst, ◌∙◌}
+--     HasDone, item_done      a ticket's transaction has one item more
+use Rattle.std.proofs.Common.{◌≡◌, ℕ, [], ◌∷◌, ◌++◌, Some, refl, sym, ap, subst, ◌∙◌}
 use Rattle.std.specs.FinMap.{get}
+use Rattle.model.specs.declared.item.Item.{Item}
 use Rattle.model.specs.Rows.{Schema}
-use Rattle.tokens.specs.Lists.{OpenList}
+use Rattle.tokens.specs.Lists.{OpenList, OpenLists, with_list}
 use Rattle.world.specs.World.{Opened, World}
+use Rattle.world.specs.Steps.{done_with}
 use Rattle.engine.specs.declared.events.Event.{Event}
+use Rattle.engine.specs.declared.events.Event.TheVariants.{Done}
 use Rattle.engine.specs.declared.live.Live.{Live}
 use Rattle.engine.specs.declared.store.Store.TheInside.{Inside}
 use Rattle.engine.specs.Events.{opened_by}
 use Rattle.engine.specs.Engine.{Engine, world_in, engine_in, IsStore}
-use Rattle.engine.specs.StoreLaws.{stands}
+use Rattle.engine.specs.StoreLaws.{stands, with_parts, store_done}
 use Rattle.engine.specs.Tied.{IsTied}
 
 -- The number is the ticket's, and the store's book has the ticket's list under it.
@@ -62,6 +66,20 @@ module _ {s : Inside} {t : OpenList Event} {n : ℕ} (is : IsStore s) (its : IsT
       (subst (Steps s.live.tables.schema (world_in s) t.number (opened_by t.list)) (sym leads)
       (subst (λ (k : ℕ). Steps s.live.tables.schema (world_in s) k (opened_by t.list) (later (world_in s) k (opened_by t.list))) its.number
       (steps (world_in s) (opened_by t.list) is.tied open_under)))
+
+-- the store's world has an item more of the ticket's transaction, and nothing else
+abbrev pub HasDone : Inside → OpenList Event → Item → Inside → Type 0
+HasDone s t item next = (world_in next ≡ done_with (world_in s) t.number (opened_by t.list) item) × IsStore next
+
+-- the live part did an item, and a book that has met the ticket's slip lists it
+pub item_done : {s : Inside} {t slip : OpenList Event} {n : ℕ} {met grown : OpenLists Event} (m : Live) (item : Item) → IsStore s → IsTicket s t n
+    → slip ≡ t → met ≡ s.book → grown ≡ with_list met slip.number (slip.list ++ Done item ∷ []) → m.tables.schema ≡ s.live.tables.schema
+    → ((w : World) (o : Opened) → IsTied w s.live → get w.opened n ≡ Some o → IsTied (done_with w n o item) m)
+    → HasDone s t item (with_parts s m grown)
+item_done {s} {t} {grown = grown} m item is its same met listed schema tied =
+    store_done s is t.number t.list its.listed m grown item schema
+    (listed ∙ (λ i. with_list (met i) (same i).number ((same i).list ++ Done item ∷ [])))
+    (tied_after is its (λ w k o. done_with w k o item) m tied)
 
 -- a book that has met a ticket's slip shows callers that the ticket's transaction is open
 pub met_open : {s : Inside} {slip t : OpenList Event} → IsStore s → slip ≡ t → get s.book.lists slip.number ≡ Some slip.list

@@ -6,7 +6,7 @@
 --     rise_more      numbers that rise, with one more
 --     ends_same, last_same, ends_more, last_more      the ends of the commits with an event that is none, and with one more
 --     world_opened, world_aborted, world_committed      the world once the line has one more event
-use Rattle.std.proofs.Common.{◌≡◌, ℕ, zero, suc, ◌+◌, ◌<◌, Bool, true, false, List, [], ◌∷◌, ◌++◌, get_or, Option, Some, None, refl, sym, ap, subst, ◌∙◌, inl, inr, append-nil, arith}
+use Rattle.std.proofs.Common.{◌≡◌, ℕ, zero, suc, ◌+◌, ◌<◌, Bool, true, false, List, [], ◌∷◌, ◌++◌, get_or, Option, Some, None, refl, sym, ap, subst, ◌∙◌, append-nil, arith}
 use Rattle.std.specs.Prelude.{Result, Ok, Err, ◌==◌, if◌then◌else◌, fold, map, option_map, cond}
 use Rattle.std.specs.List.Sorted.{IsStrictlyIncreasing}
 use Rattle.std.specs.Ordering.{nat_cmp, eq_by_cmp}
@@ -27,7 +27,7 @@ use Rattle.model.specs.SurvivorLaws.{survivors_with}
 use Rattle.tokens.specs.ListLaws.{grown_by_nothing}
 use Rattle.tokens.specs.Lists.{ListMap}
 use Rattle.world.specs.World.{Past, OpenOnes, Stop, work, changes_in, work_behind}
-use Rattle.world.specs.ListingLaws.{xid_cases, got_same, got_other, same_by_xid}
+use Rattle.world.specs.ListingLaws.{same_by_xid}
 use Rattle.world.specs.Steps.{Fault, Acted, IsDone, IsSkipped, Held, Clashed, opened_with, done_with, committed_with, aborted_with}
 use Rattle.engine.specs.declared.events.Event.{Event}
 use Rattle.engine.specs.declared.events.Event.TheVariants.{Done, Wants}

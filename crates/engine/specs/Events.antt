@@ -6,14 +6,13 @@
 --     is_same      two numbers are one
 --     open_after, is_open_in      whether a transaction is open, by the events of the line
 --     world_of      the world that start, line, lists and stop tell
---     events_of, events_of_touch      what a call that tried a change, or named a subtransaction, appends to its
---         transaction's list
+--     events_of      what a call that tried a change appends to its transaction's list
 use Rattle.std.specs.Prelude.{ℕ, Bool, true, false, List, [], ◌∷◌, ◌++◌, Option, Some, None, Result, Ok, Err, map, fold, flat_map, if◌then◌else◌}
 use Rattle.std.specs.Ordering.{nat_cmp, eq_by_cmp}
 use Rattle.std.specs.FinMap as finite
 use Rattle.std.specs.FinMap.{FinMap}
 use Rattle.model.specs.declared.change.Change as change_type
-use Rattle.model.specs.declared.item.Item.TheVariants.{Change, Touch}
+use Rattle.model.specs.declared.item.Item.TheVariants.{Change}
 use Rattle.model.specs.Rows.{Rows, Schema}
 use Rattle.model.specs.Effect.{serial}
 use Rattle.tokens.specs.Lists.{ListMap}
@@ -90,8 +89,3 @@ events_of sub c (Ok IsSkipped) = Done (Change sub c) ∷ []
 events_of sub c (Ok (Held holder)) = Wants sub c ∷ []
 events_of sub c (Ok (Clashed cause)) = Wants sub c ∷ []
 events_of sub c (Err fault) = []
-
--- what a call that names a subtransaction appends to it, by what came of it
-abbrev pub events_of_touch : ℕ → Result (Unit {0}) Fault → List Event
-events_of_touch sub (Ok u) = Done (Touch sub) ∷ []
-events_of_touch sub (Err fault) = []

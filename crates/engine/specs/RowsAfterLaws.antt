@@ -24,8 +24,11 @@ module _ (schema now : Schema) (rows new : Rows) (same : now ≡ schema) where
     entry_at (f ∷ entries) zero below is = ap (λ (g : Entry). Some (entry_in g)) (sym is)
     entry_at (f ∷ entries) (suc index) below is = entry_at entries index (omega arith) is
 
-    pub entry_next : rows ≡ rows_after schema start (take index (map entry_in entries)) → new ≡ serial now rows e.changes
-        → new ≡ rows_after schema start (take (index + 1) (map entry_in entries))
-    entry_next so made =
-        made ∙ ap (λ (s : Schema). serial s rows e.changes) same ∙ ap (λ (r : Rows). serial schema r e.changes) so
-        ∙ sym (entry_comes_next schema start (map entry_in entries) index (entry_in e) (entry_at entries index below is))
+    -- the tables keep their keys, and have the rows after one entry more
+    pub entry_next : (later : Schema) → later ≡ now → rows ≡ rows_after schema start (take index (map entry_in entries)) → new ≡ serial now rows e.changes
+        → (later ≡ schema) × (new ≡ rows_after schema start (take (index + 1) (map entry_in entries)))
+    entry_next later kept so made = (
+      kept ∙ same,
+      made ∙ ap (λ (s : Schema). serial s rows e.changes) same ∙ ap (λ (r : Rows). serial schema r e.changes) so
+          ∙ sym (entry_comes_next schema start (map entry_in entries) index (entry_in e) (entry_at entries index below is)),
+    )

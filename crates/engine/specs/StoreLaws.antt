@@ -5,8 +5,8 @@
 --     stands      so is the one of a list
 --     still_named, still_rising      what the journal's entries keep where they are the same
 --     store_grown      a transaction's list has more events
---     store_acted, store_done, store_touched      those of a call that tried a change; an item; those of a call that
---         named a subtransaction
+--     store_acted, store_done      those of a call that tried a change; an item
+--     store_unmoved      nothing came of a call
 --     store_started      a store with nothing in its lists and no entries
 --     store_opened, store_ended      a transaction opens; one ends
 --     store_aborted, store_committed      it is aborted; it is committed, and the journal has its entry, for which there is room
@@ -30,7 +30,6 @@ use Rattle.model.specs.declared.change.Change as change_type
 use Rattle.change.specs.declared.outcome.Clash as clash_type
 use Rattle.model.specs.declared.item.Item.{Item}
 use Rattle.model.specs.declared.item.CommitInfo.{CommitInfo}
-use Rattle.model.specs.declared.item.Item.TheVariants.{Touch}
 use Rattle.model.specs.ValidLaws.{not_none}
 use Rattle.model.specs.Named.{NamesTables}
 use Rattle.model.specs.Rows.{Rows, Schema}
@@ -55,8 +54,8 @@ use Rattle.engine.specs.declared.live.Stopped as stopped_type
 use Rattle.engine.specs.declared.live.Stopped.TheVariants.{Clash as StoppedByClash, Held as StoppedByHold}
 use Rattle.engine.specs.declared.store.Store.TheInside.{Inside}
 use Rattle.engine.specs.declared.transaction.OpenTransaction.{OpenTransaction}
-use Rattle.engine.specs.Answers.{cause_of, stop_for, told_stop, after_act, after_touch, stop_of, TellsWhatStopped, HasCause}
-use Rattle.engine.specs.Events.{opened_by, opened_in, commits_in, ends_in, last_end, is_same, open_after, is_open_in, world_of, events_of, events_of_touch}
+use Rattle.engine.specs.Answers.{cause_of, stop_for, told_stop, after_act, stop_of, TellsWhatStopped, HasCause}
+use Rattle.engine.specs.Events.{opened_by, opened_in, commits_in, ends_in, last_end, is_same, open_after, is_open_in, world_of, events_of}
 use Rattle.engine.specs.EventLaws.{get_values, values_empty, opened_stands, rise_more, ends_same, ends_more, world_done, world_acted, world_opened, world_aborted, world_committed}
 use Rattle.engine.specs.Journal.{rows_after}
 use Rattle.engine.specs.JournalLaws.{entries_are_serial, rows_after_are_read}
@@ -191,15 +190,13 @@ module _ (s : Inside) (is : IsStore s) (xid : ℕ) (events : List Event) (listed
       (ap (world_of s.live.tables.schema s.start.rows s.line.list (finite.insert s.book.lists xid (events ++ Done item ∷ []))) tied.stopped
       ∙ world_done s.live.tables.schema s.start.rows s.line.list s.book.lists xid events listed (told_stop s.live.stopped) item)
 
-  -- A call named a subtransaction, and what came of it is in its transaction's list.
-  pub store_touched : (m : Live) (b : OpenLists Event) (sub : ℕ) (answer : Result (Unit {0}) Fault)
-      → m.tables.schema ≡ s.live.tables.schema → b ≡ with_list s.book xid (events ++ events_of_touch sub answer)
-      → IsTied (after_touch (world_in s) xid (opened_by events) sub answer) m
-      → (world_in (with_parts s m b) ≡ after_touch (world_in s) xid (opened_by events) sub answer) × IsStore (with_parts s m b)
-  store_touched m b sub (Ok u) schema book tied = store_done m b (Touch sub) schema book tied
-  store_touched m b sub (Err fault) schema book tied =
-      store_grown m b [] (world_in s) schema book tied refl
-      (λ i. world_of s.live.tables.schema s.start.rows s.line.list (grown_by_nothing s.book.lists xid events listed i) (tied.stopped i))
+  -- A call was refused, and the live part is tied to the world that was.
+  pub store_unmoved : (m : Live) (b : OpenLists Event) → m.tables.schema ≡ s.live.tables.schema → b ≡ s.book → IsTied (world_in s) m
+      → (world_in (with_parts s m b) ≡ world_in s) × IsStore (with_parts s m b)
+  store_unmoved m b schema book tied =
+      let none : finite.insert s.book.lists xid (events ++ []) ≡ s.book.lists = grown_by_nothing s.book.lists xid events listed in
+      store_grown m b [] (world_in s) schema (book ∙ (λ i. record s.book { lists = sym none i })) tied refl
+      (λ i. world_of s.live.tables.schema s.start.rows s.line.list (none i) (tied.stopped i))
 
 -- ---- a new store
 

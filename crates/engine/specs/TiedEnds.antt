@@ -27,7 +27,7 @@ use Rattle.model.specs.declared.item.CommitInfo.{CommitInfo}
 use Rattle.model.specs.Accepted.{AreAccepted}
 use Rattle.model.specs.Named.{NamesTables}
 use Rattle.model.specs.Rows.{Rows, Schema, IsValid}
-use Rattle.model.specs.Footprint.{held_cells, shares_cell, footprint}
+use Rattle.model.specs.Footprint.{held_cells, shares_cell}
 use Rattle.model.specs.Survivors.{after_item, changes_of}
 use Rattle.model.specs.SurvivorLaws.{work_with_touch}
 use Rattle.model.specs.ValidLaws.{not_none}
@@ -39,7 +39,7 @@ use Rattle.savepoint.specs.Savepoints.{mark_at}
 use Rattle.savepoint.specs.Record.{Record}
 use Rattle.world.specs.World.{Opened, Past, ByClash, World, starting, own_rows, holds}
 use Rattle.world.specs.Steps.{opened_with, done_with, aborted_with, committed_with}
-use Rattle.world.specs.FineLaws.{IsFine, StillClashes, fine_put, noted_put, put_cases, gone_cases, holds_free, same_some}
+use Rattle.world.specs.FineLaws.{IsFine, fine_put, noted_put, gone_cases, holds_free, same_some}
 use Rattle.world.specs.ListingLaws.{xid_cases}
 use Rattle.engine.specs.declared.live.Live.{Live}
 use Rattle.engine.specs.declared.stood.Stood.{Stood}

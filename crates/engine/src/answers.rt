@@ -53,8 +53,8 @@ impl From<AllocError> for EngineFault {
 
     ghost from_gives = { λ _ e. e ≡ NoMemory };
 
-    fn from(_e: AllocError) -> EngineFault {
-        EngineFault::OutOfMemory
+    fn from(e: AllocError) -> EngineFault {
+        EngineFault::from(OutOfMemory::from(e))
     }
 }
 

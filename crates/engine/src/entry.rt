@@ -1,6 +1,9 @@
 // A committed transaction, as the journal has it.
-ghost use Rattle.std.specs.Prelude.{◌≡◌, ◌<◌, ◌^◌, ◌∷◌, [], MatchOption, option_map, length, slice_get};
+ghost use Rattle.std.specs.Prelude.{◌≡◌, ◌<◌, ◌^◌, List, ◌∷◌, [], MatchOption, option_map, length, slice_get};
+ghost use Rattle.std.specs.Coded.{coded_list};
 ghost use Rattle.std.specs.Iterator.{YieldsFirstRef, item_count};
+ghost use Rattle.model.specs.declared.change.Change.{Change as AnyChange};
+ghost use Rattle.model.specs.contracts.change.Change as change_type;
 ghost use Rattle.model.specs.Survivors.{changes_of};
 
 use model::{Change, Item, Lsn, Xid};
@@ -15,12 +18,6 @@ pub struct Changes {
 }
 
 impl Model for Changes {
-    ghost use Rattle.std.specs.Prelude.{List};
-    ghost use Rattle.std.specs.Coded.{coded_list};
-    ghost use Rattle.model.specs.declared.change.Change.{Change as AnyChange};
-    ghost use Rattle.model.specs.contracts.change.Change as change_type;
-    ghost use Rattle.model.specs.Survivors.{changes_of};
-
     ghost Value = { List AnyChange };
 
     ghost coded = { coded_list change_type.the_row.coded };
@@ -80,10 +77,6 @@ pub struct ChangesIter<'a> {
 }
 
 impl<'a> Model for ChangesIter<'a> {
-    ghost use Rattle.std.specs.Prelude.{List};
-    ghost use Rattle.model.specs.declared.change.Change.{Change as AnyChange};
-    ghost use Rattle.model.specs.Survivors.{changes_of};
-
     ghost Value = { List AnyChange };
 
     ghost view = { λ i. changes_of i.items.now };

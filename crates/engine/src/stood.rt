@@ -91,7 +91,8 @@ pub fn with_what_stood(
     Ok(more)
 }
 
-// What is to lie beside a cell. The row of a place that is held already isn't copied.
+// What is to lie beside a cell: beside a place the live row, but nothing if its transaction holds the
+// place, or the table as a whole.
 fn what_stood(
     tables: &Tables,
     holds: &Holds<Stood>,
@@ -105,31 +106,14 @@ fn what_stood(
     match cell {
         Cell::Whole(_) => Ok(Stood::Wiped(count)),
         Cell::Uniq(_, _, _) => Ok(Stood::Other),
-        Cell::Row(table, key) => row_stood(tables, holds, *table, key),
-    }
-}
-
-// What is to lie beside a place: the live row, but nothing if its transaction holds the place, or the
-// table as a whole.
-fn row_stood(
-    tables: &Tables,
-    holds: &Holds<Stood>,
-    table: TableId,
-    key: &Key,
-) -> Result<Stood, OutOfMemory>
-    requires known { table < length tables.now.schema }
-    ensures { IfOk result (λ stood. (xid count : ℕ) → IsFree (cells_held holds.now) xid (RowCell table key.now)
-        → (Contains (cells_held holds.now xid) (RowCell table key.now) → ⊥)
-        → IsToStand tables.now.rows count (cells_held holds.now xid) (RowCell table key.now) stood) }
-{
-    if holds.held_at(&SoughtRow { table, key }).is_some() {
-        return Ok(Stood::Other);
-    }
-    if holds.held_at(&Cell::Whole(table)).is_some() {
-        return Ok(Stood::Other);
-    }
-    match tables.get(table, key) {
-        Some(row) => Ok(Stood::Row(Some(row.to_row()?))),
-        None => Ok(Stood::Row(None)),
+        Cell::Row(table, key) => {
+            if holds.held_at(cell).is_some() || holds.held_at(&Cell::Whole(*table)).is_some() {
+                return Ok(Stood::Other);
+            }
+            match tables.get(*table, key) {
+                Some(row) => Ok(Stood::Row(Some(row.to_row()?))),
+                None => Ok(Stood::Row(None)),
+            }
+        }
     }
 }

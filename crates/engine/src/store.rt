@@ -17,7 +17,7 @@ ghost use Rattle.engine.specs.declared.events.Event.TheVariants.{Done};
 ghost use Rattle.engine.specs.declared.events.LineEvent.TheVariants.{Opened as WasOpened, Committed as WasCommitted, Aborted as WasAborted};
 ghost use Rattle.std.specs.Result.{result_ok};
 ghost use Rattle.engine.specs.Answers.{told, told_call, after_open, after_touch, stop_of, TellsWhatStopped, TellsCause, IsNoClash};
-ghost use Rattle.engine.specs.Events.{opened_by, commits_in, ends_in, last_end, is_open_in, events_of, events_of_touch};
+ghost use Rattle.engine.specs.Events.{opened_by, commits_in, ends_in, last_end, is_open_in, events_of};
 ghost use Rattle.engine.specs.Journal.{rows_after as rows_behind};
 ghost use Rattle.engine.specs.declared.entry.Entry.{Entry as AnyEntry};
 ghost use Rattle.engine.specs.Engine.{entry_in, IsOtherwiseSame};
@@ -150,9 +150,9 @@ impl Store {
     {
         let xid = t.slip.number();
         self.book.meet(&mut t.slip);
-        let answer = touch_live(&mut self.live, xid, sub);
-        tell_touch(&mut self.book, &mut t.slip, sub, &answer);
-        answer
+        touch_live(&mut self.live, xid, sub)?;
+        self.book.grow(&mut t.slip, &Event::Done(Item::Touch(sub)));
+        Ok(())
     }
 
     /// A subtransaction of an open transaction is rolled back, also in a store that is stopped: its
@@ -496,38 +496,6 @@ fn grow_act<N: Items<Event>>(
 {
     let _ = sub;
     let _ = c;
-    let _ = answer;
-    book.grow_by::<N>(slip);
-}
-
-// Appends what a call that named a subtransaction tells of its transaction.
-fn tell_touch(
-    book: &mut Book<Event>,
-    slip: &mut Slip<Event>,
-    sub: Xid,
-    answer: &Result<(), EngineFault>,
-)
-    requires { slip.old.name ≡ book.old.name }
-    ensures listed { finite.get book.old.lists slip.old.number ≡ Some slip.old.list }
-    ensures book { book.new ≡ with_list book.old slip.old.number (slip.old.list ++ events_of_touch sub (told_call answer.now)) }
-    ensures slip { slip.new ≡ record slip.old { list = slip.old.list ++ events_of_touch sub (told_call answer.now) } }
-{
-    grow_touch::<Brand>(book, slip, sub, answer);
-}
-
-fn grow_touch<N: Items<Event>>(
-    book: &mut Book<Event>,
-    slip: &mut Slip<Event>,
-    sub: Xid,
-    answer: &Result<(), EngineFault>,
-)
-    requires name { slip.old.name ≡ book.old.name }
-    requires items { N.items ≡ events_of_touch sub (told_call answer.now) }
-    ensures listed { finite.get book.old.lists slip.old.number ≡ Some slip.old.list }
-    ensures book { book.new ≡ with_list book.old slip.old.number (slip.old.list ++ events_of_touch sub (told_call answer.now)) }
-    ensures slip { slip.new ≡ record slip.old { list = slip.old.list ++ events_of_touch sub (told_call answer.now) } }
-{
-    let _ = sub;
     let _ = answer;
     book.grow_by::<N>(slip);
 }

@@ -20,7 +20,7 @@ module _ {T : Type 0} where
   next_of reading left (Some x) h = h.1
 
   pub compares : (n id : ℕ) (me : Me (Option T) (View T)) → me.0.sends ≡ true → me.0.takes ≡ true
-      → Allows Flow n id me HEAD (λ m. m) (compared (step n HEAD 0 0 none) me)
+      → Allows Flow n id me TAIL (λ m. m) (compared (step n TAIL 0 0 none) me)
   compares n id me on takes s law wide at _ = let c = law.course in let v : View T = me.0 in
       let a = (law.seats.of_sender id v at on).1 in let b = (law.seats.of_taker id v at takes).1 in
       let sl = slots_of s law n wide in
@@ -29,7 +29,7 @@ module _ {T : Type 0} where
       let base : v.sent_before ≡ c.before = a.before_is in
       let far : tail_of c ≤ 2 ^ 63 = law.counts.far in let seen : v.counted ≤ length c.acked = a.counted_is in
       let known : v.known ≤ length (c.acked ++ c.left) = b.known_is in
-      let agrees : Agrees (step n HEAD 0 0 none) v = record {
+      let agrees : Agrees (step n TAIL 0 0 none) v = record {
         left = c.left;
         parts = a.sent_is ∙ ap (λ l. l ++ c.left) (sym b.acked_is);
         near = sl.fits;
@@ -40,7 +40,7 @@ module _ {T : Type 0} where
         begun = b.before_is ∙ sym a.before_is;
         far = omega arith;
       } in
-      (v, keeps, tt, looked s law HEAD id me v (sender_steps s.views c c id v v law.seats at on a refl (λ z. z) (λ _ z. z)), (agrees, refl))
+      (v, keeps, tt, looked s law TAIL id me v (sender_steps s.views c c id v v law.seats at on a refl (λ z. z) (λ _ z. z)), (agrees, refl))
 
   pub undooms : (n id : ℕ) (me : Me (Option T) (View T)) → me.0.sends ≡ true → me.0.takes ≡ true
       → Allows Flow n id me DOOM (λ _. 0) (λ _ m. undoomed (step n DOOM 0 0 none) me 0 m)

@@ -4,7 +4,10 @@
 --     counted, sought, sent_next, dooms_now      the steps of a sender
 --     took_next, acked_next, heard      the steps of a taker
 --     compared, undoomed      those of a seat that has both ends
-use Rattle.std.specs.Prelude.{◌≡◌, ℕ, ◌+◌, ◌%◌, ◌^◌, ◌<◌, ◌≤◌, ◌⊎◌, Bool, true, false, List, [], ◌∷◌, ◌++◌, length, Option, Some, None, MatchOption}
+--     by_number      one of three
+--     never      no step
+--     look_tells, take_tells, put_tells      what a load, a load that takes a slot, and a store tell, by the word
+use Rattle.std.specs.Prelude.{◌≡◌, ℕ, zero, suc, ◌+◌, ◌%◌, ◌^◌, ◌<◌, ◌≤◌, ◌⊎◌, Bool, true, false, List, [], ◌∷◌, ◌++◌, length, Option, Some, None, MatchOption}
 use Rattle.atomic_table.specs.Table.{Me, Step, rest}
 use Rattle.ring.specs.declared.protocol.View.{View}
 use Rattle.ring.specs.Flow.{worth}
@@ -126,3 +129,26 @@ module _ {T : Type 0} where
 
   abbrev pub undoomed : Told T
   undoomed st m n m' = m' ≡ (record m.0 { dooms = false; doomed = false }, m.1)
+
+-- the first of three for 0, as of the words the head, the second for 1, as the tail, and else the third
+abbrev pub by_number : {A : Type 1} → ℕ → A → A → A → A
+by_number zero first second third = first
+by_number (suc zero) first second third = second
+by_number (suc (suc _)) first second third = third
+
+module _ {T : Type 0} where
+  -- no such step is made
+  abbrev pub never : Told T
+  never _ _ _ _ = ⊥
+
+  -- a load by which no slot changes hands
+  abbrev pub look_tells : Told T
+  look_tells st = by_number st.word counted compared heard st
+
+  -- a load that takes a slot, where there is one
+  abbrev pub take_tells : Told T
+  take_tells st = by_number st.word sought took_next never st
+
+  -- a store; the sender dooms by a 1, and both ends take the doom back by a 0
+  abbrev pub put_tells : Told T
+  put_tells st = by_number st.word acked_next sent_next (by_number st.first undoomed dooms_now never) st

@@ -2,7 +2,7 @@
 ghost use Rattle.std.specs.Prelude.{◌≡◌, ◌+◌, [], length};
 ghost use Rattle.ring.specs.Ends.{Meets, HandsOut, AtStart};
 
-use crate::protocol::{Ack, Both, Compare, DOOM, Find, HEAD, RingSeat, RingTable, TAIL, Undoom};
+use crate::protocol::{Both, DOOM, HEAD, Look, Put, RingSeat, RingTable, TAIL, Take};
 use crate::sender::Sender;
 use crate::taker::Taker;
 use crossbeam_utils::sync::{Parker, Unparker};
@@ -66,7 +66,7 @@ pub fn meet<T>(sender: Sender<T>, taker: Taker<T>) -> Ends<T>
         item,
     } = taker;
     table.shared.join_seat::<Both>(&mut seat, other);
-    table.shared.load::<Compare>(&mut seat, HEAD);
+    table.shared.load::<Look>(&mut seat, TAIL);
     Ends {
         table,
         spare,
@@ -98,11 +98,11 @@ impl<T> Ends<T> {
                 self.head += 1;
                 self.table
                     .shared
-                    .store::<Ack>(&mut self.seat, HEAD, self.head);
+                    .store::<Put>(&mut self.seat, HEAD, self.head);
                 Some(item)
             }
             None => {
-                let tail = self.table.shared.load::<Find>(&mut self.seat, TAIL);
+                let tail = self.table.shared.load::<Take>(&mut self.seat, TAIL);
                 if tail == self.head {
                     return None;
                 }
@@ -111,7 +111,7 @@ impl<T> Ends<T> {
                 self.head += 1;
                 self.table
                     .shared
-                    .store::<Ack>(&mut self.seat, HEAD, self.head);
+                    .store::<Put>(&mut self.seat, HEAD, self.head);
                 item
             }
         }
@@ -134,7 +134,7 @@ impl<T> Ends<T> {
             acked: _,
             item,
         } = self;
-        table.shared.store::<Undoom>(&mut seat, DOOM, 0);
+        table.shared.store::<Put>(&mut seat, DOOM, 0);
         let other = table.shared.split_seat::<Both>(&mut seat);
         let sender = Sender {
             table: spare,

@@ -50,85 +50,36 @@ impl<T> TableRule<Option<T>, View<T>, ()> for InOrder {
     ghost first = { λ _. opened };
 }
 
-/// The sender counts what was acknowledged.
-pub struct Count;
+/// A load by which no slot changes hands. At the head the sender counts what was acknowledged, at the
+/// tail both ends in one hand compare what was sent with what was acknowledged and what is left, and at
+/// the doom the taker hears of it.
+pub struct Look;
 
-impl<T> Play<Option<T>, View<T>> for Count {
-    ghost use Rattle.ring.specs.Steps.{counted};
+impl<T> Play<Option<T>, View<T>> for Look {
+    ghost use Rattle.ring.specs.Steps.{look_tells};
 
-    ghost then = { counted };
+    ghost then = { look_tells };
 }
 
-/// The sender takes the next free slot, where there is one.
-pub struct Seek;
+/// A load that takes a slot, where there is one: at the head the sender's next free one, at the tail
+/// that of the taker's first item that is left.
+pub struct Take;
 
-impl<T> Play<Option<T>, View<T>> for Seek {
-    ghost use Rattle.ring.specs.Steps.{sought};
+impl<T> Play<Option<T>, View<T>> for Take {
+    ghost use Rattle.ring.specs.Steps.{take_tells};
 
-    ghost then = { sought };
+    ghost then = { take_tells };
 }
 
-/// The sender sends what it wrote.
+/// A store. At the head the taker acknowledges the item that it took, and gives its slot back; at the
+/// tail the sender sends what it wrote; at the doom the sender dooms the taker by a 1, and both ends in
+/// one hand take the doom back by a 0.
 pub struct Put;
 
 impl<T> Play<Option<T>, View<T>> for Put {
-    ghost use Rattle.ring.specs.Steps.{sent_next};
+    ghost use Rattle.ring.specs.Steps.{put_tells};
 
-    ghost then = { sent_next };
-}
-
-/// The sender dooms the taker.
-pub struct Doom;
-
-impl<T> Play<Option<T>, View<T>> for Doom {
-    ghost use Rattle.ring.specs.Steps.{dooms_now};
-
-    ghost then = { dooms_now };
-}
-
-/// The taker takes the slot of the first item that is left, where there is one.
-pub struct Find;
-
-impl<T> Play<Option<T>, View<T>> for Find {
-    ghost use Rattle.ring.specs.Steps.{took_next};
-
-    ghost then = { took_next };
-}
-
-/// The taker acknowledges the item that it took, and gives its slot back.
-pub struct Ack;
-
-impl<T> Play<Option<T>, View<T>> for Ack {
-    ghost use Rattle.ring.specs.Steps.{acked_next};
-
-    ghost then = { acked_next };
-}
-
-/// The taker hears whether it is doomed.
-pub struct Hear;
-
-impl<T> Play<Option<T>, View<T>> for Hear {
-    ghost use Rattle.ring.specs.Steps.{heard};
-
-    ghost then = { heard };
-}
-
-/// Both ends in one hand: what was sent is what was acknowledged and what is left.
-pub struct Compare;
-
-impl<T> Play<Option<T>, View<T>> for Compare {
-    ghost use Rattle.ring.specs.Steps.{compared};
-
-    ghost then = { compared };
-}
-
-/// Both ends in one hand take the doom back.
-pub struct Undoom;
-
-impl<T> Play<Option<T>, View<T>> for Undoom {
-    ghost use Rattle.ring.specs.Steps.{undoomed};
-
-    ghost then = { undoomed };
+    ghost then = { put_tells };
 }
 
 /// A taker's view takes in a sender's, and a view of both is cut into two that begin anew.

@@ -2,7 +2,7 @@
 ghost use Rattle.std.specs.Prelude.{◌≡◌, ◌≤◌, ◌+◌, ◌++◌, ◌∷◌, [], true, length, OnOk, OnErr, IfErr};
 ghost use Rattle.ring.specs.Ends.{SentThrough, HasNoRoom};
 
-use crate::protocol::{Count, DOOM, Doom, HEAD, Put, RingSeat, RingTable, Seek, TAIL};
+use crate::protocol::{DOOM, HEAD, Look, Put, RingSeat, RingTable, TAIL, Take};
 use crossbeam_utils::sync::Unparker;
 use std::alloc::Global;
 use std::error::Error;
@@ -62,7 +62,7 @@ impl<T> Sender<T> {
         ensures same { OnErr result (SentThrough self.old self.new self.old.sent × HasNoRoom self.new) }
         ensures back { IfErr result (λ full. full.0 ≡ item) }
     {
-        let head = self.table.shared.load::<Seek>(&mut self.seat, HEAD);
+        let head = self.table.shared.load::<Take>(&mut self.seat, HEAD);
         if self.tail - head == self.slots || self.tail == MOST {
             return Err(Full(item));
         }
@@ -84,7 +84,7 @@ impl<T> Sender<T> {
         ensures result { self.new.counted ≡ result }
         ensures same { SentThrough self.old self.new self.old.sent }
     {
-        let head = self.table.shared.load::<Count>(&mut self.seat, HEAD);
+        let head = self.table.shared.load::<Look>(&mut self.seat, HEAD);
         head - self.base
     }
 
@@ -92,7 +92,7 @@ impl<T> Sender<T> {
     pub fn doom(&mut self)
         ensures { self.new ≡ record self.old { dooms = true } }
     {
-        self.table.shared.store::<Doom>(&mut self.seat, DOOM, 1);
+        self.table.shared.store::<Put>(&mut self.seat, DOOM, 1);
         self.bell.unpark();
     }
 }

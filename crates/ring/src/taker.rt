@@ -2,7 +2,7 @@
 ghost use Rattle.std.specs.Prelude.{◌≡◌, ◌⊎◌, true, IsSome, MatchOption, None, Some};
 ghost use Rattle.ring.specs.Ends.{Looked, Acknowledged, Heard, Waited};
 
-use crate::protocol::{Ack, DOOM, Find, HEAD, Hear, RingSeat, RingTable, TAIL};
+use crate::protocol::{DOOM, HEAD, Look, Put, RingSeat, RingTable, TAIL, Take};
 use crossbeam_utils::sync::Parker;
 use std::alloc::Global;
 use std::marker::Model;
@@ -51,7 +51,7 @@ impl<T> Taker<T> {
         requires { self.old.taken ≡ None }
         ensures { Looked self.old self.new }
     {
-        let tail = self.table.shared.load::<Find>(&mut self.seat, TAIL);
+        let tail = self.table.shared.load::<Take>(&mut self.seat, TAIL);
         if tail == self.head {
             return;
         }
@@ -78,7 +78,7 @@ impl<T> Taker<T> {
     pub fn doomed(&mut self) -> bool
         ensures { Heard self.old self.new result }
     {
-        let doom = self.table.shared.load::<Hear>(&mut self.seat, DOOM);
+        let doom = self.table.shared.load::<Look>(&mut self.seat, DOOM);
         doom == 1
     }
 
@@ -122,6 +122,6 @@ impl<T: Drop> Taker<T> {
         self.head += 1;
         self.table
             .shared
-            .store::<Ack>(&mut self.seat, HEAD, self.head);
+            .store::<Put>(&mut self.seat, HEAD, self.head);
     }
 }

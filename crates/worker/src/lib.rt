@@ -39,7 +39,8 @@
 //   tries      one item under the lock
 //   ended      why a worker came back
 //   post       `Post`, where the leader gives the items of a lane's transaction
-//   names      `LaneNames`, which rings; with the store's names it stands in the types of all of these
+//   names      `LaneNames`, which rings, and `PostNames`, which lists; with the store's names they
+//              stand in the types of all of these
 //
 // `specs/Working` says what a job knows and what work makes of it, `specs/WorkingLaws` what follows of
 // its items and events; `specs/Post` says what is known of a post. It stands on `engine` for the
@@ -57,6 +58,6 @@ pub use ended::Ended;
 pub use gate::{Gate, Point};
 pub use item::WorkItem;
 pub use job::Job;
-pub use names::LaneNames;
-pub use post::{Collected, Post, PostEvent, PostNames, lock_post};
+pub use names::{LaneNames, PostNames};
+pub use post::{Collected, Post, PostEvent, lock_post};
 pub use progress::{work, work_on};

@@ -1,4 +1,8 @@
-// The names of what a worker works with.
+// The names of what a worker works with, and of what the leader gives it.
+ghost use Rattle.std.specs.Prelude.{ℕ};
+ghost use Rattle.tokens.specs.Half.{Name, no_name};
+ghost use Rattle.atomic_table.specs.Seated.{TableId};
+
 use std::marker::Brand;
 
 /// The names of the rings of the lanes to a store's workers: a lane has a number, and one ring.
@@ -6,14 +10,18 @@ use std::marker::Brand;
 /// They stand apart from the names of the store: what goes through a ring has those in its type, so
 /// they are picked before a ring is made, and its own name after it.
 pub trait LaneNames {
-    ghost use Rattle.std.specs.Prelude.{ℕ};
-    ghost use Rattle.atomic_table.specs.Seated.{TableId};
-
     ghost ring: { ℕ → TableId };
 }
 
 impl LaneNames for Brand {
-    ghost use Rattle.tokens.specs.Half.{no_name};
-
     ghost ring = { λ _. no_name };
+}
+
+/// The names of a run's lanes: of their rings, and of the lists of what was given to them.
+pub trait PostNames: LaneNames {
+    ghost post: { ℕ → Name };
+}
+
+impl PostNames for Brand {
+    ghost post = { λ _. no_name };
 }

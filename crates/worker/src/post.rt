@@ -18,7 +18,7 @@ ghost use Rattle.worker.specs.declared.post.Collected.TheVariants.{All as WasAll
 ghost use Rattle.worker.specs.Post.{given_since, SendsOn, GoesOn, HandsOn, IsSameMeeting};
 
 use crate::item::WorkItem;
-use crate::names::LaneNames;
+use crate::names::PostNames;
 use engine::StoreNames;
 use model::{Item, OutOfMemory};
 use ring::{Ends, Full, Sender, Taker};
@@ -27,20 +27,6 @@ use std::collections::VecDeque;
 use std::marker::{Brand, Model, PhantomData};
 use std::sync::{Mutex, MutexGuard, Wait};
 use tokens::{Items, Kept, Token, grow, grow_by};
-
-/// The names of a run's lanes: of their rings, and of the lists of what was given to them.
-pub trait PostNames: LaneNames {
-    ghost use Rattle.std.specs.Prelude.{ℕ};
-    ghost use Rattle.tokens.specs.Half.{Name};
-
-    ghost post: { ℕ → Name };
-}
-
-impl PostNames for Brand {
-    ghost use Rattle.tokens.specs.Half.{no_name};
-
-    ghost post = { λ _. no_name };
-}
 
 /// What the leader did with a lane. Proofs alone know the list of it.
 #[derive(Debug, Drop)]

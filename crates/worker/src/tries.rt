@@ -1,9 +1,8 @@
 // One item of a transaction under the store's lock.
-ghost use Rattle.std.specs.Prelude.{◌≡◌, ◌≢◌, Some, length};
+ghost use Rattle.std.specs.Prelude.{◌≡◌, ◌≢◌, Some};
 ghost use Rattle.tokens.specs.Half.{Begins};
-ghost use Rattle.model.specs.Named.{NamesTables};
 ghost use Rattle.model.specs.declared.item.Item.{Item as AnyItem};
-ghost use Rattle.model.specs.declared.item.Item.TheVariants.{Change as ChangeItem, Touch, Last};
+ghost use Rattle.model.specs.declared.item.Item.TheVariants.{Last};
 ghost use Rattle.ring.specs.Ends.{Waited};
 ghost use Rattle.engine.specs.Events.{opened_by};
 ghost use Rattle.engine.specs.declared.answers.EngineFault.TheVariants.{AlreadyOpen as AlreadyOpenFault, TooManyOpen as TooManyOpenFault};
@@ -13,7 +12,7 @@ use crate::ended::{Ended, Tried};
 use crate::gate::Gate;
 use crate::item::WorkItem;
 use engine::{Acted, EngineFault, SharedStore, StoreNames, Ticket};
-use model::{Change, Item, Xid};
+use model::Item;
 use ring::Taker;
 use std::alloc::Global;
 use std::sync::{Condvar, Mutex, Wait};
@@ -73,8 +72,15 @@ fn try_item<N: StoreNames>(
     ensures comes { Comes result item.now ticket.old.list ticket.new.list }
 {
     match item.item() {
-        Item::Change { sub, change } => try_change(alloc, store, changed, ticket, *sub, change),
-        Item::Touch(sub) => try_touch(store, ticket, *sub),
+        Item::Change { sub, change } => match store.act(alloc, ticket, *sub, change) {
+            Ok(Acted::Held(_)) => Ok(Tried::Held),
+            Ok(_) => Ok(Tried::Done),
+            Err(fault) => Err(end_refused(changed, fault)),
+        },
+        Item::Touch(sub) => match store.touch(ticket, *sub) {
+            Ok(()) => Ok(Tried::Done),
+            Err(fault) => Err(end_refused(changed, fault)),
+        },
         Item::BackTo(sub) => {
             store.back_to(ticket, *sub);
             changed.notify_all();
@@ -84,58 +90,17 @@ fn try_item<N: StoreNames>(
     }
 }
 
-// A change under the lock. One that clashes has stopped the store, of which those that wait are told.
-fn try_change<N: StoreNames>(
-    alloc: Global,
-    store: &mut SharedStore<N>,
-    changed: &Condvar,
-    ticket: &mut Ticket,
-    sub: Xid,
-    change: &Change,
-) -> Result<Tried, Ended>
-    requires belongs { ticket.old.name ≡ N.tickets }
-    requires names { NamesTables (length N.schema) change.now }
-    ensures name { ticket.new.name ≡ ticket.old.name }
-    ensures number { ticket.new.number ≡ ticket.old.number }
-    ensures comes { Comes result (ChangeItem sub change.now) ticket.old.list ticket.new.list }
-{
-    match store.act(alloc, ticket, sub, change) {
-        Ok(Acted::Held(_)) => Ok(Tried::Held),
-        Ok(_) => Ok(Tried::Done),
-        Err(fault) => {
-            let ended = ended_by(fault);
-            if ended == Ended::Clashed {
-                changed.notify_all();
-            }
-            Err(ended)
-        }
-    }
-}
-
-// An item that names a subtransaction, under the lock.
-fn try_touch<N: StoreNames>(
-    store: &mut SharedStore<N>,
-    ticket: &mut Ticket,
-    sub: Xid,
-) -> Result<Tried, Ended>
-    requires belongs { ticket.old.name ≡ N.tickets }
-    ensures name { ticket.new.name ≡ ticket.old.name }
-    ensures number { ticket.new.number ≡ ticket.old.number }
-    ensures comes { Comes result (Touch sub) ticket.old.list ticket.new.list }
-{
-    match store.touch(ticket, sub) {
-        Ok(()) => Ok(Tried::Done),
-        Err(fault) => Err(ended_by(fault)),
-    }
-}
-
-// Why a worker comes back whose item was refused.
-fn ended_by(fault: EngineFault) -> Ended
+// Why a worker comes back whose item was refused. A change that clashes has stopped the store, of which
+// those that wait are told.
+fn end_refused(changed: &Condvar, fault: EngineFault) -> Ended
     requires { (fault ≢ AlreadyOpenFault) × (fault ≢ TooManyOpenFault) }
     ensures { result ≡ ended_by fault }
 {
     match fault {
-        EngineFault::Clash(clash) => Ended::Clashed,
+        EngineFault::Clash(_) => {
+            changed.notify_all();
+            Ended::Clashed
+        }
         EngineFault::Stopped => Ended::Stopped,
         EngineFault::OutOfMemory => Ended::OutOfMemory,
         EngineFault::AlreadyOpen | EngineFault::TooManyOpen => unreachable!(),

@@ -1,4 +1,4 @@
-use Rattle.std.proofs.Common.{◌∙◌, length, sym, subst}
+use Rattle.std.proofs.Common.{length, sym, subst}
 use Rattle.std.specs.Prelude.{All}
 use Rattle.model.specs.Named.{NamesTables}
 use Rattle.model.specs.Rows.{Schema}
@@ -18,11 +18,8 @@ apply_each-requires c =
 
 pub loop-entry-preserved : goal.loop-entry-preserved
 loop-entry-preserved c =
-    let start = c.args.start.now in
-    let was = c.loop-entry.invariant in
-    record {
-      schema = c.apply_each.ensures.schema ∙ was.schema;
-      rows =
-          entry_next start.schema c.loop-entry.tables.schema c.loop-entry.tables.rows c.apply_each.new.tables.rows was.schema start.rows c.args.entries.now
-          c.loop-entry.entry-index c.entry-item.result c.loop-entry-test.true c.entry-item.is was.rows c.in_ok-apply_each.ensures.rows;
-    }
+    let next =
+    entry_next c.args.start.now.schema c.loop-entry.tables.schema c.loop-entry.tables.rows c.apply_each.new.tables.rows c.loop-entry.invariant.schema c.args.start.now.rows
+    c.args.entries.now c.loop-entry.entry-index c.entry-item.result c.loop-entry-test.true c.entry-item.is c.apply_each.new.tables.schema c.apply_each.ensures.schema
+    c.loop-entry.invariant.rows c.in_ok-apply_each.ensures.rows in
+    record { schema = next.0; rows = next.1 }

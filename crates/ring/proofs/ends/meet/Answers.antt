@@ -1,7 +1,7 @@
 use Rattle.std.proofs.Common.{rules, arith, ◌≡◌, ◌+◌, ◌≤◌, ◌^◌, List, ◌∷◌, ◌++◌, length, ap, sym, subst, ◌∙◌, MatchOption}
 use mathlib.Core.Option.{none}
 use Rattle.atomic_table.specs.Table.{step}
-use Rattle.ring.specs.declared.protocol.TheConstants.{HEAD}
+use Rattle.ring.specs.declared.protocol.TheConstants.{TAIL}
 use Rattle.ring.specs.Steps.{Agrees}
 use Rattle.ring.proofs.Seated.{seated_again}
 use Rattle.ring.proofs.Left.{behind_acked, first_sent}
@@ -22,7 +22,7 @@ invariant_of-result g c = let tk = c.taker.invariant in let sd = c.sender.invari
     let t = c.taker.inside in let s = c.sender.inside in let v = t.seat.me.0 in let w = s.seat.me.0 in
     let same = c.load.ensures.2.1 in let joined = c.join_seat.ensures.2 in let now = same ∙ joined in
     let u = c.load.new.seat.me.0 in let id = c.load.ensures.0 ∙ c.join_seat.ensures.0 in
-    let told = subst (λ m. Agrees (step c.deref-2.result.now.shared.table_id.slots HEAD 0 0 none) m.0) (sym same) c.load.ensures.2.0 in let begun : u.acked_before ≡ u.sent_before = told.begun in
+    let told = subst (λ m. Agrees (step c.deref-2.result.now.shared.table_id.slots TAIL 0 0 none) m.0) (sym same) c.load.ensures.2.0 in let begun : u.acked_before ≡ u.sent_before = told.begun in
     let from_s : u.sent_before ≡ w.sent_before = ap (λ m. m.0.sent_before) now in
     let from_t : u.acked_before ≡ v.acked_before = ap (λ m. m.0.acked_before) now in
     let base : s.base ≡ w.sent_before = sd.base in

@@ -1,17 +1,13 @@
-use Rattle.std.proofs.Common.{◌≡◌, rules, refl, sym, subst, ◌∙◌}
-use Rattle.std.specs.Prelude.{Result, Ok, Err}
+use Rattle.std.proofs.Common.{rules, refl, sym, subst, ◌∙◌}
+use Rattle.std.specs.Prelude.{Ok}
 use Rattle.model.specs.declared.change.Change as change_type
 use Rattle.keyholds.specs.Holds.{cells_held}
 use Rattle.world.specs.Steps.{Acts, Held as WasHeld, wanting}
-use Rattle.engine.specs.declared.answers.Acted as acted_type
-use Rattle.engine.specs.declared.answers.EngineFault as fault_type
-use Rattle.engine.specs.declared.answers.EngineFault.TheVariants.{OutOfMemory}
 use Rattle.engine.specs.declared.cells.Found as found_type
-use Rattle.engine.specs.Answers.{told, after_act}
 use Rattle.engine.specs.Cells.{IsHeldIn, IsFound}
-use Rattle.engine.specs.Tied.{IsTied}
 use Rattle.engine.specs.TiedBasics.{is_there}
 use Rattle.engine.specs.TiedActs.{has_stopped}
+use Rattle.engine.proofs.Refusals.{memory_refused}
 use Rattle.engine.proofs.live.Live.act.Goals as goal
 
 pub returns-then-is_some : goal.returns-then-is_some
@@ -23,14 +19,7 @@ returns-then-is_some c = record {
 }
 
 pub returns-in_err-holder : goal.returns-in_err-holder
-returns-in_err-holder c = record {
-  acts = search rules;
-  tied = λ w o tied is.
-      let refused : c.from_residual-in_err-holder.result ≡ Err OutOfMemory = search rules in
-      subst (λ (r : Result acted_type.Acted fault_type.EngineFault). IsTied (after_act w c.args.xid o c.args.sub c.args.c.now (told r)) c.args.self.now) (sym refused) tied;
-  cause = search rules;
-  schema = search rules;
-}
+returns-in_err-holder c = memory_refused c.args.self.now (search rules) c.args.xid c.args.sub c.args.c.now c.from_residual-in_err-holder.result c.from_residual-in_err-holder.ensures.1
 
 pub wait-requires-clause-there : goal.wait-requires-clause-there
 wait-requires-clause-there c = let tied = c.requires.tied in is_there tied.0 c.args.self.now tied.2 c.args.xid tied.1 tied.3

@@ -1,6 +1,5 @@
 use Rattle.std.proofs.Common.{rules, ◌≡◌, ◌<◌, ℕ, if◌then◌else◌, true, false, Bool, Some, length, refl, sym, ap, subst, ◌∙◌}
-use Rattle.std.specs.Prelude.{All, Result, Ok, Err}
-use Rattle.std.specs.Result.{IsErrAnd}
+use Rattle.std.specs.Prelude.{All, Ok}
 use Rattle.std.specs.FinMap.{get}
 use Rattle.model.specs.declared.cell.Cell.{Cell}
 use Rattle.model.specs.Cells.{table_of}
@@ -9,11 +8,7 @@ use Rattle.model.specs.declared.item.Item.TheVariants.{Change}
 use Rattle.model.specs.Rows.{Schema}
 use Rattle.keyholds.specs.Holds.{cells_held, IsFree}
 use Rattle.world.specs.World.{Opened, World}
-use Rattle.world.specs.Steps.{Fault, OutOfMemory, Acted, Acts, IsDone, IsSkipped, done_with}
-use Rattle.engine.specs.declared.answers.Acted as acted_type
-use Rattle.engine.specs.declared.answers.EngineFault as fault_type
-use Rattle.engine.specs.declared.answers.EngineFault.TheVariants.{OutOfMemory as NoMemory}
-use Rattle.engine.specs.declared.live.Live.{Live}
+use Rattle.world.specs.Steps.{Acts, IsDone, IsSkipped, done_with}
 use Rattle.engine.specs.Answers.{told, after_act}
 use Rattle.engine.specs.CellLaws.{cells_are_known}
 use Rattle.engine.specs.Stood.{AreToStand, cells_of_each}
@@ -21,6 +16,8 @@ use Rattle.engine.specs.Transactions.{HasApplied}
 use Rattle.engine.specs.Tied.{IsTied}
 use Rattle.engine.specs.TiedBasics.{its_names, writes_by_borrow, released_again}
 use Rattle.engine.specs.TiedActs.{free_again, tied_taken, tied_refused}
+use Rattle.engine.specs.Tried.{HasActed}
+use Rattle.engine.proofs.Refusals.{memory_refused}
 use Rattle.engine.proofs.live.Live.act_on_free.Goals as goal
 use Rattle.engine.proofs.live.Live.act_on_free.Goals.{After-apply}
 
@@ -35,33 +32,14 @@ pub take-requires : goal.take-requires
 take-requires c =
     subst (All (IsFree (cells_held c.args.self.now.holds) c.args.xid)) (sym (c.in_ok-cells.ensures.cells ∙ c.requires.cells)) c.requires.free.all
 
--- a call that memory was refused to
-told_refused : (r : Result acted_type.Acted fault_type.EngineFault) → IsErrAnd r (λ (fault : fault_type.EngineFault). fault ≡ NoMemory) → told r ≡ Err OutOfMemory
-told_refused (Ok acted) refused = absurd refused
-told_refused (Err fault) refused = ap (λ (f : fault_type.EngineFault). told (Err f)) refused
-
 pub returns-in_err-cells : goal.returns-in_err-cells
-returns-in_err-cells c = record {
-  acts = search rules;
-  tied = λ w o tied is.
-      subst (λ (answer : Result Acted Fault). IsTied (after_act w c.args.xid o c.args.tried.sub c.args.tried.change answer) c.args.self.now)
-      (sym (told_refused c.from_residual.result c.from_residual.ensures.1)) tied;
-  cause = search rules;
-  schema = search rules;
-}
+returns-in_err-cells c = memory_refused c.args.self.now c.requires.running c.args.xid c.args.tried.sub c.args.tried.change c.from_residual.result c.from_residual.ensures.1
 
 pub returns-in_err-take : goal.returns-in_err-take
-returns-in_err-take c = record {
-  acts = search rules;
-  tied = λ w o tied is.
-      subst (λ (answer : Result Acted Fault). IsTied (after_act w c.args.xid o c.args.tried.sub c.args.tried.change answer)
-      (record { tables = c.args.self.now.tables; holds = c.take.new.self; transactions = c.args.self.now.transactions; stopped = c.args.self.now.stopped }))
-      (sym (told_refused c.from_residual-in_err-take.result c.from_residual-in_err-take.ensures.1))
-      (subst (λ (l : Live). IsTied w l)
-      (ap (λ holds. record { tables = c.args.self.now.tables; holds = holds; transactions = c.args.self.now.transactions; stopped = c.args.self.now.stopped }) (sym c.in_err-take.ensures.err)) tied);
-  cause = search rules;
-  schema = search rules;
-}
+returns-in_err-take c =
+    subst (λ holds. HasActed c.args.self.now (record c.args.self.now { holds = holds }) c.args.xid c.args.tried.sub c.args.tried.change c.from_residual-in_err-take.result)
+    (sym c.in_err-take.ensures.err)
+    (memory_refused c.args.self.now c.requires.running c.args.xid c.args.tried.sub c.args.tried.change c.from_residual-in_err-take.result c.from_residual-in_err-take.ensures.1)
 
 pub apply-requires-clause-named : goal.apply-requires-clause-named
 apply-requires-clause-named c =

@@ -1,44 +1,34 @@
-use Rattle.std.proofs.Common.{◌≡◌, [], ◌∷◌, ◌++◌, refl, sym, subst, ◌∙◌, ℕ}
+use Rattle.std.proofs.Common.{◌≡◌, [], ◌∷◌, ◌++◌, refl, sym, subst, ◌∙◌}
 use Rattle.std.specs.Prelude.{◌==◌, if◌then◌else◌}
 use Rattle.model.specs.declared.item.Item.TheVariants.{BackTo}
 use Rattle.model.specs.Survivors.{before_savepoint, survivors, changes_of}
-use Rattle.tokens.specs.Lists.{OpenList, with_list}
-use Rattle.world.specs.World.{Opened, World, work}
+use Rattle.tokens.specs.Lists.{OpenList}
+use Rattle.world.specs.World.{work}
 use Rattle.world.specs.Steps.{GoesBack, done_with}
 use Rattle.engine.specs.declared.events.Event.{Event}
 use Rattle.engine.specs.declared.events.Event.TheVariants.{Done}
 use Rattle.engine.specs.Events.{opened_by}
 use Rattle.engine.specs.EventLaws.{work_back}
-use Rattle.engine.specs.Engine.{world_in, IsStore}
-use Rattle.engine.specs.StoreLaws.{with_parts, store_done}
-use Rattle.engine.proofs.StoreTickets.{IsTicket, its_ticket, met_call, tied_after, seen_step}
+use Rattle.engine.specs.Engine.{world_in}
+use Rattle.engine.specs.StoreLaws.{with_parts}
+use Rattle.engine.proofs.StoreTickets.{its_ticket, met_call, seen_step, HasDone, item_done}
 use Rattle.engine.proofs.store.Store.back_to.Goals as goal
 
 pub back_to-requires : goal.back_to-requires
 back_to-requires c = met_call c.t.inside.slip c.self.invariant c.number-xid.ensures c.meet.ensures.listed
 
-module _ (c : goal.Joined-this) where
-  -- the world that the call leads to, and that it is the store's
-  abbrev later : World → ℕ → Opened → World
-  later w n o = done_with w n o (BackTo c.args.sub)
-
-  moved : (world_in (with_parts c.self.inside c.back_to.new.self c.grow.new.self) ≡ later (world_in c.self.inside) c.args.t.now.number (opened_by c.args.t.now.list))
-      × IsStore (with_parts c.self.inside c.back_to.new.self c.grow.new.self)
-  moved =
-      let its : IsTicket c.self.inside c.args.t.now c.number-xid.result = its_ticket c.t.view_is c.number-xid.ensures c.t.view_is c.meet.ensures.listed in
-      store_done c.self.inside c.self.invariant c.args.t.now.number c.args.t.now.list its.listed c.back_to.new.self c.grow.new.self (BackTo c.args.sub)
-      c.back_to.ensures.schema
-      (c.grow.ensures.book
-      ∙ (λ i. let t = (c.meet.ensures.slip ∙ c.t.view_is) i in with_list (c.meet.ensures.book i) t.number (t.list ++ Done (BackTo c.args.sub) ∷ [])))
-      (tied_after c.self.invariant its later c.back_to.new.self c.back_to.ensures.tied)
+done : (c : goal.Joined-this) → HasDone c.self.inside c.args.t.now (BackTo c.args.sub) (with_parts c.self.inside c.back_to.new.self c.grow.new.self)
+done c =
+    item_done c.back_to.new.self (BackTo c.args.sub) c.self.invariant (its_ticket c.t.view_is c.number-xid.ensures c.t.view_is c.meet.ensures.listed)
+    (c.meet.ensures.slip ∙ c.t.view_is) c.meet.ensures.book c.grow.ensures.book c.back_to.ensures.schema c.back_to.ensures.tied
 
 pub invariant_of-self : goal.invariant_of-self
-invariant_of-self c = (moved c).1
+invariant_of-self c = (done c).1
 
 pub returns-clause-goes_back : goal.returns-clause-goes_back
 returns-clause-goes_back c =
     seen_step c.self.invariant (its_ticket c.t.view_is c.number-xid.ensures c.t.view_is c.meet.ensures.listed) c.args.self.now c.self.view_is (λ _ w n o next. GoesBack w n o c.args.sub next)
-    (later c) (world_in (with_parts c.self.inside c.back_to.new.self c.grow.new.self)) (moved c).0 (λ w o tied is. refl)
+    (λ w n o. done_with w n o (BackTo c.args.sub)) (world_in (with_parts c.self.inside c.back_to.new.self c.grow.new.self)) (done c).0 (λ w o tied is. refl)
 
 -- what its ticket lists
 longer : (c : goal.Joined-this) → c.grow.new.slip ≡ record c.args.t.now { list = c.args.t.now.list ++ Done (BackTo c.args.sub) ∷ [] }
