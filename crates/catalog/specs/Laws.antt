@@ -17,6 +17,7 @@ use Rattle.catalog.specs.declared.fault.CatalogFault.TheVariants.{NotToml, Unkno
 use Rattle.catalog.specs.declared.draft.TableDraft.{TableDraft}
 use Rattle.catalog.specs.Document.{tables_of}
 use Rattle.catalog.specs.Catalog.{catalog_of}
+use Rattle.catalog.specs.Valid.{Definitions}
 use Rattle.catalog.specs.First.{IsRefusedFirst}
 
 -- ---- what a document says
@@ -182,7 +183,7 @@ pub record Defines (t : TableDraft) (d : Definition) : Type 0 where
   pub uniques : IsEach (NamesKey d.columns) t.uniques d.uniques
 
 -- the catalog has the tables that the document describes, one by one
-abbrev pub DefinesAll : List TableDraft → List Definition → Type 0
+abbrev pub DefinesAll : List TableDraft → Definitions → Type 0
 DefinesAll = IsEach Defines
 
 -- ---- the laws
@@ -198,5 +199,5 @@ TextsAreRefusedFirst = (text : List ℕ) → IsRefusedFirst order (catalog_of te
 -- a catalog has, table by table, what the document describes
 abbrev pub CatalogsHaveWhatIsDescribed : Type 0
 CatalogsHaveWhatIsDescribed =
-    (text : List ℕ) (catalog : List Definition) → catalog_of text ≡ Ok catalog
+    (text : List ℕ) (catalog : Definitions) → catalog_of text ≡ Ok catalog
     → (doc : Members) × (ts : List TableDraft) × (parse_document text ≡ Some doc) × Describes doc ts × DefinesAll ts catalog

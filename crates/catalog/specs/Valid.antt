@@ -30,8 +30,12 @@ pub record IsValidTable (t : Definition) : Type 0 where
   pub uniques_limit : length t.uniques ≤ 16
   pub defaults_fit : AllZip (λ c default. IsDefaultOf c.kind default) t.columns t.defaults
 
+-- the definitions of tables, in the order of their places
+abbrev pub Definitions : Type 0
+Definitions = List Definition
+
 -- a valid catalog
-pub record IsValid (ts : List Definition) : Type 0 where
+pub record IsValid (ts : Definitions) : Type 0 where
   pub tables_valid : All IsValidTable ts
   pub tables_distinct : AllPairs (λ t u. t.namespace ≡ u.namespace → t.name ≢ u.name) ts
   pub tables_limit : length ts ≤ 1024

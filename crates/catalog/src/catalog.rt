@@ -20,11 +20,9 @@ pub struct Catalog {
 }
 
 impl Model for Catalog {
-    ghost use Rattle.std.specs.Prelude.{List};
-    ghost use Rattle.model.specs.Definition.{Definition};
-    ghost use Rattle.catalog.specs.Valid.{IsValid};
+    ghost use Rattle.catalog.specs.Valid.{Definitions, IsValid};
 
-    ghost Value = { List Definition };
+    ghost Value = { Definitions };
 
     ghost view = { λ c. c.tables.items };
 

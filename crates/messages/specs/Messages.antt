@@ -146,40 +146,39 @@ relation = do
   published ← relation_columns
   done (record { oid = oid; namespace = namespace; name = name; identity = replica_identity; columns = published })
 
--- Type: xid in a block, OID, namespace, name
-unfoldable pub type_name : Bool → Format TypeName
-type_name in_block = do
+-- the xid in a block and an OID, and what follows them
+abbrev pub with_oid : {A : Type 0} → Bool → (Option ℕ → ℕ → Format A) → Format A
+with_oid in_block fields = do
   xid ← xid_in in_block
   oid ← one (Unsigned four)
+  fields xid oid
+
+-- Type: xid in a block, OID, namespace, name
+unfoldable pub type_name : Bool → Format TypeName
+type_name in_block = with_oid in_block (λ xid oid. do
   namespace ← one String
   name ← one String
-  done (record { xid = xid; oid = oid; namespace = namespace; name = name })
+  done (record { xid = xid; oid = oid; namespace = namespace; name = name }))
 
 -- Insert: xid in a block, OID, 'N', new tuple
 unfoldable pub insert : Bool → Format Insert
-insert in_block = do
-  xid ← xid_in in_block
-  oid ← one (Unsigned four)
+insert in_block = with_oid in_block (λ xid oid. do
   announced ← new_tuple_follows
   new ← tuple
-  done (record { xid = xid; oid = oid; new = new })
+  done (record { xid = xid; oid = oid; new = new }))
 
 -- Update: xid in a block, OID, the old tuple if one was sent, 'N', new tuple
 unfoldable pub update : Bool → Format Update
-update in_block = do
-  xid ← xid_in in_block
-  oid ← one (Unsigned four)
+update in_block = with_oid in_block (λ xid oid. do
   old ← optional_old_tuple
   new ← tuple
-  done (record { xid = xid; oid = oid; old = old; new = new })
+  done (record { xid = xid; oid = oid; old = old; new = new }))
 
 -- Delete: xid in a block, OID, old tuple
 unfoldable pub delete : Bool → Format Delete
-delete in_block = do
-  xid ← xid_in in_block
-  oid ← one (Unsigned four)
+delete in_block = with_oid in_block (λ xid oid. do
   old ← old_tuple
-  done (record { xid = xid; oid = oid; old = old })
+  done (record { xid = xid; oid = oid; old = old }))
 
 -- Truncate: xid in a block, count of relations, option bits, their OIDs
 unfoldable pub truncate : Bool → Format Truncate

@@ -1,6 +1,6 @@
 //! Names, texts and other bytes: cuts of a payload's shared bytes, short enough for their length fields.
 
-ghost use Rattle.std.specs.Prelude.{◌≡◌, ◌^◌, ◌<◌, length, IsUtf8};
+ghost use Rattle.std.specs.Prelude.{◌≡◌, ◌^◌, ◌<◌, ℕ, List, length, IsUtf8};
 ghost use Rattle.messages.specs.Field.{IsName, HasNoZero};
 
 use bytes::{ByteStr, Bytes};
@@ -13,9 +13,6 @@ pub struct Name {
 }
 
 impl Model for Name {
-    ghost use Rattle.std.specs.Prelude.{ℕ, List};
-    ghost use Rattle.messages.specs.Field.{HasNoZero};
-
     ghost Value = { List ℕ };
 
     ghost view = { λ n. n.text };
@@ -56,8 +53,6 @@ pub struct Text {
 }
 
 impl Model for Text {
-    ghost use Rattle.std.specs.Prelude.{ℕ, List, ◌^◌, ◌<◌, length};
-
     ghost Value = { List ℕ };
 
     ghost view = { λ t. t.text };
@@ -99,8 +94,6 @@ pub struct Content {
 }
 
 impl Model for Content {
-    ghost use Rattle.std.specs.Prelude.{ℕ, List, ◌^◌, ◌<◌, length};
-
     ghost Value = { List ℕ };
 
     ghost view = { λ c. c.bytes };

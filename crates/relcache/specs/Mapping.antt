@@ -24,6 +24,10 @@ pub record Mapped : Type 0 where
   pub columns : List ColumnSource
   pub key : Option (List Field)
 
+-- the mapping of these parts, in that order
+abbrev pub made_of : ℕ → ℕ → List ColumnSource → Option (List Field) → Mapped
+made_of table published columns key = record { table = table; published = published; columns = columns; key = key }
+
 -- ---- the table
 
 -- an empty namespace means pg_catalog

@@ -36,19 +36,17 @@ pub struct Mapping {
 
 impl Model for Mapping {
     ghost use Rattle.std.specs.Prelude.{option_map};
-    ghost use Rattle.relcache.specs.Mapping.{Mapped};
+    ghost use Rattle.relcache.specs.Mapping.{Mapped, made_of};
 
     ghost Value = { Mapped };
 
-    ghost view = { λ m. record {
-      table = m.table;
-      published = m.published;
-      columns = m.columns.items;
-      key = option_map (λ fields. fields.items) m.key;
-    } };
+    ghost view = { λ m.
+        made_of m.table m.published m.columns.items (option_map (λ fields. fields.items) m.key) };
 }
 
 impl Mapping {
+    ghost use Rattle.relcache.specs.Mapping.{made_of};
+
     /// The mapping of these parts. It takes no memory.
     pub(crate) fn new(
         table: TableId,
@@ -56,12 +54,8 @@ impl Mapping {
         columns: Vec<ColumnSource>,
         key: Option<Vec<Field>>,
     ) -> Mapping
-        ensures { result ≡ record {
-          table = table;
-          published = published;
-          columns = columns.items;
-          key = option_map (λ fields. fields.items) key;
-        } }
+        ensures { result
+            ≡ made_of table published columns.items (option_map (λ fields. fields.items) key) }
     {
         Mapping {
             table,
