@@ -20,7 +20,7 @@
 //   kept_values  what an entry of an index keeps: a row, in which its values lie
 //   sought       what an index is asked for: values as they lie in a row
 //   seed         what the hashes of indexes begin with
-//   columns      a row's values in the columns of a key
+//   columns      a row's values in the columns of a key, of any row that is read in place
 pub mod columns;
 mod kept_values;
 pub mod seed;

@@ -17,6 +17,7 @@
 //   specs/Effect         what a change does, and what takes it back
 //   specs/Cells          cells, and those that a row fills
 //   specs/Hashing        hashes of values and of cells
+//   specs/HasherInput    what a hasher is fed of a key
 //   specs/Footprint      the cells that a change looks up or alters
 //   specs/CellContents   when two states of the rows have the same in a cell
 //   specs/Survivors      the items of a transaction that survive its rollbacks
