@@ -20,15 +20,25 @@ const MAX_UNIQUES: usize = 16;
 pub(crate) fn first_fault(tables: &[TableDraft]) -> Option<CatalogFault>
     ensures { result ≡ first_fault tables.now }
 {
-    match tables {
-        _ if repeats(tables) => Some(CatalogFault::DuplicateTable),
-        _ if some_repeats_column(tables) => Some(CatalogFault::DuplicateColumn),
-        _ if some_lacks_primary(tables) => Some(CatalogFault::NoPrimaryKey),
-        _ if some_has_unknown_key(tables) => Some(CatalogFault::KeyColumnUnknown),
-        _ if some_has_bad_default(tables) => Some(CatalogFault::BadDefault),
-        _ if are_over_limit(tables) => Some(CatalogFault::OverLimit),
-        _ => None,
+    if repeats(tables) {
+        return Some(CatalogFault::DuplicateTable);
     }
+    if some_repeats_column(tables) {
+        return Some(CatalogFault::DuplicateColumn);
+    }
+    if some_lacks_primary(tables) {
+        return Some(CatalogFault::NoPrimaryKey);
+    }
+    if some_has_unknown_key(tables) {
+        return Some(CatalogFault::KeyColumnUnknown);
+    }
+    if some_has_bad_default(tables) {
+        return Some(CatalogFault::BadDefault);
+    }
+    if are_over_limit(tables) {
+        return Some(CatalogFault::OverLimit);
+    }
+    None
 }
 
 fn some_repeats_column(tables: &[TableDraft]) -> bool
