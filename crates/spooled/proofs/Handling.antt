@@ -22,10 +22,6 @@ seen_item (Wal first last payload) written seen position e = omega arith
 seen_item (Keepalive last reply) written seen position e = omega arith
 seen_item Done written seen position e = e
 
--- so it is of a keepalive
-pub seen_one : (written seen position last : ℕ) → written ≡ max seen position → max written last ≡ max (max seen last) position
-seen_one written seen position last e = omega arith
-
 -- what is kept, but for the greatest position
 pub record IsSameBut (a b : Applier) : Type 0 where
   pub catalog : b.catalog ≡ a.catalog
