@@ -10,7 +10,7 @@ use catalog::{Catalog, CatalogFault};
 use frames::{Sink, Source};
 use indexes::{Seed, Tables};
 use leader::{
-    Clock, Config, Devices, End, Gate, NoWatch, OutOfMemory, Outcome, Point, Xid, report, run_over,
+    Clock, Config, Devices, End, NoWatch, OpenGate, OutOfMemory, Outcome, report, run_over,
     run_with_workers,
 };
 use std::alloc::Global;
@@ -175,15 +175,7 @@ fn empty_tables(
     Tables::with_seed(alloc, catalog.tables(), seed)
 }
 
-/// A gate at which no worker waits.
-#[derive(Drop)]
-struct OpenGate;
-
-impl Gate for OpenGate {
-    fn pass(&mut self, _xid: Xid, _at: Point) {}
-}
-
-/// One for each worker.
+/// A gate for each worker, which holds none.
 fn open_gates(alloc: Global, workers: usize) -> Result<Vec<OpenGate>, OutOfMemory>
     ensures { IfOk result (λ gates. length gates.items ≡ workers) }
 {

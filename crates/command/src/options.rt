@@ -29,14 +29,12 @@ pub struct Options<'a> {
     pub progress: bool,
 }
 
-const APPLY_EXAMPLE: &str =
-    "Example:\n  pgapply apply --config accounts.toml --stream accounts.stream";
-
-const FOLLOW_EXAMPLE: &str =
-    "Example:\n  pgapply follow --config accounts.toml --connect localhost:5500";
-
-const REPLAY_EXAMPLE: &str =
-    "Example:\n  pgapply replay --config accounts.toml --stream accounts.stream";
+/// The example in a command's help.
+macro_rules! example {
+    ($command:literal, $input:literal) => {
+        concat!("Example:\n  pgapply ", $command, " --config accounts.toml ", $input)
+    };
+}
 
 /// The options that are numbers.
 const NUMBERS: [&str; 3] = ["workers", "ring", "spool"];
@@ -64,13 +62,13 @@ Rows, position and end are printed to standard output. Exit statuses:
 pub fn command<'a>(alloc: Global) -> Result<Command<'a>, AllocError> {
     let apply = with_workers(alloc, reading(alloc, "apply", stream_file(alloc))?)?
         .about("Apply a stream from a file, streamed transactions while they come")
-        .after_help(APPLY_EXAMPLE);
+        .after_help(example!("apply", "--stream accounts.stream"));
     let follow = with_workers(alloc, reading(alloc, "follow", address(alloc))?)?
         .about("Apply a stream from a connection, and tell its sender how far it was applied")
-        .after_help(FOLLOW_EXAMPLE);
+        .after_help(example!("follow", "--connect localhost:5500"));
     let replay = reading(alloc, "replay", stream_file(alloc))?
         .about("Apply a stream from a file, each streamed transaction at its commit")
-        .after_help(REPLAY_EXAMPLE);
+        .after_help(example!("replay", "--stream accounts.stream"));
     Command::new(alloc, "pgapply")
         .version("0.1.0")
         .about("Applies a PostgreSQL logical replication stream to tables, and prints them")

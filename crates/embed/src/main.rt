@@ -32,8 +32,8 @@ use anyhow::bail;
 use connection::Connection;
 use desk::Desk;
 use leader::{
-    Catalog, Clock, Config, End, Gate, OutOfMemory, Point, ReadSource, Sink, Source, Tables, Watch,
-    WriteSink, Xid, run,
+    Catalog, Config, End, OpenGate, OutOfMemory, ReadSource, Sink, Source, StillClock, Tables,
+    Watch, WriteSink, run,
 };
 use shown::line_of;
 use std::alloc::Global;
@@ -55,28 +55,6 @@ const CONFIG: Config = Config {
     ring: 64,
     spool: 1 << 30,
 };
-
-/// Status updates of this program have no time.
-#[derive(Drop)]
-struct NoClock;
-
-impl Clock for NoClock {
-    ghost use Rattle.std.specs.Prelude.{None};
-
-    ghost told = { λ _. None };
-
-    fn micros(&mut self) -> i64 {
-        0
-    }
-}
-
-/// The worker of a transaction is held nowhere.
-#[derive(Drop)]
-struct OpenGate;
-
-impl Gate for OpenGate {
-    fn pass(&mut self, _xid: Xid, _at: Point) {}
-}
 
 fn main(rt: HostRuntime) -> anyhow::Result<()> {
     let alloc = rt.alloc();
@@ -121,7 +99,16 @@ fn keep<T: Threads + Wait + Sync, R: Source + Drop, W: Sink + Drop, D: Watch + D
     let gates = only(alloc, OpenGate)?;
     let desks = only(alloc, desk)?;
     let outcome = run(
-        rt, alloc, reader, writer, catalog, start, config, gates, desks, NoClock,
+        rt,
+        alloc,
+        reader,
+        writer,
+        catalog,
+        start,
+        config,
+        gates,
+        desks,
+        StillClock(0),
     );
     match outcome.end {
         End::Clean => Ok(outcome.tables),

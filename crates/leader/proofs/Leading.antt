@@ -39,9 +39,10 @@ use Rattle.spooled.specs.declared.end.End.TheVariants as ends
 use Rattle.spooled.specs.Commits.{last_end}
 use Rattle.spooled.specs.Ends.{end_of_refusal}
 use Rattle.spooled.specs.Handler.{HasTaken, HandlesItem, HasHandled}
-use Rattle.spooled.specs.Progress.{Progress, Handles, commits_from, due_updates}
+use Rattle.spooled.specs.Progress.{Progress, seen_with, Handles, commits_from, due_updates}
 use Rattle.spooled.proofs.Admitted.{on_to, with_seen, not_committed, one_committed, later_max, by_commit, taken_on, taken_commit, message_handled, ended_behind}
 use Rattle.spooled.proofs.States.{get-inserted, get-other, get-left, get-gone, last_end-push}
+use Rattle.spooled.proofs.Handling.{seen_item}
 use Rattle.spooled.proofs.Taking.{handed_named}
 use Rattle.course.specs.Runs.{IsCommitOf, CommitsNext}
 use Rattle.course.specs.Threads.{done_by_commit}
@@ -137,21 +138,31 @@ nothing_agreed g s t (Aborts xid Direct) st agreed tells within says = absurd wi
 nothing_agreed g s t (Aborts xid Spooled) st agreed tells within says = dropped_agreed s t st xid tells.0 agreed tells.1 tells.2
 nothing_agreed g s t told st agreed tells within says = absurd cc
 
+-- what is told of a transaction, by the step that opens or drops it
+abbrev told_by : Step → Option Told
+told_by (steps.Begin xid) = Some (Opens xid Direct)
+told_by (steps.Open xid) = Some (Opens xid Worker)
+told_by (steps.Abort xid) = Some (Aborts xid Worker)
+told_by step = None
+
+-- it is what the message told
+told_is : (g : Setting) (told is : Told) (step : Step) → IsWithin g told → Says told step → told_by step ≡ Some is → told ≡ is
+told_is g (Opens xid Direct) is step within says e = let same : Some (Opens xid Direct) ≡ Some is = sym (ap told_by says) ∙ e in cc
+told_is g (Opens xid Worker) is step within says e = let same : Some (Opens xid Worker) ≡ Some is = sym (ap told_by says) ∙ e in cc
+told_is g (Aborts xid Direct) is step within says e = absurd within
+told_is g (Aborts xid Worker) is step within says e = let same : Some (Aborts xid Worker) ≡ Some is = sym (ap told_by says) ∙ e in cc
+told_is g (Commits c) is step within says e = absurd (by_commit (λ s. told_by s ≡ Some is) (λ xid info items no. absurd cc) c step says e)
+told_is g told is step within says e = let no : None ≡ Some is = sym (ap told_by says) ∙ e in absurd cc
+
 -- one that begins
 pub begin_agreed : (g : Setting) (s t : State) (told : Told) (x : ℕ) (old new : Standing) → AreAgreed s.transactions old → Tells s t told → IsWithin g told → Says told (steps.Begin x) → IsBegun old x new → AreAgreed t.transactions new
-begin_agreed g s t (Opens xid Direct) x old new agreed tells within says is = let same : x ≡ xid = cc in begun_agreed s t old new xid agreed tells (subst (λ n. IsBegun old n new) same is)
-begin_agreed g s t (Commits c) x old new agreed tells within says is = absurd says
-begin_agreed g s t (Aborts xid Direct) x old new agreed tells within says is = absurd within
-begin_agreed g s t (Gives xid Direct item size) x old new agreed tells within says is = absurd cc
-begin_agreed g s t told x old new agreed tells within says is = absurd cc
+begin_agreed g s t told x old new agreed tells within says =
+    begun_agreed s t old new x agreed (subst (Tells s t) (told_is g told (Opens x Direct) (steps.Begin x) within says refl) tells)
 
 -- one that goes to a worker
 pub open_agreed : (g : Setting) (s t : State) (told : Told) (x : ℕ) (old new : Standing) → AreAgreed s.transactions old → Tells s t told → IsWithin g told → Says told (steps.Open x) → IsHandedOut old x new → AreAgreed t.transactions new
-open_agreed g s t (Opens xid Worker) x old new agreed tells within says is = let same : x ≡ xid = cc in handed_out_agreed s t old new xid agreed tells (subst (λ n. IsHandedOut old n new) same is)
-open_agreed g s t (Commits c) x old new agreed tells within says is = absurd says
-open_agreed g s t (Aborts xid Direct) x old new agreed tells within says is = absurd within
-open_agreed g s t (Gives xid Direct item size) x old new agreed tells within says is = absurd cc
-open_agreed g s t told x old new agreed tells within says is = absurd cc
+open_agreed g s t told x old new agreed tells within says =
+    handed_out_agreed s t old new x agreed (subst (Tells s t) (told_is g told (Opens x Worker) (steps.Open x) within says refl) tells)
 
 -- an item that is handed on is given to an open transaction that isn't spooled
 pub record IsHandedOn (s t : State) (xid : ℕ) (item : Item) : Type 0 where
@@ -184,12 +195,9 @@ item_agreed s t xid item old new agreed on is = by_way on.transaction.way refl
 
 -- one that is dropped
 pub abort_agreed : (g : Setting) (s t : State) (told : Told) (x : ℕ) (old new : Standing) → AreAgreed s.transactions old → Tells s t told → IsWithin g told → Says told (steps.Abort x) → IsAborted old x new → AreAgreed t.transactions new
-abort_agreed g s t (Aborts xid Worker) x old new agreed tells within says is = let same : x ≡ xid = cc in aborted_agreed s t old new xid tells.0 agreed tells.1 tells.2 (subst (λ n. IsAborted old n new) same is)
-abort_agreed g s t (Aborts xid Direct) x old new agreed tells within says is = absurd within
-abort_agreed g s t (Commits c) x old new agreed tells within says is = absurd says
-abort_agreed g s t (Opens xid Direct) x old new agreed tells within says is = absurd cc
-abort_agreed g s t (Gives xid Direct item size) x old new agreed tells within says is = absurd cc
-abort_agreed g s t told x old new agreed tells within says is = absurd cc
+abort_agreed g s t told x old new agreed tells within says =
+    let dropped = subst (Tells s t) (told_is g told (Aborts x Worker) (steps.Abort x) within says refl) tells in
+    aborted_agreed s t old new x dropped.0 agreed dropped.1 dropped.2
 
 -- the leader knows the same, but for its session and for what is open
 pub record IsSameLed (a b : Led) : Type 0 where
@@ -476,12 +484,13 @@ seen_led g rows l p seen w at e = record {
   seen = e;
 }
 
-pub seen_stream : (g : Setting) (rows : Rows) (old new : Stream) (t : Standing) (p : Progress) (lsn seen : ℕ) → IsLeadAt g rows (led old t) p → new ≡ record old { written = max old.written lsn } → max old.written lsn ≡ max seen p.state.position
-    → IsLeadAt g rows (led new t) (with_seen p seen)
-seen_stream g rows old new t p lsn seen at is e = subst (λ (s : Stream). IsLeadAt g rows (led s t) (with_seen p seen)) (sym is) (seen_led g rows (led old t) p seen (max old.written lsn) at e)
-
-pub seen_both : (written seen position first last : ℕ) → written ≡ max seen position → max written (max first last) ≡ max (max (max seen first) last) position
-seen_both written seen position first last e = omega arith
+-- so it is once this item was seen
+pub seen_stream : (g : Setting) (rows : Rows) (old new : Stream) (t : Standing) (p : Progress) (item is : CopyItem) → item ≡ is → IsLeadAt g rows (led old t) p → new ≡ record old { written = seen_with old.written item }
+    → IsLeadAt g rows (led new t) (with_seen p (seen_with p.seen is))
+seen_stream g rows old new t p item is e at same =
+    let seen = seen_with p.seen is in
+    subst (λ (s : Stream). IsLeadAt g rows (led s t) (with_seen p seen)) (sym same)
+    (seen_led g rows (led old t) p seen (seen_with old.written item) at (ap (seen_with old.written) e ∙ seen_item is old.written p.seen p.state.position at.seen))
 
 module _ {H : Type 0} (of : H → Led) (g : Setting) (rows : Rows) where
   abbrev At : H → Progress → Type 0

@@ -1,6 +1,8 @@
 -- What is shown once a lane has turned.
 use Rattle.std.proofs.Common.{◌≡◌, ℕ, zero, suc, ◌<◌, List, [], ◌∷◌, ◌++◌, length, get_or, take, drop, ◌+◌, ◌≤◌, Option, Some, None, refl, sym, ap, subst, ◌∙◌, arith}
 use Rattle.std.specs.Prelude.{map, MatchOption, All, option_map, slice_set}
+use Rattle.std.specs.Borrow.{MutBor}
+use Rattle.std.specs.List.{IsItemAtMut}
 use Rattle.std.proofs.lemmas.Grind.{take-set_at}
 use Rattle.std.proofs.lemmas.List.{map-append, take-append-le, take_all}
 use Rattle.std.proofs.lemmas.List.Elements.{All-append, All-cons, All-nil}
@@ -28,6 +30,12 @@ split_at (x ∷ xs) zero a within is = record { before = []; behind = xs; whole 
 split_at (x ∷ xs) (suc i) a within is =
     let rest = split_at xs i a (omega (arith, within)) is in
     record { before = x ∷ rest.before; behind = rest.behind; whole = ap (λ ys. x ∷ ys) rest.whole; set_is = λ y. ap (λ ys. x ∷ ys) (rest.set_is y) }
+
+-- what a look-up found stands at its place in the list
+pub found : {X : Type 0} (xs : List X) (i : ℕ) (looked : Option (MutBor X)) (r : MutBor X) → looked ≡ Some r → IsItemAtMut xs i looked → (i < length xs) × (r.now ≡ get_or xs i r.now)
+found xs i looked r e item =
+    let there = subst (IsItemAtMut xs i) e item in
+    (there.3.0, there.1)
 
 -- a lane that is another now turns what goes by it
 turned : (ls : List Laned) (i : ℕ) (lane after : Laned) → i < length ls → lane ≡ get_or ls i lane → Turns (map goes_by ls) (map goes_by (slice_set ls i after)) lane.goes after.goes

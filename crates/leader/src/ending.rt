@@ -64,7 +64,7 @@ pub fn finish<N: StoreNames, S: Slot<N> + Drop>(
     store.meet(line);
     let _ = store.table_count();
     let stop = store.stop();
-    let noted = undo_all(store, line, own, lanes, stop);
+    let noted = undo_all(store, line, own, lanes);
     decide(proposed, stop, holder, noted)
 }
 
@@ -91,11 +91,9 @@ fn undo_all<N: StoreNames, S: Slot<N> + Drop>(
     line: &mut Line,
     own: Option<Ticket>,
     lanes: Vec<S>,
-    stop: Option<Stop>,
 ) -> Option<Clash>
     requires line { line.old.name ≡ N.line }
     requires own { IfSome own (λ t. t.name ≡ N.tickets) }
-    requires stop { TellsWhatStopped stop store.old.world.stopped }
     ensures stood { AreStood store.old.world (option_map own_by own ∷ map S.holds lanes.items) }
     ensures noted { TellsNoted store.old.world (option_map own_by own ∷ map S.holds lanes.items) result }
     ensures gone { AreGone store.new.world (option_map own_by own ∷ map S.holds lanes.items) }
@@ -103,23 +101,21 @@ fn undo_all<N: StoreNames, S: Slot<N> + Drop>(
     ensures commits { commits_in line.new.list ≡ commits_in line.old.list }
     ensures keeps { All S.keeps lanes.items }
 {
-    let mut noted = undo(store, line, own, stop);
+    let mut noted = undo(store, line, own);
     for slot in lanes {
-        noted = undo(store, line, slot.into_ticket(), stop).or(noted);
+        noted = undo(store, line, slot.into_ticket()).or(noted);
     }
     noted
 }
 
-// The same of one slot, where this stopped the store.
+// The same of one slot.
 fn undo<N: StoreNames>(
     store: &mut SharedStore<N>,
     line: &mut Line,
     slot: Option<Ticket>,
-    stop: Option<Stop>,
 ) -> Option<Clash>
     requires line { line.old.name ≡ N.line }
     requires belongs { IfSome slot (λ t. t.name ≡ N.tickets) }
-    requires stop { TellsWhatStopped stop store.old.world.stopped }
     ensures stood { AreStood store.old.world (option_map own_by slot ∷ []) }
     ensures noted { TellsNoted store.old.world (option_map own_by slot ∷ []) result }
     ensures gone { AreGone store.new.world (option_map own_by slot ∷ []) }
@@ -128,23 +124,19 @@ fn undo<N: StoreNames>(
     ensures commits { commits_in line.new.list ≡ commits_in line.old.list }
 {
     let mut ticket = slot?;
-    let clash = clash_of(store, &mut ticket, stop);
+    let clash = clash_of(store, &mut ticket);
     store.abort(line, ticket);
     clash
 }
 
 // The clash that stopped the store, if this is the ticket of its transaction, which still wants a change.
-fn clash_of<N: StoreNames>(
-    store: &mut SharedStore<N>,
-    ticket: &mut Ticket,
-    stop: Option<Stop>,
-) -> Option<Clash>
-    requires belongs { ticket.old.name ≡ N.tickets }
-    requires stop { TellsWhatStopped stop store.old.world.stopped }
+fn clash_of<N: StoreNames>(store: &mut SharedStore<N>, ticket: &mut Ticket) -> Option<Clash>
+    requires { ticket.old.name ≡ N.tickets }
     ensures noted { TellsNoted store.old.world (Some (own_by ticket.old) ∷ []) result }
     ensures ticket { ticket.new ≡ ticket.old }
     ensures same { store.new ≡ store.old }
 {
+    let stop = store.stop();
     let wants = store.wants(ticket);
     let stop = stop?;
     let Stop::Clash(xid, clash) = stop else {

@@ -1,10 +1,10 @@
 // What each item of a stream does, where streamed transactions have workers.
-ghost use Rattle.std.specs.Prelude.{◌≡◌, ◌<◌, ◌⊎◌, [], None, max, length, All, OnOk, OnErr, IfErr, MatchOption, map, option_map};
+ghost use Rattle.std.specs.Prelude.{◌≡◌, ◌<◌, ◌⊎◌, [], None, length, All, OnOk, OnErr, IfErr, MatchOption, map, option_map};
 ghost use Rattle.engine.specs.Events.{last_end};
 ghost use Rattle.model.specs.Rows.{Rows};
 ghost use Rattle.session.specs.Answers.{IsOfTables};
 ghost use Rattle.session.specs.State.{Setting, setting};
-ghost use Rattle.spooled.specs.Progress.{Progress, start_progress};
+ghost use Rattle.spooled.specs.Progress.{Progress, start_progress, seen_with};
 
 use crate::transactions::{Left, Transactions};
 use bytes::Bytes;
@@ -13,7 +13,7 @@ use engine::StoreNames;
 use frames::{CopyItem, Lsn};
 use model::{CommitInfo, Item, Xid};
 use session::{Session, Step};
-use spooled::{End, Handler};
+use spooled::{End, Handler, written_with};
 use std::alloc::Global;
 use std::sync::Wait;
 use worker::{Gate, PostNames};
@@ -30,11 +30,11 @@ pub struct Stream<'a> {
 }
 
 impl Stream<'_> {
-    // The log was seen up to here.
-    fn see(&mut self, lsn: Lsn)
-        ensures { self.new ≡ record self.old { written = max self.old.written lsn } }
+    // The log was seen as far as this item says.
+    fn see(&mut self, item: &CopyItem)
+        ensures { self.new ≡ record self.old { written = seen_with self.old.written item.now } }
     {
-        self.written = self.written.max(lsn);
+        self.written = written_with(self.written, item);
     }
 }
 
@@ -132,7 +132,7 @@ impl<'a, N: StoreNames, L: PostNames, R: Wait, G: Gate + Drop> Lead<'a, N, L, R,
     {
         self.transactions.commit(xid, info, items)?;
         self.stream.position = info.end;
-        self.stream.see(info.end);
+        self.stream.written = self.stream.written.max(info.end);
         Ok(())
     }
 }
@@ -145,19 +145,10 @@ impl<'a, N: StoreNames, L: PostNames, R: Wait, G: Gate + Drop> Handler for Lead<
     ghost ended = { λ g rows l handled p rest end. HasLedTo g rows (led l.stream l.transactions) handled p rest end };
 
     fn handle(&mut self, item: CopyItem) -> Result<bool, End> {
+        self.stream.see(&item);
         match item {
-            CopyItem::Wal {
-                start,
-                end,
-                payload,
-            } => {
-                self.stream.see(start.max(end));
-                self.take_message(&payload)
-            }
-            CopyItem::Keepalive { end, reply } => {
-                self.stream.see(end);
-                Ok(reply)
-            }
+            CopyItem::Wal { payload, .. } => self.take_message(&payload),
+            CopyItem::Keepalive { reply, .. } => Ok(reply),
             CopyItem::Done => Ok(false),
         }
     }

@@ -56,12 +56,13 @@ mod watching;
 
 pub use engine::StoreNames;
 pub use origin::Position;
+pub use shop::OpenGate;
 pub use snapshot::{ReadFault, Reader, Watch};
 pub use spooled::{
     ByteStr, Catalog, CatalogFault, Change, Changes, ChangesIter, Clock, Config, Devices, End,
     Entry, Failed, FrameFault, KeptText, Key, KeyValues, Lsn, MsgFault, OutOfMemory, Outcome,
-    ReadSource, RelFault, Row, RowView, Seed, SessionFault, Sink, Source, TableDef, TableId,
-    Tables, Value, ValueRef, Walk, WriteSink, Xid, report, run_over, run_spooled,
+    ReadSource, RelFault, Row, RowView, Seed, SessionFault, Sink, Source, StillClock, TableDef,
+    TableId, Tables, Value, ValueRef, Walk, WriteSink, Xid, report, run_over, run_spooled,
 };
 pub use threads::{run, run_with_workers};
 pub use watching::NoWatch;

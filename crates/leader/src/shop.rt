@@ -39,6 +39,14 @@ pub struct Seat<N: StoreNames, L: PostNames, G: Drop> {
     pub gate: Mutex<G>,
 }
 
+/// A gate that holds nobody: of a worker that goes at its own pace.
+#[derive(Debug, Drop)]
+pub struct OpenGate;
+
+impl Gate for OpenGate {
+    fn pass(&mut self, _xid: Xid, _at: Point) {}
+}
+
 // A worker that lags wakes the leader behind each item whose count is a multiple of this.
 const LAGGING: u64 = 64;
 

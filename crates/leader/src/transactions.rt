@@ -14,7 +14,7 @@ use crate::lanes::{Lane, is_last};
 use crate::positions::Positions;
 use crate::shop::Shop;
 use crew::Desk;
-use engine::{Acted, Line, SharedStore, Stop, StoreNames, Ticket};
+use engine::{Acted, Line, SharedStore, StoreNames, Ticket};
 use model::{Change, CommitInfo, Item, Xid};
 use spooled::End;
 use std::alloc::Global;
@@ -129,11 +129,6 @@ impl<'a, N: StoreNames, L: PostNames, R: Wait, G: Gate + Drop> Transactions<'a, 
             lanes,
             given,
         }
-    }
-
-    // What stopped the store, if anything did.
-    fn stop(&self) -> Option<Stop> {
-        self.shop.store.lock(self.rt).stop()
     }
 
     // ---- transactions open
@@ -432,10 +427,10 @@ impl<'a, N: StoreNames, L: PostNames, R: Wait, G: Gate + Drop> Transactions<'a, 
         self.post(index, xid, Item::Last)?;
         match self.wait_done(index, xid)? {
             Collected::All => Ok(()),
-            Collected::Left => match self.stop() {
-                Some(stop) => Err(end_of_stop(stop)),
-                None => Err(End::OutOfMemory),
-            },
+            Collected::Left => {
+                running(self.rt, self.shop)?;
+                Err(End::OutOfMemory)
+            }
         }
     }
 
@@ -460,10 +455,7 @@ impl<'a, N: StoreNames, L: PostNames, R: Wait, G: Gate + Drop> Transactions<'a, 
     fn look(&self, xid: Xid) -> Result<(), End>
         ensures { IfErr result (IsStoreEnd (Some xid)) }
     {
-        let mut store = self.shop.store.lock(self.rt);
-        if let Some(stop) = store.stop() {
-            return Err(end_of_stop(stop));
-        }
+        let mut store = running(self.rt, self.shop)?;
         match store.stop_held(&self.line, xid, self.given.as_slice()) {
             Ok(holder) => Err(End::HeldKey { xid, holder }),
             Err(_) if self.shop.was_refused() => Err(End::OutOfMemory),
@@ -489,28 +481,15 @@ impl<'a, N: StoreNames, L: PostNames, R: Wait, G: Gate + Drop> Transactions<'a, 
         ensures same { OnErr result (self.new ≡ self.old) }
         ensures err { IfErr result IsStopEnd }
     {
-        let Some(lane) = self.lanes.get_mut(index) else {
-            return Err(End::OutOfMemory);
-        };
+        let lane = self.lanes.get_mut(index).ok_or(End::OutOfMemory)?;
         if !lane.has(xid) {
             return Err(End::OutOfMemory);
         }
-        let store = self.shop.store.lock(self.rt);
-        if let Some(stop) = store.stop() {
-            return Err(end_of_stop(stop));
-        }
+        let store = running(self.rt, self.shop)?;
         let Some(ticket) = lane.take_done() else {
             return Err(End::OutOfMemory);
         };
-        commit_in(
-            self.rt,
-            store,
-            self.shop,
-            &mut self.line,
-            &mut self.positions,
-            ticket,
-            info,
-        );
+        self.commit_ticket(store, ticket, info);
         self.note(index);
         Ok(())
     }
@@ -522,6 +501,7 @@ impl<'a, N: StoreNames, L: PostNames, R: Wait, G: Gate + Drop> Transactions<'a, 
         ensures same { OnErr result (self.new ≡ self.old) }
         ensures err { IfErr result IsStopEnd }
     {
+        let store = running(self.rt, self.shop)?;
         let Some(ticket) = self.begun.take() else {
             return Err(End::OutOfMemory);
         };
@@ -529,21 +509,28 @@ impl<'a, N: StoreNames, L: PostNames, R: Wait, G: Gate + Drop> Transactions<'a, 
             self.begun = Some(ticket);
             return Err(End::OutOfMemory);
         }
-        let store = self.shop.store.lock(self.rt);
-        if let Some(stop) = store.stop() {
-            self.begun = Some(ticket);
-            return Err(end_of_stop(stop));
-        }
-        commit_in(
-            self.rt,
-            store,
-            self.shop,
-            &mut self.line,
-            &mut self.positions,
-            ticket,
-            info,
-        );
+        self.commit_ticket(store, ticket, info);
         Ok(())
+    }
+
+    // Commits a transaction whose ticket was taken. It publishes the position behind it, once the lock was
+    // let go.
+    fn commit_ticket(
+        &mut self,
+        mut store: MutexGuard<'_, SharedStore<N>>,
+        ticket: Ticket,
+        info: CommitInfo,
+    )
+        requires ticket { ticket.name ≡ N.tickets }
+        requires rising { last_end self.old.line < info.end }
+        ensures { self.new ≡ record self.old { line = self.old.line ++ WasCommitted ticket.number (done_by ticket).items info ∷ [] } }
+    {
+        store.commit(&mut self.line, ticket, info);
+        self.shop.changed.notify_all();
+        let commits = count_commits(&*store);
+        drop(store);
+        self.positions
+            .publish(self.rt, &self.line, commits, info.end);
     }
 
     /// Drops a transaction that has a worker, unless the store was stopped.
@@ -576,16 +563,11 @@ impl<'a, N: StoreNames, L: PostNames, R: Wait, G: Gate + Drop> Transactions<'a, 
         ensures same { OnErr result (self.new ≡ self.old) }
         ensures err { IfErr result IsStopEnd }
     {
-        let Some(lane) = self.lanes.get_mut(index) else {
-            return Err(End::OutOfMemory);
-        };
+        let lane = self.lanes.get_mut(index).ok_or(End::OutOfMemory)?;
         if !lane.has(xid) {
             return Err(End::OutOfMemory);
         }
-        let mut store = self.shop.store.lock(self.rt);
-        if let Some(stop) = store.stop() {
-            return Err(end_of_stop(stop));
-        }
+        let mut store = running(self.rt, self.shop)?;
         let Some(ticket) = lane.take_back() else {
             return Err(End::OutOfMemory);
         };
@@ -619,29 +601,18 @@ fn open_in<N: StoreNames, L: PostNames, R: Wait, G: Gate + Drop>(
     }
 }
 
-// Commits a transaction. It publishes the position behind it, once the lock was let go.
-fn commit_in<N: StoreNames, L: PostNames, R: Wait, G: Gate + Drop>(
+// The store under its lock, unless it was stopped.
+fn running<'a, N: StoreNames, L: PostNames, R: Wait, G: Gate + Drop>(
     rt: &R,
-    mut store: MutexGuard<'_, SharedStore<N>>,
-    shop: &Shop<N, L, G>,
-    line: &mut Line,
-    positions: &mut Positions<'_>,
-    ticket: Ticket,
-    info: CommitInfo,
-)
-    requires name { line.old.name ≡ N.line }
-    requires ticket { ticket.name ≡ N.tickets }
-    requires rising { last_end line.old.list < info.end }
-    requires published { positions.old ≡ ends_in line.old.list }
-    ensures name { line.new.name ≡ line.old.name }
-    ensures appended { line.new.list ≡ line.old.list ++ WasCommitted ticket.number (done_by ticket).items info ∷ [] }
-    ensures published { positions.new ≡ ends_in line.new.list }
+    shop: &'a Shop<N, L, G>,
+) -> Result<MutexGuard<'a, SharedStore<N>>, End>
+    ensures { IfErr result IsStopEnd }
 {
-    store.commit(line, ticket, info);
-    shop.changed.notify_all();
-    let commits = count_commits(&*store);
-    drop(store);
-    positions.publish(rt, line, commits, info.end);
+    let store = shop.store.lock(rt);
+    match store.stop() {
+        Some(stop) => Err(end_of_stop(stop)),
+        None => Ok(store),
+    }
 }
 
 // How many transactions were committed.

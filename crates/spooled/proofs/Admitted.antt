@@ -2,7 +2,6 @@
 use Rattle.std.proofs.Common.{◌≡◌, ℕ, ◌<◌, Bool, true, false, List, [], ◌∷◌, ◌++◌, length, refl, sym, ap, ◌∙◌, append-nil, arith, inr, length-append}
 use Rattle.std.specs.Prelude.{max}
 use Rattle.std.proofs.lemmas.Bool.{lt-ltb, le-ltb}
-use Rattle.model.specs.declared.item.Item.{Item}
 use Rattle.model.specs.declared.item.CommitInfo.{CommitInfo}
 use Rattle.messages.specs.declared.message.Message.{Message}
 use Rattle.frames.specs.declared.item.CopyItem.{CopyItem}

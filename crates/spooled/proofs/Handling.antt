@@ -1,5 +1,5 @@
 -- What handling an item leaves of a run.
-use Rattle.std.proofs.Common.{◌≡◌, ℕ, Bool, false, List, ◌++◌, refl, sym, ap, ◌∙◌, append-nil, arith, inl, inr}
+use Rattle.std.proofs.Common.{◌≡◌, ℕ, Bool, List, ◌++◌, refl, ap, ◌∙◌, arith, inl, inr}
 use Rattle.std.specs.Prelude.{Result, Ok, Err, max}
 use Rattle.model.specs.Rows.{Rows}
 use Rattle.frames.specs.declared.item.CopyItem.{CopyItem}
@@ -7,7 +7,7 @@ use Rattle.frames.specs.declared.item.CopyItem.TheVariants.{Wal, Keepalive, Done
 use Rattle.session.specs.State.{Setting}
 use Rattle.spooled.specs.declared.applier.Applier.{Applier}
 use Rattle.spooled.specs.declared.end.End.{End}
-use Rattle.spooled.specs.Progress.{Progress, Handles, Leads, start_progress, due_updates}
+use Rattle.spooled.specs.Progress.{Progress, seen_with, Leads, start_progress, due_updates}
 use Rattle.spooled.specs.Work.{IsClear}
 use Rattle.spooled.specs.Commits.{all_changes}
 use Rattle.spooled.specs.Cause.{schema_of}
@@ -15,6 +15,12 @@ use Rattle.spooled.specs.Handler.{HandlesItem, HasHandled}
 use Rattle.spooled.specs.Applier.{IsAt, HasEnded, TakesMessage}
 use Rattle.spooled.proofs.Admitted.{with_seen, message_handled, ended_behind}
 use Rattle.spooled.proofs.Running.{with_item}
+
+-- the greatest position of the log once an item more was seen, beside that of the commits
+pub seen_item : (item : CopyItem) (written seen position : ℕ) → written ≡ max seen position → seen_with written item ≡ max (seen_with seen item) position
+seen_item (Wal first last payload) written seen position e = omega arith
+seen_item (Keepalive last reply) written seen position e = omega arith
+seen_item Done written seen position e = e
 
 -- what is kept, but for the greatest position
 pub record IsSameBut (a b : Applier) : Type 0 where
@@ -24,7 +30,7 @@ pub record IsSameBut (a b : Applier) : Type 0 where
   pub journal : b.journal.items ≡ a.journal.items
   pub position : b.position ≡ a.position
 
-pub IsAt-seen : (g : Setting) (rows : Rows) (a b : Applier) (p : Progress) (seen : ℕ) → IsAt g rows a p → IsSameBut a b → b.written ≡ max seen p.state.position → IsAt g rows b (with_seen p seen)
+IsAt-seen : (g : Setting) (rows : Rows) (a b : Applier) (p : Progress) (seen : ℕ) → IsAt g rows a p → IsSameBut a b → b.written ≡ max seen p.state.position → IsAt g rows b (with_seen p seen)
 IsAt-seen g rows a b p seen at same written = record {
   workers = at.workers;
   catalog = at.catalog ∙ rw same.catalog;
@@ -41,6 +47,11 @@ IsAt-seen g rows a b p seen at same written = record {
   clear = at.clear;
   seen = written;
 }
+
+-- so it is once this item was seen
+pub IsAt-item : (g : Setting) (rows : Rows) (a b : Applier) (p : Progress) (item is : CopyItem) → item ≡ is → IsAt g rows a p → IsSameBut a b → b.written ≡ seen_with a.written item → IsAt g rows b (with_seen p (seen_with p.seen is))
+IsAt-item g rows a b p item is e at same written =
+    IsAt-seen g rows a b p (seen_with p.seen is) at same (written ∙ ap (seen_with a.written) e ∙ seen_item is a.written p.seen p.state.position at.seen)
 
 -- a message was taken, or ended the run
 pub handled_wal : (g : Setting) (rows : Rows) (b : Applier) (handled : List CopyItem) (p : Progress) (first last : ℕ) (payload : List ℕ) (result : Result Bool End) → Leads g start_progress handled p → IsClear (schema_of g) rows (all_changes p.state)
@@ -72,10 +83,3 @@ handled_keepalive g rows b p last reply at =
         seen = at.seen;
       };
     }
-
--- the greatest position of the log once positions more were seen
-pub seen_two : (written seen position first last : ℕ) → written ≡ max seen position → max (max written first) last ≡ max (max (max seen first) last) position
-seen_two written seen position first last e = omega arith
-
-pub seen_one : (written seen position last : ℕ) → written ≡ max seen position → max written last ≡ max (max seen last) position
-seen_one written seen position last e = omega arith

@@ -1,7 +1,6 @@
 -- What a message that was taken leaves of a run.
-use Rattle.std.proofs.Common.{◌≡◌, ◌≢◌, ℕ, ◌<◌, Bool, true, false, List, [], ◌∷◌, ◌++◌, length, Some, None, refl, sym, ap, subst, ◌∙◌, append_assoc, append-nil, arith, inl, inr, length-append, ◌==◌, if◌then◌else◌}
+use Rattle.std.proofs.Common.{◌≡◌, ◌≢◌, ℕ, ◌<◌, Bool, true, false, List, [], ◌∷◌, ◌++◌, length, Some, None, refl, sym, ap, subst, ◌∙◌, append_assoc, append-nil, arith, inl, inr, ◌==◌, if◌then◌else◌}
 use Rattle.std.specs.Prelude.{map, All, ◌⊎◌, max}
-use Rattle.std.proofs.lemmas.Bool.{lt-ltb, le-ltb}
 use Rattle.std.proofs.lemmas.List.{map-append, length-map}
 use Rattle.std.proofs.lemmas.List.Elements.{All-append, All-cons, All-nil, All-head, All-tail, All-take}
 use Rattle.std.specs.declared.vec.Vec.{Vec}
@@ -27,15 +26,15 @@ use Rattle.session.specs.Lawful.{Admits}
 use Rattle.session.specs.Table.{new_open}
 use Rattle.session.specs.Told.{Told, Nothing, Opens, Gives, Commits, Aborts, Tells, items_handed_out}
 use Rattle.session.specs.Represents.{Represents}
-use Rattle.session.specs.Answers.{Says, HandsOut, IsWithin}
+use Rattle.session.specs.Answers.{Says, IsWithin}
 use Rattle.spooled.specs.declared.applier.Applier.{Applier}
 use Rattle.spooled.specs.Work.{OpenWork, rows_now, IsClear}
 use Rattle.spooled.specs.Commits.{Transaction, transaction_of, transaction, changes_in, surviving_changes, commits, committed_changes, begun_changes, all_changes, last_end}
-use Rattle.spooled.specs.Progress.{Progress, commits_from, due_updates}
+use Rattle.spooled.specs.Progress.{Progress, commits_from}
 use Rattle.spooled.specs.Cause.{schema_of}
 use Rattle.spooled.specs.Applier.{AreServed, HasCommits, IsAt}
 use Rattle.spooled.specs.Handler.{HasTaken}
-use Rattle.spooled.proofs.Admitted.{on_to, committed_to, one_committed, later_max, by_commit, taken_commit}
+use Rattle.spooled.proofs.Admitted.{on_to, one_committed, later_max, by_commit, taken_commit}
 use Rattle.spooled.proofs.Working.{with_changes, rows_with, IsClear-append}
 use Rattle.spooled.proofs.States.{last_end-push, changes_in-append, AreServed-insert, AreServed-remove}
 use Rattle.spooled.proofs.Begun.{IsSane, direct_begun, begun_stays, begun_opened, begun_beside, begun_given, begun_without, begun_outside, unbegun}

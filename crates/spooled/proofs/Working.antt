@@ -1,5 +1,5 @@
 -- What a change leaves of the work that is open.
-use Rattle.std.specs.Prelude.{◌≡◌, ℕ, ◌+◌, take, drop, List, [], ◌∷◌, ◌++◌, map, refl, Result, Ok, Err, IsErrAnd, IfErr}
+use Rattle.std.specs.Prelude.{◌≡◌, ℕ, ◌+◌, take, drop, List, [], ◌∷◌, ◌++◌, refl, Result, Ok, Err, IsErrAnd, IfErr}
 use Rattle.std.specs.Iterator.{Yields}
 use Rattle.std.specs.Vec.Iter.{into_iter_items, into_iter_steps}
 use Rattle.std.specs.declared.vec.IntoIter.{IntoIter}
@@ -7,14 +7,14 @@ use Rattle.std.proofs.Common.{sym, ◌∙◌, ap, subst, append_assoc}
 use Rattle.std.proofs.lemmas.List.{take-append-drop}
 use Rattle.model.specs.declared.change.Change.{Change}
 use Rattle.model.specs.Rows.{Rows, Schema}
-use Rattle.model.specs.Effect.{effect, inverse, back, all_back, serial}
-use Rattle.model.specs.EffectLaws.{back_of_inverse, serial_append}
+use Rattle.model.specs.Effect.{effect, serial}
+use Rattle.model.specs.EffectLaws.{serial_append}
 use Rattle.indexes.specs.Content.{Content}
 use Rattle.change.specs.declared.inverse.Inverse.{Inverse}
-use Rattle.change.specs.Inverse.{edits_of, IsKnown}
+use Rattle.change.specs.Inverse.{IsKnown}
 use Rattle.change.specs.declared.outcome.Clash.{Clash}
-use Rattle.undo.specs.Undo.{content_back, CanUndo, AreKnownAll}
-use Rattle.undo.specs.UndoLaws.{rows_undone, content_undone_last, schema_undone}
+use Rattle.undo.specs.Undo.{CanUndo, AreKnownAll}
+use Rattle.undo.specs.UndoLaws.{schema_undone}
 use Rattle.model.specs.declared.item.Item.{Item}
 use Rattle.model.specs.declared.item.Item.TheVariants.{Change as ItemChange}
 use Rattle.model.specs.Survivors.{changes_of}

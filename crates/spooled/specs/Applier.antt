@@ -1,5 +1,5 @@
 -- When what a run keeps is that of a progress, and what handling an item leaves.
-use Rattle.std.specs.Prelude.{◌≡◌, ◌≢◌, ℕ, Bool, false, max, List, ◌∷◌, ◌++◌, length, map, Some, Result, MatchResult, All, ◌⊎◌}
+use Rattle.std.specs.Prelude.{◌≡◌, ◌≢◌, ℕ, Bool, false, max, List, ◌∷◌, length, map, Some, Result, MatchResult, All, ◌⊎◌}
 use Rattle.std.specs.FinMap as finite
 use Rattle.model.specs.Rows.{Rows}
 use Rattle.model.specs.Effect.{serial}
@@ -15,7 +15,7 @@ use Rattle.spooled.specs.declared.end.End.{End}
 use Rattle.spooled.specs.declared.applier.Applier.{Applier}
 use Rattle.spooled.specs.Work.{IsClear}
 use Rattle.spooled.specs.Commits.{transaction_of, commits, committed_changes, begun_changes, all_changes, last_end}
-use Rattle.spooled.specs.Progress.{Progress, due_updates, commits_from}
+use Rattle.spooled.specs.Progress.{Progress, commits_from}
 use Rattle.spooled.specs.Handler.{HasTaken}
 use Rattle.spooled.specs.Cause.{LastStep, schema_of, IsNextCause, IsLastCause}
 

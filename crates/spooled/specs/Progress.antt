@@ -1,5 +1,6 @@
 -- What the items of a stream lead to, one after another.
 --     Update, Progress      a status update but for its clock; the session's state, and what was told the publisher
+--     seen_with      the greatest position of the log, with an item more
 --     Handles, Leads      what an item, or each of a list in turn, leads to
 --     status_bytes      the frames of status updates, each with its time
 use Rattle.std.specs.Prelude.{◌≡◌, ℕ, Bool, true, false, nat_lt, max, List, [], ◌∷◌, ◌++◌, length, ℤ}
@@ -39,6 +40,12 @@ due_updates false s seen = []
 -- there is a commit more
 abbrev pub commits_from : State → State → Bool
 commits_from s t = nat_lt (length s.past) (length t.past)
+
+-- the greatest position of the publisher's log, where this was it before the item
+abbrev pub seen_with : ℕ → CopyItem → ℕ
+seen_with seen (Wal first last payload) = max (max seen first) last
+seen_with seen (Keepalive last reply) = max seen last
+seen_with seen Done = seen
 
 -- An item leads from one progress to the next: a payload that is admitted, with an update if it commits; a keepalive,
 -- with an update if a reply is wanted; CopyDone, with nothing.

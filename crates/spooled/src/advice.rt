@@ -13,22 +13,10 @@ impl fmt::Display for End {
     fn fmt<W: fmt::Write>(&self, f: &mut fmt::Formatter<W>) -> fmt::Result {
         match self {
             End::Clean => write!(f, "the stream was applied to its end"),
-            End::Frame(fault) => {
-                let advice = frame_advice(*fault);
-                write!(f, "{fault}: {advice}")
-            }
-            End::Msg(fault) => {
-                let advice = message_advice(*fault);
-                write!(f, "{fault}: {advice}")
-            }
-            End::Session(fault) => {
-                let advice = session_advice(*fault);
-                write!(f, "{fault}: {advice}")
-            }
-            End::Rel(fault) => {
-                let advice = relation_advice(*fault);
-                write!(f, "{fault}: {advice}")
-            }
+            End::Frame(fault) => advise(f, fault, frame_advice(*fault)),
+            End::Msg(fault) => advise(f, fault, message_advice(*fault)),
+            End::Session(fault) => advise(f, fault, session_advice(*fault)),
+            End::Rel(fault) => advise(f, fault, relation_advice(*fault)),
             End::Unique { table, key } => write!(
                 f,
                 "a row would stand twice in key {key} of table {table} (0 is the primary key, and the first table): {DIVERGED}"
@@ -47,6 +35,15 @@ impl fmt::Display for End {
             ),
         }
     }
+}
+
+/// Says a fault, and what to do about it.
+fn advise<W: fmt::Write>(
+    f: &mut fmt::Formatter<W>,
+    fault: &impl fmt::Display,
+    advice: &str,
+) -> fmt::Result {
+    write!(f, "{fault}: {advice}")
 }
 
 /// What to do where rows are in the way that the publisher hasn't.

@@ -7,7 +7,7 @@ ghost use Rattle.spooled.specs.Commits.{transaction_of};
 ghost use Rattle.spooled.specs.Progress.{Progress, start_progress};
 
 use crate::end::End;
-use crate::handler::Handler;
+use crate::handler::{Handler, written_with};
 use crate::outcome::Outcome;
 use crate::work::Work;
 use bytes::Bytes;
@@ -121,19 +121,10 @@ impl<'a> Handler for Applier<'a> {
     ghost ended = { HasEnded };
 
     fn handle(&mut self, item: CopyItem) -> Result<bool, End> {
+        self.written = written_with(self.written, &item);
         match item {
-            CopyItem::Wal {
-                start,
-                end,
-                payload,
-            } => {
-                self.written = self.written.max(start).max(end);
-                self.take_message(&payload)
-            }
-            CopyItem::Keepalive { end, reply } => {
-                self.written = self.written.max(end);
-                Ok(reply)
-            }
+            CopyItem::Wal { payload, .. } => self.take_message(&payload),
+            CopyItem::Keepalive { reply, .. } => Ok(reply),
             CopyItem::Done => Ok(false),
         }
     }

@@ -4,7 +4,7 @@ ghost use Rattle.model.specs.Rows.{Rows};
 ghost use Rattle.frames.specs.declared.item.CopyItem.{CopyItem as Item};
 ghost use Rattle.session.specs.State.{Setting};
 ghost use Rattle.spooled.specs.declared.end.End.{End as RunEnd};
-ghost use Rattle.spooled.specs.Progress.{Progress, Leads, start_progress};
+ghost use Rattle.spooled.specs.Progress.{Progress, Leads, start_progress, seen_with};
 ghost use Rattle.spooled.specs.Handler.{IsUnderWay, HandlesItem};
 
 use crate::end::End;
@@ -31,4 +31,15 @@ pub trait Handler {
     /// The end of the last commit; 0 before the first.
     fn position(&self) -> Lsn
         ensures { (g : Setting) (rows : Rows) (p : Progress) → at g rows self.now p → result ≡ p.state.position };
+}
+
+/// The greatest position of the publisher's log, where `written` was it before this item.
+pub fn written_with(written: Lsn, item: &CopyItem) -> Lsn
+    ensures { result ≡ seen_with written item.now }
+{
+    match item {
+        CopyItem::Wal { start, end, .. } => written.max(*start).max(*end),
+        CopyItem::Keepalive { end, .. } => written.max(*end),
+        CopyItem::Done => written,
+    }
 }

@@ -38,3 +38,17 @@ pub trait Clock {
     fn micros(&mut self) -> i64
         ensures { Ticks (told self.old) (told self.new) (result ∷ []) };
 }
+
+/// A clock that stands at this time: of a run whose status updates need no time.
+#[derive(Debug, Drop)]
+pub struct StillClock(pub i64);
+
+impl Clock for StillClock {
+    ghost use Rattle.std.specs.Prelude.{None};
+
+    ghost told = { λ _. None };
+
+    fn micros(&mut self) -> i64 {
+        self.0
+    }
+}

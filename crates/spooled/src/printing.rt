@@ -4,7 +4,6 @@ mod text;
 
 ghost use Rattle.std.specs.Prelude.{◌≡◌, ◌<◌, ◌^◌, ◌++◌, length, map, flat_map, OnOk, OnErr};
 ghost use Rattle.model.specs.Rows.{keys_of};
-ghost use Rattle.model.specs.TableRows.{rows_of_table};
 ghost use Rattle.spooled.specs.Report.{name_text, row_text, table_text, tables_text, table_name, end_text, report_text};
 
 use crate::end::End;
@@ -62,7 +61,8 @@ fn push_tables(
     ensures { OnOk result (text.new.items ≡ text.old.items ++ tables_text definitions.now tables.now.rows) }
 {
     for (table, definition) in definitions.iter().enumerate() {
-        push_table(text, tables, table, definition)?;
+        let count = count(tables.walk(table));
+        push_table(text, definition, count, tables.walk(table))?;
     }
     Ok(())
 }
@@ -70,19 +70,19 @@ fn push_tables(
 /// A table: its name, the number of its rows, and the rows in key order.
 fn push_table(
     text: &mut Vec<u8>,
-    tables: &Tables,
-    table: TableId,
     definition: &TableDef,
+    count: usize,
+    rows: Walk<'_>,
 ) -> Result<(), OutOfMemory>
-    requires { table < length tables.now.schema }
-    ensures { OnOk result (text.new.items ≡ text.old.items ++ table_text definition.now (rows_of_table tables.now.rows table)) }
+    requires { count ≡ length rows }
+    ensures { OnOk result (text.new.items ≡ text.old.items ++ table_text definition.now rows.entry) }
 {
     text.extend_from_slice(b"table ")?;
     push_name(text, definition)?;
     text.push(b' ')?;
-    push_number(text, count(tables.walk(table)) as u64)?;
+    push_number(text, count as u64)?;
     text.push(b'\n')?;
-    push_rows(text, tables.walk(table))
+    push_rows(text, rows)
 }
 
 /// How many rows a walk has left.

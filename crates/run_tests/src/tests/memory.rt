@@ -3,19 +3,19 @@
 // nothing.
 use super::runs::{Plan, Ran, config_of, run_by, run_on};
 use super::schedules::{NOWHERE, Place, Sign, Withheld, doors};
-use super::streams::{Column, Message, Stream};
-use super::worked::{NOTE, P, ROWS};
 use leader::{End, NoWatch, OutOfMemory, Point};
 use std::alloc::Global;
 use std::process::Abort;
 use std::rt::Clock as Host;
 use std::sync::Wait;
 use std::thread::Threads;
+use testing::cases::{NOTE, P, case_named};
+use testing::streams::{Column, Message, Stream};
 
-// A row of the worked ones, by its number there; what is reported after so many of its commits, but for
+// A case of `testing`, by its name; what is reported after so many of its commits, but for
 // the end; and how it ends.
 struct Refused {
-    row: usize,
+    case: &'static str,
     after: &'static [&'static str],
     end: End,
 }
@@ -29,7 +29,7 @@ const CLASH: End = End::Unique { table: 0, key: 1 };
 // Nulls, rollbacks that cut much and nothing, a key that moves, and two clashes.
 const REFUSED: [Refused; 6] = [
     Refused {
-        row: 1,
+        case: "nulls and empty texts",
         after: &[
             EMPTY,
             "table public.accounts 3\n1|a|n\n2|b|\\N\n3|\\N|\nposition 0/120\n",
@@ -37,17 +37,17 @@ const REFUSED: [Refused; 6] = [
         end: End::Clean,
     },
     Refused {
-        row: 2,
+        case: "a rolled back subtransaction",
         after: &[EMPTY, "table public.accounts 1\n1|a|n\nposition 0/220\n"],
         end: End::Clean,
     },
     Refused {
-        row: 5,
+        case: "a row let go by a rollback",
         after: AFTER,
         end: End::Clean,
     },
     Refused {
-        row: 6,
+        case: "two nulls in a unique key, then a clash",
         after: &[
             EMPTY,
             BEGUN,
@@ -56,7 +56,7 @@ const REFUSED: [Refused; 6] = [
         end: CLASH,
     },
     Refused {
-        row: 7,
+        case: "an update that moves a key",
         after: &[
             EMPTY,
             BEGUN,
@@ -65,7 +65,7 @@ const REFUSED: [Refused; 6] = [
         end: End::Clean,
     },
     Refused {
-        row: 8,
+        case: "an index entry that comes back",
         after: &[
             EMPTY,
             BEGUN,
@@ -102,10 +102,10 @@ fn is_exact(rt: &impl Abort, ran: &Ran, after: &[&str], end: End) {
 #[test]
 fn runs_by_workers_where_memory_is_refused(rt: HostRuntime) {
     for refused in &REFUSED {
-        let Some(row) = ROWS.get(refused.row) else {
-            panic!(&rt; "no such row")
+        let Some(case) = case_named(refused.case) else {
+            panic!(&rt; "no such case")
         };
-        let Ok(stream) = Stream::of(rt.alloc(), row.parts) else {
+        let Ok(stream) = Stream::of(rt.alloc(), case.parts) else {
             return;
         };
         let plan = Plan::new(stream.bytes());

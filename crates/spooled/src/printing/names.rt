@@ -7,66 +7,47 @@ use messages::MsgFault;
 use relcache::RelFault;
 use session::SessionFault;
 
+/// The name of a fault is that of its variant.
+macro_rules! name_of {
+    ($fault:ident in $faults:ident: $($variant:ident),+) => {
+        match $fault {
+            $($faults::$variant => stringify!($variant),)+
+        }
+    };
+}
+
 pub fn frame_fault(fault: FrameFault) -> &'static str
     ensures { result.now ≡ frame_fault_name fault }
 {
-    match fault {
-        FrameFault::UnknownFrame => "UnknownFrame",
-        FrameFault::BadLength => "BadLength",
-        FrameFault::TooLarge => "TooLarge",
-        FrameFault::Truncated => "Truncated",
-        FrameFault::UnknownCopyTag => "UnknownCopyTag",
-        FrameFault::ServerError => "ServerError",
-        FrameFault::Device => "Device",
-        FrameFault::OutOfMemory => "OutOfMemory",
-    }
+    name_of!(fault in FrameFault:
+        UnknownFrame, BadLength, TooLarge, Truncated, UnknownCopyTag, ServerError, Device,
+        OutOfMemory
+    )
 }
 
 pub fn message_fault(fault: MsgFault) -> &'static str
     ensures { result.now ≡ message_fault_name fault }
 {
-    match fault {
-        MsgFault::UnknownTag => "UnknownTag",
-        MsgFault::Short => "Short",
-        MsgFault::Trailing => "Trailing",
-        MsgFault::BadTupleKind => "BadTupleKind",
-        MsgFault::BadText => "BadText",
-        MsgFault::BinaryColumn => "BinaryColumn",
-        MsgFault::BadFlag => "BadFlag",
-        MsgFault::NegativeCount => "NegativeCount",
-        MsgFault::TwoPhase => "TwoPhase",
-        MsgFault::OutOfMemory => "OutOfMemory",
-    }
+    name_of!(fault in MsgFault:
+        UnknownTag, Short, Trailing, BadTupleKind, BadText, BinaryColumn, BadFlag, NegativeCount,
+        TwoPhase, OutOfMemory
+    )
 }
 
 pub fn session_fault(fault: SessionFault) -> &'static str
     ensures { result.now ≡ session_fault_name fault }
 {
-    match fault {
-        SessionFault::NotInTransaction => "NotInTransaction",
-        SessionFault::NestedBegin => "NestedBegin",
-        SessionFault::BlockOpen => "BlockOpen",
-        SessionFault::NoBlock => "NoBlock",
-        SessionFault::UnknownTransaction => "UnknownTransaction",
-        SessionFault::AlreadyOpen => "AlreadyOpen",
-        SessionFault::OldCommit => "OldCommit",
-        SessionFault::CommitMismatch => "CommitMismatch",
-        SessionFault::SpoolFull => "SpoolFull",
-        SessionFault::TooManyOpen => "TooManyOpen",
-    }
+    name_of!(fault in SessionFault:
+        NotInTransaction, NestedBegin, BlockOpen, NoBlock, UnknownTransaction, AlreadyOpen,
+        OldCommit, CommitMismatch, SpoolFull, TooManyOpen
+    )
 }
 
 pub fn relation_fault(fault: RelFault) -> &'static str
     ensures { result.now ≡ relation_fault_name fault }
 {
-    match fault {
-        RelFault::UnknownRelation => "UnknownRelation",
-        RelFault::TableMissing => "TableMissing",
-        RelFault::ColumnMissing => "ColumnMissing",
-        RelFault::KeyNotSent => "KeyNotSent",
-        RelFault::ColumnCount => "ColumnCount",
-        RelFault::BadValue => "BadValue",
-        RelFault::NullKey => "NullKey",
-        RelFault::OutOfMemory => "OutOfMemory",
-    }
+    name_of!(fault in RelFault:
+        UnknownRelation, TableMissing, ColumnMissing, KeyNotSent, ColumnCount, BadValue, NullKey,
+        OutOfMemory
+    )
 }

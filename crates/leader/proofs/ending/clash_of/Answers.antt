@@ -14,5 +14,5 @@ returns-then-xid-clause-noted g c =
     let ticket = c.args.ticket.now in
     let number : ticket.number ≡ c.in-Clash.xid = ap (λ (t : OpenList Event). t.number) (sym c.wants-wants.ensures.ticket) ∙ sym c.xid.ensures ∙ c.if-xid.true in
     clashed_there w (own_by ticket) c.in-Clash.xid c.in-Clash.clash
-    (subst (λ (stop : Option Stop). TellsWhatStopped stop w.stopped) (c.in_ok-stop.was ∙ ap (λ (stop : Stop). Some stop) c.in-Clash.is) c.requires.stop)
+    (subst (λ (stop : Option Stop). TellsWhatStopped stop w.stopped) (c.in_ok-stop.was ∙ ap (λ (stop : Stop). Some stop) c.in-Clash.is) c.stop-stop.ensures)
     number (sym c.wants-wants.ensures.wants ∙ c.if-wants.true)

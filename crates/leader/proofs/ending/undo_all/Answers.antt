@@ -3,16 +3,12 @@ use Rattle.std.specs.Option.{option_or}
 use Rattle.std.specs.Prelude.{map, option_map}
 use Rattle.std.proofs.lemmas.List.{map-append}
 use Rattle.std.proofs.lemmas.List.Elements.{All-push}
-use Rattle.engine.specs.Answers.{TellsWhatStopped}
 use Rattle.leader.specs.Standing.{Own, own_by}
 use Rattle.leader.specs.Ending.{Hand, AreStood, AreGone, TellsNoted}
 use Rattle.leader.proofs.Deciding.{tells_next, stood_more, stood_before, tells_before, gone_still, gone_more, less_again}
 use Rattle.leader.proofs.ending.undo_all.Given.{Over}
 use Rattle.leader.proofs.ending.undo_all.Goals as goal
 use Rattle.leader.proofs.ending.undo_all.Goals.{After-undo}
-
-pub undo-requires-clause-stop : goal.undo-requires-clause-stop
-undo-requires-clause-stop g c = subst (TellsWhatStopped c.args.stop) (sym c.loop-slot.invariant.world.stopped) c.requires.stop
 
 -- with one slot more the hand is longer by it; it has stood and is gone as the others are
 undone : (g : Over) (c : After-undo g)

@@ -6,5 +6,5 @@ use Rattle.leader.proofs.transactions.Transactions.finish.Goals as goal
 pub returns-in_err-post-clause-err : goal.returns-in_err-post-clause-err
 returns-in_err-post-clause-err g c = if_err c.from_residual.result c.in_err-post.field-0.0 (IsStoreEnd (Some c.args.xid)) c.from_residual.ensures.1 (c.in_err-post.ensures.err (Some c.args.xid))
 
-pub returns-in-Some-clause-err : goal.returns-in-Some-clause-err
-returns-in-Some-clause-err g c = c.end_of_stop.ensures.stop (Some c.args.xid)
+pub returns-in_err-running-clause-err : goal.returns-in_err-running-clause-err
+returns-in_err-running-clause-err g c = if_err c.from_residual-in_err-running.result c.in_err-running.field-0.0 (IsStoreEnd (Some c.args.xid)) c.from_residual-in_err-running.ensures.1 (c.in_err-running.ensures (Some c.args.xid))

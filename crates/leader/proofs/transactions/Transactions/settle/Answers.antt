@@ -1,11 +1,10 @@
-use Rattle.std.proofs.Common.{rules, length, ◌<◌, arith}
-use Rattle.leader.proofs.Turning.{committed_by}
+use Rattle.std.proofs.Common.{refl, ◌∙◌}
+use Rattle.leader.proofs.Turning.{found, committed_by}
 use Rattle.leader.proofs.transactions.Transactions.settle.Goals as goal
 
 pub returns-clause-ok : goal.returns-clause-ok
 returns-clause-ok g c =
     let t = c.self.inside in
-    let lane = c.in-Some.lane.now in
-    let within : c.args.index < length t.lanes.items = omega (arith, t.lanes.ok.0, c.in-Some.ensures.variant.0 (search rules)) in
-    committed_by _ t.line.list t.lanes.items c.args.index t.begun c.args.self.now c.self.view_is lane c.take_done.new.self within c.in-Some.ensures.value
-    c.note.new.self c.commit_in.new.line.list g.N.StoreNames.tickets c.in-Some-take_done.ticket c.args.xid c.args.info c.note.ensures c.commit_in.ensures.appended c.if-not-has.ensures c.in-Some-take_done.ensures.taken
+    let at = found t.lanes.items c.args.index c.get_mut.result c.in_ok-lane.lane c.in_ok-lane.ensures.ok_part c.get_mut.ensures.item in
+    committed_by _ t.line.list t.lanes.items c.args.index t.begun c.args.self.now c.self.view_is c.in_ok-lane.lane.now c.take_done.new.self at.0 at.1
+    c.note.new.self _ g.N.StoreNames.tickets c.in-Some.ticket c.args.xid c.args.info (c.note.ensures ∙ c.commit_ticket.ensures) refl c.if-not-has.ensures c.in-Some.ensures.taken

@@ -1,6 +1,9 @@
-// A stream by its messages, as a publisher sends them: of the one table of these tests.
-use leader::{OutOfMemory, Xid};
-use std::alloc::Global;
+// A stream by its messages, as a publisher sends them of the table of most tests: written here, by no crate that is
+// tested.
+use std::alloc::{AllocError, Global};
+
+/// The number of a transaction.
+type Xid = u32;
 
 /// A column of a tuple.
 #[derive(Clone, Copy)]
@@ -44,11 +47,7 @@ pub enum Message {
     At(u64),
 }
 
-/// What stands in the relation `public.accounts`, with its three columns.
-pub const ACCOUNTS: &[u8] =
-    b"\x00\x00\x40\x01public\x00accounts\x00d\x00\x03\x01id\x00\x00\x00\x00\x17\xff\xff\xff\xff\x00email\x00\x00\x00\x00\x19\xff\xff\xff\xff\x00note\x00\x00\x00\x00\x19\xff\xff\xff\xff";
-
-/// What stands in a truncate of it.
+/// What stands in a truncate of the table.
 pub const WHOLE: &[u8] = b"\x00\x00\x00\x01\x00\x00\x00\x40\x01";
 
 /// The number of the relation.
@@ -64,6 +63,7 @@ pub struct Stream {
 }
 
 impl Stream {
+    /// A stream of no messages.
     pub fn new(alloc: Global) -> Stream {
         Stream {
             alloc,
@@ -74,7 +74,7 @@ impl Stream {
     }
 
     /// The stream of these parts.
-    pub fn of(alloc: Global, parts: &[&[Message]]) -> Result<Stream, OutOfMemory> {
+    pub fn of(alloc: Global, parts: &[&[Message]]) -> Result<Stream, AllocError> {
         let mut stream = Stream::new(alloc);
         for part in parts {
             for message in *part {
@@ -84,11 +84,13 @@ impl Stream {
         Ok(stream)
     }
 
+    /// Its bytes.
     pub fn bytes(&self) -> &[u8] {
         self.bytes.as_slice()
     }
 
-    pub fn push(&mut self, message: &Message) -> Result<(), OutOfMemory> {
+    /// Appends a message.
+    pub fn push(&mut self, message: &Message) -> Result<(), AllocError> {
         match *message {
             Message::At(position) => {
                 self.position = position;
@@ -117,7 +119,7 @@ impl Stream {
     }
 
     // Appends the message in a frame of its own.
-    fn push_framed(&mut self, message: &Message) -> Result<(), OutOfMemory> {
+    fn push_framed(&mut self, message: &Message) -> Result<(), AllocError> {
         let mut payload = Vec::new(self.alloc);
         spell(&mut payload, message, self.in_block)?;
         let length = u32::try_from(payload.len().saturating_add(29)).unwrap_or(u32::MAX);
@@ -138,7 +140,7 @@ impl Stream {
 }
 
 /// Appends some bytes after others.
-pub fn append(out: &mut Vec<u8>, parts: &[&[u8]]) -> Result<(), OutOfMemory> {
+pub fn append(out: &mut Vec<u8>, parts: &[&[u8]]) -> Result<(), AllocError> {
     for part in parts {
         out.extend_from_slice(*part)?;
     }
@@ -146,7 +148,7 @@ pub fn append(out: &mut Vec<u8>, parts: &[&[u8]]) -> Result<(), OutOfMemory> {
 }
 
 // Appends the payload of a message.
-fn spell(out: &mut Vec<u8>, message: &Message, in_block: bool) -> Result<(), OutOfMemory> {
+fn spell(out: &mut Vec<u8>, message: &Message, in_block: bool) -> Result<(), AllocError> {
     match *message {
         Message::Begin(xid, at) => append(
             out,
@@ -180,7 +182,7 @@ fn spell(out: &mut Vec<u8>, message: &Message, in_block: bool) -> Result<(), Out
 }
 
 // Appends what may stand in a block.
-fn spell_change(out: &mut Vec<u8>, message: &Message, in_block: bool) -> Result<(), OutOfMemory> {
+fn spell_change(out: &mut Vec<u8>, message: &Message, in_block: bool) -> Result<(), AllocError> {
     match *message {
         Message::Insert(sub, new) => {
             push_tag(out, b'I', sub, in_block)?;
@@ -207,7 +209,7 @@ fn spell_change(out: &mut Vec<u8>, message: &Message, in_block: bool) -> Result<
 }
 
 // A tag, and inside of a block the subtransaction.
-fn push_tag(out: &mut Vec<u8>, tag: u8, sub: Xid, in_block: bool) -> Result<(), OutOfMemory> {
+fn push_tag(out: &mut Vec<u8>, tag: u8, sub: Xid, in_block: bool) -> Result<(), AllocError> {
     out.push(tag)?;
     if in_block {
         out.extend_from_slice(&sub.to_be_bytes())?;
@@ -216,7 +218,7 @@ fn push_tag(out: &mut Vec<u8>, tag: u8, sub: Xid, in_block: bool) -> Result<(), 
 }
 
 // The relation, and tuples of some kinds.
-fn push_tuples(out: &mut Vec<u8>, tuples: &[(u8, Tuple)]) -> Result<(), OutOfMemory> {
+fn push_tuples(out: &mut Vec<u8>, tuples: &[(u8, Tuple)]) -> Result<(), AllocError> {
     out.extend_from_slice(OID)?;
     for (kind, (id, email, note)) in tuples {
         append(out, &[&[*kind], b"\x00\x03"])?;
@@ -227,7 +229,7 @@ fn push_tuples(out: &mut Vec<u8>, tuples: &[(u8, Tuple)]) -> Result<(), OutOfMem
     Ok(())
 }
 
-fn push_column(out: &mut Vec<u8>, column: Column) -> Result<(), OutOfMemory> {
+fn push_column(out: &mut Vec<u8>, column: Column) -> Result<(), AllocError> {
     match column {
         Column::Null => append(out, &[b"n"]),
         Column::Kept => append(out, &[b"u"]),
@@ -240,7 +242,7 @@ fn push_column(out: &mut Vec<u8>, column: Column) -> Result<(), OutOfMemory> {
     }
 }
 
-fn push_text(out: &mut Vec<u8>, text: &str) -> Result<(), OutOfMemory> {
+fn push_text(out: &mut Vec<u8>, text: &str) -> Result<(), AllocError> {
     let length = u32::try_from(text.len()).unwrap_or(u32::MAX);
     append(out, &[b"t", &length.to_be_bytes(), text.as_bytes()])
 }
