@@ -98,17 +98,9 @@ fn keep<T: Threads + Wait + Sync, R: Source + Drop, W: Sink + Drop, D: Watch + D
     let start = Tables::empty(alloc, catalog)?;
     let gates = only(alloc, OpenGate)?;
     let desks = only(alloc, desk)?;
+    let clock = StillClock(0);
     let outcome = run(
-        rt,
-        alloc,
-        reader,
-        writer,
-        catalog,
-        start,
-        config,
-        gates,
-        desks,
-        StillClock(0),
+        rt, alloc, reader, writer, catalog, start, config, gates, desks, clock,
     );
     match outcome.end {
         End::Clean => Ok(outcome.tables),
