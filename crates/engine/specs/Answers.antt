@@ -89,6 +89,7 @@ abbrev pub stop_for : ℕ → change_type.Change → Option ClashCause → Optio
 stop_for xid c (Some cause) = Some (ByClash xid c cause)
 stop_for xid c None = None
 
+-- the same of what the store noted, with the clash that it found
 abbrev pub told_stop : Option stopped_type.Stopped → Option Stop
 told_stop (Some (StoppedByClash xid c clash)) = stop_for xid c (cause_of clash)
 told_stop (Some (StoppedByHold waiter holder)) = Some (ByHold waiter holder)

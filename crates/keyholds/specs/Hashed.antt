@@ -8,9 +8,11 @@ use Rattle.model.specs.declared.cell.Cell.{Cell}
 use Rattle.model.specs.CellOrder.{cell_cmp, cell_cmp_exact}
 use Rattle.model.specs.Hashing.{hash_cell}
 
+-- of a hash, its eight bytes
 abbrev pub hash_writes : ℕ → List (List ℕ)
 hash_writes hash = fed.u64 hash
 
+-- of a cell, those of its hash
 abbrev pub cell_writes : Cell → List (List ℕ)
 cell_writes cell = hash_writes (hash_cell cell)
 

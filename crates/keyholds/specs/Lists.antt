@@ -27,9 +27,11 @@ module _ {X : Type 0} where
   lists_in (e ∷ es) = with_list (lists_in es) e.0 e.1
 
 module _ {X Z : Type 0} where
+  -- the lists that lie in a map, by their transactions
   abbrev pub lists_seen : BTreeMap ℕ (Vec X Z) → FinMap nat_cmp (List X)
   lists_seen lists = lists_in (map (λ (e : ℕ × Vec X Z). (e.0, e.1.items)) lists.entries)
 
+  -- the items of a list that may not be there
   abbrev pub items_in : Option (Vec X Z) → List X
   items_in None = []
   items_in (Some list) = list.items
@@ -38,6 +40,7 @@ module _ {X Z : Type 0} where
   abbrev pub listed : BTreeMap ℕ (Vec X Z) → ℕ → List X
   listed lists xid = items_in (tree.get nat_cmp lists xid)
 
+  -- no transaction's list changes
   abbrev pub SameLists : BTreeMap ℕ (Vec X Z) → BTreeMap ℕ (Vec X Z) → Type 0
   SameLists old new = (xid : ℕ) → listed new xid ≡ listed old xid
 

@@ -21,6 +21,7 @@ IsCut texts (IntCut n) = Unit {0}
 IsCut texts (TextCut start end) = (start ≤ end) × IsCharBoundary texts start × IsCharBoundary texts end
 IsCut texts (BoolCut b) = Unit {0}
 
+-- each of these cuts does
 abbrev pub AreCuts : List ℕ → List Cut → Type 0
 AreCuts texts cuts = AllByRecursion (IsCut texts) cuts
 
@@ -61,9 +62,11 @@ columns_in block = from_le_bytes w32 (drop (length block - 4) block)
 abbrev pub cuts_at : List ℕ → ℕ
 cuts_at block = length block - 4 - 9 * columns_in block
 
+-- the bytes of its texts
 abbrev pub texts_in : List ℕ → List ℕ
 texts_in block = take (cuts_at block) block
 
+-- its cuts, column by column
 abbrev pub cuts_in : List ℕ → List Cut
 cuts_in block = cuts_of (columns_in block) (drop (cuts_at block) block)
 

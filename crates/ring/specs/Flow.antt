@@ -23,9 +23,11 @@ pub record Course (T : Type 0) : Type 0 where
   pub reading : Bool  -- the slot of the first item that is left is out with the taker
 
 module _ {T : Type 0} where
+  -- how many items were acknowledged over the ring's whole life
   abbrev pub head_of : Course T → ℕ
   head_of c = c.before + length c.acked
 
+  -- how many were sent
   abbrev pub tail_of : Course T → ℕ
   tail_of c = c.before + length (c.acked ++ c.left)
 
@@ -78,9 +80,11 @@ pub record TakerSees {T : Type 0} (c : Course T) (before : ℕ) (acked : List T)
   pub taken_is : Holds c.reading c.left taken
 
 module _ {T : Type 0} where
+  -- what a view says of the sender's end is true
   abbrev pub SenderKnows : Course T → View T → Type 0
   SenderKnows c v = SenderSees c v.sent_before v.sent v.counted v.dooms v.writing
 
+  -- and of the taker's
   abbrev pub TakerKnows : Course T → View T → Type 0
   TakerKnows c v = TakerSees c v.acked_before v.acked v.known v.doomed v.taken
 

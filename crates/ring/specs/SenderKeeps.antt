@@ -6,6 +6,7 @@ use Rattle.ring.specs.Seat.{IsSeated}
 use Rattle.ring.specs.Ends.{Sending}
 
 module _ {T : Type 0} where
+  -- a sender as its callers see it
   abbrev pub sending : Inside T → Sending T
   sending a = let v = a.seat.me.0 in record {
     ring = a.seat.table_id;

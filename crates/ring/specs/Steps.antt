@@ -17,6 +17,7 @@ abbrev pub Told : Type 0 → Type 1
 Told T = Step (Option T) → Me (Option T) (View T) → ℕ → Me (Option T) (View T) → Type 0
 
 module _ {T : Type 0} where
+  -- the view of both ends of a new ring
   abbrev pub opened : View T
   opened = record {
     sends = true;
@@ -37,9 +38,11 @@ module _ {T : Type 0} where
   abbrev pub sender_of : View T → View T
   sender_of v = record opened { takes = false; sent_before = v.sent_before + length v.sent }
 
+  -- the taker's part of it
   abbrev pub taker_of : View T → View T
   taker_of v = record opened { sends = false; acked_before = v.sent_before + length v.sent }
 
+  -- what the seat knows that was cut
   abbrev pub spent : View T
   spent = record opened { sends = false; takes = false }
 
@@ -62,6 +65,7 @@ module _ {T : Type 0} where
     pub behind : a ≤ length v.sent
     pub near : length v.sent ≤ a + st.slots
 
+  -- the sender learns how many were acknowledged
   abbrev pub counted : Told T
   counted st m n m' = (a : ℕ) × SeesHead st m.0 n a × (m' ≡ (record m.0 { counted = a }, m.1))
 
@@ -77,10 +81,12 @@ module _ {T : Type 0} where
       × ((length m.0.sent ≡ a + st.slots) ⊎ (2 ^ 63 ≤ m.0.sent_before + length m.0.sent)
       → m' ≡ (record m.0 { counted = a }, m.1))
 
+  -- the item that was written is sent, and its slot with it
   abbrev pub sent_next : Told T
   sent_next st m n m' = (x : T) × (k : ℕ) × (m.1 ≡ (k, Some x) ∷ rest m.1)
       × (m' ≡ (record m.0 { sent = m.0.sent ++ x ∷ []; writing = false }, rest m.1))
 
+  -- the sender dooms the taker
   abbrev pub dooms_now : Told T
   dooms_now st m n m' = m' ≡ (record m.0 { dooms = true }, m.1)
 
@@ -92,6 +98,7 @@ module _ {T : Type 0} where
     pub near : b ≤ length v.acked + st.slots
     pub far : n ≤ 2 ^ 63
 
+  -- where an item is left, the slot of the first such is taken
   abbrev pub took_next : Told T
   took_next st m n m' =
       (b : ℕ) × SeesTail st m.0 n b
@@ -103,6 +110,7 @@ module _ {T : Type 0} where
       )))
       × (b ≤ length m.0.acked → (m' ≡ (record m.0 { known = b }, m.1)) × (m.0.sends ≡ true → m.0.sent ≡ m.0.acked))
 
+  -- the item that was taken is acknowledged, and its slot given back
   abbrev pub acked_next : Told T
   acked_next st m n m' = (x : T) × (m.0.taken ≡ Some x)
       × (m' ≡ (record m.0 { acked = m.0.acked ++ x ∷ []; taken = None }, rest m.1))
@@ -124,9 +132,11 @@ module _ {T : Type 0} where
     pub begun : v.acked_before ≡ v.sent_before
     pub far : v.sent_before + length v.sent ≤ 2 ^ 63
 
+  -- both ends in one hand compare what they have seen
   abbrev pub compared : Told T
   compared st m n m' = Agrees st m.0 × (m' ≡ m)
 
+  -- both ends in one hand take a doom back
   abbrev pub undoomed : Told T
   undoomed st m n m' = m' ≡ (record m.0 { dooms = false; doomed = false }, m.1)
 

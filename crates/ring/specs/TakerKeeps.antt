@@ -16,6 +16,7 @@ MayAck None head acked known = Unit {0}
 MayAck (Some x) head acked known = (acked < known) × (head < 2 ^ 63)
 
 module _ {T : Type 0} where
+  -- a taker as its callers see it
   abbrev pub taking : Inside T → Taking T
   taking a = let v = a.seat.me.0 in record {
     ring = a.seat.table_id;

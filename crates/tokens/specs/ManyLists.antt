@@ -15,9 +15,11 @@ use Rattle.tokens.specs.Half.{Name}
 use Rattle.tokens.specs.Lists.{ListMap}
 
 module _ {X : Type 0} where
+  -- what a book knows: all lists
   abbrev pub book_row : ListMap X → Row X
   book_row lists = record { kept = Some lists; held = None }
 
+  -- what a slip knows: its number, and the list at it
   abbrev pub slip_row : ℕ → List X → Row X
   slip_row number list = record { kept = None; held = Some (number, list) }
 
@@ -25,10 +27,12 @@ module _ {X : Type 0} where
   abbrev pub blank_row : Row X
   blank_row = record { kept = None; held = None }
 
+  -- the number of a slip
   abbrev pub number_in : Option (ℕ × List X) → ℕ
   number_in None = 0
   number_in (Some entry) = entry.0
 
+  -- the list at it
   abbrev pub list_in : Option (ℕ × List X) → List X
   list_in None = []
   list_in (Some entry) = entry.1
@@ -38,10 +42,12 @@ module _ {X : Type 0} where
   slip_number [] = 0
   slip_number (r ∷ _) = number_in r.held
 
+  -- and of its list
   abbrev pub slip_list : List (Row X) → List X
   slip_list [] = []
   slip_list (r ∷ _) = list_in r.held
 
+  -- the lists that a book knows
   abbrev pub lists_in : Option (ListMap X) → ListMap X
   lists_in None = map.empty
   lists_in (Some lists) = lists
@@ -56,9 +62,11 @@ module _ {X : Type 0} where
   abbrev pub joint_row : Row X → Row X → Row X
   joint_row r w = record { kept = r.kept; held = w.held }
 
+  -- the book's part of a row
   abbrev pub keeper_share : Row X → Row X
   keeper_share r = record { kept = r.kept; held = None }
 
+  -- the slip's part of it
   abbrev pub slip_share : Row X → Row X
   slip_share r = record { kept = None; held = r.held }
 
@@ -67,6 +75,7 @@ module _ {X : Type 0} where
     pub kept : (m : ListMap X) → r.kept ≡ Some m → (by ≡ keeper) × (m ≡ lists)
     pub held : (number : ℕ) (list : List X) → r.held ≡ Some (number, list) → (by ≡ seat_of number) × (map.get lists number ≡ Some list)
 
+  -- the rule: there are such lists, into which what each seat knows fits
   abbrev pub IsManyLists : State (Unit {0}) (Row X) → Type 0
   IsManyLists s =
       (lists : ListMap X) × (keeper : ℕ) × (seat_of : ℕ → ℕ)
@@ -90,6 +99,7 @@ module _ {X : Type 0} where
       let list = list_in r.held ++ items in
       both_row (map.insert (lists_in r.kept) (number_in r.held) list) (number_in r.held) list
 
+  -- the list of the slip's number gets these items
   abbrev pub Appends : List X → Me (Unit {0}) (Row X) → Me (Unit {0}) (Row X) → Type 0
   Appends items me next = IsOpenIn me.0 × (next ≡ (longer_row items me.0, []))
 

@@ -52,6 +52,7 @@ use Rattle.undo.specs.LogOf.{IsLogOf, no_change, with_done, with_skipped, IsFill
 
 -- ---- which cells a row fills
 
+-- a row fills its place, and its values in each unique key where none is null
 pub data FillsCell (schema : Schema) (table : ℕ) (row : Record) : Cell → Type 0 where
   at_place : (key : Key) → key_of schema table row ≡ Some key → FillsCell schema table row (Row table key)
   at_values : (i : ℕ) (columns : List ℕ) (values : Key) → slice_get (keys_at schema table).uniques i ≡ Some columns
