@@ -138,31 +138,21 @@ nothing_agreed g s t (Aborts xid Direct) st agreed tells within says = absurd wi
 nothing_agreed g s t (Aborts xid Spooled) st agreed tells within says = dropped_agreed s t st xid tells.0 agreed tells.1 tells.2
 nothing_agreed g s t told st agreed tells within says = absurd cc
 
--- what is told of a transaction, by the step that opens or drops it
-abbrev told_by : Step → Option Told
-told_by (steps.Begin xid) = Some (Opens xid Direct)
-told_by (steps.Open xid) = Some (Opens xid Worker)
-told_by (steps.Abort xid) = Some (Aborts xid Worker)
-told_by step = None
-
--- it is what the message told
-told_is : (g : Setting) (told is : Told) (step : Step) → IsWithin g told → Says told step → told_by step ≡ Some is → told ≡ is
-told_is g (Opens xid Direct) is step within says e = let same : Some (Opens xid Direct) ≡ Some is = sym (ap told_by says) ∙ e in cc
-told_is g (Opens xid Worker) is step within says e = let same : Some (Opens xid Worker) ≡ Some is = sym (ap told_by says) ∙ e in cc
-told_is g (Aborts xid Direct) is step within says e = absurd within
-told_is g (Aborts xid Worker) is step within says e = let same : Some (Aborts xid Worker) ≡ Some is = sym (ap told_by says) ∙ e in cc
-told_is g (Commits c) is step within says e = absurd (by_commit (λ s. told_by s ≡ Some is) (λ xid info items no. absurd cc) c step says e)
-told_is g told is step within says e = let no : None ≡ Some is = sym (ap told_by says) ∙ e in absurd cc
-
 -- one that begins
 pub begin_agreed : (g : Setting) (s t : State) (told : Told) (x : ℕ) (old new : Standing) → AreAgreed s.transactions old → Tells s t told → IsWithin g told → Says told (steps.Begin x) → IsBegun old x new → AreAgreed t.transactions new
-begin_agreed g s t told x old new agreed tells within says =
-    begun_agreed s t old new x agreed (subst (Tells s t) (told_is g told (Opens x Direct) (steps.Begin x) within says refl) tells)
+begin_agreed g s t (Opens xid Direct) x old new agreed tells within says is = let same : x ≡ xid = cc in begun_agreed s t old new xid agreed tells (subst (λ n. IsBegun old n new) same is)
+begin_agreed g s t (Commits c) x old new agreed tells within says is = absurd says
+begin_agreed g s t (Aborts xid Direct) x old new agreed tells within says is = absurd within
+begin_agreed g s t (Gives xid Direct item size) x old new agreed tells within says is = absurd cc
+begin_agreed g s t told x old new agreed tells within says is = absurd cc
 
 -- one that goes to a worker
 pub open_agreed : (g : Setting) (s t : State) (told : Told) (x : ℕ) (old new : Standing) → AreAgreed s.transactions old → Tells s t told → IsWithin g told → Says told (steps.Open x) → IsHandedOut old x new → AreAgreed t.transactions new
-open_agreed g s t told x old new agreed tells within says =
-    handed_out_agreed s t old new x agreed (subst (Tells s t) (told_is g told (Opens x Worker) (steps.Open x) within says refl) tells)
+open_agreed g s t (Opens xid Worker) x old new agreed tells within says is = let same : x ≡ xid = cc in handed_out_agreed s t old new xid agreed tells (subst (λ n. IsHandedOut old n new) same is)
+open_agreed g s t (Commits c) x old new agreed tells within says is = absurd says
+open_agreed g s t (Aborts xid Direct) x old new agreed tells within says is = absurd within
+open_agreed g s t (Gives xid Direct item size) x old new agreed tells within says is = absurd cc
+open_agreed g s t told x old new agreed tells within says is = absurd cc
 
 -- an item that is handed on is given to an open transaction that isn't spooled
 pub record IsHandedOn (s t : State) (xid : ℕ) (item : Item) : Type 0 where
@@ -195,9 +185,12 @@ item_agreed s t xid item old new agreed on is = by_way on.transaction.way refl
 
 -- one that is dropped
 pub abort_agreed : (g : Setting) (s t : State) (told : Told) (x : ℕ) (old new : Standing) → AreAgreed s.transactions old → Tells s t told → IsWithin g told → Says told (steps.Abort x) → IsAborted old x new → AreAgreed t.transactions new
-abort_agreed g s t told x old new agreed tells within says =
-    let dropped = subst (Tells s t) (told_is g told (Aborts x Worker) (steps.Abort x) within says refl) tells in
-    aborted_agreed s t old new x dropped.0 agreed dropped.1 dropped.2
+abort_agreed g s t (Aborts xid Worker) x old new agreed tells within says is = let same : x ≡ xid = cc in aborted_agreed s t old new xid tells.0 agreed tells.1 tells.2 (subst (λ n. IsAborted old n new) same is)
+abort_agreed g s t (Aborts xid Direct) x old new agreed tells within says is = absurd within
+abort_agreed g s t (Commits c) x old new agreed tells within says is = absurd says
+abort_agreed g s t (Opens xid Direct) x old new agreed tells within says is = absurd cc
+abort_agreed g s t (Gives xid Direct item size) x old new agreed tells within says is = absurd cc
+abort_agreed g s t told x old new agreed tells within says is = absurd cc
 
 -- the leader knows the same, but for its session and for what is open
 pub record IsSameLed (a b : Led) : Type 0 where
