@@ -81,6 +81,7 @@ fn connect(rt: &HostRuntime, address: &str) -> io::Result<(Stream, Updates)> {
 }
 
 /// What a command was asked for: its options, and the bytes of its catalog.
+#[derive(Drop)]
 struct Asked<'a, T> {
     rt: &'a HostRuntime,
     threads: &'a T,
