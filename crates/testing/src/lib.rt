@@ -2,8 +2,6 @@
 //
 //   asserts    assertions, whose failure is the test's result
 //   accounts   the table of most tests: its catalog, and the relation that a publisher sends of it
-//   streams    a stream of changes of this table, by its messages
-//   cases      streams that were worked by hand, each with its report
 //   devices    a source that gives a stream in pieces and a sink that keeps what it takes, which fail where
 //              a test wants it
 //
@@ -12,6 +10,4 @@
 
 pub mod accounts;
 pub mod asserts;
-pub mod cases;
 pub mod devices;
-pub mod streams;

@@ -1,12 +1,12 @@
 // What `--verbose` says of a command that did not end well.
-use crate::tests::runs::{CONFIG, framed};
+use crate::tests::runs::{CONFIG, Stopped, framed};
 use catalog::{Catalog, CatalogFault};
 use command::account::Account;
 use command::execute::{Hearer, execute_heard};
 use command::stream::Updates;
 use frames::{ReadSource, WriteSink};
 use indexes::Tables;
-use leader::{Config, Devices, End, Outcome, StillClock};
+use leader::{Config, Devices, End, Outcome};
 use std::alloc::Global;
 use std::io::Cursor;
 use std::random::RandomSource;
@@ -38,7 +38,7 @@ fn said<R: Threads + Wait + RandomSource + Sync>(
     let mut account = Account::new(alloc);
     let source = ReadSource::new(Cursor::new(stream));
     let watched = Watched::new(source, &mut trace, &mut quiet, true);
-    let mut devices = Devices::new(watched, WriteSink::new(Updates::Nowhere), StillClock(5));
+    let mut devices = Devices::new(watched, WriteSink::new(Updates::Nowhere), Stopped(5));
     let config = Config { workers, ..CONFIG };
     let ended = execute_heard(
         rt,
@@ -79,16 +79,6 @@ const RELATION: &str =
 /// I(1,a,n)
 const INSERT: &str = "49000040014e000374000000013174000000016174000000016e";
 
-/// The relation with a further column `zip`.
-const RELATION_WITH_ZIP: &str =
-    "52000040017075626c6963006163636f756e7473006400040169640000000017ffffffff00656d61696c0000000019ffffffff006e6f74650000000019ffffffff007a69700000000019ffffffff";
-
-/// I(1,a,n,z)
-const INSERT_WITH_ZIP: &str = "49000040014e000474000000013174000000016174000000016e74000000017a";
-
-/// I(NULL,a,n)
-const INSERT_WITHOUT_ID: &str = "49000040014e00036e74000000016174000000016e";
-
 // And those in a block 36, 99, 60, 31 and 60.
 
 /// S(700,1)
@@ -100,18 +90,12 @@ const RELATION_IN_BLOCK: &str =
 /// 700:I(1,a,n)
 const INSERT_IN_BLOCK: &str = "49000002bc000040014e000374000000013174000000016174000000016e";
 
-/// 700:I(2,a,n)
-const SECOND_IN_BLOCK: &str = "49000002bc000040014e000374000000013274000000016174000000016e";
-
-/// 711:I(x,a,n)
-const BAD_INSERT_IN_BLOCK: &str = "49000002c7000040014e000374000000017874000000016174000000016e";
-
 const STOP: &str = "45";
 
 /// c(700,0/200,0/220)
 const STREAM_COMMIT: &str = "63000002bc00000000000000020000000000000002200000000000000000";
 
-static CASES: [Case; 12] = [
+static CASES: [Case; 13] = [
     Case {
         name: "a frame of no known kind",
         payloads: &[BEGIN],
@@ -172,18 +156,28 @@ static CASES: [Case; 12] = [
             pgapply: 56 bytes were read, whole frames 1; the last frame begins at byte 0, at 0/0 of the publisher's log\n\
             pgapply: it is Insert, of relation 16385\n",
     },
+    // The relation has a further column `zip`, and the insert is of (1,a,n,z).
     Case {
         name: "a column that the catalog hasn't",
-        payloads: &[BEGIN, RELATION_WITH_ZIP, INSERT_WITH_ZIP],
+        payloads: &[
+            BEGIN,
+            "52000040017075626c6963006163636f756e7473006400040169640000000017ffffffff00656d61696c0000000019ffffffff006e6f74650000000019ffffffff007a69700000000019ffffffff",
+            "49000040014e000474000000013174000000016174000000016e74000000017a",
+        ],
         rest: "",
         without_workers: false,
         said: "pgapply: no such column: add the published column to the catalog's table, or leave it out of the publication\n\
             pgapply: 221 bytes were read, whole frames 3; the last frame begins at byte 159, at 0/0 of the publisher's log\n\
             pgapply: it is Insert, of transaction 900, of relation 16385 (public.accounts)\n",
     },
+    // 711:I(x,a,n)
     Case {
         name: "a value of another type, in a subtransaction",
-        payloads: &[START, RELATION_IN_BLOCK, BAD_INSERT_IN_BLOCK],
+        payloads: &[
+            START,
+            RELATION_IN_BLOCK,
+            "49000002c7000040014e000374000000017874000000016174000000016e",
+        ],
         rest: "",
         without_workers: false,
         said: "pgapply: bad value: give the column a type in the catalog that holds what the publisher sends; text holds all\n\
@@ -200,14 +194,14 @@ static CASES: [Case; 12] = [
             pgapply: 258 bytes were read, whole frames 4; the last frame begins at byte 202, at 0/0 of the publisher's log\n\
             pgapply: it is Insert, of transaction 900, of relation 16385 (public.accounts)\n",
     },
-    // It clashes where the transaction commits.
+    // The second insert is of (2,a,n). It clashes where the transaction commits.
     Case {
         name: "a unique key that stands twice, of a streamed transaction",
         payloads: &[
             START,
             RELATION_IN_BLOCK,
             INSERT_IN_BLOCK,
-            SECOND_IN_BLOCK,
+            "49000002bc000040014e000374000000013274000000016174000000016e",
             STOP,
             STREAM_COMMIT,
         ],
@@ -218,15 +212,27 @@ static CASES: [Case; 12] = [
             pgapply: 346 bytes were read, whole frames 6; the last frame begins at byte 286, at 0/0 of the publisher's log\n\
             pgapply: it is Stream Commit, of transaction 700\n",
     },
+    // I(NULL,a,n)
     Case {
         name: "a null in the primary key",
-        payloads: &[BEGIN, RELATION, INSERT_WITHOUT_ID],
+        payloads: &[
+            BEGIN,
+            RELATION,
+            "49000040014e00036e74000000016174000000016e",
+        ],
         rest: "",
         without_workers: false,
         said: "pgapply: key 0 of public.accounts has the columns id\n\
             pgapply: a row of table 0 (0 is the first) has a null in its primary key: let the catalog's primary key be one that the publisher keeps\n\
             pgapply: 197 bytes were read, whole frames 3; the last frame begins at byte 146, at 0/0 of the publisher's log\n\
             pgapply: it is Insert, of transaction 900, of relation 16385 (public.accounts)\n",
+    },
+    Case {
+        name: "a stream that ends well",
+        payloads: &[BEGIN, RELATION, INSERT],
+        rest: "",
+        without_workers: false,
+        said: "",
     },
 ];
 
@@ -241,16 +247,6 @@ fn why_and_where_a_run_ended(rt: HostRuntime) -> Result<(), Fail> {
             let account = said(&rt, alloc, stream, workers)?;
             assert_same(account.text(), case.said, case.name)?;
         }
-    }
-    Ok(())
-}
-
-#[test]
-fn nothing_is_said_of_a_stream_that_ends_well(rt: HostRuntime) -> Result<(), Fail> {
-    for workers in 0..4 {
-        let stream = framed(rt.alloc(), &[BEGIN, RELATION, INSERT])?;
-        let account = said(&rt, rt.alloc(), stream, workers)?;
-        assert_same(account.text(), "", "account")?;
     }
     Ok(())
 }

@@ -1,7 +1,7 @@
 // How streams come: in pieces, cut short, from a source or to a sink that fails; and catalogs that are refused.
-use crate::tests::runs::{CONFIG, framed, printed, printed_from, push_frame};
+use crate::tests::runs::{CONFIG, Stopped, framed, printed, printed_from, push_frame};
 use command::execute::{Ended, execute};
-use leader::{Config, StillClock};
+use leader::Config;
 use std::alloc::Global;
 use std::fmt::Write;
 use std::random::RandomSource;
@@ -278,7 +278,7 @@ fn printed_by<R: Threads + Wait + RandomSource + Sync>(
         CATALOG.as_bytes(),
         Pieces::with_reads(stream, 40, reads_before_failure),
         Broken { failures: 0 },
-        StillClock(5),
+        Stopped(5),
         out,
     )
 }

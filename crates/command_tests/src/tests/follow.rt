@@ -1,10 +1,10 @@
 // A stream that comes over a connection, and the status updates that go back: a sender listens on a
 // socket of this machine, in a thread of its own.
 use crate::tests::devices::{KEEPALIVE, ONE_INSERT};
-use crate::tests::runs::{CONFIG, framed};
+use crate::tests::runs::{CONFIG, Stopped, framed};
 use command::execute::{Ended, execute};
 use connection::Connection;
-use leader::{Config, StillClock};
+use leader::Config;
 use std::alloc::Global;
 use std::io::{Read, Write};
 use std::net::{Shutdown, TcpListener, TcpStream};
@@ -104,7 +104,7 @@ fn follow<T: Threads + Wait + RandomSource + Sync>(
         CATALOG.as_bytes(),
         connection.source(),
         connection.sink(),
-        StillClock(5),
+        Stopped(5),
         &mut out,
     );
     (ended, out)

@@ -1,6 +1,6 @@
-// Commands of these tests: their streams, and what they print.
+// Commands of these tests: their streams, their clock, and what they print.
 use command::execute::{Ended, execute};
-use leader::{Config, StillClock};
+use leader::{Clock, Config};
 use std::alloc::Global;
 use std::random::RandomSource;
 use std::sync::Wait;
@@ -14,6 +14,20 @@ pub const CONFIG: Config = Config {
     ring: 64,
     spool: 1 << 30,
 };
+
+/// A clock that stands still.
+#[derive(Drop)]
+pub struct Stopped(pub i64);
+
+impl Clock for Stopped {
+    ghost use Rattle.std.specs.Prelude.{None};
+
+    ghost told = { λ _. None };
+
+    fn micros(&mut self) -> i64 {
+        self.0
+    }
+}
 
 /// The payloads, each in an XLogData frame whose positions and clock are 0.
 pub fn framed(alloc: Global, payloads: &[&str]) -> Result<Vec<u8>, Fail> {
@@ -69,7 +83,7 @@ pub fn printed_from<R: Threads + Wait + RandomSource + Sync>(
         catalog,
         reader,
         Kept::new(&mut written),
-        StillClock(5),
+        Stopped(5),
         &mut out,
     );
     (ended, out, written)

@@ -2,14 +2,14 @@
 // workers does, whose contract says how.
 use super::features::FEATURES;
 use super::runs::{Plan, config_of, is_same, run_by};
+use super::streams::Stream;
+use super::worked::ROWS;
 use leader::{End, FrameFault, OutOfMemory};
 use std::alloc::Global;
 use std::process::Abort;
 use std::rt::Clock as Host;
 use std::sync::Wait;
 use std::thread::Threads;
-use testing::cases::{plain_cases, streamed_cases};
-use testing::streams::Stream;
 
 // The run by two workers is that without one. Answers whether the device failed.
 fn fails_alike<R: Threads + Wait + Abort + Sync + Host>(
@@ -50,13 +50,11 @@ fn count_calls<R: Threads + Wait + Abort + Sync + Host>(
 
 #[test]
 fn each_read_and_each_write_fails(rt: HostRuntime) -> Result<(), OutOfMemory> {
-    for cases in [plain_cases(), streamed_cases()] {
-        for case in cases {
-            let stream = Stream::of(rt.alloc(), case.parts)?;
-            let reads = count_calls(&rt, rt.alloc(), stream.bytes(), true, case.name)?;
-            let writes = count_calls(&rt, rt.alloc(), stream.bytes(), false, case.name)?;
-            assert!(rt; reads < 100 && writes < 10, "{}", case.name);
-        }
+    for row in &ROWS {
+        let stream = Stream::of(rt.alloc(), row.parts)?;
+        let reads = count_calls(&rt, rt.alloc(), stream.bytes(), true, row.name)?;
+        let writes = count_calls(&rt, rt.alloc(), stream.bytes(), false, row.name)?;
+        assert!(rt; reads < 100 && writes < 10, "{}", row.name);
     }
     Ok(())
 }

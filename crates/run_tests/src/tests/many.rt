@@ -1,20 +1,19 @@
 // Two streamed transactions of 500 items each: by one worker the second is spooled, and commits first.
 use super::runs::{reports, same_by_all};
+use super::streams::{ACCOUNTS, Column, Message, Stream};
+use super::worked::NOTE;
 use leader::{OutOfMemory, Xid};
 use std::alloc::Global;
 use std::fmt::Write;
-use testing::accounts::RELATION;
-use testing::cases::NOTE;
-use testing::streams::{Column, Message, Stream};
 
 // A block of rows, each with a null and a note: their keys begin at one number and end before another.
 fn push_block(stream: &mut Stream, xid: Xid, first: u32, behind: u32) -> Result<(), OutOfMemory> {
     stream.push(&Message::Start(xid, true))?;
-    stream.push(&Message::Other(b'R', xid, RELATION))?;
+    stream.push(&Message::Other(b'R', xid, ACCOUNTS))?;
     for key in first..behind {
         stream.push(&Message::Insert(xid, (Column::Number(key), Column::Null, NOTE)))?;
     }
-    Ok(stream.push(&Message::Stop)?)
+    stream.push(&Message::Stop)
 }
 
 // The whole stream.

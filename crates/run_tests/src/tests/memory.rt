@@ -3,19 +3,19 @@
 // nothing.
 use super::runs::{Plan, Ran, config_of, run_by, run_on};
 use super::schedules::{NOWHERE, Place, Sign, Withheld, doors};
+use super::streams::{Column, Message, Stream};
+use super::worked::{NOTE, P, ROWS};
 use leader::{End, NoWatch, OutOfMemory, Point};
 use std::alloc::Global;
 use std::process::Abort;
 use std::rt::Clock as Host;
 use std::sync::Wait;
 use std::thread::Threads;
-use testing::cases::{NOTE, P, case_named};
-use testing::streams::{Column, Message, Stream};
 
-// A case of `testing`, by its name; what is reported after so many of its commits, but for
+// A row of the worked ones, by its number there; what is reported after so many of its commits, but for
 // the end; and how it ends.
 struct Refused {
-    case: &'static str,
+    row: usize,
     after: &'static [&'static str],
     end: End,
 }
@@ -29,7 +29,7 @@ const CLASH: End = End::Unique { table: 0, key: 1 };
 // Nulls, rollbacks that cut much and nothing, a key that moves, and two clashes.
 const REFUSED: [Refused; 6] = [
     Refused {
-        case: "nulls and empty texts",
+        row: 1,
         after: &[
             EMPTY,
             "table public.accounts 3\n1|a|n\n2|b|\\N\n3|\\N|\nposition 0/120\n",
@@ -37,17 +37,17 @@ const REFUSED: [Refused; 6] = [
         end: End::Clean,
     },
     Refused {
-        case: "a rolled back subtransaction",
+        row: 2,
         after: &[EMPTY, "table public.accounts 1\n1|a|n\nposition 0/220\n"],
         end: End::Clean,
     },
     Refused {
-        case: "a row let go by a rollback",
+        row: 5,
         after: AFTER,
         end: End::Clean,
     },
     Refused {
-        case: "two nulls in a unique key, then a clash",
+        row: 6,
         after: &[
             EMPTY,
             BEGUN,
@@ -56,7 +56,7 @@ const REFUSED: [Refused; 6] = [
         end: CLASH,
     },
     Refused {
-        case: "an update that moves a key",
+        row: 7,
         after: &[
             EMPTY,
             BEGUN,
@@ -65,7 +65,7 @@ const REFUSED: [Refused; 6] = [
         end: End::Clean,
     },
     Refused {
-        case: "an index entry that comes back",
+        row: 8,
         after: &[
             EMPTY,
             BEGUN,
@@ -102,10 +102,10 @@ fn is_exact(rt: &impl Abort, ran: &Ran, after: &[&str], end: End) {
 #[test]
 fn runs_by_workers_where_memory_is_refused(rt: HostRuntime) {
     for refused in &REFUSED {
-        let Some(case) = case_named(refused.case) else {
-            panic!(&rt; "no such case")
+        let Some(row) = ROWS.get(refused.row) else {
+            panic!(&rt; "no such row")
         };
-        let Ok(stream) = Stream::of(rt.alloc(), case.parts) else {
+        let Ok(stream) = Stream::of(rt.alloc(), row.parts) else {
             return;
         };
         let plan = Plan::new(stream.bytes());

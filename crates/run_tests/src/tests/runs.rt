@@ -3,7 +3,7 @@ ghost use Rattle.std.specs.Prelude.{◌≡◌, map};
 ghost use Rattle.model.specs.Rows.{keys_of};
 
 use leader::{
-    Catalog, Config, Entry, Gate, NoWatch, OutOfMemory, Outcome, Point, Sink, Source, StillClock,
+    Catalog, Clock, Config, Entry, Gate, NoWatch, OutOfMemory, Outcome, Point, Sink, Source,
     Tables, Watch, Xid, report, run,
 };
 use std::alloc::Global;
@@ -98,16 +98,7 @@ where
     ensures { result.tables.schema ≡ map keys_of catalog.now }
 {
     run(
-        rt,
-        alloc,
-        source,
-        sink,
-        catalog,
-        start,
-        config,
-        gates,
-        watchers,
-        StillClock(5),
+        rt, alloc, source, sink, catalog, start, config, gates, watchers, Stopped,
     )
 }
 
@@ -258,5 +249,19 @@ impl<H: Host> Gate for Pace<'_, H> {
         if self.draws.below(8) == 0 {
             thread::sleep(self.host, Duration::from_micros(20));
         }
+    }
+}
+
+/// A clock that stands at 5.
+#[derive(Drop)]
+struct Stopped;
+
+impl Clock for Stopped {
+    ghost use Rattle.std.specs.Prelude.{None};
+
+    ghost told = { λ _. None };
+
+    fn micros(&mut self) -> i64 {
+        5
     }
 }

@@ -1,6 +1,8 @@
 // Streams whose schedule is held: by gates at which a worker waits, and by bytes that are withheld until
 // a worker came somewhere.
 use super::runs::{Ran, config_of, reports, run_on};
+use super::streams::{Column, Message, Stream, Tuple};
+use super::worked::{NOTE, P};
 use leader::{Failed, Gate, NoWatch, OutOfMemory, Point, Source, Xid};
 use std::alloc::Global;
 use std::rt::Clock as Host;
@@ -9,8 +11,6 @@ use std::sync::atomic::{AtomicBool, Ordering};
 use std::thread;
 use std::thread::Threads;
 use std::time::Duration;
-use testing::cases::{CLASHING, DELETE_AND_INSERT, NOTED, OPEN, P, SEVENTH};
-use testing::streams::{Message, Stream};
 
 /// A point that a transaction's worker passes.
 #[derive(Clone, Copy, PartialEq, Eq)]
@@ -180,6 +180,25 @@ const AFTER_FIRST: Place = Place(700, Point::After(1));
 // Where 701 comes to its insert.
 const SECOND: Place = Place(701, Point::Before(1));
 
+const SEVENTH: Tuple = (Column::Number(7), Column::Text("g"), NOTE);
+
+// A row with the email of another, and the first row with another note.
+const CLASHING: Tuple = (Column::Number(3), Column::Text("b"), NOTE);
+
+const NOTED: Tuple = (Column::Number(1), Column::Text("a"), Column::Text("v"));
+
+const START: &[Message] = &[Message::Start(700, true)];
+
+// 700 deletes the first row, and 701 inserts one with its email.
+const DELETE_AND_INSERT: &[Message] = &[
+    Message::Start(700, true),
+    Message::DeleteAt(700, b'K', (Column::Number(1), Column::Null, Column::Null)),
+    Message::Stop,
+    Message::Start(701, true),
+    Message::Insert(701, (Column::Number(3), Column::Text("a"), NOTE)),
+    Message::Stop,
+];
+
 // The commits of the two, in either order.
 const FIRST_700: &[Message] = &[
     Message::StreamCommit(700, 0x200, 0x220),
@@ -194,7 +213,7 @@ const FIRST_701: &[Message] = &[
 static CASES: [Case; 6] = [
     Case {
         name: "the leader needs what a worker holds",
-        front: &[P, OPEN, &[Message::Update(700, SEVENTH), Message::Stop]],
+        front: &[P, START, &[Message::Update(700, SEVENTH), Message::Stop]],
         back: &[
             Message::Begin(900, 0x200),
             Message::Insert(0, SEVENTH),
@@ -223,7 +242,7 @@ static CASES: [Case; 6] = [
     // Were its work done at its commit alone, the place would never be passed.
     Case {
         name: "work that is done before its commit",
-        front: &[P, OPEN, &[Message::Update(700, NOTED), Message::Stop]],
+        front: &[P, START, &[Message::Update(700, NOTED), Message::Stop]],
         back: &[Message::StreamCommit(700, 0x200, 0x220)],
         sign: Some(AFTER_FIRST),
         holds: NOWHERE,
@@ -233,7 +252,7 @@ static CASES: [Case; 6] = [
         name: "a clash in work that is rolled back later",
         front: &[
             P,
-            OPEN,
+            START,
             &[
                 Message::Insert(711, CLASHING),
                 Message::Stop,
@@ -247,7 +266,7 @@ static CASES: [Case; 6] = [
     },
     Case {
         name: "a clash in work that is still open at the end",
-        front: &[P, OPEN, &[Message::Insert(700, CLASHING), Message::Stop]],
+        front: &[P, START, &[Message::Insert(700, CLASHING), Message::Stop]],
         back: &[],
         sign: Some(Place(700, Point::Clash(1))),
         holds: NOWHERE,

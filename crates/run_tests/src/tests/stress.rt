@@ -3,14 +3,14 @@
 // does. Where they meet it may end as its schedule has it: but what it leaves is what the run without
 // workers makes of the stream up to its last commit.
 use super::runs::{Draws, Plan, Ran, config_of, run_by, same_by_all};
+use super::streams::{Column, Message, Stream, WHOLE};
+use super::worked::P;
 use leader::{End, OutOfMemory, Xid};
 use std::alloc::Global;
 use std::process::Abort;
 use std::rt::Clock as Host;
 use std::sync::Wait;
 use std::thread::Threads;
-use testing::cases::P;
-use testing::streams::{Column, Message, Stream, WHOLE};
 
 // A stream as it is drawn.
 #[derive(Drop)]
@@ -68,7 +68,7 @@ impl Drawn {
         match self.draws.below(6) {
             0 => {
                 self.seat(place, 0);
-                Ok(self.stream.push(&Message::Abort(xid, xid))?)
+                self.stream.push(&Message::Abort(xid, xid))
             }
             1 | 2 => {
                 self.seat(place, 0);

@@ -1,9 +1,6 @@
-// A stream by its messages, as a publisher sends them of the table of most tests: written here, by no crate that is
-// tested.
-use std::alloc::{AllocError, Global};
-
-/// The number of a transaction.
-type Xid = u32;
+// A stream by its messages, as a publisher sends them: of the one table of these tests.
+use leader::{OutOfMemory, Xid};
+use std::alloc::Global;
 
 /// A column of a tuple.
 #[derive(Clone, Copy)]
@@ -47,7 +44,11 @@ pub enum Message {
     At(u64),
 }
 
-/// What stands in a truncate of the table.
+/// What stands in the relation `public.accounts`, with its three columns.
+pub const ACCOUNTS: &[u8] =
+    b"\x00\x00\x40\x01public\x00accounts\x00d\x00\x03\x01id\x00\x00\x00\x00\x17\xff\xff\xff\xff\x00email\x00\x00\x00\x00\x19\xff\xff\xff\xff\x00note\x00\x00\x00\x00\x19\xff\xff\xff\xff";
+
+/// What stands in a truncate of it.
 pub const WHOLE: &[u8] = b"\x00\x00\x00\x01\x00\x00\x00\x40\x01";
 
 /// The number of the relation.
@@ -63,7 +64,6 @@ pub struct Stream {
 }
 
 impl Stream {
-    /// A stream of no messages.
     pub fn new(alloc: Global) -> Stream {
         Stream {
             alloc,
@@ -74,7 +74,7 @@ impl Stream {
     }
 
     /// The stream of these parts.
-    pub fn of(alloc: Global, parts: &[&[Message]]) -> Result<Stream, AllocError> {
+    pub fn of(alloc: Global, parts: &[&[Message]]) -> Result<Stream, OutOfMemory> {
         let mut stream = Stream::new(alloc);
         for part in parts {
             for message in *part {
@@ -84,13 +84,11 @@ impl Stream {
         Ok(stream)
     }
 
-    /// Its bytes.
     pub fn bytes(&self) -> &[u8] {
         self.bytes.as_slice()
     }
 
-    /// Appends a message.
-    pub fn push(&mut self, message: &Message) -> Result<(), AllocError> {
+    pub fn push(&mut self, message: &Message) -> Result<(), OutOfMemory> {
         match *message {
             Message::At(position) => {
                 self.position = position;
@@ -119,7 +117,7 @@ impl Stream {
     }
 
     // Appends the message in a frame of its own.
-    fn push_framed(&mut self, message: &Message) -> Result<(), AllocError> {
+    fn push_framed(&mut self, message: &Message) -> Result<(), OutOfMemory> {
         let mut payload = Vec::new(self.alloc);
         spell(&mut payload, message, self.in_block)?;
         let length = u32::try_from(payload.len().saturating_add(29)).unwrap_or(u32::MAX);
@@ -140,7 +138,7 @@ impl Stream {
 }
 
 /// Appends some bytes after others.
-pub fn append(out: &mut Vec<u8>, parts: &[&[u8]]) -> Result<(), AllocError> {
+pub fn append(out: &mut Vec<u8>, parts: &[&[u8]]) -> Result<(), OutOfMemory> {
     for part in parts {
         out.extend_from_slice(*part)?;
     }
@@ -148,7 +146,7 @@ pub fn append(out: &mut Vec<u8>, parts: &[&[u8]]) -> Result<(), AllocError> {
 }
 
 // Appends the payload of a message.
-fn spell(out: &mut Vec<u8>, message: &Message, in_block: bool) -> Result<(), AllocError> {
+fn spell(out: &mut Vec<u8>, message: &Message, in_block: bool) -> Result<(), OutOfMemory> {
     match *message {
         Message::Begin(xid, at) => append(
             out,
@@ -182,7 +180,7 @@ fn spell(out: &mut Vec<u8>, message: &Message, in_block: bool) -> Result<(), All
 }
 
 // Appends what may stand in a block.
-fn spell_change(out: &mut Vec<u8>, message: &Message, in_block: bool) -> Result<(), AllocError> {
+fn spell_change(out: &mut Vec<u8>, message: &Message, in_block: bool) -> Result<(), OutOfMemory> {
     match *message {
         Message::Insert(sub, new) => {
             push_tag(out, b'I', sub, in_block)?;
@@ -209,7 +207,7 @@ fn spell_change(out: &mut Vec<u8>, message: &Message, in_block: bool) -> Result<
 }
 
 // A tag, and inside of a block the subtransaction.
-fn push_tag(out: &mut Vec<u8>, tag: u8, sub: Xid, in_block: bool) -> Result<(), AllocError> {
+fn push_tag(out: &mut Vec<u8>, tag: u8, sub: Xid, in_block: bool) -> Result<(), OutOfMemory> {
     out.push(tag)?;
     if in_block {
         out.extend_from_slice(&sub.to_be_bytes())?;
@@ -218,7 +216,7 @@ fn push_tag(out: &mut Vec<u8>, tag: u8, sub: Xid, in_block: bool) -> Result<(), 
 }
 
 // The relation, and tuples of some kinds.
-fn push_tuples(out: &mut Vec<u8>, tuples: &[(u8, Tuple)]) -> Result<(), AllocError> {
+fn push_tuples(out: &mut Vec<u8>, tuples: &[(u8, Tuple)]) -> Result<(), OutOfMemory> {
     out.extend_from_slice(OID)?;
     for (kind, (id, email, note)) in tuples {
         append(out, &[&[*kind], b"\x00\x03"])?;
@@ -229,7 +227,7 @@ fn push_tuples(out: &mut Vec<u8>, tuples: &[(u8, Tuple)]) -> Result<(), AllocErr
     Ok(())
 }
 
-fn push_column(out: &mut Vec<u8>, column: Column) -> Result<(), AllocError> {
+fn push_column(out: &mut Vec<u8>, column: Column) -> Result<(), OutOfMemory> {
     match column {
         Column::Null => append(out, &[b"n"]),
         Column::Kept => append(out, &[b"u"]),
@@ -242,7 +240,7 @@ fn push_column(out: &mut Vec<u8>, column: Column) -> Result<(), AllocError> {
     }
 }
 
-fn push_text(out: &mut Vec<u8>, text: &str) -> Result<(), AllocError> {
+fn push_text(out: &mut Vec<u8>, text: &str) -> Result<(), OutOfMemory> {
     let length = u32::try_from(text.len()).unwrap_or(u32::MAX);
     append(out, &[b"t", &length.to_be_bytes(), text.as_bytes()])
 }
