@@ -13,7 +13,7 @@
 #![tactic(auto)]
 
 use command::account::Account;
-use command::execute::{Ended, execute_heard, execute_over};
+use command::execute::{execute_heard, execute_over};
 use command::options::{Input, Options, parse};
 use command::output::{Failure, print, say_failure};
 use command::progress::Progress;
@@ -56,19 +56,17 @@ fn run<T: Threads + Wait + RandomSource + Sync>(
             return say_failure(rt, options.verbose, failure, &error);
         }
     };
-    let asked = Asked {
-        rt,
-        threads,
-        options,
-        catalog: catalog.as_slice(),
-    };
+    let catalog = catalog.as_slice();
     match options.input {
         Input::File(path) => match File::open(rt, path) {
-            Ok(stream) => asked.run(Stream::File(stream), Updates::Nowhere),
+            Ok(stream) => {
+                let stream = Stream::File(stream);
+                run_stream(rt, threads, options, catalog, stream, Updates::Nowhere)
+            }
             Err(error) => say_failure(rt, options.verbose, Failure::Open(path), &error),
         },
         Input::Connection(address) => match connect(rt, address) {
-            Ok((stream, updates)) => asked.run(stream, updates),
+            Ok((stream, updates)) => run_stream(rt, threads, options, catalog, stream, updates),
             Err(error) => say_failure(rt, options.verbose, Failure::Connect(address), &error),
         },
     }
@@ -80,77 +78,72 @@ fn connect(rt: &HostRuntime, address: &str) -> io::Result<(Stream, Updates)> {
     Ok((Stream::Connection(read), Updates::Connection(written)))
 }
 
-/// What a command was asked for: its options, and the bytes of its catalog.
-#[derive(Drop)]
-struct Asked<'a, T> {
-    rt: &'a HostRuntime,
-    threads: &'a T,
-    options: &'a Options<'a>,
-    catalog: &'a [u8],
+/// `run` of a stream that is open, and its status updates.
+fn run_stream<T: Threads + Wait + RandomSource + Sync>(
+    rt: &HostRuntime,
+    threads: &T,
+    options: &Options<'_>,
+    catalog: &[u8],
+    stream: Stream,
+    updates: Updates,
+) -> io::Result<u8> {
+    if options.verbose || options.progress {
+        return run_watched(rt, threads, options, catalog, stream, updates);
+    }
+    let mut out = Vec::new(rt.alloc());
+    let mut devices = Devices::new(
+        ReadSource::new(stream),
+        WriteSink::new(updates),
+        SystemClock::new(rt),
+    );
+    let ended = execute_over(
+        threads,
+        rt.alloc(),
+        options.spooled,
+        &options.config,
+        catalog,
+        &mut devices,
+        &mut out,
+    );
+    print(rt, options.verbose, &mut rt.stdout(), out.as_slice(), ended)
 }
 
-impl<T: Threads + Wait + RandomSource + Sync> Asked<'_, T> {
-    /// Runs a stream that is open, and its status updates. It answers the exit status.
-    fn run(&self, stream: Stream, updates: Updates) -> io::Result<u8> {
-        if self.options.verbose || self.options.progress {
-            return self.run_watched(stream, updates);
+/// `run_stream` of a stream that is watched, with lines on standard error behind the report.
+fn run_watched<T: Threads + Wait + RandomSource + Sync>(
+    rt: &HostRuntime,
+    threads: &T,
+    options: &Options<'_>,
+    catalog: &[u8],
+    stream: Stream,
+    updates: Updates,
+) -> io::Result<u8> {
+    let mut out = Vec::new(rt.alloc());
+    let mut trace = Trace::new(rt.alloc());
+    let mut progress = Progress::new(rt.clone()?, options.progress);
+    let mut account = Account::new(rt.alloc());
+    let source = ReadSource::new(BufReader::new(rt.alloc(), stream)?);
+    let watched = Watched::new(source, &mut trace, &mut progress, options.verbose);
+    let mut devices = Devices::new(watched, WriteSink::new(updates), SystemClock::new(rt));
+    let ended = execute_heard(
+        threads,
+        rt.alloc(),
+        options.spooled,
+        &options.config,
+        catalog,
+        &mut devices,
+        &mut account,
+        &mut out,
+    );
+    drop(devices);
+    let status = print(rt, options.verbose, &mut rt.stdout(), out.as_slice(), ended)?;
+    progress.say(&trace);
+    if options.verbose {
+        if status >= 2 {
+            // Without memory the place is not said.
+            let _added = account.add_place(&trace);
         }
-        let rt = self.rt;
-        let mut out = Vec::new(rt.alloc());
-        let mut devices = Devices::new(
-            ReadSource::new(stream),
-            WriteSink::new(updates),
-            SystemClock::new(rt),
-        );
-        let ended = execute_over(
-            self.threads,
-            rt.alloc(),
-            self.options.spooled,
-            &self.options.config,
-            self.catalog,
-            &mut devices,
-            &mut out,
-        );
-        self.print(out.as_slice(), ended)
+        let text = account.text();
+        eprint!(rt; "{text}")?;
     }
-
-    /// `run` of a stream that is watched, with lines on standard error behind the report.
-    fn run_watched(&self, stream: Stream, updates: Updates) -> io::Result<u8> {
-        let (rt, options) = (self.rt, self.options);
-        let mut out = Vec::new(rt.alloc());
-        let mut trace = Trace::new(rt.alloc());
-        let mut progress = Progress::new(rt.clone()?, options.progress);
-        let mut account = Account::new(rt.alloc());
-        let source = ReadSource::new(BufReader::new(rt.alloc(), stream)?);
-        let watched = Watched::new(source, &mut trace, &mut progress, options.verbose);
-        let mut devices = Devices::new(watched, WriteSink::new(updates), SystemClock::new(rt));
-        let ended = execute_heard(
-            self.threads,
-            rt.alloc(),
-            options.spooled,
-            &options.config,
-            self.catalog,
-            &mut devices,
-            &mut account,
-            &mut out,
-        );
-        drop(devices);
-        let status = self.print(out.as_slice(), ended)?;
-        progress.say(&trace);
-        if options.verbose {
-            if status >= 2 {
-                // Without memory the place is not said.
-                let _added = account.add_place(&trace);
-            }
-            let text = account.text();
-            eprint!(rt; "{text}")?;
-        }
-        Ok(status)
-    }
-
-    /// Prints the report, or says why a command ended without one.
-    fn print(&self, report: &[u8], ended: Ended) -> io::Result<u8> {
-        let (rt, is_verbose) = (self.rt, self.options.verbose);
-        print(rt, is_verbose, &mut rt.stdout(), report, ended)
-    }
+    Ok(status)
 }
