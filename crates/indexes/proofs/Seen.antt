@@ -194,6 +194,9 @@ module _ (ts : List TableContent) (seen : Content) (v : gathered ts ≡ seen) (i
     abbrev Left : Rows → Type 0
     Left rows = record { schema : after.schema ≡ seen.schema; rows : after.rows ≡ rows; kept : Keeps seen.room after.room }
 
+    pub left_same : new.keys ≡ t.keys → new.rows ≡ t.rows → KeepsSpots t.room new.room → Left seen.rows
+    left_same keys rows room = record { schema = schema_stays keys; rows = unchanged rows; kept = kept room }
+
     pub left_put : (key : Key) (row : Record) → new.keys ≡ t.keys → new.rows ≡ insert t.rows key row → KeepsSpots t.room new.room → Left (insert seen.rows (i, key) row)
     left_put key row keys rows room = record { schema = schema_stays keys; rows = inserted key row rows; kept = kept room }
 

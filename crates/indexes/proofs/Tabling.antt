@@ -316,6 +316,20 @@ module _ (primary : List ℕ) (old new : Kept) (us vs : List Unique) (t : TableC
     sound = sound (table_of primary new vs).keys new vs refl indexed;
   }
 
+  -- the same of one that makes room, and no slot
+  pub left_widened : new ≡ old → EachStep step.KeepsSlots us vs → IsIndexed primary old us
+      → record {
+        keys : (table_of primary new vs).keys ≡ t.keys;
+        rows : new.rows ≡ t.rows;
+        kept : KeepsSpots t.room (room_of new vs);
+        sound : IsSound (table_of primary new vs);
+      }
+  left_widened same steps was =
+      let rows : new.rows ≡ old.rows = ap (λ (k : Kept). k.rows) same in
+      let slots : KeepsSlots old.slots new.slots = λ key number at. ap (λ (k : Kept). get k.slots key) same ∙ at in
+      let numbered = subst (λ (k : Kept). IsNumbered k.slots) (sym same) was.numbered in
+      left_made rows slots steps (indexed_kept primary old new us vs was rows slots numbered steps)
+
 -- ---- look-ups
 
 -- what a look-up finds: a key of which this is true, or there is none

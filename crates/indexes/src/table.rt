@@ -10,7 +10,8 @@ ghost use Rattle.indexes.specs.Table.{Spot, IsSound, IsOfSettled, IsFilled, Give
 use crate::columns::key_of;
 use crate::seed::Seed;
 use crate::unique::{
-    Unique, agree_in_each, copy_each, copy_numbers, put_each, reserve_each, set_each, settle_each,
+    Unique, agree_in_each, copy_each, copy_numbers, make_room_in_each, put_each, reserve_each,
+    set_each, settle_each,
 };
 use model::{Key, OutOfMemory, Row, TableDef};
 use rows::{HashedRows, RowView, Walk};
@@ -227,6 +228,18 @@ impl Table {
     {
         self.rows.reserve(key)?;
         reserve_each(&mut self.uniques, row)
+    }
+
+    /// Makes room for so many more rows: putting them moves none that is there. A refusal changes no
+    /// row.
+    pub fn make_room(&mut self, additional: usize) -> Result<(), OutOfMemory>
+        ensures keys { self.new.keys ≡ self.old.keys }
+        ensures rows { self.new.rows ≡ self.old.rows }
+        ensures kept { KeepsSpots self.old.room self.new.room }
+        ensures sound { IsSound self.new }
+    {
+        self.rows.make_room(additional)?;
+        make_room_in_each(&mut self.uniques, additional)
     }
 
     /// Takes a `remove` back: puts a row at its key, where there is room for it. It takes no memory.

@@ -189,6 +189,18 @@ impl Tables {
         self.tables[table].find_twin(number, row)
     }
 
+    /// Makes room for so many more rows of a table: putting them moves none that is there. A refusal
+    /// changes no row.
+    pub fn make_room(&mut self, table: usize, additional: usize) -> Result<(), OutOfMemory>
+        requires { table < length self.old.schema }
+        ensures schema { self.new.schema ≡ self.old.schema }
+        ensures rows { self.new.rows ≡ self.old.rows }
+        ensures kept { Keeps self.old.room self.new.room }
+    {
+        let table = &mut self.tables[table];
+        table.make_room(additional)
+    }
+
     /// A row comes into its table. A refusal changes no row.
     pub fn put(&mut self, table: usize, key: Key, row: Row) -> Result<(), OutOfMemory>
         requires known { table < length self.old.schema }

@@ -11,6 +11,7 @@ use crate::kept_values::{KeptValues, SharedColumns};
 use crate::seed::Seed;
 use crate::sought::Sought;
 use model::{Key, OutOfMemory, Row};
+use rows::SlotNumber;
 use std::alloc::Global;
 use std::collections::HashMap;
 
@@ -19,7 +20,7 @@ use std::collections::HashMap;
 #[derive(Debug, Drop)]
 pub(crate) struct Unique {
     pub(crate) columns: SharedColumns,
-    pub(crate) entries: HashMap<KeptValues, Option<usize>, Seed>,
+    pub(crate) entries: HashMap<KeptValues, Option<SlotNumber>, Seed>,
 }
 
 impl Unique {
@@ -45,7 +46,7 @@ impl Unique {
     }
 
     // The number of the slot that the row with these values lies in.
-    pub(crate) fn find(&self, values: &Key) -> Option<usize>
+    pub(crate) fn find(&self, values: &Key) -> Option<SlotNumber>
         ensures { result ≡ held self.now.entries values.now }
     {
         match self.entries.get(values) {
@@ -55,7 +56,7 @@ impl Unique {
     }
 
     // The number of the slot that a row with the same values as this one lies in.
-    pub(crate) fn find_twin(&self, row: &Row) -> Option<usize>
+    pub(crate) fn find_twin(&self, row: &Row) -> Option<SlotNumber>
         ensures { result ≡ held_by self.now.entries (values_in self.now.columns row.now) }
     {
         find_row(self.columns.as_slice(), &self.entries, row)
@@ -70,18 +71,25 @@ impl Unique {
     }
 
     // Writes a number, or none, at a row's values, if there is an entry for them.
-    fn set(&mut self, row: &Row, number: Option<usize>)
+    fn set(&mut self, row: &Row, number: Option<SlotNumber>)
         ensures { Sets row.now number self.old self.new }
     {
         set_entry(self.columns.as_slice(), &mut self.entries, row, number);
     }
 
     // Puts a number at a row's values, if it has them all, with an entry for it if there is none.
-    fn put(&mut self, row: &Row, number: usize) -> Result<(), OutOfMemory>
+    fn put(&mut self, row: &Row, number: SlotNumber) -> Result<(), OutOfMemory>
         ensures ok { OnOk result (Puts row.now number self.old self.new) }
         ensures err { OnErr result (KeepsSlots self.old self.new) }
     {
         put_entry(&self.columns, &mut self.entries, row, number)
+    }
+
+    // Makes room for so many more entries.
+    fn make_room(&mut self, additional: usize) -> Result<(), OutOfMemory>
+        ensures { KeepsSlots self.old self.new }
+    {
+        make_room_for(&mut self.entries, additional)
     }
 
     // Drops the entry for a row's values if it has no number.
@@ -150,14 +158,33 @@ fn reserve_all(uniques: &mut [Unique], row: &Row) -> Result<(), OutOfMemory>
     Ok(())
 }
 
+// Room for so many more entries in each index.
+pub(crate) fn make_room_in_each(
+    uniques: &mut Vec<Unique>,
+    additional: usize,
+) -> Result<(), OutOfMemory>
+    ensures { EachStep KeepsSlots uniques.old.items uniques.new.items }
+{
+    make_room_in_all(uniques.as_mut_slice(), additional)
+}
+
+fn make_room_in_all(uniques: &mut [Unique], additional: usize) -> Result<(), OutOfMemory>
+    ensures { EachStep KeepsSlots uniques.old uniques.new }
+{
+    for unique in uniques.iter_mut() {
+        unique.make_room(additional)?;
+    }
+    Ok(())
+}
+
 // A number, or none, at a row's values in each index.
-pub(crate) fn set_each(uniques: &mut Vec<Unique>, row: &Row, number: Option<usize>)
+pub(crate) fn set_each(uniques: &mut Vec<Unique>, row: &Row, number: Option<SlotNumber>)
     ensures { EachStep (Sets row.now number) uniques.old.items uniques.new.items }
 {
     set_all(uniques.as_mut_slice(), row, number);
 }
 
-fn set_all(uniques: &mut [Unique], row: &Row, number: Option<usize>)
+fn set_all(uniques: &mut [Unique], row: &Row, number: Option<SlotNumber>)
     ensures { EachStep (Sets row.now number) uniques.old uniques.new }
 {
     for unique in uniques.iter_mut() {
@@ -169,7 +196,7 @@ fn set_all(uniques: &mut [Unique], row: &Row, number: Option<usize>)
 pub(crate) fn put_each(
     uniques: &mut Vec<Unique>,
     row: &Row,
-    number: usize,
+    number: SlotNumber,
 ) -> Result<(), OutOfMemory>
     requires { EachIsFree row.now uniques.old.items }
     ensures ok { OnOk result (EachStep (Puts row.now number) uniques.old.items uniques.new.items) }
@@ -178,7 +205,7 @@ pub(crate) fn put_each(
     put_all(uniques.as_mut_slice(), row, number)
 }
 
-fn put_all(uniques: &mut [Unique], row: &Row, number: usize) -> Result<(), OutOfMemory>
+fn put_all(uniques: &mut [Unique], row: &Row, number: SlotNumber) -> Result<(), OutOfMemory>
     requires { EachIsFree row.now uniques.old }
     ensures ok { OnOk result (EachStep (Puts row.now number) uniques.old uniques.new) }
     ensures err { OnErr result (EachStep KeepsSlots uniques.old uniques.new) }
@@ -191,7 +218,7 @@ fn put_all(uniques: &mut [Unique], row: &Row, number: usize) -> Result<(), OutOf
 }
 
 // The same; refused for memory, it leaves the numbers that it has put.
-fn put_some(uniques: &mut [Unique], row: &Row, number: usize) -> Result<(), OutOfMemory>
+fn put_some(uniques: &mut [Unique], row: &Row, number: SlotNumber) -> Result<(), OutOfMemory>
     ensures ok { OnOk result (EachStep (Puts row.now number) uniques.old uniques.new) }
     ensures err { OnErr result (EachStep (MayPut row.now) uniques.old uniques.new) }
 {
@@ -218,9 +245,9 @@ fn settle_all(uniques: &mut [Unique], row: &Row)
 
 fn find_row(
     columns: &[usize],
-    entries: &HashMap<KeptValues, Option<usize>, Seed>,
+    entries: &HashMap<KeptValues, Option<SlotNumber>, Seed>,
     row: &Row,
-) -> Option<usize>
+) -> Option<SlotNumber>
     ensures { result ≡ held_by entries.now (values_in columns.now row.now) }
 {
     if !has_values(columns, row) {
@@ -234,7 +261,7 @@ fn find_row(
 
 fn reserve_entry(
     columns: &SharedColumns,
-    entries: &mut HashMap<KeptValues, Option<usize>, Seed>,
+    entries: &mut HashMap<KeptValues, Option<SlotNumber>, Seed>,
     row: &Row,
 ) -> Result<(), OutOfMemory>
     ensures kept { KeepsEntries entries.old entries.new }
@@ -249,9 +276,20 @@ fn reserve_entry(
     Ok(())
 }
 
+// Room for so many more entries.
+fn make_room_for(
+    entries: &mut HashMap<KeptValues, Option<SlotNumber>, Seed>,
+    additional: usize,
+) -> Result<(), OutOfMemory>
+    ensures { KeepsEntries entries.old entries.new }
+{
+    entries.reserve(additional)?;
+    Ok(())
+}
+
 // An entry with no number, for values that have none.
 fn add_entry(
-    entries: &mut HashMap<KeptValues, Option<usize>, Seed>,
+    entries: &mut HashMap<KeptValues, Option<SlotNumber>, Seed>,
     values: KeptValues,
 ) -> Result<(), OutOfMemory>
     requires { entry_at entries.old values ≡ None }
@@ -265,9 +303,9 @@ fn add_entry(
 // Where there is an entry, it keeps the row that it has.
 fn put_entry(
     columns: &SharedColumns,
-    entries: &mut HashMap<KeptValues, Option<usize>, Seed>,
+    entries: &mut HashMap<KeptValues, Option<SlotNumber>, Seed>,
     row: &Row,
-    number: usize,
+    number: SlotNumber,
 ) -> Result<(), OutOfMemory>
     ensures ok { OnOk result (PutsEntry columns.now row.now number entries.old entries.new) }
     ensures err { OnErr result (KeepsEntries entries.old entries.new) }
@@ -280,9 +318,9 @@ fn put_entry(
 
 fn set_entry(
     columns: &[usize],
-    entries: &mut HashMap<KeptValues, Option<usize>, Seed>,
+    entries: &mut HashMap<KeptValues, Option<SlotNumber>, Seed>,
     row: &Row,
-    number: Option<usize>,
+    number: Option<SlotNumber>,
 )
     ensures { SetsEntry columns.now row.now number entries.old entries.new }
 {
@@ -293,9 +331,9 @@ fn set_entry(
 
 // Writes a number, or none, at some values, if there is an entry for them.
 fn write_entry(
-    entries: &mut HashMap<KeptValues, Option<usize>, Seed>,
+    entries: &mut HashMap<KeptValues, Option<SlotNumber>, Seed>,
     values: Sought<'_>,
-    number: Option<usize>,
+    number: Option<SlotNumber>,
 )
     ensures here { entry_at entries.new (present values.entry.columns.now values.entry.row.now) ≡ with_number number (entry_at entries.old (present values.entry.columns.now values.entry.row.now)) }
     ensures beside { SameApart (present values.entry.columns.now values.entry.row.now) entries.old entries.new }
@@ -307,7 +345,7 @@ fn write_entry(
 
 fn settle_entry(
     columns: &[usize],
-    entries: &mut HashMap<KeptValues, Option<usize>, Seed>,
+    entries: &mut HashMap<KeptValues, Option<SlotNumber>, Seed>,
     row: &Row,
 )
     ensures { SettlesEntry columns.now row.now entries.old entries.new }
@@ -318,7 +356,7 @@ fn settle_entry(
 }
 
 // Drops the entry for some values if it has no number.
-fn drop_entry(entries: &mut HashMap<KeptValues, Option<usize>, Seed>, values: Sought<'_>)
+fn drop_entry(entries: &mut HashMap<KeptValues, Option<SlotNumber>, Seed>, values: Sought<'_>)
     ensures { DropsEntry (present values.entry.columns.now values.entry.row.now) entries.old entries.new }
 {
     if let Some(None) = entries.get(values) {
@@ -327,7 +365,7 @@ fn drop_entry(entries: &mut HashMap<KeptValues, Option<usize>, Seed>, values: So
 }
 
 // The same, for values that lie in a key.
-fn give_up_entry(entries: &mut HashMap<KeptValues, Option<usize>, Seed>, key: &Key)
+fn give_up_entry(entries: &mut HashMap<KeptValues, Option<SlotNumber>, Seed>, key: &Key)
     ensures { DropsEntry key.now entries.old entries.new }
 {
     if let Some(None) = entries.get(key) {

@@ -1,10 +1,11 @@
--- Slots by number that were copied.
+-- Slots by number that were copied, or moved where there is more room.
 use Rattle.std.specs.Prelude.{◌≡◌, ℕ, List, [], ◌∷◌, Option, Some, None, refl, slice_index_or}
 use Rattle.std.proofs.Common.{sym, ◌∙◌, ap, subst}
 use Rattle.std.specs.FinMap.{FinMap}
 use Rattle.std.specs.List.{AllZip}
 use Rattle.std.specs.Map.{lookup}
 use Rattle.std.specs.Ordering.{eq_by_cmp}
+use Rattle.std.specs.HashMap as hash
 use Rattle.std.specs.HashMap.{HashMap}
 use Rattle.std.proofs.lemmas.List.Elements.{same_from_all_zip}
 use Rattle.slab.specs.Slab as slab
@@ -13,7 +14,7 @@ use Rattle.model.specs.declared.key.Key.{Key}
 use Rattle.model.specs.Key.{key_cmp}
 use Rattle.rows.specs.KeyedSlot.{KeyedSlot}
 use Rattle.rows.specs.declared.ordered.Slot.{Slot}
-use Rattle.rows.specs.Hashed.{row_of, key_of, number_for, slot_by, seen, keys_in, kept_by, IsFound}
+use Rattle.rows.specs.Hashed.{row_of, key_of, number_for, slot_by, seen, keys_in, kept_by, IsFound, SameNumbers}
 use Rattle.rows.specs.Kept.{Kept}
 use Rattle.rows.specs.Ordered.{IsNamed}
 use Rattle.rows.specs.Slots.{rows_in, numbers_in}
@@ -48,6 +49,15 @@ module _ (s t : Slab KeyedSlot) (same : (n : ℕ) → slab.get t n ≡ slab.get 
 
   pub kept_copied : (es fs : List (Key × ℕ)) → fs ≡ es → kept_by t fs ≡ kept_by s es
   kept_copied es fs order = ap (λ (xs : List (Key × Slot)). (let k : Kept = record { rows = rows_in xs; slots = numbers_in xs } in k)) (seen_copied es fs order)
+
+  -- the hashes find the same numbers
+  pub found_again : {S : Type 0} (before after : HashMap Key ℕ S) (es : List (Key × ℕ)) → IsFound before es s
+      → SameNumbers (hash.get (eq_by_cmp key_cmp) before) (hash.get (eq_by_cmp key_cmp) after) → IsFound after es t
+  found_again before after es was hashes = record {
+    named = subst (λ (m : FinMap key_cmp ℕ). IsNamed m (keys_in t)) (sym (ap numbers_in (seen_same es)))
+        (named_again (numbers_in (seen s es)) (keys_in s) (keys_in t) was.named (λ n. same_keys s t n (ap key_of (same n))));
+    hashed = λ key. hashes key ∙ was.hashed key;
+  }
 
   pub found_copied : {S : Type 0} (before after : HashMap Key ℕ S) (es fs : List (Key × ℕ)) → IsFound before es s → after.entries ≡ before.entries → fs ≡ es → IsFound after fs t
   found_copied before after es fs was hashes order = record {

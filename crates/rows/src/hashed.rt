@@ -12,6 +12,7 @@ ghost use Rattle.rows.specs.Kept.{HasNumber, KeepsSlots, IsNumbered, IsSlotted};
 ghost use Rattle.rows.specs.Hashed.{row_for, row_of, key_of, number_for, number_to_drop, SetsRow, AddsSlot, DropsSlot, Renumbers, SameNumbers, Unnumbers};
 ghost use Rattle.rows.specs.Slots.{with_row};
 
+use crate::store::{SlotNumber, next_number};
 use crate::view::RowView;
 use crate::walk::Walk;
 use model::{Key, OutOfMemory, Row};
@@ -38,8 +39,8 @@ pub(crate) struct HashedSlot {
 #[derive(Debug, Drop)]
 pub struct HashedRows<H: BuildHasher = BuildHasherDefault<FoldHasher>> {
     // The number of each key's slot, by the key's hash, and in key order.
-    numbers: HashMap<Key, usize, H>,
-    order: BTreeMap<Key, usize>,
+    numbers: HashMap<Key, SlotNumber, H>,
+    order: BTreeMap<Key, SlotNumber>,
     slots: Slab<HashedSlot>,
     alloc: Global,
 }
@@ -123,7 +124,7 @@ impl<H: BuildHasher + Drop> HashedRows<H> {
     }
 
     /// The number of a key's slot, if it has one.
-    pub fn slot(&self, key: &Key) -> Option<usize>
+    pub fn slot(&self, key: &Key) -> Option<SlotNumber>
         ensures number { result ≡ map.get self.now.slots key.now }
 
         // No two slots have one number, and each row lies in a slot.
@@ -134,7 +135,7 @@ impl<H: BuildHasher + Drop> HashedRows<H> {
     }
 
     /// The key whose slot has this number.
-    pub fn key_at(&self, number: usize) -> Option<&Key>
+    pub fn key_at(&self, number: SlotNumber) -> Option<&Key>
         ensures found { IfSome result (λ key. map.get self.now.slots key.now ≡ Some number) }
         ensures missed { IfNone result ((key : Values) → map.get self.now.slots key ≢ Some number) }
     {
@@ -142,7 +143,7 @@ impl<H: BuildHasher + Drop> HashedRows<H> {
     }
 
     /// The row in the slot of a number, if one is in it.
-    pub fn row_at(&self, number: usize) -> Option<RowView<'_>>
+    pub fn row_at(&self, number: SlotNumber) -> Option<RowView<'_>>
         ensures { (key : Values) → map.get self.now.slots key ≡ Some number → result ≡ map.get self.now.rows key }
     {
         view_at(&self.slots, Some(number))
@@ -150,7 +151,7 @@ impl<H: BuildHasher + Drop> HashedRows<H> {
 
     /// Puts a row into the slot of a number, and answers the one that was there. It takes no
     /// memory, and looks for no key.
-    pub fn replace_at(&mut self, number: usize, row: Row) -> Option<Row>
+    pub fn replace_at(&mut self, number: SlotNumber, row: Row) -> Option<Row>
         requires { HasNumber self.old.slots number }
         ensures stood { (key : Values) → map.get self.old.slots key ≡ Some number → result ≡ map.get self.old.rows key }
         ensures rows { (key : Values) → map.get self.old.slots key ≡ Some number → self.new.rows ≡ map.insert self.old.rows key row }
@@ -161,7 +162,7 @@ impl<H: BuildHasher + Drop> HashedRows<H> {
 
     /// Takes the row out of the slot of a number. The slot stays. It takes no memory, and looks for
     /// no key.
-    pub fn take_at(&mut self, number: usize) -> Option<Row>
+    pub fn take_at(&mut self, number: SlotNumber) -> Option<Row>
         requires { HasNumber self.old.slots number }
         ensures row { (key : Values) → map.get self.old.slots key ≡ Some number → result ≡ map.get self.old.rows key }
         ensures rows { (key : Values) → map.get self.old.slots key ≡ Some number → self.new.rows ≡ map.remove self.old.rows key }
@@ -171,7 +172,7 @@ impl<H: BuildHasher + Drop> HashedRows<H> {
     }
 
     // Puts a row or none into the slot of a number. The answer is what was in it.
-    fn set_at(&mut self, number: usize, row: Option<Row>) -> Option<Row>
+    fn set_at(&mut self, number: SlotNumber, row: Option<Row>) -> Option<Row>
         requires { HasNumber self.old.slots number }
         ensures stood { (key : Values) → map.get self.old.slots key ≡ Some number → result ≡ map.get self.old.rows key }
         ensures rows { (key : Values) → map.get self.old.slots key ≡ Some number → self.new.rows ≡ with_row self.old.rows key (row) }
@@ -211,7 +212,7 @@ impl<H: BuildHasher + Drop> HashedRows<H> {
     }
 
     /// Makes a slot for a key that has none. A refusal changes no row and no slot.
-    pub fn reserve(&mut self, key: &Key) -> Result<usize, OutOfMemory>
+    pub fn reserve(&mut self, key: &Key) -> Result<SlotNumber, OutOfMemory>
         ensures rows { self.new.rows ≡ self.old.rows }
         ensures slots { KeepsSlots self.old.slots self.new.slots }
         ensures ok { IfOk result (λ number. map.get self.new.slots key.now ≡ Some number) }
@@ -224,7 +225,7 @@ impl<H: BuildHasher + Drop> HashedRows<H> {
     }
 
     // The slot of a key that has none.
-    fn make_slot(&mut self, key: &Key) -> Result<usize, OutOfMemory>
+    fn make_slot(&mut self, key: &Key) -> Result<SlotNumber, OutOfMemory>
         requires { map.get self.old.slots key.now ≡ None }
         ensures rows { self.new.rows ≡ self.old.rows }
         ensures slots { KeepsSlots self.old.slots self.new.slots }
@@ -232,6 +233,14 @@ impl<H: BuildHasher + Drop> HashedRows<H> {
         ensures numbered { IsNumbered self.new.slots }
     {
         add_slot(&mut self.numbers, &mut self.order, &mut self.slots, key)
+    }
+
+    /// Makes room for so many more slots: making them moves none that is there. A refusal changes no
+    /// row and no slot.
+    pub fn make_room(&mut self, additional: usize) -> Result<(), OutOfMemory>
+        ensures { self.new ≡ self.old }
+    {
+        make_room_for(&mut self.numbers, &mut self.slots, additional)
     }
 
     /// Puts a row at a key. A refusal changes no row and no slot.
@@ -321,35 +330,38 @@ fn copy_stored(row: &Option<Row>) -> Result<Option<Row>, AllocError>
 }
 
 // The number of a key's slot, if it has one.
-fn number_of<H: BuildHasher + Drop>(numbers: &HashMap<Key, usize, H>, key: &Key) -> Option<usize>
+fn number_of<H: BuildHasher + Drop>(
+    numbers: &HashMap<Key, SlotNumber, H>,
+    key: &Key,
+) -> Option<SlotNumber>
     ensures { result ≡ hash.get (eq_by_cmp key_cmp) numbers.now key.now }
 {
     numbers.get(key).copied()
 }
 
 // The key of the slot of a number, if there is one.
-fn key_in(slots: &Slab<HashedSlot>, number: usize) -> Option<&Key>
+fn key_in(slots: &Slab<HashedSlot>, number: SlotNumber) -> Option<&Key>
     ensures { option_copied result ≡ key_of (slab.get slots.now number) }
 {
-    match slots.get(number) {
+    match slots.get(number as usize) {
         Some(slot) => Some(slot.key()),
         None => None,
     }
 }
 
 // The row in the slot of a number, as it is read.
-pub(crate) fn view_at(slots: &Slab<HashedSlot>, number: Option<usize>) -> Option<RowView<'_>>
+pub(crate) fn view_at(slots: &Slab<HashedSlot>, number: Option<SlotNumber>) -> Option<RowView<'_>>
     ensures { result ≡ row_for slots.now number }
 {
-    slots.get(number?)?.view()
+    slots.get(number? as usize)?.view()
 }
 
 // A row or none into the slot of a number, if there is one. The answer is what was in it.
-fn set_row(slots: &mut Slab<HashedSlot>, number: usize, row: Option<Row>) -> Option<Row>
+fn set_row(slots: &mut Slab<HashedSlot>, number: SlotNumber, row: Option<Row>) -> Option<Row>
     ensures row { result ≡ row_of (slab.get slots.old number) }
     ensures set { SetsRow slots.old slots.new number (row) }
 {
-    match slots.get_mut(number) {
+    match slots.get_mut(number as usize) {
         Some(slot) => slot.replace(row),
         None => None,
     }
@@ -357,11 +369,11 @@ fn set_row(slots: &mut Slab<HashedSlot>, number: usize, row: Option<Row>) -> Opt
 
 // An empty slot for a key that has none. The answer is its number, which no slot had.
 fn add_slot<H: BuildHasher + Drop>(
-    numbers: &mut HashMap<Key, usize, H>,
-    order: &mut BTreeMap<Key, usize>,
+    numbers: &mut HashMap<Key, SlotNumber, H>,
+    order: &mut BTreeMap<Key, SlotNumber>,
     slots: &mut Slab<HashedSlot>,
     key: &Key,
-) -> Result<usize, OutOfMemory>
+) -> Result<SlotNumber, OutOfMemory>
     ensures slots { IfOk result (λ number. AddsSlot slots.old slots.new number key.now) }
     ensures order { IfOk result (λ number. Renumbers (number_for order.old.entries) (number_for order.new.entries) key.now (Some number)) }
     ensures hashed { IfOk result (λ number. Renumbers (hash.get (eq_by_cmp key_cmp) numbers.old) (hash.get (eq_by_cmp key_cmp) numbers.new) key.now (Some number)) }
@@ -374,7 +386,7 @@ fn add_slot<H: BuildHasher + Drop>(
     let slot = HashedSlot::of_key(key.copy()?);
     numbers.reserve(1)?;
     slots.reserve(1)?;
-    let number = slots.vacant_key();
+    let number = next_number(slots)?;
     order.insert(own, number)?;
     // There is room for it, so it is not refused.
     let _stood = numbers.insert(name, number);
@@ -382,10 +394,24 @@ fn add_slot<H: BuildHasher + Drop>(
     Ok(number)
 }
 
+// Room for so many more keys and slots.
+fn make_room_for<H: BuildHasher + Drop>(
+    numbers: &mut HashMap<Key, SlotNumber, H>,
+    slots: &mut Slab<HashedSlot>,
+    additional: usize,
+) -> Result<(), OutOfMemory>
+    ensures same_slots { (number : ℕ) → slab.get slots.new number ≡ slab.get slots.old number }
+    ensures same_hashed { SameNumbers (hash.get (eq_by_cmp key_cmp) numbers.old) (hash.get (eq_by_cmp key_cmp) numbers.new) }
+{
+    numbers.reserve(additional)?;
+    slots.reserve(additional)?;
+    Ok(())
+}
+
 // No slot of a key, where no row is in it.
 fn drop_slot<H: BuildHasher + Drop>(
-    numbers: &mut HashMap<Key, usize, H>,
-    order: &mut BTreeMap<Key, usize>,
+    numbers: &mut HashMap<Key, SlotNumber, H>,
+    order: &mut BTreeMap<Key, SlotNumber>,
     slots: &mut Slab<HashedSlot>,
     key: &Key,
 )
@@ -398,15 +424,15 @@ fn drop_slot<H: BuildHasher + Drop>(
     };
     numbers.remove(key);
     order.remove(key);
-    slots.try_remove(number);
+    slots.try_remove(number as usize);
 }
 
 // The number of a key's slot, if no row is in it.
 fn number_of_empty<H: BuildHasher + Drop>(
-    numbers: &HashMap<Key, usize, H>,
+    numbers: &HashMap<Key, SlotNumber, H>,
     slots: &Slab<HashedSlot>,
     key: &Key,
-) -> Option<usize>
+) -> Option<SlotNumber>
     ensures { result ≡ number_to_drop slots.now (hash.get (eq_by_cmp key_cmp) numbers.now key.now) }
 {
     let number = number_of(numbers, key);

@@ -25,6 +25,6 @@ pub mod walk;
 
 pub use hashed::HashedRows;
 pub use ordered::OrderedRows;
-pub use store::RowStore;
+pub use store::{RowStore, SlotNumber};
 pub use view::RowView;
 pub use walk::Walk;

@@ -8,7 +8,7 @@ ghost use Rattle.rows.specs.Kept.{KeepsSlots, IsNumbered, IsSlotted};
 ghost use Rattle.rows.specs.Ordered.{AddsName};
 ghost use Rattle.rows.specs.Slots.{found, with_row_at, row_at, number_at, SameBeside, without_empty, number_of_empty};
 
-use crate::store::RowStore;
+use crate::store::{RowStore, SlotNumber, next_number};
 use crate::view::RowView;
 use crate::walk::Walk;
 use model::{Key, OutOfMemory, Row};
@@ -21,7 +21,7 @@ use std::mem;
 /// A place for a row. It keeps its number while it is there, filled or empty.
 #[derive(Debug, Drop)]
 pub(crate) struct Slot {
-    number: usize,
+    number: SlotNumber,
     row: Option<Row>,
 }
 
@@ -87,7 +87,7 @@ impl OrderedRows {
     }
 
     // The slot of a key that has none.
-    fn make_slot(&mut self, key: &Key) -> Result<usize, OutOfMemory>
+    fn make_slot(&mut self, key: &Key) -> Result<SlotNumber, OutOfMemory>
         requires { map.get self.old.slots key.now ≡ None }
         ensures rows { self.new.rows ≡ self.old.rows }
         ensures slots { KeepsSlots self.old.slots self.new.slots }
@@ -120,15 +120,15 @@ impl RowStore for OrderedRows {
         }
     }
 
-    fn slot(&self, key: &Key) -> Option<usize> {
+    fn slot(&self, key: &Key) -> Option<SlotNumber> {
         number_of(&self.slots, key)
     }
 
-    fn key_at(&self, number: usize) -> Option<&Key> {
-        self.keys.get(number)
+    fn key_at(&self, number: SlotNumber) -> Option<&Key> {
+        self.keys.get(number as usize)
     }
 
-    fn reserve(&mut self, key: &Key) -> Result<usize, OutOfMemory> {
+    fn reserve(&mut self, key: &Key) -> Result<SlotNumber, OutOfMemory> {
         match self.slot(key) {
             Some(number) => Ok(number),
             None => self.make_slot(key),
@@ -168,7 +168,7 @@ impl RowStore for OrderedRows {
 }
 
 // The number of a key's slot, if it has one.
-fn number_of(slots: &BTreeMap<Key, Slot>, key: &Key) -> Option<usize>
+fn number_of(slots: &BTreeMap<Key, Slot>, key: &Key) -> Option<SlotNumber>
     ensures { result ≡ number_at (found slots.now.entries key.now) }
 {
     match slots.get(key) {
@@ -194,7 +194,7 @@ fn add_slot(
     slots: &mut BTreeMap<Key, Slot>,
     keys: &mut Slab<Key>,
     key: &Key,
-) -> Result<usize, OutOfMemory>
+) -> Result<SlotNumber, OutOfMemory>
     requires { found slots.old.entries key.now ≡ None }
     ensures beside { SameBeside slots.old.entries slots.new.entries key.now }
     ensures ok { IfOk result (λ number. (found slots.new.entries key.now ≡ Some (record { number = number; row = None })) × AddsName keys.old keys.new number key.now) }
@@ -203,9 +203,10 @@ fn add_slot(
     let own = key.copy()?;
     let name = key.copy()?;
     keys.reserve(1)?;
-    let number = keys.vacant_key();
+    let number = next_number(keys)?;
     slots.insert(own, Slot { number, row: None })?;
-    Ok(keys.insert_reserved(name))
+    keys.insert_reserved(name);
+    Ok(number)
 }
 
 // No slot at a key, and no key for its number, where no row is in it.
@@ -223,5 +224,5 @@ fn drop_slot(slots: &mut BTreeMap<Key, Slot>, keys: &mut Slab<Key>, key: &Key)
     }
     let number = slot.number;
     slots.remove(key);
-    keys.try_remove(number);
+    keys.try_remove(number as usize);
 }

@@ -8,7 +8,12 @@ use crate::hashed::HashedRows;
 use crate::view::RowView;
 use crate::walk::Walk;
 use model::{Key, OutOfMemory, Row};
+use slab::Slab;
 use std::hash::BuildHasher;
+
+/// The number of a slot, from 0. It takes half a word wherever an index or the key order keeps one; a
+/// store that had a slot for each is refused memory for another.
+pub type SlotNumber = u32;
 
 /// A store of rows by primary key. `reserve` and `put` alone may be refused, and then change no
 /// row; the other calls take no memory and succeed.
@@ -21,18 +26,18 @@ pub trait RowStore: Drop {
         ensures { result ≡ map.get (kept self.now).rows key.now };
 
     /// The number of a key's slot, if it has one.
-    fn slot(&self, key: &Key) -> Option<usize>
+    fn slot(&self, key: &Key) -> Option<SlotNumber>
         ensures number { result ≡ map.get (kept self.now).slots key.now }
         ensures numbered { IsNumbered (kept self.now).slots }
         ensures slotted { IsSlotted (kept self.now) };
 
     /// The key whose slot has this number.
-    fn key_at(&self, number: usize) -> Option<&Key>
+    fn key_at(&self, number: SlotNumber) -> Option<&Key>
         ensures found { IfSome result (λ key. map.get (kept self.now).slots key.now ≡ Some number) }
         ensures missed { IfNone result ((key : Values) → map.get (kept self.now).slots key ≢ Some number) };
 
     /// Makes a slot for a key that has none.
-    fn reserve(&mut self, key: &Key) -> Result<usize, OutOfMemory>
+    fn reserve(&mut self, key: &Key) -> Result<SlotNumber, OutOfMemory>
         ensures rows { (kept self.new).rows ≡ (kept self.old).rows }
         ensures slots { KeepsSlots (kept self.old).slots (kept self.new).slots }
         ensures ok { IfOk result (λ number. map.get (kept self.new).slots key.now ≡ Some number) }
@@ -89,15 +94,15 @@ impl<H: BuildHasher + Drop + Copy> RowStore for HashedRows<H> {
         HashedRows::get(self, key)
     }
 
-    fn slot(&self, key: &Key) -> Option<usize> {
+    fn slot(&self, key: &Key) -> Option<SlotNumber> {
         HashedRows::slot(self, key)
     }
 
-    fn key_at(&self, number: usize) -> Option<&Key> {
+    fn key_at(&self, number: SlotNumber) -> Option<&Key> {
         HashedRows::key_at(self, number)
     }
 
-    fn reserve(&mut self, key: &Key) -> Result<usize, OutOfMemory> {
+    fn reserve(&mut self, key: &Key) -> Result<SlotNumber, OutOfMemory> {
         HashedRows::reserve(self, key)
     }
 
@@ -127,5 +132,15 @@ impl<H: BuildHasher + Drop + Copy> RowStore for HashedRows<H> {
 
     fn wipe(&mut self) -> HashedRows<H> {
         HashedRows::wipe(self)
+    }
+}
+
+// The number of the next slot that is made, if it is one.
+pub(crate) fn next_number<T>(slots: &Slab<T>) -> Result<SlotNumber, OutOfMemory>
+    ensures { IfOk result (λ number. number ≡ slots.now.vacant_key) }
+{
+    match SlotNumber::try_from(slots.vacant_key()) {
+        Ok(number) => Ok(number),
+        Err(_) => Err(OutOfMemory),
     }
 }

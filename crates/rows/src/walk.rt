@@ -7,6 +7,7 @@ ghost use Rattle.rows.specs.Walking.{YieldsRow, rows_by};
 
 use crate::hashed::{HashedSlot, view_at};
 use crate::ordered::Slot;
+use crate::store::SlotNumber;
 use crate::view::RowView;
 use model::Key;
 use slab::Slab;
@@ -31,7 +32,7 @@ pub(crate) enum Left<'a> {
 // The numbers that are left, and the slots that have them.
 #[derive(Debug, Drop)]
 pub(crate) struct Numbers<'a> {
-    numbers: Values<'a, Key, usize>,
+    numbers: Values<'a, Key, SlotNumber>,
     slots: &'a Slab<HashedSlot>,
 }
 
@@ -58,7 +59,7 @@ impl<'a> Walk<'a> {
 
     // Over the slots with these numbers.
     pub(crate) fn over_numbers(
-        numbers: Values<'a, Key, usize>,
+        numbers: Values<'a, Key, SlotNumber>,
         slots: &'a Slab<HashedSlot>,
     ) -> Walk<'a>
         ensures { result ≡ rows_among (map (slot_by slots.now) numbers.entry) }
@@ -109,7 +110,7 @@ fn next_row<'a>(slots: &mut Values<'a, Key, Slot>) -> Option<RowView<'a>>
 
 // The row of the next number whose slot is filled.
 fn next_numbered<'a>(
-    numbers: &mut Values<'a, Key, usize>,
+    numbers: &mut Values<'a, Key, SlotNumber>,
     slots: &'a Slab<HashedSlot>,
 ) -> Option<RowView<'a>>
     ensures { YieldsRow (rows_among (map (slot_by slots.now) numbers.old)) result (rows_among (map (slot_by slots.now) numbers.new)) }

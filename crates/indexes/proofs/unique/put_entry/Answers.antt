@@ -1,7 +1,4 @@
-use Rattle.std.specs.Prelude.{◌≡◌, Some}
-use Rattle.std.proofs.Common.{sym, ◌∙◌, subst}
-use Rattle.model.specs.declared.key.Key.{Key}
-use Rattle.indexes.specs.Unique.{entry_at, SameApart}
+use Rattle.std.proofs.Common.{sym, ◌∙◌}
 use Rattle.indexes.proofs.Entries.{number_put}
 use Rattle.indexes.proofs.unique.put_entry.Goals as goal
 
