@@ -13,6 +13,9 @@ use std::alloc::Global;
 use std::cmp::Ordering;
 use std::hash::{Hash, Hasher};
 
+// So many integers that follow one another are fed to a hasher alike.
+const NEIGHBOURS: u64 = 4;
+
 /// A value of a row, as it is read. A text is lent.
 #[derive(Clone, Copy, Debug)]
 pub enum ValueRef<'a> {
@@ -68,12 +71,13 @@ impl<'a> ValueRef<'a> {
         }
     }
 
-    /// Feeds the value to a hasher.
+    /// Feeds the value to a hasher. Neighbouring integers are fed alike: keys mostly come in order, and
+    /// then lie together in a table of hashes.
     pub fn feed<S: Hasher>(self, state: &mut S)
         ensures { state.new ≡ fold S.write state.old (value_writes (read_value self.entry)) }
     {
         match self {
-            ValueRef::Int(number) => number.hash(state),
+            ValueRef::Int(number) => (number.cast_unsigned() / NEIGHBOURS).hash(state),
             ValueRef::Text(text) => text.hash(state),
             ValueRef::Bool(truth) => truth.hash(state),
         }

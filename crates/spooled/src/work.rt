@@ -1,6 +1,7 @@
 // The tables while work is open in them.
 ghost use Rattle.std.specs.Prelude.{◌≡◌, ◌<◌, [], ◌∷◌, ◌++◌, OnOk, OnErr, IfErr, All, length, map};
 ghost use Rattle.model.specs.Effect.{all_back, serial};
+ghost use Rattle.indexes.specs.Content.{Keeps};
 ghost use Rattle.change.specs.Inverse.{edits_of};
 ghost use Rattle.change.specs.Refusal.{HasNoClash, ClashesAs};
 ghost use Rattle.undo.specs.Undo.{CanUndo};
@@ -12,7 +13,7 @@ ghost use Rattle.spooled.specs.Work.{IsClear, ClashesIn, rows_now};
 use change::Clash;
 use engine::Changes;
 use indexes::Tables;
-use model::{Change, Xid};
+use model::{Change, OutOfMemory, Xid};
 use savepoint::Item;
 use std::alloc::Global;
 use std::marker::Model;
@@ -110,6 +111,7 @@ impl Work {
         ensures refused { IfErr result (ClashesIn self.old.schema (rows_now self.old) (changes_of items.items)) }
         ensures err { OnErr result (self.new ≡ self.old) }
     {
+        make_room(alloc, &mut self.tables, &items);
         if let Err(clash) = apply_each(alloc, &mut self.tables, &mut self.undo, &items) {
             self.undo.undo_to(&mut self.tables, 0);
             return Err(clash);
@@ -141,6 +143,41 @@ impl Work {
         undo.undo_to(&mut tables, 0);
         tables
     }
+}
+
+// Room in each table for the rows that items put into it, so that the tables grow once and not again
+// and again. Where memory for it is refused, they grow as the rows come.
+fn make_room(alloc: Global, tables: &mut Tables, items: &[Item])
+    ensures schema { tables.new.schema ≡ tables.old.schema }
+    ensures rows { tables.new.rows ≡ tables.old.rows }
+    ensures room { Keeps tables.old.room tables.new.room }
+{
+    let Ok(counts) = count_rows(alloc, tables.len(), items) else {
+        return;
+    };
+    for table in 0..tables.len() {
+        let count = counts.get(table).copied().unwrap_or(0);
+        if tables.make_room(table, count).is_err() {
+            return;
+        }
+    }
+}
+
+// How many rows items put into each of so many tables.
+fn count_rows(alloc: Global, tables: usize, items: &[Item]) -> Result<Vec<usize>, OutOfMemory> {
+    let mut counts = vec![in alloc; 0; tables]?;
+    for item in items {
+        if let Item::Change {
+            change: Change::Put { table, .. },
+            ..
+        } = item
+        {
+            if let Some(count) = counts.get_mut(*table) {
+                *count = usize::saturating_add(*count, 1);
+            }
+        }
+    }
+    Ok(counts)
 }
 
 /// Applies the changes of items in turn, and logs what takes each back. A refusal leaves those before

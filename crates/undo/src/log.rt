@@ -65,7 +65,7 @@ impl UndoLog {
         self.inverses.push_reserved(inverse);
     }
 
-    /// Applies a change, and logs what takes it back. A refusal changes no row.
+    /// Applies a change, and logs what takes it back. A refusal changes no row, and logs nothing.
     pub fn apply(&mut self, alloc: Global, t: &mut Tables, change: &Change) -> Result<(), Clash>
         requires tables { NamesTables (length t.old.schema) change.now }
         requires can { CanUndo t.old self.old.inverses }
@@ -73,6 +73,7 @@ impl UndoLog {
         ensures ok { OnOk result (t.new.rows ≡ effect t.old.schema t.old.rows change.now) }
         ensures refused { IfErr result (ClashesAs t.old.schema t.old.rows change.now) }
         ensures err { OnErr result (t.new.rows ≡ t.old.rows) }
+        ensures kept { OnErr result (self.new.inverses ≡ self.old.inverses) }
         ensures base { all_back t.new.rows (map edits_of self.new.inverses) ≡ all_back t.old.rows (map edits_of self.old.inverses) }
         ensures schema { t.new.schema ≡ t.old.schema }
         ensures can { CanUndo t.new self.new.inverses }
