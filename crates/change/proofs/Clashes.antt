@@ -121,10 +121,6 @@ module _ (schema : Schema) (rows : Rows) (table : ℕ) (row : Row) (i : ℕ) whe
   pub first_taken_passed : i < length (keys_at schema table).uniques → (whole : Option ℕ) → are_next_taken ≡ false → told ≡ whole → told_later ≡ whole
   first_taken_passed below whole none far = sym (first_told below false none) ∙ far
 
--- past the last there is none
-pub first_taken_end : (rows : Rows) (table : ℕ) (row : Row) (uniques : List (List ℕ)) (i : ℕ) → length uniques ≤ i → first_taken rows table row (i + 1) (drop i uniques) ≡ None
-first_taken_end rows table row uniques i past = ap (first_taken rows table row (i + 1)) (drop_of_length-le uniques past)
-
 -- ---- as the search answers
 
 pub not_found : {X : Type 0} (found : Option X) (b : Bool) → is_some found ≡ b → found ≡ None → b ≡ false

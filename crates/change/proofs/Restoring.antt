@@ -43,9 +43,6 @@ module _ (t : Content) (table : ℕ) (new_key key : Key) (row : Row) (can : CanP
 pub last_of : {X : Type 0} (all rest : List X) (last : X) (popped : Option X) → popped ≡ Some last → all ≡ rest ++ option_to_list popped → all ≡ rest ++ last ∷ []
 last_of all rest last popped is split = split ∙ ap (λ o. rest ++ option_to_list o) is
 
-pub nothing_left : {X : Type 0} (all rest : List X) (popped : Option X) → popped ≡ None → all ≡ rest ++ option_to_list popped → all ≡ rest
-nothing_left all rest popped is split = split ∙ ap (λ o. rest ++ option_to_list o) is ∙ append-nil rest
-
 -- ---- one emptied table gets back what it held
 
 not_false : (b : Bool) → not b ≡ true → b ≡ false

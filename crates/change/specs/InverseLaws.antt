@@ -56,9 +56,6 @@ empty_more rows (first ∷ ws) w empty last =
 pub Keeps_all : (room : List Cell) → Keeps room room
 Keeps_all room cell is = is
 
-pub Keeps_trans : (a b c : List Cell) → Keeps a b → Keeps b c → Keeps a c
-Keeps_trans a b c first second cell is = second cell (first cell is)
-
 pub Keeps_append : (a b c d : List Cell) → Keeps a c → Keeps b d → Keeps (a ++ b) (c ++ d)
 Keeps_append a b c d front rear cell is =
     elim (Contains-append_cases a b cell is) [

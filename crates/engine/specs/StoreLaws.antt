@@ -11,7 +11,7 @@
 --     store_opened, store_ended      a transaction opens; one ends
 --     store_aborted, store_committed      it is aborted; it is committed, and the journal has its entry, for which there is room
 --     store_rising, store_serial      the ends of the journal's entries rise, and its changes make the committed rows
---     first_named, store_rows_after      the rows of a table after the first entries
+--     store_rows_after      the rows of a table after the first entries
 use Rattle.std.proofs.Common.{◌≡◌, ℕ, zero, suc, ◌+◌, ◌-◌, ◌<◌, ◌≤◌, Vec, Global, Bool, true, false, List, [], ◌∷◌, ◌++◌, Option, Some, None, refl, sym, ap, subst, ◌∙◌, inl, inr, arith}
 use Rattle.std.specs.Prelude.{Result, Ok, Err, All, cond, if◌then◌else◌, is_some, IsSome, IfSome, length, map, take, option_map, vec_len, vec_capacity}
 use Rattle.std.specs.List.Sorted.{IsStrictlyIncreasing}
@@ -421,12 +421,6 @@ module _ (s : Inside) (is : IsStore s) where
       sym (ap (rows_after s.live.tables.schema s.start.rows) is.told ∙ entries_are_serial s.live.tables.schema s.start.rows (commits_in s.line.list))
 
   module _ (table count : ℕ) where
-    -- the changes of the first entries name tables that are there
-    pub first_named : AreNamed s.start.schema (take count s.journal.items)
-    first_named =
-        still_named s.live.tables.schema s.start.schema (take count s.journal.items) is.schema
-        (All-take (λ (e : Entry). All (NamesTables (length s.live.tables.schema)) e.changes) count s.journal.items is.named)
-
     -- the rows of a table after them
     pub store_rows_after : rows_of_table (rows_after s.start.schema s.start.rows (map entry_in (take count s.journal.items))) table
         ≡ rows_of_table (serial s.live.tables.schema s.start.rows (changes_in (take count (commits_in s.line.list)))) table

@@ -122,10 +122,6 @@ entry_dropped old new values none gone beside = record {
   beside = beside;
 }
 
--- one that had a number stays, and where there is none nothing changes
-pub no_entry_dropped : (entries : Entries) (values : Key) → (held entries values ≡ None → entry_at entries values ≡ None) → DropsEntry values entries entries
-no_entry_dropped entries values gone = record { gone = gone; numbers = λ other. refl; fewer = λ other some. some; beside = λ other apart. refl }
-
 pub value_of_some : (o : Option Key) → is_some o ≡ true → (values : Key) × (o ≡ Some values)
 value_of_some None e = absurd cc
 value_of_some (Some values) e = (values, refl)

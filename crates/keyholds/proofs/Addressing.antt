@@ -87,10 +87,6 @@ pub at_ok : {T E : Type 0} (r : Result T E) (P : Type 0) → is_err r ≡ false 
 at_ok (Ok x) P e h = h
 at_ok (Err x) P e h = absurd cc
 
-pub at_err : {T E : Type 0} (r : Result T E) (P : Type 0) → is_err r ≡ true → OnErr r P → P
-at_err (Ok x) P e h = absurd cc
-at_err (Err x) P e h = h
-
 module _ (cell : Cell) (table : ℕ) (is : table ≡ table_of cell) (old new : Addresses) where
   pub adds_address : (address : Address) → Updates (eq_by_cmp cell_cmp) old.addresses new.addresses cell (Some address) → SetsCount table address.xid (count_in old.counts.counts table address.xid + 1) old.counts.counts new.counts.counts → AddsAddress cell address old new
   adds_address address step count = record {

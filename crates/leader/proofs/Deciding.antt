@@ -113,9 +113,6 @@ module _ (old new : World) (less : IsLessOpen old new) where
 pub gone_more : (w : World) (hand : Hand) (slot : Option Own) → AreGone w hand → AreGone w (slot ∷ []) → AreGone w (hand ++ slot ∷ [])
 gone_more w hand slot = All-append (λ o. IfSome o (λ (h : Own). get w.opened h.xid ≡ None)) hand (slot ∷ [])
 
-pub less_itself : (w : World) → IsLessOpen w w
-less_itself w = record { opened = λ xid done at. at; stopped = refl }
-
 pub less_again : (v w new : World) → IsLessOpen v w → IsLessOpen w new → IsLessOpen v new
 less_again v w new first second = record {
   opened = λ xid done at. first.opened xid done (second.opened xid done at);

@@ -289,12 +289,6 @@ module _ (n xid : ℕ) (events : List PostEvent) (taker : Option (Taking Item)) 
         back = subst (λ b. MatchOption b (Unit {0}) (IsBack tickets xid (own_items (given_before after.list)) collected)) (sym eb) tt;
       }
 
-  pub ok_added : {E : Type 0} (r : Result (Unit {0}) E) (item : Item) (given : Given) (token after : Half PostEvent) → token.list ≡ events → now.goes ≡ Some given → now.back ≡ None
-      → OnOk r (after ≡ record token { list = token.list ++ WasGiven item ∷ [] }) → OnOk r (AddsTo now item (laned n xid after.list taker ticket collected))
-  ok_added (Ok u) item given token after list gone none told =
-      subst (λ l. AddsTo now item (laned n xid l taker ticket collected)) (ap (λ (l : List PostEvent). l ++ WasGiven item ∷ []) (sym list) ∙ sym (ap (λ (h : Half PostEvent). h.list) told)) (added item given gone none)
-  ok_added (Err e) item given token after list gone none told = tt
-
   -- its worker gave its transaction back
   pub came_back : (taker_now : Taking Item) (k : OpenList Event) (its_collected : Collected) (given : Given) → now.goes ≡ Some given → now.back ≡ None → IsDoing (done_by k) (own_items (given_since events))
       → ComesBack now its_collected (laned n xid (events ++ Begun ∷ []) (Some taker_now) (Some k) its_collected)

@@ -58,9 +58,6 @@ same_lane l k e = cc
 none_is : {X : Type 0} (x : X) → None ≡ Some x → ⊥
 none_is x e = cc
 
-not_some : (d : Opened) → true ≡ is_some (Some d)
-not_some d = refl
-
 is_spooled : (way : Way) → (way ≢ Spooled → ⊥) → way ≡ Spooled
 is_spooled Direct not = absurd (not (λ e. cc))
 is_spooled Worker not = absurd (not (λ e. cc))

@@ -53,13 +53,6 @@ use Rattle.leader.proofs.Serving.{Committing, begun_agreed, handed_out_agreed, s
 
 -- ---- names
 
--- an item of these tables is one whose changes name them
-pub changes_named : (count : ℕ) (item : Item) → IsOfTables count item → All (NamesTables count) (changes_of (item ∷ []))
-changes_named count (Change sub c) is = All-cons (NamesTables count) c [] is (All-nil (NamesTables count))
-changes_named count (Touch sub) is = All-nil (NamesTables count)
-changes_named count (BackTo sub) is = All-nil (NamesTables count)
-changes_named count Last is = All-nil (NamesTables count)
-
 module _ (count : ℕ) (m : OpenTransactions) (xid : ℕ) (named : AreNamed count m) where
   named_insert : (o : Open) → All (IsOfTables count) (map item_of o.items) → AreNamed count (finite.insert m xid o)
   named_insert o is = λ q found there.

@@ -1,5 +1,5 @@
 -- The laws of effects.
---     row_outcome_null, row_outcome_there, row_outcome_taken, row_outcome_free      what comes of a row that comes into its table
+--     row_outcome_taken, row_outcome_free      what comes of a row that comes into its table
 --     effect_skipped, effect_clashed, ..      what a change that does nothing leaves
 --     get_wiped, get_effect_wipe, ..      what stands at a place after a wipe, and what its inverse puts there
 --     effect_valid, serial_valid      changes keep rows valid
@@ -22,20 +22,11 @@ use Rattle.model.specs.ValidLaws.{valid_fewer, valid_remove, valid_insert}
 -- ---- a row that comes into its table
 
 module _ (schema : Schema) (rows : Rows) (edits : Edits) (table : ℕ) (row : Row) where
-  -- a null in its primary key
-  pub row_outcome_null : key_of schema table row ≡ None → row_outcome schema rows edits table row ≡ Clashes (NullKey table)
-  row_outcome_null null = ap (row_outcome_at schema rows edits table row) null
-
   abbrev unless_there : Key → Option Row → Outcome
   unless_there key there =
       if is_some there
       then Clashes (Unique table 0)
       else unless_taken table (first_taken rows table row 1 (keys_at schema table).uniques) (insert edits (table, key) (Some row))
-
-  -- a row stands at its key
-  pub row_outcome_there : (key : Key) (other : Row) → key_of schema table row ≡ Some key → get rows (table, key) ≡ Some other
-      → row_outcome schema rows edits table row ≡ Clashes (Unique table 0)
-  row_outcome_there key other own there = ap (row_outcome_at schema rows edits table row) own ∙ ap (unless_there key) there
 
   -- another row has its values in a unique key
   pub row_outcome_taken : (key : Key) (number : ℕ) → key_of schema table row ≡ Some key → get rows (table, key) ≡ None

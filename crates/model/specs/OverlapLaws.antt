@@ -101,23 +101,11 @@ shares_either_way cells [] e = refl
 shares_either_way cells (other ∷ others) e =
     neither _ _ (apart_first cells other others e) (shares_either_way cells others (apart_rest cells other others e))
 
-pub apart_append : (cells others more : List Cell) → shares_cell cells others ≡ false
-    → shares_cell cells more ≡ false → shares_cell cells (others ++ more) ≡ false
-apart_append cells others more p q =
-    shares_either_way (others ++ more) cells
-    (shares_append others more cells ∙ neither _ _ (shares_either_way cells others p) (shares_either_way cells more q))
-
 pub apart_from_first : (cells others more : List Cell) → shares_cell cells (others ++ more) ≡ false
     → shares_cell cells others ≡ false
 apart_from_first cells others more e =
     shares_either_way others cells
     (neither_first _ _ (sym (shares_append others more cells) ∙ shares_either_way cells (others ++ more) e))
-
-pub apart_from_second : (cells others more : List Cell) → shares_cell cells (others ++ more) ≡ false
-    → shares_cell cells more ≡ false
-apart_from_second cells others more e =
-    shares_either_way more cells
-    (neither_second _ _ (sym (shares_append others more cells) ∙ shares_either_way cells (others ++ more) e))
 
 -- each cell of the others is free of the list
 pub free_of_each : (cells others : List Cell) → shares_cell cells others ≡ false

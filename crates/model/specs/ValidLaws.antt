@@ -1,5 +1,5 @@
 -- What keeps rows valid.
---     valid_empty, valid_fewer      no rows, and some of valid rows
+--     valid_fewer      some of valid rows
 --     valid_insert      with a row at its own key, whose unique values no other row of its table has
 --     own_key_of_valid, free_of_valid      what a row needs that is put back into rows that are valid with it
 use Rattle.std.specs.Prelude.{refl, ◌≡◌, ℕ, Bool, true, false, cond, List, Option, Some, None, slice_get}
@@ -16,12 +16,6 @@ use Rattle.model.specs.TakenLaws.{not_taken_row, row_of_taken, first_taken_none,
 
 pub not_none : {X : Type 0} (x : X) → ¬ (None ≡ Some x)
 not_none x e = cc
-
-pub valid_empty : (schema : Schema) → IsValid schema map.empty
-valid_empty schema = record {
-  own_key = λ table key row at. absurd (not_none row (sym (get-empty place_cmp (table, key)) ∙ at));
-  unique = λ table i columns key other row twin values is_unique at again has same. absurd (not_none row (sym (get-empty place_cmp (table, key)) ∙ at));
-}
 
 -- each row of the one stands in the other
 abbrev pub IsPart : Rows → Rows → Type 0

@@ -15,17 +15,6 @@ pub begins_longer : (front ends more : List ℕ) → Begins front ends → Begin
 begins_longer front ends more b =
     (b.0 ++ more, ap (λ l. l ++ more) b.1 ∙ append_assoc front b.0 more)
 
-pub begins_later : (front middle ends : List ℕ) → Begins front middle → Begins middle ends
-    → Begins front ends
-begins_later front middle ends a b =
-    (a.0 ++ b.0, b.1 ∙ ap (λ l. l ++ b.0) a.1 ∙ append_assoc front a.0 b.0)
-
--- a later position has no fewer commits
-pub begins_count : (front ends : List ℕ) → Begins front ends → length front ≤ length ends
-begins_count front ends b =
-    let count : length ends ≡ length front + length b.0 = ap length b.1 ∙ length-append front b.0 in
-    omega arith
-
 last_or-push : (o : Option ℕ) (ends : List ℕ) (end : ℕ) → last_or o (ends ++ end ∷ []) ≡ Some end
 last_or-push o [] end = refl
 last_or-push o (e ∷ ends) end = last_or-push (Some e) ends end

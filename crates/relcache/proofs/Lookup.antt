@@ -72,9 +72,3 @@ module _ (fields : List Field) (tuple : List Column) where
       next i before has_null d within so_far
       ∙ ap (λ o. key_from before has_null (with_next o (each (field_value tuple) (drop (i + 1) fields)))) none.0
       ∙ ap Err none.1
-
-  pub KeySoFar-all : (i : ℕ) (before : List Value) → length fields ≤ i → KeySoFar fields tuple i before false → lookup_key fields tuple ≡ Ok before
-  KeySoFar-all i before past so_far =
-      so_far
-      ∙ ap (key_from before false) (at_drop_all (each (field_value tuple)) fields i past)
-      ∙ ap Ok (append-nil before)

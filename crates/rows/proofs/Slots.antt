@@ -91,9 +91,6 @@ module _ (es fs : List (Key × Slot)) (key : Key) (beside : SameBeside es fs key
   rows_in-taken is =
       rows_in-emptied es fs key beside (ap row_at here ∙ ap (λ r. row_at (with_row_at r (found es key))) is ∙ row_emptied (found es key))
 
-refused_slot : (o p : Option Slot) → o ≡ None → p ≡ None → o ≡ p
-refused_slot o p e f = e ∙ sym f
-
 row_left : (s : Slot) (row : Option Row) → s.row ≡ row → row_at (kept_if_filled s row) ≡ row
 row_left s None is = refl
 row_left s (Some row) is = is
@@ -143,9 +140,6 @@ found-none es key e = absent_of_number (found es key) (sym (get-numbers_in es ke
 -- what a look-up in the slots answers is what the rows have
 pub found_row : (kept : FinMap key_cmp Row) (es : List (Key × Slot)) (q : Key) (o : Option Row) → rows_in es ≡ kept → o ≡ row_at (found es q) → o ≡ get kept q
 found_row kept es q o is e = e ∙ sym (get-rows_in es q) ∙ ap (λ m. get m q) is
-
-pub found_number : (kept : FinMap key_cmp ℕ) (es : List (Key × Slot)) (q : Key) (o : Option ℕ) → numbers_in es ≡ kept → o ≡ number_at (found es q) → o ≡ get kept q
-found_number kept es q o is e = e ∙ sym (get-numbers_in es q) ∙ ap (λ m. get m q) is
 
 -- a slot more keeps the others
 pub slots_kept_by_insert : (slots : FinMap key_cmp ℕ) (key : Key) (at : ℕ) → get slots key ≡ None → (other : Key) (number : ℕ) → get slots other ≡ Some number → get (insert slots key at) other ≡ Some number

@@ -173,10 +173,6 @@ mark_at-savepoints sub items = mark_at-with_marks_of sub [] items refl
 pub before_mark-savepoints : {M : Type 0} (sub : ℕ) (items : List (Item × M)) → before_mark sub (savepoints items) ≡ savepoints (before_first sub items)
 before_mark-savepoints sub items = before_mark-with_marks_of sub [] items refl
 
--- a cut leaves the items that stand before the savepoint
-pub before_first-before_savepoint : {M : Type 0} (sub : ℕ) (items : List (Item × M)) → map (λ i. i.0) (before_first sub items) ≡ before_savepoint sub (map (λ i. i.0) items)
-before_first-before_savepoint {M} sub items = items_before (λ (i : Item × M). i.0) sub items
-
 -- Each mark tells how many items stand before it, from n on.
 abbrev pub IsNumbered : {M : Type 0} → (M → ℕ) → ℕ → List (Item × M) → Type 0
 IsNumbered index n [] = Unit {0}
@@ -200,13 +196,6 @@ first_mark-index {M} index n sub (i ∷ items) mark h e =
     let rest = first_mark-index index (suc n) sub items mark h.1 later in
     rw other (omega (arith, rest)))
     (cases_Bool (is_of sub i.0))
-
--- a cut to the mark of a subtransaction is a cut to its savepoint
-pub take_index : {M : Type 0} (index : M → ℕ) (sub : ℕ) (items : List (Item × M)) (mark : M) → IsNumbered index 0 items → mark_at sub (savepoints items) ≡ Some mark → take (index mark) items ≡ before_first sub items
-take_index index sub items mark h e =
-    let at = first_mark-index index 0 sub items mark h (sym (mark_at-savepoints sub items) ∙ e) in
-    let same : index mark ≡ count_before_first sub items = omega (arith, at) in
-    ap (λ n. take n items) same
 
 before_first-none : {M : Type 0} (sub : ℕ) (items : List (Item × M)) → first_mark sub items ≡ None → before_first sub items ≡ items
 before_first-none sub [] e = refl

@@ -163,9 +163,6 @@ line_at : (g : Setting) (h : State) (size : ℕ) (sub : Option ℕ) (planned : R
     → change_line g h size sub planned ≡ at phase (refuse NotInTransaction) (λ xid final. changes g h xid xid size planned) (λ xid. changes g h xid (subtransaction_named sub xid) size planned)
 line_at g h size sub planned phase e = ap (λ p. at p (refuse NotInTransaction) (λ xid final. changes g h xid xid size planned) (λ xid. changes g h xid (subtransaction_named sub xid) size planned)) e
 
-pub line_outside : (g : Setting) (h : State) (size : ℕ) (sub : Option ℕ) (planned : Result change_type.Change RelFault) → h.phase ≡ Outside → change_line g h size sub planned ≡ refuse NotInTransaction
-line_outside g h size sub planned e = line_at g h size sub planned Outside e
-
 pub line_begun : (g : Setting) (h : State) (size : ℕ) (sub : Option ℕ) (xid final : ℕ) (o : Open) (planned : Result change_type.Change RelFault) → h.phase ≡ Begun xid final → map.get h.transactions xid ≡ Some o → has_room g h.transactions size o.way ≡ true
     → change_line g h size sub planned ≡ plans planned (λ c. gives h xid (Change xid c) size o)
 line_begun g h size sub xid final o planned e some room = line_at g h size sub planned (Begun xid final) e ∙ changes-room g h xid xid size o planned some room

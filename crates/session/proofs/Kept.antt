@@ -28,10 +28,6 @@ use Rattle.session.specs.KeptTransactions.{kept_part, Keeps, IsOpened, IsStreame
 use Rattle.session.specs.Kept.{is_spool, is_spooled, is_spooled_open, bytes_kept, kept_more, back_of, without_last, cut_back}
 use Rattle.session.proofs.Totals.{get-insert_same, insert-insert, insert_same, total-insert_absent, total-insert, total-remove}
 
--- what is kept of a transaction
-abbrev pub keeping : ℕ → Open → OpenTransaction
-keeping xid o = kept_part xid o.items o.way
-
 -- The map has just what is kept of the open transactions.
 abbrev pub WaysAre : BTreeMap ℕ OpenTransaction → OpenTransactions → Type 0
 WaysAre ways m = (xid : ℕ) → get nat_cmp ways xid ≡ option_map (λ (o : Open). kept_part xid o.items o.way) (map.get m xid)

@@ -93,9 +93,6 @@ none_begun p e = ap begun_at e
 pub nothing_begun : (p : Phase) (xid : ℕ) → p ≡ Outside → (x : ℕ) → begun_at p ≡ Some x → x ≡ xid
 nothing_begun p xid e x begun = let no : None ≡ Some x = sym (none_begun p e) ∙ begun in cc
 
-pub only_begun : (p : Phase) (xid final : ℕ) → p ≡ Begun xid final → (x : ℕ) → begun_at p ≡ Some x → x ≡ xid
-only_begun p xid final e x begun = let same : Some xid ≡ Some x = sym (ap begun_at e) ∙ begun in cc
-
 -- the session once it is in this phase and has these transactions, with the relations and the position of before
 stands_moved : (g : Setting) (v w : session_type.Session) (h : State) (phase : Phase) (m : OpenTransactions) → Represents g v h → IsHere phase m → GoesAlone phase m → Keeps g w.transactions m
     → w.phase ≡ phase → w.relations ≡ v.relations → w.position ≡ v.position → Represents g w (record h { phase = phase; transactions = m })
@@ -285,9 +282,6 @@ closes-admitted g v w h xid commit end way step represents was only later phase 
 
 pub follows_outside : (g : Setting) (v : session_type.Session) (h : State) (next : Next) (b : ℕ → ℕ → Next) (c : ℕ → Next) (result : Result Step Refused) → h.phase ≡ Outside → AnswersMessage g v h next result → AnswersMessage g v h (at h.phase next b c) result
 follows_outside g v h next b c result e follows = let P : Next → Type 0 = λ n. AnswersMessage g v h n result in subst P (sym (ap (λ p. at p next b c) e)) follows
-
-pub follows_begun : (g : Setting) (v : session_type.Session) (h : State) (xid final : ℕ) (a : Next) (next : ℕ → ℕ → Next) (c : ℕ → Next) (result : Result Step Refused) → h.phase ≡ Begun xid final → AnswersMessage g v h (next xid final) result → AnswersMessage g v h (at h.phase a next c) result
-follows_begun g v h xid final a next c result e follows = let P : Next → Type 0 = λ n. AnswersMessage g v h n result in subst P (sym (ap (λ p. at p a next c) e)) follows
 
 pub follows_block : (g : Setting) (v : session_type.Session) (h : State) (xid : ℕ) (a : Next) (b : ℕ → ℕ → Next) (next : ℕ → Next) (result : Result Step Refused) → h.phase ≡ Block xid → AnswersMessage g v h (next xid) result → AnswersMessage g v h (at h.phase a b next) result
 follows_block g v h xid a b next result e follows = let P : Next → Type 0 = λ n. AnswersMessage g v h n result in subst P (sym (ap (λ p. at p a b next) e)) follows

@@ -98,12 +98,6 @@ spool_bytes transactions = sum_by (λ (t : ℕ × Open). spool_bytes_of t.0 t.1.
 
 -- ---- what each state is
 
--- the way is direct
-abbrev pub is_direct : Way → Bool
-is_direct Direct = true
-is_direct Worker = false
-is_direct Spooled = false
-
 -- The transaction that was begun is open and goes directly; that of a block is open and streamed.
 abbrev pub IsHere : Phase → OpenTransactions → Type 0
 IsHere Outside transactions = Unit {0}

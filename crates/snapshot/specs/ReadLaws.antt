@@ -4,7 +4,7 @@
 --     positions_told      they are those of the commits that the line tells
 --     sees_more      a look at the line
 --     within_line      how many commits come before one
---     committed_told, rows_told      the rows that a store reads are those of these commits
+--     rows_told      the rows that a store reads are those of these commits
 --     one_position      where commits end above one another, one number of them ends at a position
 use Rattle.std.proofs.Common.{◌≡◌, ◌≢◌, ℕ, zero, suc, ◌+◌, ◌<◌, ◌≤◌, List, [], ◌∷◌, ◌++◌, length, get_or, take, map, Option, Some, refl, sym, ap, subst, ◌∙◌, inl, inr, arith}
 use Rattle.std.specs.Prelude.{slice_get, option_map}
@@ -79,10 +79,6 @@ module _ (s : Engine) (told : s.world.line ≡ commits_in s.line.list) where
     positions_told entries is =
         ap (λ (ends : List ℕ). 0 ∷ ends) (ends_told entries s.world.line is)
         ∙ ap (λ (commits : List Past). 0 ∷ map (λ (p : Past). p.info.end) commits) commits_told
-
-    pub committed_told : (schema : Schema) (start : Rows) → s.world.committed ≡ serial schema start (changes_in s.world.line)
-        → s.world.committed ≡ serial schema start (changes_in (commits_in seen.list))
-    committed_told schema start is = is ∙ ap (λ (commits : List Past). serial schema start (changes_in commits)) commits_told
 
     pub rows_told : (schema : Schema) (start : Rows) (count : ℕ) → s.world.start ≡ start
         → serial schema s.world.start (changes_in (take count s.world.line)) ≡ serial schema start (changes_in (take count (commits_in seen.list)))

@@ -157,13 +157,6 @@ opens_alike w xid (Err TooManyOpen) new step = still_alike w new xid step.3
 opens_alike w xid (Err Stopped) new step = still_alike w new xid step.1
 opens_alike w xid (Err OutOfMemory) new step = still_alike w new xid step.3
 
--- a call that is refused opens nothing
-pub refused_alike : (w : World) (xid : ℕ) (fault : Fault) (new : World) → Opens w xid (Err fault) new → new ≡ w
-refused_alike w xid AlreadyOpen new step = step.2
-refused_alike w xid TooManyOpen new step = step.3
-refused_alike w xid Stopped new step = step.1
-refused_alike w xid OutOfMemory new step = step.3
-
 pub acts_alike : (schema : Schema) (w : World) (xid : ℕ) (o : Opened) (sub : ℕ) (c : change_type.Change) (answer : Result Acted Fault) (new : World)
     → Acts schema w xid o sub c answer new → AreOpenBeside xid w.opened new.opened
 acts_alike schema w xid o sub c (Ok IsDone) new step = put_alike w new xid _ (opened_of new _ step.3)

@@ -1,5 +1,6 @@
 //! What no clause says: payloads from outside, and what they must read as.
 
+ghost use Rattle.std.specs.Prelude.{IfOk};
 ghost use Rattle.messages.specs.Messages.{HasXid};
 
 use super::hex::from_hex;
@@ -181,11 +182,19 @@ fn each_prefix_is_short_or_has_the_same_fault(rt: HostRuntime) -> Result<(), Fai
 fn what_is_read_is_written_again(rt: HostRuntime) -> Result<(), Fail> {
     for line in CASES.lines() {
         let (payload, in_block, _) = case_of(rt.alloc(), line)?;
-        if let Ok(m) = decode(rt.alloc(), &payload, in_block) {
+        if let Ok(m) = read(rt.alloc(), &payload, in_block) {
             assert_written(rt.alloc(), &m, in_block, payload.as_slice())?;
         }
     }
     Ok(())
+}
+
+// The message that a payload spells. Of what `decode` tells only this is asked where the message is
+// written again; a proof that has all of it before it takes a minute.
+fn read(alloc: Global, payload: &Bytes, in_block: bool) -> Result<Message, MsgFault>
+    ensures { IfOk result (λ m. HasXid in_block m) }
+{
+    decode(alloc, payload, in_block)
 }
 
 // The message is written as this payload, behind what is there.
@@ -270,7 +279,7 @@ const PRINTED: [(&str, bool, &str); 12] = [
 // The digits read as a message that prints so, and the message is written as they are.
 fn assert_read(alloc: Global, digits: &str, in_block: bool, want: &str) -> Result<(), Fail> {
     let payload = Bytes::from_vec(from_hex(alloc, digits)?)?;
-    let m = decode(alloc, &payload, in_block)?;
+    let m = read(alloc, &payload, in_block)?;
     let text = printed(alloc, &m)?;
     assert_same(text.as_str(), want, digits)?;
     assert_written(alloc, &m, in_block, payload.as_slice())
@@ -307,7 +316,7 @@ fn check(alloc: Global, m: &Message, in_block: bool, digits: &str) -> Result<(),
 {
     let payload = Bytes::from_vec(from_hex(alloc, digits)?)?;
     assert_written(alloc, m, in_block, payload.as_slice())?;
-    let again = decode(alloc, &payload, in_block)?;
+    let again = read(alloc, &payload, in_block)?;
     assert_same(
         printed(alloc, &again)?.as_str(),
         printed(alloc, m)?.as_str(),
@@ -452,7 +461,7 @@ fn answers_where_memory_is_refused(rt: HostRuntime) -> Result<(), Fail> {
         let Ok(payload) = Bytes::copy_from_slice(rt.alloc(), bytes) else {
             continue;
         };
-        match decode(rt.alloc(), &payload, in_block) {
+        match read(rt.alloc(), &payload, in_block) {
             Ok(m) => assert_written_or_refused(rt.alloc(), &m, in_block, bytes)?,
             Err(fault) => assert_same(fault, MsgFault::OutOfMemory, "fault")?,
         }
