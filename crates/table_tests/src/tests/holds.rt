@@ -35,19 +35,31 @@ fn hold(
     Ok(None)
 }
 
-#[test]
-fn a_cell_of_another_is_not_free(rt: HostRuntime) -> Result<(), Fail> {
-    let alloc = rt.alloc();
+// 700 holds a row of the accounts, and 701 values of their first unique key.
+fn two_held(rt: &impl Abort, alloc: Global) -> Result<Holds<i64>, Fail> {
     let mut holds = Holds::new(alloc);
     let first = row(alloc, ACCOUNTS, 1)?;
     assert_eq!(rt; hold(alloc, &mut holds, 700, first, 0)?, None);
     let taken = values(alloc, ACCOUNTS, 1, 8)?;
     assert_eq!(rt; hold(alloc, &mut holds, 701, taken, 0)?, None);
+    Ok(holds)
+}
 
+#[test]
+fn a_cell_of_another_is_not_free(rt: HostRuntime) -> Result<(), Fail> {
+    let alloc = rt.alloc();
+    let holds = two_held(&rt, alloc)?;
     let both = [values(alloc, ACCOUNTS, 1, 8)?, row(alloc, ACCOUNTS, 1)?];
     assert_eq!(rt; holds.free_for(702, &both), Some(701), "the first decides");
     assert_eq!(rt; holds.free_for(701, &both), Some(700));
     assert_eq!(rt; holds.free_for(700, &both), Some(701));
+    Ok(())
+}
+
+#[test]
+fn other_cells_are_free(rt: HostRuntime) -> Result<(), Fail> {
+    let alloc = rt.alloc();
+    let holds = two_held(&rt, alloc)?;
     let apart = [
         values(alloc, ACCOUNTS, 1, 1)?,
         values(alloc, ACCOUNTS, 2, 8)?,

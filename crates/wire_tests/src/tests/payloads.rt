@@ -1,6 +1,5 @@
 //! What no clause says: payloads from outside, and what they must read as.
 
-ghost use Rattle.std.specs.Prelude.{IfOk};
 ghost use Rattle.messages.specs.Messages.{HasXid};
 
 use super::hex::from_hex;
@@ -178,23 +177,21 @@ fn each_prefix_is_short_or_has_the_same_fault(rt: HostRuntime) -> Result<(), Fai
     Ok(())
 }
 
+// What a payload spells, if it is a message, is written as this payload.
+fn assert_written_again(alloc: Global, payload: &Bytes, in_block: bool) -> Result<(), Fail> {
+    match decode(alloc, payload, in_block) {
+        Ok(m) => assert_written(alloc, &m, in_block, payload.as_slice()),
+        Err(_) => Ok(()),
+    }
+}
+
 #[test]
 fn what_is_read_is_written_again(rt: HostRuntime) -> Result<(), Fail> {
     for line in CASES.lines() {
         let (payload, in_block, _) = case_of(rt.alloc(), line)?;
-        if let Ok(m) = read(rt.alloc(), &payload, in_block) {
-            assert_written(rt.alloc(), &m, in_block, payload.as_slice())?;
-        }
+        assert_written_again(rt.alloc(), &payload, in_block)?;
     }
     Ok(())
-}
-
-// The message that a payload spells. Of what `decode` tells only this is asked where the message is
-// written again; a proof that has all of it before it takes a minute.
-fn read(alloc: Global, payload: &Bytes, in_block: bool) -> Result<Message, MsgFault>
-    ensures { IfOk result (λ m. HasXid in_block m) }
-{
-    decode(alloc, payload, in_block)
 }
 
 // The message is written as this payload, behind what is there.
@@ -211,6 +208,12 @@ fn assert_written(alloc: Global, m: &Message, in_block: bool, payload: &[u8]) ->
 
 fn printed(alloc: Global, m: &Message) -> Result<String, Fail> {
     Ok(format!(in alloc; "{m:?}")?)
+}
+
+// The message that a payload spells, as it is printed.
+fn read_text(alloc: Global, payload: &Bytes, in_block: bool) -> Result<String, Fail> {
+    let m = decode(alloc, payload, in_block)?;
+    printed(alloc, &m)
 }
 
 // Payloads, whether they stand in a block, and the message that is read, with each of its fields.
@@ -279,10 +282,9 @@ const PRINTED: [(&str, bool, &str); 12] = [
 // The digits read as a message that prints so, and the message is written as they are.
 fn assert_read(alloc: Global, digits: &str, in_block: bool, want: &str) -> Result<(), Fail> {
     let payload = Bytes::from_vec(from_hex(alloc, digits)?)?;
-    let m = read(alloc, &payload, in_block)?;
-    let text = printed(alloc, &m)?;
+    let text = read_text(alloc, &payload, in_block)?;
     assert_same(text.as_str(), want, digits)?;
-    assert_written(alloc, &m, in_block, payload.as_slice())
+    assert_written_again(alloc, &payload, in_block)
 }
 
 #[test]
@@ -316,12 +318,9 @@ fn check(alloc: Global, m: &Message, in_block: bool, digits: &str) -> Result<(),
 {
     let payload = Bytes::from_vec(from_hex(alloc, digits)?)?;
     assert_written(alloc, m, in_block, payload.as_slice())?;
-    let again = read(alloc, &payload, in_block)?;
-    assert_same(
-        printed(alloc, &again)?.as_str(),
-        printed(alloc, m)?.as_str(),
-        "printed",
-    )
+    let again = read_text(alloc, &payload, in_block)?;
+    let own = printed(alloc, m)?;
+    assert_same(again.as_str(), own.as_str(), "printed")
 }
 
 fn column(rt: &impl Abort, is_key: bool, named: &'static str, type_oid: Oid) -> RelationColumn {
@@ -454,6 +453,19 @@ fn assert_written_or_refused(
     }
 }
 
+// A message that is read is written again, or memory is refused for either.
+fn assert_read_or_refused(
+    alloc: Global,
+    payload: &Bytes,
+    in_block: bool,
+    bytes: &[u8],
+) -> Result<(), Fail> {
+    match decode(alloc, payload, in_block) {
+        Ok(m) => assert_written_or_refused(alloc, &m, in_block, bytes),
+        Err(fault) => assert_same(fault, MsgFault::OutOfMemory, "fault"),
+    }
+}
+
 // Where memory is refused it is said by its name, and nothing is written. With ample memory it isn't refused.
 #[test]
 fn answers_where_memory_is_refused(rt: HostRuntime) -> Result<(), Fail> {
@@ -461,10 +473,7 @@ fn answers_where_memory_is_refused(rt: HostRuntime) -> Result<(), Fail> {
         let Ok(payload) = Bytes::copy_from_slice(rt.alloc(), bytes) else {
             continue;
         };
-        match read(rt.alloc(), &payload, in_block) {
-            Ok(m) => assert_written_or_refused(rt.alloc(), &m, in_block, bytes)?,
-            Err(fault) => assert_same(fault, MsgFault::OutOfMemory, "fault")?,
-        }
+        assert_read_or_refused(rt.alloc(), &payload, in_block, bytes)?;
     }
     Ok(())
 }

@@ -2,7 +2,7 @@
 use super::hex::from_hex;
 use bytes::Bytes;
 use catalog::Catalog;
-use session::{Refused, Session, Step, laws};
+use session::{Session, laws};
 use std::alloc::Global;
 use std::process::Abort;
 use std::test::Fail;
@@ -45,16 +45,6 @@ const STREAMED: &str = "\
 41000002bc000002bc00000000000000000000000000000000 Ok(Abort(700))\n\
 41000002bc000002bc00000000000000000000000000000000 Ok(Nothing)";
 
-// What a session answers. Nothing of what its contract tells is asked where the answer is printed.
-fn admit(
-    alloc: Global,
-    session: &mut Session,
-    tables: &Catalog,
-    payload: &Bytes,
-) -> Result<Step, Refused> {
-    session.admit(alloc, tables, payload)
-}
-
 // A session with one worker answers each payload of the stream as it says.
 fn answers(alloc: Global, stream: &str) -> Result<(), Fail> {
     let tables = Catalog::read(alloc, ACCOUNTS)?;
@@ -64,7 +54,7 @@ fn answers(alloc: Global, stream: &str) -> Result<(), Fail> {
             return Err(Fail::from("a payload and its answer"));
         };
         let payload = Bytes::copy_from_slice(alloc, &from_hex(alloc, digits)?)?;
-        let answer = admit(alloc, &mut session, &tables, &payload);
+        let answer = session.admit(alloc, &tables, &payload);
         assert_same(format!(in alloc; "{answer:?}")?.as_str(), want, digits)?;
     }
     Ok(())

@@ -134,14 +134,30 @@ fn new_scene(rt: &impl Abort, alloc: Global) -> Result<Scene, EngineFault> {
     }
 }
 
-/// The same with one more account that was committed, two transactions open, and after the first so
-/// many calls.
-fn stepped(rt: &impl Abort, alloc: Global, count: usize) -> Result<Scene, EngineFault> {
+/// The same with one more account that was committed, and two transactions open.
+fn begun(rt: &impl Abort, alloc: Global) -> Result<Scene, EngineFault> {
     let mut scene = new_scene(rt, alloc)?;
     scene.make_all(rt, alloc, &BEGIN)?;
+    Ok(scene)
+}
+
+/// Makes the first so many calls.
+fn make_first(
+    rt: &impl Abort,
+    alloc: Global,
+    scene: &mut Scene,
+    count: usize,
+) -> Result<(), EngineFault> {
     for step in STEPS.iter().take(count) {
-        make(rt, alloc, &mut scene, step)?;
+        make(rt, alloc, scene, step)?;
     }
+    Ok(())
+}
+
+/// The same, after the first so many calls.
+fn stepped(rt: &impl Abort, alloc: Global, count: usize) -> Result<Scene, EngineFault> {
+    let mut scene = begun(rt, alloc)?;
+    make_first(rt, alloc, &mut scene, count)?;
     Ok(scene)
 }
 
@@ -239,6 +255,38 @@ fn show_tables(
     Ok(())
 }
 
+/// Some transactions are rolled back and committed, and the others aborted.
+fn end_in_parts(
+    rt: &impl Abort,
+    alloc: Global,
+    scene: &mut Scene,
+    out: &mut String,
+) -> Result<(), EngineFault> {
+    for deeds in [&ROLLBACKS, &COMMITS] {
+        scene.make_all(rt, alloc, deeds)?;
+        show_reads(rt, alloc, scene, out)?;
+    }
+    for xid in [702, 703] {
+        if scene.is_open(xid) {
+            scene.abort(rt, xid);
+        }
+    }
+    Ok(())
+}
+
+/// What a store ends with.
+fn show_ended(
+    rt: &impl Abort,
+    alloc: Global,
+    scene: Scene,
+    out: &mut String,
+) -> Result<(), EngineFault> {
+    let (tables, journal) = scene.close(rt);
+    write!(out, "{}\n", journal.len())?;
+    show_tables(rt, alloc, &tables, out)?;
+    Ok(())
+}
+
 /// All that can be told of a store: what it reads, who holds what, and what it ends with once some
 /// transactions are rolled back and committed and the others aborted.
 fn told(rt: &impl Abort, alloc: Global, scene: Scene) -> Result<String, EngineFault> {
@@ -246,18 +294,8 @@ fn told(rt: &impl Abort, alloc: Global, scene: Scene) -> Result<String, EngineFa
     let mut out = String::new(alloc);
     show_reads(rt, alloc, &scene, &mut out)?;
     show_holds(rt, alloc, &mut scene, &mut out)?;
-    for deeds in [&ROLLBACKS, &COMMITS] {
-        scene.make_all(rt, alloc, deeds)?;
-        show_reads(rt, alloc, &scene, &mut out)?;
-    }
-    for xid in [702, 703] {
-        if scene.is_open(xid) {
-            scene.abort(rt, xid);
-        }
-    }
-    let (tables, journal) = scene.close(rt);
-    write!(out, "{}\n", journal.len())?;
-    show_tables(rt, alloc, &tables, &mut out)?;
+    end_in_parts(rt, alloc, &mut scene, &mut out)?;
+    show_ended(rt, alloc, scene, &mut out)?;
     Ok(out)
 }
 
@@ -277,6 +315,46 @@ fn read_alike(
     Ok(())
 }
 
+/// A store shows what one shows that was never asked, after so many calls.
+fn shows_as_stepped(
+    rt: &impl Abort,
+    alloc: Global,
+    scene: &Scene,
+    (count, step): (usize, &Step),
+) -> Result<(), EngineFault> {
+    let same = stepped(rt, alloc, count)?;
+    read_alike(rt, alloc, scene, &same, step)
+}
+
+/// All that can be told of two stores is the same.
+fn told_alike(
+    rt: &impl Abort,
+    alloc: Global,
+    one: Scene,
+    other: Scene,
+    step: &Step,
+) -> Result<(), EngineFault> {
+    let wanted = told(rt, alloc, other)?;
+    let left = told(rt, alloc, one)?;
+    assert_eq!(rt; left.as_str(), wanted.as_str(), "{step:?}");
+    Ok(())
+}
+
+/// A call has the same answer in two stores, and all that can be told then is the same.
+fn answers_alike(
+    rt: &impl Abort,
+    alloc: Global,
+    one: Scene,
+    other: Scene,
+    step: &Step,
+) -> Result<(), EngineFault> {
+    let (mut one, mut other) = (one, other);
+    let again = make(rt, alloc, &mut one, step);
+    let answer = make(rt, alloc, &mut other, step);
+    assert_eq!(rt; again, answer, "{step:?} again");
+    told_alike(rt, alloc, one, other, step)
+}
+
 /// A call was refused, after so many. It answers the same now as in a store that was never asked, and
 /// all that can be told then is the same.
 fn was_refused(
@@ -285,17 +363,9 @@ fn was_refused(
     scene: Scene,
     (count, step): (usize, &Step),
 ) -> Result<(), EngineFault> {
-    let mut scene = scene;
-    let mut never_asked = stepped(rt, alloc, count)?;
-    let same = stepped(rt, alloc, count)?;
-    read_alike(rt, alloc, &scene, &same, step)?;
-    let again = make(rt, alloc, &mut scene, step);
-    let answer = make(rt, alloc, &mut never_asked, step);
-    assert_eq!(rt; again, answer, "{step:?} again");
-    let left = told(rt, alloc, scene)?;
-    let wanted = told(rt, alloc, never_asked)?;
-    assert_eq!(rt; left.as_str(), wanted.as_str(), "{step:?}");
-    Ok(())
+    shows_as_stepped(rt, alloc, &scene, (count, step))?;
+    let never_asked = stepped(rt, alloc, count)?;
+    answers_alike(rt, alloc, scene, never_asked, step)
 }
 
 /// Makes the calls up to the first that is refused. Then memory is there again.

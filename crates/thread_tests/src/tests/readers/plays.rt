@@ -145,6 +145,43 @@ fn commit_one<N: StoreNames, R: Abort + Wait>(
     Ok(())
 }
 
+// Three transactions that commit.
+fn commit_three<N: StoreNames, R: Abort + Wait>(
+    rt: &R,
+    alloc: Global,
+    scene: &mut Scene<'_, N>,
+) -> Result<(), Fail> {
+    commit_one(rt, alloc, scene, 701, &put(alloc, 2, 20)?, 16)?;
+    commit_one(rt, alloc, scene, 702, &put(alloc, 1, 10)?, 40)?;
+    commit_one(rt, alloc, scene, 703, &remove(alloc, 2)?, 64)
+}
+
+// The rows at positions.
+fn reads_rows_at<N: StoreNames, R: Abort + Wait>(
+    rt: &R,
+    alloc: Global,
+    reader: &mut Reader<'_, N>,
+    wanted: &[(Lsn, &str)],
+) -> Result<(), Fail> {
+    for (position, rows) in wanted {
+        let read = rows_at(rt, alloc, reader, *position)?;
+        assert_same(rt, read.as_str(), *rows, *position);
+    }
+    Ok(())
+}
+
+// Where no commit ends.
+fn reads_no_position<N: StoreNames, R: Abort + Wait>(
+    rt: &R,
+    alloc: Global,
+    reader: &mut Reader<'_, N>,
+) {
+    for position in [1, 15, 17, 41, 63, 65, Lsn::MAX] {
+        let answer = reader.rows_at(rt, alloc, TABLE, position).err();
+        assert_same(rt, answer, Some(ReadFault::PositionUnknown), position);
+    }
+}
+
 // At each position of three commits, while another transaction is open.
 fn reads_positions<N: StoreNames, R: Abort + Wait>(
     rt: &R,
@@ -154,30 +191,12 @@ fn reads_positions<N: StoreNames, R: Abort + Wait>(
 ) -> Result<(), Fail> {
     let mut open = scene.open(rt, alloc, 900)?;
     scene.act(rt, alloc, &mut open, &put(alloc, 9, 90)?)?;
-    commit_one(rt, alloc, scene, 701, &put(alloc, 2, 20)?, 16)?;
-    commit_one(rt, alloc, scene, 702, &put(alloc, 1, 10)?, 40)?;
-    commit_one(rt, alloc, scene, 703, &remove(alloc, 2)?, 64)?;
-    for (position, rows) in [(0, ""), (16, "2|20"), (40, "1|10 2|20"), (64, "1|10")] {
-        assert_same(
-            rt,
-            rows_at(rt, alloc, reader, position)?.as_str(),
-            rows,
-            position,
-        );
-    }
-    for position in [1, 15, 17, 41, 63, 65, Lsn::MAX] {
-        let answer = reader.rows_at(rt, alloc, TABLE, position).err();
-        assert_same(rt, answer, Some(ReadFault::PositionUnknown), position);
-    }
+    commit_three(rt, alloc, scene)?;
+    let before = [(0, ""), (16, "2|20"), (40, "1|10 2|20"), (64, "1|10")];
+    reads_rows_at(rt, alloc, reader, &before)?;
+    reads_no_position(rt, alloc, reader);
     scene.commit(rt, open, 65);
-    assert_same(
-        rt,
-        rows_at(rt, alloc, reader, 65)?.as_str(),
-        "1|10 9|90",
-        65,
-    );
-    assert_same(rt, rows_at(rt, alloc, reader, 16)?.as_str(), "2|20", 16);
-    Ok(())
+    reads_rows_at(rt, alloc, reader, &[(65, "1|10 9|90"), (16, "2|20")])
 }
 
 // A table that isn't there, whatever the position.
