@@ -1,5 +1,5 @@
 // What a run is given, and what it leaves.
-ghost use Rattle.std.specs.Prelude.{ℤ, Option, List, [], ◌∷◌};
+ghost use Rattle.std.specs.Prelude.{◌≡◌, ℤ, Option, List, None, [], ◌∷◌};
 ghost use Rattle.spooled.specs.Clock.{Ticks};
 
 use crate::end::End;
@@ -44,11 +44,13 @@ pub trait Clock {
 pub struct StillClock(pub i64);
 
 impl Clock for StillClock {
-    ghost use Rattle.std.specs.Prelude.{None};
-
     ghost told = { λ _. None };
 
-    fn micros(&mut self) -> i64 {
+    fn micros(&mut self) -> i64
+        ensures told { Ticks None None (result ∷ []) }
+        ensures time { result ≡ self.old.0 }
+        ensures still { self.new ≡ self.old }
+    {
         self.0
     }
 }

@@ -4,6 +4,7 @@ use model::{Key, OutOfMemory, TableId, Value};
 use std::alloc::Global;
 use std::process::Abort;
 use std::test::Fail;
+use testing::asserts::{assert_holds, assert_same};
 
 const ACCOUNTS: TableId = 0;
 
@@ -36,30 +37,31 @@ fn hold(
 }
 
 // 700 holds a row of the accounts, and 701 values of their first unique key.
-fn two_held(rt: &impl Abort, alloc: Global) -> Result<Holds<i64>, Fail> {
+fn two_held(alloc: Global) -> Result<Holds<i64>, Fail> {
     let mut holds = Holds::new(alloc);
     let first = row(alloc, ACCOUNTS, 1)?;
-    assert_eq!(rt; hold(alloc, &mut holds, 700, first, 0)?, None);
+    assert_same(hold(alloc, &mut holds, 700, first, 0)?, None, "first")?;
     let taken = values(alloc, ACCOUNTS, 1, 8)?;
-    assert_eq!(rt; hold(alloc, &mut holds, 701, taken, 0)?, None);
+    assert_same(hold(alloc, &mut holds, 701, taken, 0)?, None, "taken")?;
     Ok(holds)
 }
 
 #[test]
 fn a_cell_of_another_is_not_free(rt: HostRuntime) -> Result<(), Fail> {
     let alloc = rt.alloc();
-    let holds = two_held(&rt, alloc)?;
+    let holds = two_held(alloc)?;
     let both = [values(alloc, ACCOUNTS, 1, 8)?, row(alloc, ACCOUNTS, 1)?];
-    assert_eq!(rt; holds.free_for(702, &both), Some(701), "the first decides");
-    assert_eq!(rt; holds.free_for(701, &both), Some(700));
-    assert_eq!(rt; holds.free_for(700, &both), Some(701));
+    // Of two that are in the way the first decides.
+    for (xid, other) in [(702u32, 701u32), (701, 700), (700, 701)] {
+        assert_same(holds.free_for(xid, &both), Some(other), xid)?;
+    }
     Ok(())
 }
 
 #[test]
 fn other_cells_are_free(rt: HostRuntime) -> Result<(), Fail> {
     let alloc = rt.alloc();
-    let holds = two_held(&rt, alloc)?;
+    let holds = two_held(alloc)?;
     let apart = [
         values(alloc, ACCOUNTS, 1, 1)?,
         values(alloc, ACCOUNTS, 2, 8)?,
@@ -67,8 +69,8 @@ fn other_cells_are_free(rt: HostRuntime) -> Result<(), Fail> {
         row(alloc, BRANCHES, 1)?,
         Cell::Whole(BRANCHES),
     ];
-    assert_eq!(rt; holds.free_for(702, &apart), None);
-    assert_eq!(rt; holds.free_for(702, &[]), None);
+    assert_same(holds.free_for(702, &apart), None, "apart")?;
+    assert_same(holds.free_for(702, &[]), None, "no cells")?;
     Ok(())
 }
 
@@ -78,21 +80,19 @@ fn a_whole_table_overlaps_its_cells(rt: HostRuntime) -> Result<(), Fail> {
     let mut holds = Holds::new(alloc);
     for (xid, key) in [(701u32, 1i64), (701, 2), (700, 3), (702, 4)] {
         let cell = row(alloc, ACCOUNTS, key)?;
-        assert_eq!(rt; hold(alloc, &mut holds, xid, cell, 0)?, None);
+        assert_same(hold(alloc, &mut holds, xid, cell, 0)?, None, key)?;
     }
     let table = [Cell::Whole(ACCOUNTS)];
-    assert_eq!(rt; holds.free_for(701, &table), Some(700));
-    holds.release_all(700);
-    assert_eq!(rt; holds.free_for(701, &table), Some(702));
-    holds.release_all(702);
-    assert_eq!(rt; holds.free_for(701, &table), None, "its own alone are left");
-    assert_eq!(rt;
-        hold(alloc, &mut holds, 701, Cell::Whole(ACCOUNTS), 0)?,
-        None
-    );
+    for other in [700u32, 702] {
+        assert_same(holds.free_for(701, &table), Some(other), other)?;
+        holds.release_all(other);
+    }
+    assert_same(holds.free_for(701, &table), None, "its own alone are left")?;
+    let whole = hold(alloc, &mut holds, 701, Cell::Whole(ACCOUNTS), 0)?;
+    assert_same(whole, None, "the whole table")?;
     let untouched = row(alloc, ACCOUNTS, 9)?;
-    assert_eq!(rt; holds.other_holder(700, &untouched), Some(701));
-    assert_eq!(rt; holds.other_holder(701, &untouched), None);
+    assert_same(holds.other_holder(700, &untouched), Some(701), "another")?;
+    assert_same(holds.other_holder(701, &untouched), None, "its own")?;
     Ok(())
 }
 
@@ -100,27 +100,26 @@ fn a_whole_table_overlaps_its_cells(rt: HostRuntime) -> Result<(), Fail> {
 fn a_release_to_a_mark_leaves_what_was_held_before(rt: HostRuntime) -> Result<(), Fail> {
     let alloc = rt.alloc();
     let mut holds = Holds::new(alloc);
-    assert_eq!(rt; holds.mark(700), 0);
+    assert_same(holds.mark(700), 0, "nothing is held")?;
     for (key, stood) in [(1i64, 10i64), (2, 20)] {
         let cell = row(alloc, ACCOUNTS, key)?;
         hold(alloc, &mut holds, 700, cell, stood)?;
     }
     let mark = holds.mark(700);
-    assert_eq!(rt; mark, 2);
+    assert_same(mark, 2, "two are held")?;
     for (key, stood) in [(2i64, 21i64), (3, 30)] {
         let cell = row(alloc, ACCOUNTS, key)?;
         hold(alloc, &mut holds, 700, cell, stood)?;
     }
-    assert_eq!(rt; holds.mark(700), 3, "one was held already");
+    assert_same(holds.mark(700), 3, "one was held already")?;
     holds.release_since(700, mark);
-    assert_eq!(rt; holds.mark(700), 2);
+    assert_same(holds.mark(700), 2, "as at the mark")?;
     for (key, stood) in [(1i64, Some(&10i64)), (2, Some(&20)), (3, None)] {
         let cell = row(alloc, ACCOUNTS, key)?;
-        assert_eq!(rt; holds.stood(&cell), stood, "at {key}");
+        assert_same(holds.stood(&cell), stood, key)?;
     }
     holds.release_all(700);
-    assert_eq!(rt; holds.mark(700), 0);
-    Ok(())
+    assert_same(holds.mark(700), 0, "all are let go")
 }
 
 // A caller walks the cells past a mark, from the last to the first.
@@ -139,7 +138,7 @@ fn cells_past_a_mark_are_let_go_from_the_last(rt: HostRuntime) -> Result<(), Fai
     assert_eq!(rt; holds.release_last(700, 1), None);
     for (key, other) in [(1i64, Some(700u32)), (2, None), (3, None)] {
         let cell = row(alloc, ACCOUNTS, key)?;
-        assert_eq!(rt; holds.other_holder(701, &cell), other, "at {key}");
+        assert_same(holds.other_holder(701, &cell), other, key)?;
     }
     Ok(())
 }
@@ -159,15 +158,15 @@ fn a_row_is_found_by_a_borrowed_key(rt: HostRuntime) -> Result<(), Fail> {
     ] {
         let key = Key::from_value(alloc, Value::Int(key))?;
         let sought = SoughtRow { table, key: &key };
-        assert_eq!(rt; holds.held_at(&sought), found, "in {table}");
+        assert_same(holds.held_at(&sought), found, table)?;
     }
     let key = Key::from_value(alloc, Value::Int(1))?;
     for (table, holder) in [(ACCOUNTS, 700u32), (BRANCHES, 701)] {
         let sought = SoughtRow { table, key: &key };
-        assert_eq!(rt; holds.other_holder_of(702, &sought), Some(holder));
-        assert_eq!(rt; holds.other_holder_of(holder, &sought), None);
-        assert!(rt; holds.overlaps_one(holder, &sought));
-        assert!(rt; !holds.overlaps_one(702, &sought));
+        assert_same(holds.other_holder_of(702, &sought), Some(holder), table)?;
+        assert_same(holds.other_holder_of(holder, &sought), None, table)?;
+        assert_holds(holds.overlaps_one(holder, &sought), table)?;
+        assert_holds(!holds.overlaps_one(702, &sought), table)?;
     }
     Ok(())
 }

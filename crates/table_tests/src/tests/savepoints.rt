@@ -5,6 +5,7 @@ ghost use Rattle.savepoint.specs.Record.{AllAreNamed};
 use model::OutOfMemory;
 use savepoint::{Mark, Savepoints, TxRecord, Xid};
 use std::test::Fail;
+use testing::asserts::assert_same;
 
 #[test]
 fn a_cut_drops_the_later_savepoints(rt: HostRuntime) -> Result<(), Fail> {
@@ -12,16 +13,16 @@ fn a_cut_drops_the_later_savepoints(rt: HostRuntime) -> Result<(), Fail> {
     for (sub, mark) in [(700u32, 0u8), (711, 1), (712, 2), (711, 3), (713, 4)] {
         savepoints.note(sub, mark)?;
     }
-    assert_eq!(rt; savepoints.mark_of(711), Some(1));
-    assert_eq!(rt; savepoints.cut(714), None);
-    assert_eq!(rt; savepoints.cut(712), Some(2));
+    assert_same(savepoints.mark_of(711), Some(1), "its first mark")?;
+    assert_same(savepoints.cut(714), None, "no savepoint")?;
+    assert_same(savepoints.cut(712), Some(2), "its own mark")?;
     for (sub, mark) in [
         (700u32, Some(0u8)),
         (711, Some(1)),
         (712, None),
         (713, None),
     ] {
-        assert_eq!(rt; savepoints.mark_of(sub), mark, "of {sub}");
+        assert_same(savepoints.mark_of(sub), mark, sub)?;
     }
     Ok(())
 }
@@ -44,15 +45,13 @@ fn a_record_keeps_the_items_before_a_savepoint(rt: HostRuntime) -> Result<(), Fa
     touch(&mut transaction, 711, 1)?;
     touch(&mut transaction, 712, 2)?;
     touch(&mut transaction, 711, 3)?;
-    assert_eq!(rt; transaction.mark_of(700), None);
-    assert_eq!(rt; transaction.mark_of(711), Some(Mark { undo: 0, held: 1 }));
-    transaction.cut(713);
-    transaction.cut(700);
-    assert_eq!(rt; transaction.survivors().len(), 4);
-    transaction.cut(712);
-    assert_eq!(rt; transaction.survivors().len(), 2);
-    assert_eq!(rt; transaction.mark_of(712), None);
-    transaction.cut(711);
-    assert_eq!(rt; transaction.survivors().len(), 1);
+    assert_same(transaction.mark_of(700), None, "the top transaction")?;
+    let mark = Mark { undo: 0, held: 1 };
+    assert_same(transaction.mark_of(711), Some(mark), "711")?;
+    for (sub, left) in [(713u32, 4), (700, 4), (712, 2), (711, 1)] {
+        transaction.cut(sub);
+        assert_same(transaction.survivors().len(), left, sub)?;
+        assert_same(transaction.mark_of(sub), None, sub)?;
+    }
     Ok(())
 }
