@@ -1,6 +1,6 @@
 -- The search for a key that clashes, against what is taken.
 use Rattle.std.specs.Prelude.{◌≡◌, ℕ, suc, ◌+◌, ◌-◌, ◌<◌, ◌≤◌, Bool, true, false, not, if◌then◌else◌, List, [], ◌∷◌, Option, Some, None, length, drop, slice_get, unwrap_or, refl, is_some, IfSome}
-use Rattle.std.proofs.Common.{zero, sym, ◌∙◌, ap, true≢false, inl, inr, arith, drop-cons, drop_of_length-le, add-one}
+use Rattle.std.proofs.Common.{zero, sym, ◌∙◌, ap, true≢false, inl, inr, arith, drop-cons, add-one}
 use Rattle.std.specs.Ordering.{eq_by_cmp}
 use Rattle.std.specs.FinMap.{get, remove}
 use Rattle.std.proofs.lemmas.Bool.{cases_Bool}

@@ -1,6 +1,6 @@
 -- What the restoring calls need, and what they leave, where an inverse can be put back.
 use Rattle.std.specs.Prelude.{◌≡◌, ℕ, ◌==◌, not, Bool, true, false, filter, List, [], ◌∷◌, ◌++◌, Option, Some, None, map, option_to_list}
-use Rattle.std.proofs.Common.{sym, ◌∙◌, ap, subst, refl, append-nil, inl, inr}
+use Rattle.std.proofs.Common.{sym, ◌∙◌, ap, subst, refl, inl, inr}
 use Rattle.std.proofs.lemmas.List.Elements.{Contains-append_cases}
 use Rattle.std.specs.FinMap.{insert, remove}
 use Rattle.model.specs.declared.key.Key.{Key}

@@ -24,7 +24,7 @@ use Rattle.std.specs.FinMap.{FinMap, get}
 use Rattle.std.proofs.lemmas.Bool.{false≢true}
 use Rattle.std.proofs.lemmas.Grind.{fold-append}
 use Rattle.std.proofs.lemmas.List.{map-append, take-map}
-use Rattle.std.proofs.lemmas.List.Elements.{All-nil, All-take}
+use Rattle.std.proofs.lemmas.List.Elements.{All-nil}
 use Rattle.std.proofs.lemmas.Simd.{map-map}
 use Rattle.model.specs.declared.change.Change as change_type
 use Rattle.change.specs.declared.outcome.Clash as clash_type

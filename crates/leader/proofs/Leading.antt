@@ -1,8 +1,8 @@
 -- What a message that was taken leaves of a run with workers.
-use Rattle.std.proofs.Common.{◌≡◌, ◌≢◌, ℕ, ◌<◌, Bool, true, false, List, [], ◌∷◌, ◌++◌, length, Option, Some, None, refl, sym, ap, subst, ◌∙◌, append-nil, arith, ⊎_elim, length-append, inl, inr}
+use Rattle.std.proofs.Common.{◌≡◌, ◌≢◌, ℕ, ◌<◌, Bool, true, false, List, [], ◌∷◌, ◌++◌, length, Option, Some, None, refl, sym, ap, subst, ◌∙◌, append-nil, ⊎_elim, inl, inr}
 use Rattle.std.specs.Prelude.{map, fold, All, max, Result, Ok, Err, ◌⊎◌}
 use Rattle.std.specs.Result.{IsErrAnd}
-use Rattle.std.proofs.lemmas.Bool.{cases_eq, lt-ltb, le-ltb}
+use Rattle.std.proofs.lemmas.Bool.{cases_eq}
 use Rattle.std.proofs.lemmas.Grind.{flat_map-append}
 use Rattle.std.proofs.lemmas.List.{map-append}
 use Rattle.std.proofs.lemmas.List.Elements.{All-append, All-cons, All-nil}
@@ -10,14 +10,11 @@ use Rattle.std.specs.declared.vec.Vec.{Vec}
 use Rattle.std.specs.declared.alloc.Global.{Global}
 use Rattle.std.specs.FinMap as finite
 use Rattle.model.specs.Rows.{Rows}
-use Rattle.model.specs.Named.{NamesTables}
-use Rattle.model.specs.Survivors.{changes_of}
 use Rattle.model.specs.declared.item.Item.{Item}
-use Rattle.model.specs.declared.item.Item.TheVariants.{Change, Touch, BackTo, Last}
 use Rattle.model.specs.declared.item.CommitInfo.{CommitInfo}
 use Rattle.messages.specs.declared.message.Message.{Message}
 use Rattle.frames.specs.declared.item.CopyItem.{CopyItem}
-use Rattle.frames.specs.declared.item.CopyItem.TheVariants.{Wal, Keepalive, Done}
+use Rattle.frames.specs.declared.item.CopyItem.TheVariants.{Wal, Keepalive}
 use Rattle.world.specs.World.{Past}
 use Rattle.engine.specs.declared.events.LineEvent.{LineEvent}
 use Rattle.engine.specs.declared.events.LineEvent.TheVariants.{Aborted as WasAborted}
@@ -33,14 +30,14 @@ use Rattle.session.specs.Lawful.{Admits, Refuses}
 use Rattle.session.specs.Table.{new_open}
 use Rattle.session.specs.Told.{Told, Nothing, Opens, Gives, Commits, Aborts, Tells, IsGiving, IsCommitting, items_handed_out}
 use Rattle.session.specs.Represents.{Represents}
-use Rattle.session.specs.Answers.{IsOfTables, Says, HandsOut, IsWithin, AdmitsPayload}
+use Rattle.session.specs.Answers.{IsOfTables, Says, IsWithin, AdmitsPayload}
 use Rattle.spooled.specs.declared.end.End.{End}
 use Rattle.spooled.specs.declared.end.End.TheVariants as ends
 use Rattle.spooled.specs.Commits.{last_end}
 use Rattle.spooled.specs.Ends.{end_of_refusal}
 use Rattle.spooled.specs.Handler.{HasTaken, HandlesItem, HasHandled}
-use Rattle.spooled.specs.Progress.{Progress, seen_with, Handles, commits_from, due_updates}
-use Rattle.spooled.proofs.Admitted.{on_to, with_seen, not_committed, one_committed, later_max, by_commit, taken_on, taken_commit, message_handled, ended_behind}
+use Rattle.spooled.specs.Progress.{Progress, seen_with, due_updates}
+use Rattle.spooled.proofs.Admitted.{with_seen, not_committed, one_committed, later_max, by_commit, taken_on, taken_commit, message_handled, ended_behind}
 use Rattle.spooled.proofs.States.{get-inserted, get-other, get-left, get-gone, last_end-push}
 use Rattle.spooled.proofs.Handling.{seen_item}
 use Rattle.spooled.proofs.Taking.{handed_named}

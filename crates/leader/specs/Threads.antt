@@ -9,7 +9,7 @@
 --     HasTurn, MayEndBy      whose turn it is; why a run may end at the next item
 --     HasStopped, Stops, LeadTakes      it stopped at a state; a message ended the run so; it was taken, or ended the run
 --     HasLedTo      it ended a run
-use Rattle.std.specs.Prelude.{◌≡◌, ◌≢◌, ℕ, Bool, true, false, max, List, [], ◌∷◌, ◌++◌, length, map, Option, Some, None, Result, MatchResult, All, ◌⊎◌}
+use Rattle.std.specs.Prelude.{◌≡◌, ◌≢◌, ℕ, Bool, true, false, max, List, [], ◌∷◌, length, map, Option, Some, None, Result, MatchResult, All, ◌⊎◌}
 use Rattle.std.specs.FinMap as finite
 use Rattle.model.specs.Definition.{Definition}
 use Rattle.model.specs.Rows.{Rows}
@@ -33,7 +33,7 @@ use Rattle.spooled.specs.declared.end.End.TheVariants as ends
 use Rattle.spooled.specs.Cause.{RefusesNext}
 use Rattle.spooled.specs.Handler.{HasTaken}
 use Rattle.spooled.specs.Commits.{last_end}
-use Rattle.spooled.specs.Progress.{Progress, start_progress, due_updates, commits_from}
+use Rattle.spooled.specs.Progress.{Progress, start_progress, commits_from}
 use Rattle.course.specs.Runs.{CommitsNext}
 use Rattle.course.specs.Threads.{work_of, done_by_commit}
 use Rattle.leader.specs.declared.lead.Stream.{Stream}

@@ -15,7 +15,7 @@ use Rattle.model.specs.declared.change.Change.{Change}
 use Rattle.model.specs.declared.change.Change.TheVariants.{Put, Set, Remove, Wipe}
 use Rattle.model.specs.declared.change.ColumnPatch.{ColumnPatch}
 use Rattle.model.specs.Rows.{Place, Rows, Schema, place_cmp, place_cmp_total, keys_at, key_of, IsValid}
-use Rattle.model.specs.Effect.{Edits, overlay, rows_under, one_edit, Outcome, Done, Skip, Clashes, ClashCause, NullKey, Unique, first_taken, unless_taken, row_outcome_at, row_outcome, patch_row, set_outcome, remove_outcome, is_wiped, row_cleared, wipe_edits, outcome, edits_of, effect, inverse, back, serial, inverses, all_back}
+use Rattle.model.specs.Effect.{Edits, overlay, rows_under, one_edit, Outcome, Done, Skip, Clashes, ClashCause, Unique, first_taken, unless_taken, row_outcome_at, row_outcome, patch_row, set_outcome, remove_outcome, is_wiped, row_cleared, wipe_edits, outcome, edits_of, effect, inverse, back, serial, inverses, all_back}
 use Rattle.model.specs.EditLaws.{is_place, place_is, AreApart, get_overlay, get_rows_under, was_at, restored, overlay_apart, overlay_empty, overlay_more, overlay_one, rows_under_none}
 use Rattle.model.specs.ValidLaws.{valid_fewer, valid_remove, valid_insert}
 

@@ -4,11 +4,10 @@
 --     own_key_of_valid, free_of_valid      what a row needs that is put back into rows that are valid with it
 use Rattle.std.specs.Prelude.{refl, ◌≡◌, ℕ, Bool, true, false, cond, List, Option, Some, None, slice_get}
 use Rattle.std.proofs.Common.{sym, ◌∙◌, ap, inl, inr}
-use Rattle.std.specs.FinMap as map
-use Rattle.std.specs.FinMap.{get, insert, remove, get-empty}
+use Rattle.std.specs.FinMap.{get, insert, remove}
 use Rattle.model.specs.declared.row.Row.{Row}
 use Rattle.model.specs.declared.key.Key.{Key}
-use Rattle.model.specs.Rows.{Place, Rows, Schema, place_cmp, keys_at, values_in, key_of, are_taken, IsUnique, IsValid}
+use Rattle.model.specs.Rows.{Place, Rows, Schema, keys_at, values_in, key_of, are_taken, IsUnique, IsValid}
 use Rattle.model.specs.Effect.{are_taken_unless_null, first_taken}
 use Rattle.model.specs.EditLaws.{is_place, place_cases, get_insert_same, get_insert_other, get_remove}
 use Rattle.std.proofs.lemmas.Bool.{cases_Bool}

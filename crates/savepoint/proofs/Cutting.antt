@@ -1,6 +1,6 @@
 -- A cut to the mark of a subtransaction leaves the items before its savepoint, and their savepoints.
-use Rattle.std.proofs.Common.{◌≡◌, append-nil, ℕ, suc, ◌+◌, ◌==◌, Bool, true, false, not, List, [], ◌∷◌, ◌++◌, take, Option, Some, None, refl, sym, ap, ◌∙◌, arith, ⊎_elim}
-use Rattle.std.specs.Prelude.{map, is_some, find}
+use Rattle.std.proofs.Common.{◌≡◌, append-nil, ℕ, suc, ◌+◌, ◌==◌, Bool, true, false, not, List, [], ◌∷◌, ◌++◌, Option, Some, None, refl, sym, ap, ◌∙◌, arith, ⊎_elim}
+use Rattle.std.specs.Prelude.{is_some, find}
 use Rattle.std.specs.List.{prefix_len}
 use Rattle.std.specs.Option.{option_map}
 use Rattle.std.proofs.lemmas.Bool.{cases_Bool, eq-eqb, eqb-true}
@@ -8,8 +8,7 @@ use Rattle.std.proofs.lemmas.List.Sums.{take_while-cons}
 use Rattle.std.proofs.lemmas.Grind.{common_steps}
 use Rattle.model.specs.declared.item.Item.{Item}
 use Rattle.model.specs.declared.item.Item.TheVariants.{Change, Touch, BackTo, Last}
-use Rattle.model.specs.Survivors.{is_of, before_savepoint}
-use Rattle.model.specs.SurvivorLaws.{items_before}
+use Rattle.model.specs.Survivors.{is_of}
 use Rattle.savepoint.specs.Savepoints.{mark_at, before_mark, with_mark, with_mark_of, with_marks_of, savepoints, before_first}
 
 pub none_from : {A : Type 0} (o : Option A) → is_some o ≡ false → o ≡ None

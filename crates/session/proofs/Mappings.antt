@@ -1,17 +1,17 @@
 -- What is known of the relations and their mappings, as relations are learnt and used.
-use Rattle.std.proofs.Common.{◌≡◌, ℕ, ◌+◌, ◌<◌, ◌≤◌, true, false, List, [], ◌∷◌, ◌++◌, length, drop, get_or, Option, Some, None, cond, refl, sym, ap, ◌∙◌, append_assoc, append-nil, rules, ⊎_elim}
-use Rattle.std.specs.Prelude.{All, IfSome, IsErrAnd, Result, Ok, Err, nat_eq, ok_or}
+use Rattle.std.proofs.Common.{◌≡◌, ℕ, ◌+◌, ◌<◌, ◌≤◌, List, [], ◌∷◌, ◌++◌, length, drop, get_or, Option, Some, None, refl, sym, ap, ◌∙◌, append_assoc, append-nil, rules, ⊎_elim}
+use Rattle.std.specs.Prelude.{All, IfSome, IsErrAnd, Result, Ok, Err, ok_or}
 use Rattle.std.specs.Ordering.{nat_cmp}
 use Rattle.std.specs.BTreeMap.{get, Updates}
 use Rattle.std.specs.Arc.{arc_value}
-use Rattle.std.proofs.lemmas.Bool.{cases_Bool, cases_eq, ne_eqb, eqb-true}
+use Rattle.std.proofs.lemmas.Bool.{cases_eq}
 use Rattle.std.proofs.lemmas.List.{at_drop_more, at_drop_all}
 use Rattle.std.proofs.lemmas.List.Elements.{All-push}
 use Rattle.messages.specs.declared.relation.Relation.{Relation}
 use Rattle.model.specs.Definition.{Definition}
 use Rattle.relcache.specs.declared.fault.RelFault.{RelFault}
 use Rattle.relcache.specs.Mapping.{Mapped, resolved, map_relation}
-use Rattle.relcache.specs.Published.{Published, Relations, learnt, relation_of}
+use Rattle.relcache.specs.Published.{Published, Relations, learnt}
 use Rattle.relcache.specs.Steps.{◌>>=◌}
 use Rattle.relcache.specs.declared.fault.RelFault.TheVariants.{UnknownRelation}
 use Rattle.session.specs.declared.relations.KnownRelations.{KnownRelations}
