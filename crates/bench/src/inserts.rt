@@ -5,7 +5,7 @@ use crate::counts::Counts;
 use anyhow::bail;
 use bytes::Bytes;
 use catalog::Catalog;
-use messages::{Message, MsgFault, decode};
+use messages::{Message, MsgFault, Relation, decode};
 use relcache::{Mapping, RelCache, plan};
 use std::alloc::{AllocError, Global};
 use std::sync::Arc;
@@ -44,17 +44,22 @@ pub fn decode_all(alloc: Global, laps: u64) -> Result<Counts, MsgFault> {
     Ok(counts)
 }
 
-/// The mapping of the inserts' relation to the catalog's table.
-fn mapping(alloc: Global) -> anyhow::Result<Arc<Mapping>> {
-    let tables = Catalog::read(alloc, CATALOG)?;
-    let mut cache = RelCache::new(alloc);
+/// The inserts' relation.
+fn relation(alloc: Global) -> anyhow::Result<Relation> {
     let mut payload = vec![in alloc; b'R']?;
     payload.extend_from_slice(RELATION)?;
-    let Message::Relation { relation, .. } = decode(alloc, &Bytes::from_vec(payload)?, false)?
-    else {
-        bail!("the relation is no relation");
-    };
+    match decode(alloc, &Bytes::from_vec(payload)?, false)? {
+        Message::Relation { relation, .. } => Ok(relation),
+        _ => bail!("the relation is no relation"),
+    }
+}
+
+/// The mapping of the inserts' relation to the catalog's table.
+fn mapping(alloc: Global) -> anyhow::Result<Arc<Mapping>> {
+    let relation = relation(alloc)?;
+    let mut cache = RelCache::new(alloc);
     cache.learn(&relation)?;
+    let tables = Catalog::read(alloc, CATALOG)?;
     Ok(cache.resolve(alloc, &tables, relation.oid)?)
 }
 
