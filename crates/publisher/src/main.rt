@@ -13,12 +13,9 @@
 // What is promised: it is safe and total, whatever the server sends, and each refusal has a name on
 // standard error and status 1. It writes only whole frames.
 //
-// This crate reads the command line and the environment; `server` and `publication` do the work.
+// This crate reads the environment, opens and prints; `settings` reads the command line, `server` and
+// `publication` do the work.
 #![tactic(auto)]
-
-mod settings;
-#[cfg(test)]
-mod tests;
 
 use server::capture::{Destination, capture};
 use server::fault::Fault;

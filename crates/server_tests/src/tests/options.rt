@@ -1,9 +1,9 @@
-// The command line, and libpq's variables.
-use crate::settings;
-use crate::settings::{Job, Variables};
+// The command line of `publisher`, and libpq's variables.
 use server::host::Server;
+use settings::{Job, Variables};
 use std::alloc::Global;
 use std::test::Fail;
+use testing::asserts::{assert_holds, assert_same};
 
 /// The words of a command line.
 fn words(alloc: Global, line: &str) -> Result<Vec<String>, Fail> {
@@ -38,7 +38,7 @@ fn values_within_their_limits(rt: HostRuntime) -> Result<(), Fail> {
         )?;
         let words = words(rt.alloc(), line.as_str())?;
         let read = settings::parse(rt.alloc(), words.as_slice()).is_ok();
-        assert_eq!(rt; read, *want, "{option}");
+        assert_same(read, *want, *option)?;
     }
     Ok(())
 }
@@ -52,8 +52,7 @@ fn a_usage_fault_names_option_and_value(rt: HostRuntime) -> Result<(), Fail> {
         Err(error) => format!(in rt.alloc(); "{error}")?,
     };
     let first = "error: invalid value '1/G' for '--until': an LSN as 1/2A\n";
-    assert!(rt; text.as_str().starts_with(first), "{text}");
-    Ok(())
+    assert_holds(text.as_str().starts_with(first), text.as_str())
 }
 
 const CAPTURE: &str =
@@ -74,9 +73,11 @@ fn a_place_is_two_halves(rt: HostRuntime) -> Result<(), Fail> {
     else {
         return Err(Fail::from("another command"));
     };
-    assert!(rt; slot.name == "s" && slot.create && out == "f");
-    assert_eq!(rt; (until, millis), (Some(0x1_0000_002a), Some(7000)));
-    Ok(())
+    assert_holds(
+        slot.name == "s" && slot.create && out == "f",
+        "slot and file",
+    )?;
+    assert_same((until, millis), (Some(0x1_0000_002a), Some(7000)), "bounds")
 }
 
 /// The server of an option for the port, and of variables for the host, the password and who is logged in.
@@ -99,14 +100,9 @@ fn chosen(alloc: Global) -> Result<Server, Fail> {
 #[test]
 fn options_go_before_variables(rt: HostRuntime) -> Result<(), Fail> {
     let server = chosen(rt.alloc())?;
-    let found = [
-        server.host.as_str(),
-        server.port.as_str(),
-        server.user.as_str(),
-        server.database.as_str(),
-        server.password.as_deref().unwrap_or("none"),
-    ];
-    let want = ["db.example", "5433", "carol", "carol", "secret"];
-    assert_eq!(rt; found, want);
-    Ok(())
+    assert_same(server.host.as_str(), "db.example", "host")?;
+    assert_same(server.port.as_str(), "5433", "port")?;
+    assert_same(server.user.as_str(), "carol", "user")?;
+    assert_same(server.database.as_str(), "carol", "database")?;
+    assert_same(server.password.as_deref(), Some("secret"), "password")
 }

@@ -1,9 +1,8 @@
-// The command line, and libpq's variables.
-ghost use Rattle.std.specs.Prelude.{◌≡◌, ◌≤◌, IfOk, IfSome, Some, None};
+// The commands with their options, and what the words of a command line ask for.
+ghost use Rattle.std.specs.Prelude.{◌≡◌, ◌≤◌, IfSome, Some, None};
 
 use clap::error::ErrorKind;
 use clap::{Arg, ArgAction, ArgMatches, Command, Error};
-use server::host::Server;
 use server::stream::Slot;
 use std::alloc::{AllocError, Global};
 
@@ -12,12 +11,12 @@ use std::alloc::{AllocError, Global};
 pub struct Options<'a> {
     pub job: Job<'a>,
     pub publication: &'a str,
-    host: Option<&'a str>,
-    port: Option<&'a str>,
-    user: Option<&'a str>,
-    database: Option<&'a str>,
+    pub(crate) host: Option<&'a str>,
+    pub(crate) port: Option<&'a str>,
+    pub(crate) user: Option<&'a str>,
+    pub(crate) database: Option<&'a str>,
     /// How many milliseconds the server may be silent.
-    limit: u64,
+    pub(crate) limit: u64,
     ghost a_second: { 1000 ≤ limit },
 }
 
@@ -278,54 +277,4 @@ fn half(text: &str) -> Option<u32> {
         return None;
     }
     u32::from_str_radix(text, 16).ok()
-}
-
-/// libpq's variables that are set.
-#[derive(Drop)]
-pub struct Variables {
-    pub host: Option<String>,
-    pub port: Option<String>,
-    pub user: Option<String>,
-    pub database: Option<String>,
-    pub password: Option<String>,
-    /// The name of who is logged in, `USER`.
-    pub login: Option<String>,
-}
-
-/// Where Debian's server has its Unix socket.
-const SOCKETS: &str = "/var/run/postgresql";
-
-/// The options that were given, else the variables that are set, else libpq's defaults. None where
-/// no user is named.
-pub fn choose_server(
-    alloc: Global,
-    options: &Options<'_>,
-    variables: &Variables,
-) -> Result<Option<Server>, AllocError>
-    ensures { IfOk result (λ chosen. IfSome chosen (λ server. 1000 ≤ server.limit)) }
-{
-    let login = variables.login.as_deref();
-    let Some(user) = options.user.or(variables.user.as_deref()).or(login) else {
-        return Ok(None);
-    };
-    let host = options
-        .host
-        .or(variables.host.as_deref())
-        .unwrap_or(SOCKETS);
-    let port = options.port.or(variables.port.as_deref()).unwrap_or("5432");
-    let database = options
-        .database
-        .or(variables.database.as_deref())
-        .unwrap_or(user);
-    Ok(Some(Server {
-        host: String::from_str(alloc, host)?,
-        port: String::from_str(alloc, port)?,
-        user: String::from_str(alloc, user)?,
-        database: String::from_str(alloc, database)?,
-        password: match &variables.password {
-            Some(password) => Some(password.clone()?),
-            None => None,
-        },
-        limit: options.limit,
-    }))
 }

@@ -1,0 +1,22 @@
+//! The command line of the program `publisher`, and libpq's variables.
+//!
+//! `parse` reads the words of a command line into the command that they ask for, with what it alone takes,
+//! or answers the text of a usage fault or of help, which names the option and its value. `choose_server`
+//! takes for each part of where the server is the option that was given, else libpq's variable, else
+//! libpq's own default. A password comes from the variable alone.
+//!
+//! What is promised beyond safety is the time limit: a server that is chosen may be silent for a second at
+//! least, so a connection's clock has something to count. What is read, and the texts, are shown by tests
+//! (`server_tests`).
+//!
+//! It stands on `server`, for what a slot and a server are, and on the kit's `clap`.
+//!
+//!   command_line   the commands with their options, and what the words ask for
+//!   variables      libpq's variables, and the server that is meant
+#![tactic(auto)]
+
+mod command_line;
+mod variables;
+
+pub use command_line::{Job, Options, parse};
+pub use variables::{Variables, choose_server};
