@@ -1,0 +1,265 @@
+#!/usr/bin/env python3
+"""Draws streams, and compares what pgapply makes of them with rows that this script keeps.
+
+    drawn.py [--program P] [--first N] [--streams N] [--turns N] [--unlocked]
+
+A stream is that of a publisher whose transactions keep the rows and unique values that they touch
+locked until they end. Up to six are open at once, most of them streamed in blocks, with savepoints,
+rollbacks to them, and aborts. `replay` has to print the rows that the script kept, and `apply` the same
+by each of seven settings of workers and rings. With --unlocked nothing is locked, so transactions meet: then
+each run has to end, and one of `apply` that ends Clean has to print what `replay` prints.
+
+A stream is drawn from its number: --first N --streams 1 draws one again, and leaves it in the folder.
+The last line counts; the status is 1 if anything differed. Needs python3 (3.11) and the built program.
+"""
+import argparse, collections, os, random, struct, subprocess, sys, tempfile
+from dataclasses import dataclass, field
+from figures import HERE, Table, begin, commit, stream_abort, stream_commit, stream_start, sub_of, tuple_of, write_stream
+
+MAIL = Table("mail", "itt", [0], [[1]])
+SETTINGS = [(0, 64), (1, 1), (1, 64), (2, 2), (3, 64), (4, 1), (6, 8)]
+LAWFUL = {"Clean", "Unique", "HeldKey"}
+
+
+def insert(row, sub):
+    return MAIL.insert(row, sub)
+
+
+def update(row, sub, moved_from=None):
+    old = b"" if moved_from is None else b"K" + tuple_of([moved_from, None, None])
+    return b"U" + sub + struct.pack(">I", MAIL.oid) + old + b"N" + tuple_of(row)
+
+
+def delete(number, sub):
+    return b"D" + sub + struct.pack(">I", MAIL.oid) + b"K" + tuple_of([number, None, None])
+
+
+@dataclass
+class Savepoint:
+    sub: int
+    rows: dict
+    numbers: set
+
+
+@dataclass
+class Transaction:
+    """What is open: the numbers of rows and the mails that it has touched, and its rows at these numbers."""
+    xid: int
+    is_streamed: bool
+    numbers: set = field(default_factory=set)
+    mails: set = field(default_factory=set)
+    rows: dict = field(default_factory=dict)
+    savepoints: list = field(default_factory=list)
+    subs: int = 0
+    unsent: list = field(default_factory=list)
+    is_known: bool = False
+
+    def touch(self, numbers, mails):
+        self.numbers |= set(numbers)
+        self.mails |= {mail for mail in mails if mail}
+
+
+class Publisher:
+    """Makes one stream, and keeps the rows that its commits leave."""
+
+    def __init__(self, number, is_locking):
+        self.draws = random.Random(number)
+        self.is_locking = is_locking
+        self.numbers = range(1, self.draws.choice([8, 30, 200]))
+        self.rows, self.open, self.messages = {}, [], []
+        self.lsn, self.xid, self.is_known = 0x1000, 700, False
+
+    def run(self, turns):
+        for _ in range(turns):
+            self.turn()
+        if self.draws.random() < 0.7:
+            for transaction in list(self.open):
+                self.end(transaction)
+        else:
+            for transaction in self.open:
+                self.send(transaction)
+        return self.messages
+
+    def turn(self):
+        if len(self.open) < self.draws.choice([1, 3, 6]) and self.draws.random() < 0.3:
+            self.xid += 1
+            self.open.append(Transaction(self.xid, self.draws.random() < 0.75))
+        if not self.open:
+            return
+        transaction, drawn = self.draws.choice(self.open), self.draws.random()
+        if drawn < 0.75:
+            for _ in range(self.draws.choice([1, 1, 5, 20])):
+                self.work(transaction)
+        elif drawn < 0.83:
+            self.roll_back(transaction)
+        elif drawn < 0.9:
+            self.send(transaction)
+        elif drawn > 0.95:
+            self.end(transaction)
+
+    def seen_by(self, transaction):
+        """The committed rows, with the transaction's own at what it has touched."""
+        seen = {number: row for number, row in self.rows.items() if number not in transaction.numbers}
+        return seen | transaction.rows
+
+    def others(self, transaction, of):
+        """What other open transactions have touched."""
+        return set().union(*(getattr(it, of) for it in self.open if it is not transaction)) if self.is_locking else set()
+
+    def free_mail(self, transaction, seen):
+        """A mail that no row has and nobody else has touched, or none."""
+        mail = f"m{self.draws.randrange(2 * len(self.numbers))}"
+        is_taken = mail in self.others(transaction, "mails") or any(mail == row[1] for rows in (seen, self.rows) for row in rows.values())
+        return None if self.draws.random() < 0.3 or self.is_locking and is_taken else mail
+
+    def work(self, transaction):
+        """A change, some of them in a subtransaction of its own."""
+        savepoints = transaction.savepoints
+        is_new = transaction.is_streamed and self.draws.random() < 0.15
+        if is_new:
+            transaction.subs += 1
+            savepoints.append(Savepoint(100 * transaction.xid + transaction.subs, dict(transaction.rows), set(transaction.numbers)))
+        sub = savepoints[-1].sub if savepoints else transaction.xid
+        message = self.change(transaction, sub_of(sub) if transaction.is_streamed else b"")
+        if message:
+            transaction.unsent.append(message)
+        elif is_new:
+            savepoints.pop()
+
+    def change(self, transaction, sub):
+        seen, locked = self.seen_by(transaction), self.others(transaction, "numbers")
+        free = [number for number in self.numbers if number not in locked]
+        if not free:
+            return None
+        number, kind = self.draws.choice(free), self.draws.random()
+        if number not in seen:
+            return self.put(transaction, sub, number, seen)
+        old = seen[number]
+        if old[1] in self.others(transaction, "mails"):
+            return None
+        if kind < 0.35:
+            transaction.touch([number], [old[1]])
+            transaction.rows.pop(number, None)
+            return delete(number, sub)
+        if kind < 0.8:
+            mail = self.free_mail(transaction, seen) if kind < 0.6 else old[1]
+            return self.replace(transaction, sub, old, [number, mail, f"n{self.draws.randrange(1000)}"])
+        target = self.draws.choice(free)
+        return None if target in seen else self.replace(transaction, sub, old, [target, old[1], old[2]])
+
+    def put(self, transaction, sub, number, seen):
+        if number in self.rows and number not in transaction.numbers:
+            return None
+        row = [number, self.free_mail(transaction, seen), f"n{self.draws.randrange(1000)}"]
+        transaction.touch([number], [row[1]])
+        transaction.rows[number] = row
+        return insert(row, sub)
+
+    def replace(self, transaction, sub, old, new):
+        transaction.touch([old[0], new[0]], [old[1], new[1]])
+        transaction.rows.pop(old[0], None)
+        transaction.rows[new[0]] = new
+        return update(new, sub, old[0] if old[0] != new[0] else None)
+
+    def roll_back(self, transaction):
+        """Back to a savepoint. What was touched since stays locked, and is as it is committed."""
+        if not transaction.savepoints:
+            return
+        place = self.draws.randrange(len(transaction.savepoints))
+        savepoint = transaction.savepoints[place]
+        self.send(transaction)
+        self.messages.append(stream_abort(transaction.xid, savepoint.sub))
+        since = transaction.numbers - savepoint.numbers
+        transaction.rows = savepoint.rows | {number: self.rows[number] for number in since if number in self.rows}
+        del transaction.savepoints[place:]
+
+    def send(self, transaction):
+        """What a streamed transaction has done since its last block."""
+        if not transaction.is_streamed or transaction.is_known and not transaction.unsent:
+            return
+        self.messages.append(stream_start(transaction.xid, not transaction.is_known))
+        if not transaction.is_known:
+            self.messages.append(MAIL.relation(sub_of(transaction.xid)))
+        self.messages += [*transaction.unsent, b"E"]
+        transaction.is_known, transaction.unsent = True, []
+
+    def end(self, transaction):
+        self.open.remove(transaction)
+        self.send(transaction)
+        if transaction.is_streamed and self.draws.random() < 0.2:
+            self.messages.append(stream_abort(transaction.xid, transaction.xid))
+            return
+        self.lsn += 0x100
+        if transaction.is_streamed:
+            self.messages.append(stream_commit(transaction.xid, self.lsn))
+        else:
+            self.messages.append(begin(transaction.xid, self.lsn))
+            if not self.is_known:
+                self.messages.append(MAIL.relation())
+            self.is_known = True
+            self.messages += [*transaction.unsent, commit(self.lsn)]
+        for number in transaction.numbers:
+            self.rows.pop(number, None)
+        self.rows |= transaction.rows
+
+    def report(self):
+        lines = [f"table public.mail {len(self.rows)}"]
+        lines += ["|".join("\\N" if value is None else str(value) for value in self.rows[number]) for number in sorted(self.rows)]
+        return "\n".join(lines) + "\n"
+
+
+def run(program, folder, verb, *options):
+    words = [program, verb, "--config", f"{folder}/drawn.toml", "--stream", f"{folder}/drawn.stream", *options]
+    try:
+        return subprocess.run(words, capture_output=True, text=True, timeout=60).stdout
+    except subprocess.TimeoutExpired:
+        return "end 0 Never\n"
+
+
+def end_of(report):
+    return report.splitlines()[-1].split()[2]
+
+
+def differences(program, folder, publisher, ends):
+    """Which runs of the stream in the folder print what they may not."""
+    replayed = run(program, folder, "replay")
+    is_clean = end_of(replayed) == "Clean"
+    if publisher.is_locking and not (is_clean and replayed.startswith(publisher.report())):
+        yield "replay"
+    for workers, ring in SETTINGS:
+        applied = run(program, folder, "apply", "--workers", str(workers), "--ring", str(ring))
+        end = end_of(applied)
+        ends[end] += 1
+        is_same = applied == replayed
+        if not is_same and (publisher.is_locking or end == "Clean") or end not in LAWFUL:
+            yield f"apply --workers {workers} --ring {ring}: end {end}"
+
+
+def main():
+    words = argparse.ArgumentParser(description=__doc__, formatter_class=argparse.RawDescriptionHelpFormatter)
+    words.add_argument("--program", default=f"{HERE}/../crates/pgapply/out/pgapply")
+    words.add_argument("--first", type=int, default=1, help="the number of the first stream")
+    words.add_argument("--streams", type=int, default=100, help="how many streams")
+    words.add_argument("--turns", type=int, default=400, help="how many turns of a publisher a stream has")
+    words.add_argument("--unlocked", action="store_true", help="transactions lock nothing")
+    said = words.parse_args()
+    ends, messages, differing = collections.Counter(), 0, 0
+    with tempfile.TemporaryDirectory() as temporary:
+        folder = os.getcwd() if said.streams == 1 else temporary
+        with open(f"{folder}/drawn.toml", "w") as file:
+            file.write(MAIL.catalog())
+        for number in range(said.first, said.first + said.streams):
+            publisher = Publisher(number, not said.unlocked)
+            drawn = publisher.run(said.turns)
+            write_stream(f"{folder}/drawn.stream", drawn)
+            messages += len(drawn)
+            for difference in differences(said.program, folder, publisher, ends):
+                differing += 1
+                print(f"stream {number}: {difference}", flush=True)
+    told = ", ".join(f"{count} {end}" for end, count in sorted(ends.items()))
+    print(f"{said.streams} streams of {messages} messages; ends of apply: {told}; {differing} differ")
+    return differing > 0
+
+
+if __name__ == "__main__":
+    sys.exit(main())
