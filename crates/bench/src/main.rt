@@ -10,9 +10,9 @@
 //     bench wait COUNT SLOTS         the same, and its taker sleeps where nothing is left
 //     bench rtrb COUNT SLOTS         the same numbers through the kit's `rtrb`
 //
-// What is read comes in laps of ten thousand, so COUNT is rounded down to whole laps. SLOTS is 1 to
-// 1024; a sender that finds a ring full yields and tries again. It prints counts alone, which are the
-// same at every run; time is taken from outside.
+// What is read comes in laps of ten thousand, so COUNT is rounded down to whole laps. SLOTS are 1 to 1024,
+// and taken as that where they aren't; a sender that finds a ring full yields and tries again. It prints
+// counts alone, which are the same at every run; time is taken from outside.
 #![tactic(auto)]
 
 mod counts;

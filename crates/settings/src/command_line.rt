@@ -7,7 +7,7 @@ use server::stream::Slot;
 use std::alloc::{AllocError, Global};
 
 /// What a command line asks for.
-#[derive(Drop)]
+#[derive(Debug, Drop)]
 pub struct Options<'a> {
     pub job: Job<'a>,
     pub publication: &'a str,
@@ -21,7 +21,7 @@ pub struct Options<'a> {
 }
 
 /// A command, with what it alone takes.
-#[derive(Drop)]
+#[derive(Debug, Drop)]
 pub enum Job<'a> {
     Catalog {
         /// Whether columns of other types are kept as text.

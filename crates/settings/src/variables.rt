@@ -4,8 +4,9 @@ ghost use Rattle.std.specs.Prelude.{◌≤◌, IfOk, IfSome};
 use crate::command_line::Options;
 use server::host::Server;
 use std::alloc::{AllocError, Global};
+use std::fmt;
 
-/// libpq's variables that are set.
+/// libpq's variables that are set. A password is never printed.
 #[derive(Drop)]
 pub struct Variables {
     pub host: Option<String>,
@@ -15,6 +16,18 @@ pub struct Variables {
     pub password: Option<String>,
     /// The name of who is logged in, `USER`.
     pub login: Option<String>,
+}
+
+impl fmt::Debug for Variables {
+    fn fmt<W: fmt::Write>(&self, f: &mut fmt::Formatter<W>) -> fmt::Result {
+        f.debug_struct("Variables")
+            .field("host", &self.host)
+            .field("port", &self.port)
+            .field("user", &self.user)
+            .field("database", &self.database)
+            .field("login", &self.login)
+            .finish_non_exhaustive()
+    }
 }
 
 /// Where Debian's server has its Unix socket.
