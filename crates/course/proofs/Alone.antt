@@ -18,7 +18,7 @@ use Rattle.model.specs.Footprint.{footprint}
 use Rattle.model.specs.Survivors.{survivors, surviving, after_item, before_savepoint, changes_of}
 use Rattle.model.specs.SurvivorLaws.{work_with_change, work_with_touch, cut_before}
 use Rattle.change.specs.Refusal.{HasNoClash}
-use Rattle.spooled.specs.Work.{IsClear}
+use Rattle.engine.specs.Clear.{IsClear}
 use Rattle.world.specs.World.{Opened, Past, World, OpenOnes, ByClash, changes_in, IsFree}
 use Rattle.world.specs.Steps.{IsDone, IsSkipped, Step, opens, acts, touches, commits, Reaches, by_step, most_open, wanting}
 use Rattle.world.specs.ListingLaws.{xid_cases, got_same, got_other, same_by_xid, removed_again, none_removed}

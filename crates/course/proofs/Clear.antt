@@ -11,7 +11,7 @@ use Rattle.model.specs.declared.item.CommitInfo.{CommitInfo}
 use Rattle.model.specs.Rows.{Rows, Schema, IsValid}
 use Rattle.model.specs.Effect.{effect, serial}
 use Rattle.model.specs.SerialLaws.{accepted_append}
-use Rattle.spooled.specs.Work.{IsClear}
+use Rattle.engine.specs.Clear.{IsClear}
 use Rattle.world.specs.CallLaws.{committed_is_serial}
 use Rattle.world.specs.FineLaws.{IsFine, fine_reached, refused_stays}
 use Rattle.world.specs.Steps.{AlreadyOpen, TooManyOpen, Stopped, OutOfMemory, IsDone, IsSkipped, Held, Clashed, Step, opens, acts, touches, goes_back, commits, aborts, stops_held, Reaches, at_start, by_step}

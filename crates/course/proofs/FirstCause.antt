@@ -24,7 +24,7 @@ use Rattle.spooled.specs.Commits.{committed_changes, begun_changes, all_changes}
 use Rattle.spooled.specs.Devices.{DeviceState}
 use Rattle.spooled.specs.Progress.{Progress, Handles, Leads, start_progress}
 use Rattle.spooled.specs.Run.{IsRun}
-use Rattle.spooled.specs.Work.{IsClear, ClashesIn}
+use Rattle.engine.specs.Clear.{IsClear, ClashesIn}
 use Rattle.world.specs.World.{starting}
 use Rattle.course.specs.Begun.{IsSane, begun}
 use Rattle.course.specs.FirstCause.{IsStreamCause, IsAtFirstCause}

@@ -20,7 +20,7 @@ use Rattle.session.specs.Sized.{item_of}
 use Rattle.session.specs.State.{Way, Direct, Worker, Spooled, Open, OpenTransactions, Committed, State, Setting}
 use Rattle.session.specs.Told.{Told, Nothing, Opens, Gives, Commits, Aborts, Tells, IsChange}
 use Rattle.spooled.specs.Commits.{changes_in as told_changes, Transaction, transaction, begun_changes, begun_changes_in, all_changes, open_changes}
-use Rattle.spooled.specs.Work.{IsClear}
+use Rattle.engine.specs.Clear.{IsClear}
 use Rattle.spooled.specs.Progress.{Progress, Handles, Leads, start_progress}
 use Rattle.world.specs.World.{Past, World, changes_in, starting}
 use Rattle.world.specs.Steps.{Reaches, at_start, by_step}

@@ -23,7 +23,7 @@ use Rattle.spooled.specs.declared.end.End.TheVariants as ends
 use Rattle.spooled.specs.declared.outcome.Outcome.{Outcome}
 use Rattle.spooled.specs.Commits.{transaction, committed_changes, all_changes, last_end}
 use Rattle.change.specs.Refusal.{ClashesAs}
-use Rattle.spooled.specs.Work.{IsClear, ClashesIn}
+use Rattle.engine.specs.Clear.{IsClear, ClashesIn}
 use Rattle.spooled.specs.Progress.{Progress, Leads, start_progress, commits_from}
 use Rattle.spooled.specs.Cause.{schema_of, IsCause, HasGoneWell, HasNotClashed, LastClashed, NextClashes, IsNext}
 use Rattle.spooled.specs.Devices.{DeviceState}

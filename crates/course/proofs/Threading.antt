@@ -28,8 +28,7 @@ use Rattle.spooled.specs.Cause.{schema_of}
 use Rattle.spooled.specs.Commits.{Transaction, transaction, transaction_of, commits, changes_in as told_changes, last_end}
 use Rattle.spooled.specs.Devices.{DeviceState}
 use Rattle.spooled.specs.Progress.{Progress, Leads, start_progress}
-use Rattle.spooled.specs.Run.{IsRun}
-use Rattle.spooled.specs.Work.{IsClear}
+use Rattle.engine.specs.Clear.{IsClear}
 use Rattle.world.specs.CallLaws.{committed_is_serial}
 use Rattle.world.specs.World.{Opened, Past, World, starting, entry_of, changes_in}
 use Rattle.world.specs.Steps.{Reaches}

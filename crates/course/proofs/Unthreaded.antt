@@ -27,7 +27,7 @@ use Rattle.spooled.specs.Commits.{Transaction, transaction, transaction_of, comm
 use Rattle.spooled.specs.Devices.{DeviceState}
 use Rattle.spooled.specs.Progress.{Progress, Handles, Leads, start_progress, due_updates, commits_from}
 use Rattle.spooled.specs.Run.{IsRun}
-use Rattle.spooled.specs.Work.{IsClear, ClashesIn}
+use Rattle.engine.specs.Clear.{IsClear, ClashesIn}
 use Rattle.world.specs.World.{starting}
 use Rattle.course.specs.Begun.{IsSane, begun, Moves}
 use Rattle.course.specs.ThreadedRun.{IsCauseOf, IsThreadedRun}

@@ -30,8 +30,8 @@ use Rattle.spooled.specs.Devices.{DeviceState}
 use Rattle.spooled.specs.Progress.{Progress, Handles, Leads, start_progress, commits_from}
 use Rattle.spooled.specs.Run.{IsRun}
 use Rattle.change.specs.Refusal.{HasNoClash, ClashesAs}
-use Rattle.spooled.specs.Work.{IsClear, ClashesIn}
-use Rattle.spooled.proofs.Working.{IsClear-append}
+use Rattle.engine.specs.Clear.{IsClear, ClashesIn}
+use Rattle.engine.specs.ClearLaws.{IsClear-append}
 use Rattle.world.specs.World.{Opened, World, starting, changes_in, work, own_rows}
 use Rattle.course.specs.Begun.{IsSane, open_items, begun_in, begun}
 use Rattle.course.specs.Course.{past_of}

@@ -17,7 +17,7 @@ use Rattle.spooled.specs.Commits.{transaction_of, commits, all_changes, changes_
 use Rattle.spooled.specs.Devices.{DeviceState}
 use Rattle.spooled.specs.Progress.{Progress, Leads, start_progress}
 use Rattle.spooled.specs.Run.{IsRun}
-use Rattle.spooled.specs.Work.{IsClear}
+use Rattle.engine.specs.Clear.{IsClear}
 use Rattle.spooled.specs.declared.end.End.TheVariants as ends
 use Rattle.spooled.specs.declared.outcome.Outcome.{Outcome}
 use Rattle.world.specs.Steps.{Reaches, Closes, IsStuck}

@@ -5,17 +5,13 @@
 --         is waits for a cell of another
 --     IsThreadedCause, IsCauseOf      why a run ends, for each end
 --     IsThreadedRun      a run
-use Rattle.std.specs.Prelude.{◌≡◌, ◌≢◌, ℕ, ℤ, List, [], ◌++◌, length, Option, Some, None, ◌⊎◌}
+use Rattle.std.specs.Prelude.{◌≡◌, ◌≢◌, ℕ, ℤ, List, Some, None, ◌⊎◌}
 use Rattle.std.specs.FinMap.{get}
 use Rattle.model.specs.Rows.{Rows, Schema}
 use Rattle.model.specs.Effect.{ClashCause, NullKey, Unique}
 use Rattle.model.specs.Footprint.{footprint}
-use Rattle.frames.specs.declared.fault.FrameFault.{FrameFault}
 use Rattle.frames.specs.declared.fault.FrameFault.TheVariants.{Device}
 use Rattle.frames.specs.declared.item.CopyItem.{CopyItem}
-use Rattle.frames.specs.Device.{HasWorked, HasFailedLast}
-use Rattle.frames.specs.Reads.{fault_at_end, AtEndOf}
-use Rattle.frames.specs.Stream.{ending_of}
 use Rattle.session.specs.declared.fault.Refused.TheVariants as refusals
 use Rattle.session.specs.State.{Spooled, Open, State, Setting, begun_at}
 use Rattle.spooled.specs.declared.end.End.{End}

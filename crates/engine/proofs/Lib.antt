@@ -6,3 +6,4 @@ mod Standing
 mod StoreTickets
 mod Refusals
 pub mod LettingGo
+mod SerialSteps

@@ -3,8 +3,10 @@
 --     opened_more, work_back      an open transaction once one more event has come, and what survives of it after a rollback
 --     world_acted      the world once a call that tried a change is in its transaction's list
 --     world_done      the world once an item is in it
+--     same_commits, more_commits      the commits with an event that is none, and with one more
 --     rise_more      numbers that rise, with one more
 --     ends_same, last_same, ends_more, last_more      the ends of the commits with an event that is none, and with one more
+--     more_committed      the committed rows after one commit more
 --     world_opened, world_aborted, world_committed      the world once the line has one more event
 use Rattle.std.proofs.Common.{◌≡◌, ℕ, zero, suc, ◌+◌, ◌<◌, Bool, true, false, List, [], ◌∷◌, ◌++◌, get_or, Option, Some, None, refl, sym, ap, subst, ◌∙◌, append-nil, arith}
 use Rattle.std.specs.Prelude.{Result, Ok, Err, ◌==◌, if◌then◌else◌, fold, map, option_map, cond}
@@ -124,7 +126,7 @@ module _ (schema : Schema) (start : Rows) (line : List LineEvent) (lists : ListM
 -- ---- the events of the line
 
 -- an event that is no commit leaves the commits
-same_commits : (line : List LineEvent) (e : LineEvent) → past_of e ≡ [] → commits_in (line ++ e ∷ []) ≡ commits_in line
+pub same_commits : (line : List LineEvent) (e : LineEvent) → past_of e ≡ [] → commits_in (line ++ e ∷ []) ≡ commits_in line
 same_commits line e none = flat_map-append past_of line (e ∷ []) ∙ ap (λ (ps : List Past). commits_in line ++ (ps ++ [])) none ∙ append-nil (commits_in line)
 
 -- the world once a transaction is opened
@@ -152,7 +154,7 @@ world_aborted schema start line lists stopped xid =
     }
 
 -- one commit more
-more_commits : (line : List LineEvent) (xid : ℕ) (items : List Item) (info : CommitInfo)
+pub more_commits : (line : List LineEvent) (xid : ℕ) (items : List Item) (info : CommitInfo)
     → commits_in (line ++ WasCommitted xid items info ∷ []) ≡ commits_in line ++ record { xid = xid; items = items; info = info } ∷ []
 more_commits line xid items info = flat_map-append past_of line (WasCommitted xid items info ∷ [])
 
@@ -191,7 +193,7 @@ last_more line xid items info =
     ap (fold (λ (before end : ℕ). end) 0) (ends_more line xid items info) ∙ fold-append (λ (before end : ℕ). end) 0 (ends_in line) (info.end ∷ [])
 
 -- the committed rows after one commit more
-more_committed : (schema : Schema) (start : Rows) (pasts : List Past) (p : Past)
+pub more_committed : (schema : Schema) (start : Rows) (pasts : List Past) (p : Past)
     → serial schema start (changes_in (pasts ++ p ∷ [])) ≡ serial schema (serial schema start (changes_in pasts)) (work_behind p)
 more_committed schema start pasts p =
     ap (serial schema start) (flat_map-append work_behind pasts (p ∷ []) ∙ ap (λ (cs : List change_type.Change). changes_in pasts ++ cs) (append-nil (work_behind p)))

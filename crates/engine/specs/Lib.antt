@@ -46,3 +46,8 @@ pub mod ShutLaws
 pub mod NamedLaws
 pub mod Merged
 pub mod GivenUp
+pub mod Clear
+pub mod ClearLaws
+pub mod Serial
+pub mod SerialInside
+pub mod SerialLaws

@@ -1,6 +1,6 @@
 -- The tables that the changes of items and entries name.
 --     front      of a list and of a beginning of it
---     changes_item      the changes among items with one more
+--     changes_item, changes_at      the changes among items with one more, and those of one among others
 --     work_named      what survives of items names no other tables
 --     entries_named      with an entry more
 use Rattle.std.proofs.Common.{◌≡◌, ℕ, Bool, true, false, List, [], ◌∷◌, ◌++◌, length, sym, ap, subst, ◌∙◌}
@@ -29,6 +29,12 @@ module _ (P : change_type.Change → Type 0) where
   -- items with one more
   pub changes_item : (items more : List Item) → All P (changes_of items) → All P (changes_of more) → All P (changes_of (items ++ more))
   changes_item items more had one = subst (All P) (sym (changes_of_both items more)) (All-append P (changes_of items) (changes_of more) had one)
+
+  -- one item among others
+  pub changes_at : (before more : List Item) (item : Item) → All P (changes_of (before ++ item ∷ more)) → All P (changes_of (item ∷ []))
+  changes_at before more item all =
+      front P (changes_of (item ∷ [])) (changes_of more)
+      (subst (All P) (changes_of_both (item ∷ []) more) (back P (changes_of before) (changes_of (item ∷ more)) (subst (All P) (changes_of_both before (item ∷ more)) all)))
 
   kept_back : (b : Bool) (sub : ℕ) (kept : List Item) → All P (changes_of kept) → All P (changes_of (if b then kept else before_savepoint sub kept))
   kept_back true sub kept had = had

@@ -121,7 +121,7 @@ still_named : (schema later : Schema) (entries : List Entry) → later ≡ schem
 still_named schema later entries same named = subst (λ (s : Schema). AreNamed s entries) (sym same) named
 
 -- ends that rise, of a line that tells the same ones
-still_rising : (line : List LineEvent) (ends : List ℕ) → ends_in line ≡ ends → IsStrictlyIncreasing (0 ∷ ends) → IsStrictlyIncreasing (0 ∷ ends_in line)
+pub still_rising : (line : List LineEvent) (ends : List ℕ) → ends_in line ≡ ends → IsStrictlyIncreasing (0 ∷ ends) → IsStrictlyIncreasing (0 ∷ ends_in line)
 still_rising line ends same rising = subst (λ (ns : List ℕ). IsStrictlyIncreasing (0 ∷ ns)) (sym same) rising
 
 -- a store whose live part and lists are others, with the same line, journal and start

@@ -22,6 +22,9 @@
 // transaction holds the cell of the row that it looks up, nor then any cell of its footprint there,
 // what it does there is what it would do on its transaction's own view.
 //
+// Where one hand has the store and its line, and transactions come one at a time (`serial`), no cell is
+// held and no ticket made: a commit is what the calls of a store come to.
+//
 // What is committed at a place is read by the holds (`stood`): nobody else can alter it while it is
 // held. So the committed rows of a table are the live ones, but at the places that are held what is
 // committed there: two lists in key order, merged (`committed_rows`, `merging`). Who waits for whom is
@@ -29,6 +32,7 @@
 //
 //   store               `Store`: each call with its ticket or line
 //   shared              `SharedStore`: a store under a lock
+//   serial              `SerialStore`: a store whose transactions come one at a time
 //   shut                the end of a store in which transactions are still open
 //   tickets, events     `Ticket`, `Line`, `Seen`, and what they list
 //   answers, entry      what calls answer; a committed transaction as the journal has it
@@ -42,6 +46,8 @@
 //   specs/Engine, EngineCode      a store as its callers see it; what its type keeps
 //   specs/Shared, SharedLaws      what the type of a store under a lock keeps
 //   specs/Shut, ShutLaws          a store that is given up while transactions are open
+//   specs/Serial, SerialInside, SerialLaws    a store whose transactions come one at a time
+//   specs/Clear, ClearLaws        changes one after another, and the first that clashes
 //   specs/Events, EventLaws       the world that tickets and line tell
 //   specs/Answers                 what the answers tell of a world
 //   specs/StoreLaws               what the type keeps, once a call has altered the parts
@@ -91,6 +97,7 @@ mod let_go;
 mod live;
 mod merging;
 mod rows_after;
+mod serial;
 mod shared;
 mod shut;
 pub mod stood;
@@ -102,6 +109,7 @@ mod waits;
 pub use answers::{Acted, EngineFault, NotSettled, Stop};
 pub use entry::{Changes, ChangesIter, Entry};
 pub use events::{Event, LineEvent};
+pub use serial::SerialStore;
 pub use shared::{SharedStore, StoreNames};
 pub use store::Store;
 pub use tickets::{Line, Seen, Ticket};

@@ -395,7 +395,7 @@ impl Store {
 }
 
 // The tokens of a new store: of its tickets, and both halves of its line.
-fn new_tokens(
+pub(crate) fn new_tokens(
     alloc: Global,
 ) -> Result<(Book<Event>, Kept<LineEvent>, Token<LineEvent>), OutOfMemory>
     ensures book { IfOk result (λ made. made.0.lists ≡ finite.empty) }

@@ -9,13 +9,12 @@ use Rattle.std.proofs.Common.{◌≡◌, ℕ, zero, suc, ◌+◌, ◌<◌, List,
 use Rattle.std.specs.Prelude.{ℤ, map, option_map, All, ◌⊎◌}
 use Rattle.std.specs.Ordering.{nat_cmp}
 use Rattle.std.specs.FinMap as finite
-use Rattle.std.proofs.KnownBytes.{Appends-nil, Consumes-nil}
+use Rattle.std.proofs.KnownBytes.{Appends-nil}
 use Rattle.model.specs.Rows.{Rows, Schema, IsValid}
 use Rattle.model.specs.Effect.{serial}
 use Rattle.model.specs.Definition.{Definition}
 use Rattle.frames.specs.declared.fault.FrameFault.TheVariants as frames
 use Rattle.frames.specs.declared.item.CopyItem.{CopyItem}
-use Rattle.frames.proofs.Handed.{Reads-nothing}
 use Rattle.tokens.specs.Lists.{OpenList}
 use Rattle.world.specs.World.{World, Past, entry_of, starting, changes_in as changes_of}
 use Rattle.world.specs.Steps.{at_start}
@@ -36,8 +35,7 @@ use Rattle.spooled.specs.Commits.{transaction_of, commits, changes_in, committed
 use Rattle.spooled.specs.Devices.{DeviceState}
 use Rattle.spooled.specs.Handler.{IsEnded, IsRunOver}
 use Rattle.spooled.specs.Progress.{Progress, start_progress}
-use Rattle.spooled.specs.StreamPart.{StreamPart}
-use Rattle.spooled.proofs.Running.{Ticks-nil}
+use Rattle.spooled.proofs.Running.{nothing_handled}
 use Rattle.course.specs.Runs.{told_of, end_of}
 use Rattle.course.specs.Threads.{done_by_commit}
 use Rattle.course.specs.ThreadedRun.{IsThreadedCause, IsCauseOf}
@@ -62,21 +60,6 @@ module _ {H : Type 0} (of : H → Led) (g : Setting) (rows : Rows) where
     part = over.part;
     why = elim over.why [ inl item ↦ inl (record { ended = item.ended; read = item.read; sent = item.sent }) | inr other ↦ inr other ];
   }
-
--- nothing was handled
-abbrev nothing_handled : (g : Setting) (devices : DeviceState) → StreamPart g devices devices
-nothing_handled g devices = record {
-  bytes = [];
-  read = Consumes-nil devices.unread;
-  handled = [];
-  rest = [];
-  items = Reads-nothing.0;
-  progress = start_progress;
-  lawful = refl;
-  times = [];
-  told = Ticks-nil devices.times;
-  counted = refl;
-}
 
 -- it is over before a byte is read
 pub nothing_read : (g : Setting) (rows : Rows) (devices : DeviceState) (l : Led) → IsLeadAt g rows l start_progress

@@ -114,21 +114,7 @@ where
         Ok((store, line)) => run_store::<Brand, R, S, W, C, G, V>(
             rt, alloc, devices, catalog, store, line, config, gates, watchers,
         ),
-        Err(start) => unread(alloc, start),
-    }
-}
-
-// What is left where memory was refused before a byte was read.
-fn unread(alloc: Global, start: Tables) -> Outcome
-    ensures shut { IsShutSo start.schema start.rows [] result }
-    ensures position { result.position ≡ 0 }
-    ensures end { result.end ≡ NoMemory }
-{
-    Outcome {
-        tables: start,
-        journal: Vec::new(alloc),
-        position: 0,
-        end: End::OutOfMemory,
+        Err(start) => Outcome::unread(alloc, start),
     }
 }
 

@@ -5,9 +5,9 @@
 //! takes for each part of where the server is the option that was given, else libpq's variable, else
 //! libpq's own default. A password comes from the variable alone.
 //!
-//! What is promised beyond safety is the time limit: a server that is chosen may be silent for a second at
-//! least, so a connection's clock has something to count. What is read, and the texts, are shown by tests
-//! (`server_tests`).
+//! What is promised beyond safety is which server is meant (`specs/Choosing`), and the time limit: a server
+//! that is chosen may be silent for a second at least, so a connection's clock has something to count. What
+//! is read, and the texts, are shown by tests (`server_tests`).
 //!
 //! It stands on `server`, for what a slot and a server are, and on the kit's `clap`.
 //!

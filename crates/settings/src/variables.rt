@@ -1,5 +1,6 @@
 // libpq's variables, and the server that options and variables mean.
-ghost use Rattle.std.specs.Prelude.{◌≤◌, IfOk, IfSome};
+ghost use Rattle.std.specs.Prelude.{◌≡◌, ◌≤◌, None, IfOk, IfSome, MatchOption};
+ghost use Rattle.settings.specs.Choosing.{named_user, IsMeant};
 
 use crate::command_line::Options;
 use server::host::Server;
@@ -40,7 +41,8 @@ pub fn choose_server(
     options: &Options<'_>,
     variables: &Variables,
 ) -> Result<Option<Server>, AllocError>
-    ensures { IfOk result (λ chosen. IfSome chosen (λ server. 1000 ≤ server.limit)) }
+    ensures meant { IfOk result (λ chosen. MatchOption chosen (named_user options.now variables.now ≡ None) (IsMeant options.now variables.now)) }
+    ensures limit { IfOk result (λ chosen. IfSome chosen (λ server. 1000 ≤ server.limit)) }
 {
     let login = variables.login.as_deref();
     let Some(user) = options.user.or(variables.user.as_deref()).or(login) else {

@@ -16,13 +16,14 @@ use Rattle.session.specs.Lawful.{Admits, Refuses}
 use Rattle.spooled.specs.declared.applier.Applier.{Applier}
 use Rattle.spooled.specs.declared.end.End.{End}
 use Rattle.spooled.specs.declared.end.End.TheVariants as ends
-use Rattle.spooled.specs.Work.{rows_now, IsClear, ClashesIn}
+use Rattle.engine.specs.Clear.{IsClear, ClashesIn}
+use Rattle.engine.specs.ClearLaws.{ClashesIn-behind}
+use Rattle.engine.specs.Serial.{rows_now}
 use Rattle.spooled.specs.Commits.{transaction, changes_in, committed_changes, begun_changes, all_changes}
 use Rattle.spooled.specs.Progress.{Progress}
 use Rattle.spooled.specs.Ends.{end_of_refusal, end_of_clash}
 use Rattle.spooled.specs.Cause.{schema_of}
 use Rattle.spooled.specs.Applier.{HasCommits, IsAt, EndsByMessage, TakesMessage}
-use Rattle.spooled.proofs.Working.{ClashesIn-behind}
 use Rattle.spooled.proofs.Admitted.{not_committed}
 use Rattle.spooled.proofs.Taking.{rows_at, GoesOn, done_more, commits_one, HasCommits-kept, IsCommitted, done_is}
 
@@ -32,13 +33,11 @@ IsClear-front schema rows (c ∷ cs) ds clear = (clear.0, IsClear-front schema (
 
 -- what is kept of the commits stays
 pub record StaysKept (a b : Applier) : Type 0 where
-  pub schema : b.work.schema ≡ a.work.schema
-  pub base : b.work.base ≡ a.work.base
-  pub journal : b.journal.items ≡ a.journal.items
+  pub store : b.work.store ≡ a.work.store
   pub position : b.position ≡ a.position
 
 stays : (g : Setting) (rows : Rows) (a b : Applier) (s t : State) → HasCommits g rows a s → t.past ≡ s.past → StaysKept a b → HasCommits g rows b t
-stays g rows a b s t has past same = HasCommits-kept g rows a b s t has past same.schema same.base same.journal same.position
+stays g rows a b s t has past same = HasCommits-kept g rows a b s t has past same.store same.position
 
 -- ---- an error that is passed on
 
@@ -66,14 +65,14 @@ committed_clear g rows a p t at same =
     (IsClear-front (schema_of g) rows (committed_changes p.state) (begun_changes p.state) at.clear)
 
 -- changes that were refused on the rows now are refused behind all that was done
-refused_behind : (g : Setting) (rows : Rows) (a : Applier) (p : Progress) (cs : List Change) (clash : Clash) → IsAt g rows a p → ClashesIn a.work.schema (rows_now a.work) cs clash → ClashesIn (schema_of g) rows (all_changes p.state ++ cs) clash
+refused_behind : (g : Setting) (rows : Rows) (a : Applier) (p : Progress) (cs : List Change) (clash : Clash) → IsAt g rows a p → ClashesIn a.work.store.schema (rows_now a.work) cs clash → ClashesIn (schema_of g) rows (all_changes p.state ++ cs) clash
 refused_behind g rows a p cs clash at refused =
     let here = subst (λ (sch : Schema). ClashesIn sch (rows_now a.work) cs clash) at.commits.schema refused in
     ClashesIn-behind (schema_of g) rows (all_changes p.state) cs clash at.clear (subst (λ (r : Rows). ClashesIn (schema_of g) r cs clash) (rows_at g rows a p at) here)
 
 -- one that came directly: its message was taken
 pub clashed_on : (g : Setting) (rows : Rows) (a b : Applier) (p : Progress) (payload : List ℕ) (m : Message) (t : State) (cs : List Change) (clash : Clash) → IsAt g rows a p → Admits g p.state payload m t → GoesOn g p.state t cs → StaysKept a b
-    → ClashesIn a.work.schema (rows_now a.work) cs clash → EndsByMessage g rows b p payload (end_of_clash clash)
+    → ClashesIn a.work.store.schema (rows_now a.work) cs clash → EndsByMessage g rows b p payload (end_of_clash clash)
 clashed_on g rows a b p payload m t cs clashes.OutOfMemory at admits on same refused = out_of_memory g rows a b p payload at same
 clashed_on g rows a b p payload m t cs (clashes.Unique table key) at admits on same refused =
     inr (
@@ -98,7 +97,7 @@ clashed_on g rows a b p payload m t cs (clashes.NullKey table) at admits on same
 
 -- one of a transaction that the message commits: the message is left
 pub clashed_at_commit : (g : Setting) (rows : Rows) (a b : Applier) (p : Progress) (payload : List ℕ) (m : Message) (t : State) (xid commit end : ℕ) (items : List Item) (clash : Clash) → IsAt g rows a p → Admits g p.state payload m t → IsCommitted g p.state t xid commit end items → StaysKept a b
-    → ClashesIn a.work.schema (rows_now a.work) (changes_of items) clash → EndsByMessage g rows b p payload (end_of_clash clash)
+    → ClashesIn a.work.store.schema (rows_now a.work) (changes_of items) clash → EndsByMessage g rows b p payload (end_of_clash clash)
 clashed_at_commit g rows a b p payload m t xid commit end items clashes.OutOfMemory at admits is same refused = out_of_memory g rows a b p payload at same
 clashed_at_commit g rows a b p payload m t xid commit end items (clashes.Unique table key) at admits is same refused =
     inl (

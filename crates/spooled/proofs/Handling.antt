@@ -8,7 +8,7 @@ use Rattle.session.specs.State.{Setting}
 use Rattle.spooled.specs.declared.applier.Applier.{Applier}
 use Rattle.spooled.specs.declared.end.End.{End}
 use Rattle.spooled.specs.Progress.{Progress, seen_with, Leads, start_progress, due_updates}
-use Rattle.spooled.specs.Work.{IsClear}
+use Rattle.engine.specs.Clear.{IsClear}
 use Rattle.spooled.specs.Commits.{all_changes}
 use Rattle.spooled.specs.Cause.{schema_of}
 use Rattle.spooled.specs.Handler.{HandlesItem, HasHandled}
@@ -27,7 +27,6 @@ pub record IsSameBut (a b : Applier) : Type 0 where
   pub catalog : b.catalog ≡ a.catalog
   pub session : b.session ≡ a.session
   pub work : b.work ≡ a.work
-  pub journal : b.journal.items ≡ a.journal.items
   pub position : b.position ≡ a.position
 
 IsAt-seen : (g : Setting) (rows : Rows) (a b : Applier) (p : Progress) (seen : ℕ) → IsAt g rows a p → IsSameBut a b → b.written ≡ max seen p.state.position → IsAt g rows b (with_seen p seen)
@@ -39,7 +38,7 @@ IsAt-seen g rows a b p seen at same written = record {
   commits = record {
     schema = rw same.work at.commits.schema;
     base = rw same.work at.commits.base;
-    journal = rw same.journal at.commits.journal;
+    journal = rw same.work at.commits.journal;
     position = same.position ∙ at.commits.position;
   };
   reached = at.reached;

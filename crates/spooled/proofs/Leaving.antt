@@ -1,6 +1,8 @@
 -- What a run leaves, by what ended it.
-use Rattle.std.proofs.Common.{◌≡◌, ℕ, List, ap, ◌∙◌, inl, inr}
+use Rattle.std.proofs.Common.{◌≡◌, ℕ, List, [], refl, sym, ap, subst, ◌∙◌, inl, inr}
+use Rattle.std.proofs.KnownBytes.{Appends-nil}
 use Rattle.std.specs.Prelude.{ℤ, map}
+use Rattle.std.proofs.lemmas.Simd.{map-map}
 use Rattle.model.specs.Rows.{Rows}
 use Rattle.frames.specs.declared.fault.FrameFault.TheVariants as frames
 use Rattle.frames.specs.declared.item.CopyItem.{CopyItem}
@@ -9,14 +11,16 @@ use Rattle.spooled.specs.declared.applier.Applier.{Applier}
 use Rattle.spooled.specs.declared.end.End.{End}
 use Rattle.spooled.specs.declared.end.End.TheVariants as ends
 use Rattle.spooled.specs.declared.outcome.Outcome.{Outcome}
-use Rattle.spooled.specs.Commits.{transaction_of}
-use Rattle.spooled.specs.Cause.{HasGoneWell, HasNotClashed, IsNextCause, LastClashed, IsSendCause, IsInputCause, IsItemCause, IsCause}
+use Rattle.engine.specs.Engine.{entry_in}
+use Rattle.world.specs.World.{journal as journal_of}
+use Rattle.spooled.specs.Commits.{transaction_of, told_transaction}
+use Rattle.spooled.specs.Cause.{schema_of, HasGoneWell, HasNotClashed, IsNextCause, LastClashed, IsSendCause, IsInputCause, IsItemCause, IsCause}
 use Rattle.spooled.specs.Devices.{DeviceState}
 use Rattle.spooled.specs.Handler.{IsEnded, IsRunOver}
 use Rattle.spooled.specs.Applier.{IsAt, HasCommits, HasEnded}
-use Rattle.spooled.specs.Progress.{Progress}
+use Rattle.spooled.specs.Progress.{Progress, start_progress}
 use Rattle.spooled.specs.Run.{IsRun}
-use Rattle.spooled.proofs.Running.{clear_at_send, clear_at_input}
+use Rattle.spooled.proofs.Running.{nothing_handled, clear_at_send, clear_at_input}
 
 module _ (g : Setting) (rows : Rows) (old new : DeviceState) (handled : List CopyItem) (p : Progress) (times : List ℤ) where
   -- the next item ends the run, where all has gone well
@@ -66,7 +70,7 @@ module _ (g : Setting) (rows : Rows) (old new : DeviceState) (handled : List Cop
   by_input a bytes rest ends.OutOfMemory why = inl (well_so a why)
   by_input a bytes rest end why = absurd why
 
-pub is_run : (g : Setting) (rows : Rows) (old new : DeviceState) (a : Applier) (o : Outcome) → IsRunOver g (IsAt g rows) (HasEnded g rows) old new a o.end → o.tables.rows ≡ a.work.base → o.tables.schema ≡ a.work.schema → o.journal ≡ a.journal → o.position ≡ a.position
+pub is_run : (g : Setting) (rows : Rows) (old new : DeviceState) (a : Applier) (o : Outcome) → IsRunOver g (IsAt g rows) (HasEnded g rows) old new a o.end → o.tables.rows ≡ a.work.store.world.committed → o.tables.schema ≡ a.work.store.schema → map entry_in o.journal.items ≡ journal_of a.work.store.world → o.position ≡ a.position
     → IsRun g rows old new o
 is_run g rows old new a o over tables schema journal position =
     let commits : HasCommits g rows a over.part.progress.state = elim over.why [
@@ -81,8 +85,20 @@ is_run g rows old new a o over tables schema journal position =
         | inr (inl send) ↦ by_send g rows old new over.part.handled over.part.progress over.part.times a over.part.bytes over.part.rest o.end send
         | inr (inr input) ↦ by_input g rows old new over.part.handled over.part.progress over.part.times a over.part.bytes over.part.rest o.end input
       ];
-      journal = ap (λ j. map transaction_of j.items) journal ∙ commits.journal;
+      journal = sym (map-map told_transaction entry_in o.journal.items) ∙ ap (map told_transaction) journal ∙ commits.journal;
       position = position ∙ commits.position;
       tables = tables ∙ commits.base;
       schema = schema ∙ commits.schema;
     }
+
+-- what is left where memory was refused before a byte was read
+pub unread_is_run : (g : Setting) (rows : Rows) (devices : DeviceState) (o : Outcome) → o.tables.rows ≡ rows → o.tables.schema ≡ schema_of g → o.journal.items ≡ [] → o.position ≡ 0
+    → o.end ≡ ends.OutOfMemory → IsRun g rows devices devices o
+unread_is_run g rows devices o tables schema journal position end = record {
+  part = nothing_handled g devices;
+  cause = subst (IsCause g rows devices devices [] start_progress [] [] []) (sym end) (inl (record { clear = tt; read = refl; sent = (refl, Appends-nil devices.sent) }));
+  journal = ap (map transaction_of) journal;
+  position = position;
+  tables = tables;
+  schema = schema;
+}

@@ -1,4 +1,3 @@
-pub mod Working
 pub mod States
 mod Begun
 pub mod Taking

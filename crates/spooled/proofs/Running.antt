@@ -2,7 +2,7 @@
 use Rattle.std.proofs.Common.{◌≡◌, ℕ, ◌+◌, Bool, true, false, List, [], ◌∷◌, ◌++◌, length, Option, Some, None, refl, sym, ap, subst, ◌∙◌, append_assoc, append-nil, length-append, arith, inl, inr}
 use Rattle.std.specs.Prelude.{Result, Ok, Err, ℤ, IsErrAnd, ◌⊎◌, max}
 use Rattle.std.specs.Io.KnownBytes.{Appends, Keeps}
-use Rattle.std.proofs.KnownBytes.{Appends-nil, Appends-trans, Appends-kept}
+use Rattle.std.proofs.KnownBytes.{Appends-nil, Appends-trans, Appends-kept, Consumes-nil}
 use Rattle.model.specs.Rows.{Rows}
 use Rattle.frames.specs.declared.fault.FrameFault.{FrameFault}
 use Rattle.frames.specs.declared.fault.FrameFault.TheVariants as frames
@@ -18,6 +18,8 @@ use Rattle.spooled.specs.Progress.{Progress, Handles, Leads, start_progress, Upd
 use Rattle.spooled.specs.Cause.{LastStep, HasGoneWell, LastIsCut, IsSendCause, IsInputCause}
 use Rattle.spooled.specs.Devices.{DeviceState}
 use Rattle.spooled.specs.Handler.{IsUnderWay, EndsByItem, HasHandled, HasTold, HasCome, StopsAt, Answers}
+use Rattle.frames.proofs.Handed.{Reads-nothing}
+use Rattle.spooled.specs.StreamPart.{StreamPart}
 
 pub Leads-more : (g : Setting) (p q r : Progress) (items : List CopyItem) (item : CopyItem) → Leads g p items q → Handles g q item r → Leads g p (items ++ item ∷ []) r
 Leads-more g p q r [] item leads handles = (r, subst (λ (x : Progress). Handles g x item r) (sym leads) handles, refl)
@@ -34,6 +36,21 @@ Ticks-trans (Some x) (Some y) (Some z) ts us p q = q ∙ ap (λ l. l ++ us) p �
 pub Ticks-nil : (a : Option (List ℤ)) → Ticks a a []
 Ticks-nil None = tt
 Ticks-nil (Some x) = sym (append-nil x)
+
+-- nothing was handled
+abbrev pub nothing_handled : (g : Setting) (devices : DeviceState) → StreamPart g devices devices
+nothing_handled g devices = record {
+  bytes = [];
+  read = Consumes-nil devices.unread;
+  handled = [];
+  rest = [];
+  items = Reads-nothing.0;
+  progress = start_progress;
+  lawful = refl;
+  times = [];
+  told = Ticks-nil devices.times;
+  counted = refl;
+}
 
 -- the frame of an update at a time
 abbrev pub frame_at : Update → ℤ → List ℕ

@@ -1,7 +1,8 @@
 -- What a message that was taken leaves of a run.
 use Rattle.std.proofs.Common.{◌≡◌, ◌≢◌, ℕ, ◌<◌, Bool, true, false, List, [], ◌∷◌, ◌++◌, length, Some, None, refl, sym, ap, subst, ◌∙◌, append_assoc, append-nil, arith, inl, inr, ◌==◌, if◌then◌else◌}
-use Rattle.std.specs.Prelude.{map, All, ◌⊎◌, max}
+use Rattle.std.specs.Prelude.{map, fold, All, ◌⊎◌, max}
 use Rattle.std.proofs.lemmas.List.{map-append, length-map}
+use Rattle.std.proofs.lemmas.Simd.{map-map}
 use Rattle.std.proofs.lemmas.List.Elements.{All-append, All-cons, All-nil, All-head, All-tail, All-take}
 use Rattle.std.specs.declared.vec.Vec.{Vec}
 use Rattle.std.specs.declared.alloc.Global.{Global}
@@ -13,6 +14,7 @@ use Rattle.model.specs.declared.change.Change as change_type
 use Rattle.model.specs.declared.item.Item.{Item}
 use Rattle.model.specs.declared.item.Item.TheVariants.{Change, Touch, BackTo, Last}
 use Rattle.model.specs.declared.item.CommitInfo.{CommitInfo}
+use Rattle.model.specs.Named.{NamesTables}
 use Rattle.model.specs.Survivors.{changes_of, before_savepoint, after_item, surviving}
 use Rattle.model.specs.SurvivorLaws.{items_of_survivors}
 use Rattle.messages.specs.declared.message.Message.{Message}
@@ -28,21 +30,25 @@ use Rattle.session.specs.Told.{Told, Nothing, Opens, Gives, Commits, Aborts, Tel
 use Rattle.session.specs.Represents.{Represents}
 use Rattle.session.specs.Answers.{Says, IsWithin}
 use Rattle.spooled.specs.declared.applier.Applier.{Applier}
-use Rattle.spooled.specs.Work.{OpenWork, rows_now, IsClear}
-use Rattle.spooled.specs.Commits.{Transaction, transaction_of, transaction, changes_in, surviving_changes, commits, committed_changes, begun_changes, all_changes, last_end}
+use Rattle.engine.specs.Clear.{IsClear}
+use Rattle.engine.specs.ClearLaws.{IsClear-append}
+use Rattle.engine.specs.Engine.{Engine, IsOtherwiseSame}
+use Rattle.engine.specs.Serial.{Serial, rows_now, with_changes, last_end_in, committed_by as then_committed}
+use Rattle.engine.specs.SerialLaws.{rows_with, rows_committed, journal_committed}
+use Rattle.world.specs.World as told_entry
+use Rattle.spooled.specs.Commits.{Transaction, told_transaction, transaction, changes_in, surviving_changes, commits, committed_changes, begun_changes, all_changes, last_end}
 use Rattle.spooled.specs.Progress.{Progress, commits_from}
 use Rattle.spooled.specs.Cause.{schema_of}
 use Rattle.spooled.specs.Applier.{AreServed, HasCommits, IsAt}
 use Rattle.spooled.specs.Handler.{HasTaken}
 use Rattle.spooled.proofs.Admitted.{on_to, one_committed, later_max, by_commit, taken_commit}
-use Rattle.spooled.proofs.Working.{with_changes, rows_with, IsClear-append}
 use Rattle.spooled.proofs.States.{last_end-push, changes_in-append, AreServed-insert, AreServed-remove}
 use Rattle.spooled.proofs.Begun.{IsSane, direct_begun, begun_stays, begun_opened, begun_beside, begun_given, begun_without, begun_outside, unbegun}
 
 -- the rows now are those of all that was done
 pub rows_at : (g : Setting) (rows : Rows) (a : Applier) (p : Progress) → IsAt g rows a p → rows_now a.work ≡ serial (schema_of g) rows (all_changes p.state)
 rows_at g rows a p at =
-    ap (λ (s : Schema). serial s a.work.base a.work.changes) at.commits.schema
+    ap (λ (s : Schema). serial s a.work.store.world.committed a.work.changes) at.commits.schema
     ∙ ap (λ (b : Rows). serial (schema_of g) b a.work.changes) at.commits.base
     ∙ ap (serial (schema_of g) (serial (schema_of g) rows (committed_changes p.state))) at.begun
     ∙ sym (serial_append (schema_of g) rows (committed_changes p.state) (begun_changes p.state))
@@ -66,18 +72,17 @@ done_more g s t cs on = ap (λ ds. ds ++ begun_changes t) (committed_same s t on
 pub record IsKept (a b : Applier) (cs : List change_type.Change) : Type 0 where
   pub catalog : b.catalog ≡ a.catalog
   pub work : b.work ≡ with_changes a.work cs
-  pub journal : b.journal.items ≡ a.journal.items
   pub position : b.position ≡ a.position
   pub written : b.written ≡ a.written
 
-pub no_change : (w : OpenWork) → w ≡ with_changes w []
-no_change w = ap (λ (cs : List change_type.Change). record { schema = w.schema; base = w.base; changes = cs }) (sym (append-nil w.changes))
+pub no_change : (w : Serial) → w ≡ with_changes w []
+no_change w = ap (λ (cs : List change_type.Change). record w { changes = cs }) (sym (append-nil w.changes))
 
-pub HasCommits-kept : (g : Setting) (rows : Rows) (a b : Applier) (s t : State) → HasCommits g rows a s → t.past ≡ s.past → b.work.schema ≡ a.work.schema → b.work.base ≡ a.work.base → b.journal.items ≡ a.journal.items → b.position ≡ a.position → HasCommits g rows b t
-HasCommits-kept g rows a b s t has past schema base journal position = record {
-  schema = schema ∙ has.schema;
-  base = base ∙ has.base ∙ rw past;
-  journal = ap (map transaction_of) journal ∙ has.journal ∙ rw past;
+pub HasCommits-kept : (g : Setting) (rows : Rows) (a b : Applier) (s t : State) → HasCommits g rows a s → t.past ≡ s.past → b.work.store ≡ a.work.store → b.position ≡ a.position → HasCommits g rows b t
+HasCommits-kept g rows a b s t has past store position = record {
+  schema = ap (λ (e : Engine). e.schema) store ∙ has.schema;
+  base = ap (λ (e : Engine). e.world.committed) store ∙ has.base ∙ rw past;
+  journal = ap (λ (e : Engine). map told_transaction (told_entry.journal e.world)) store ∙ has.journal ∙ rw past;
   position = position ∙ has.position ∙ rw past;
 }
 
@@ -88,9 +93,9 @@ went_on g rows a b p t cs at on same session clear = record {
   catalog = at.catalog ∙ rw same.catalog;
   session = session;
   served = on.served;
-  commits = HasCommits-kept g rows a b p.state t at.commits on.past (ap (λ (w : OpenWork). w.schema) same.work) (ap (λ (w : OpenWork). w.base) same.work) same.journal same.position;
+  commits = HasCommits-kept g rows a b p.state t at.commits on.past (ap (λ (w : Serial). w.store) same.work) same.position;
   reached = on.position ∙ at.reached ∙ rw on.past;
-  begun = ap (λ (w : OpenWork). w.changes) same.work ∙ ap (λ ds. ds ++ cs) at.begun ∙ sym on.begun;
+  begun = ap (λ (w : Serial). w.changes) same.work ∙ ap (λ ds. ds ++ cs) at.begun ∙ sym on.begun;
   clear = subst (IsClear (schema_of g) rows) (sym (done_more g p.state t cs on)) (IsClear-append (schema_of g) rows (all_changes p.state) cs at.clear clear);
   seen = same.written ∙ at.seen ∙ rw on.position;
 }
@@ -287,53 +292,87 @@ module _ (g : Setting) (s t : State) (xid commit end : ℕ) (items : List Item) 
   pub commits_one : commits_from s t ≡ true
   commits_one = one_committed s t is.transaction is.past
 
-pub commit_taken : (g : Setting) (rows : Rows) (a b : Applier) (p : Progress) (payload : List ℕ) (m : Message) (t : State) (xid commit end : ℕ) (items : List Item) (w : OpenWork) → IsAt g rows a p → Admits g p.state payload m t → IsCommitted g p.state t xid commit end items → Represents g b.session t
+-- where the log goes on behind the last commit of the world is where it does so behind that of the past
+world_ends : (line : List told_entry.Past) (past : List Committed) → map told_transaction (map told_entry.entry_of line) ≡ map transaction past
+    → fold (λ (before end : ℕ). end) 0 (map (λ (p : told_entry.Past). p.info.end) line) ≡ last_end past
+world_ends line past told =
+    ap (fold (λ (before end : ℕ). end) 0)
+    (sym (map-map (λ (e : told_entry.Entry). e.end) told_entry.entry_of line) ∙ sym (map-map (λ (t : Transaction). t.end) told_transaction (map told_entry.entry_of line))
+    ∙ ap (map (λ (t : Transaction). t.end)) told ∙ map-map (λ (t : Transaction). t.end) transaction past)
+    ∙ ends_of past
+  where
+    ends_of : (past : List Committed) → fold (λ (before end : ℕ). end) 0 (map (λ (c : Committed). c.info.end) past) ≡ last_end past
+    ends_of [] = refl
+    ends_of (c ∷ []) = refl
+    ends_of (c ∷ d ∷ past) = ends_of (d ∷ past)
+
+-- a commit ends above those before it
+pub rises : (g : Setting) (rows : Rows) (a : Applier) (p : Progress) (t : State) (xid commit end : ℕ) (items : List Item) → IsAt g rows a p → IsCommitted g p.state t xid commit end items
+    → last_end_in a.work.store.world < end
+rises g rows a p t xid commit end items at is =
+    subst (λ n. n < end) (sym (world_ends a.work.store.world.line p.state.past at.commits.journal ∙ sym at.reached)) is.later
+
+pub commit_taken : (g : Setting) (rows : Rows) (a b : Applier) (p : Progress) (payload : List ℕ) (m : Message) (t : State) (xid commit end : ℕ) (items : List Item) (w : Serial) → IsAt g rows a p → Admits g p.state payload m t → IsCommitted g p.state t xid commit end items → Represents g b.session t
     → IsClear (schema_of g) (serial (schema_of g) rows (all_changes p.state)) (changes_of items)
-    → w ≡ with_changes a.work (changes_of items) → b.work ≡ record { schema = w.schema; base = rows_now w; changes = [] }
-    → map transaction_of b.journal.items ≡ map transaction_of a.journal.items ++ record { xid = xid; changes = w.changes; commit = commit; end = end } ∷ []
+    → w ≡ with_changes a.work (changes_of items) → b.work.store.world ≡ then_committed w.store.schema w.store.world xid w.changes (record { commit = commit; end = end })
+    → b.work.changes ≡ [] → IsOtherwiseSame w.store b.work.store
     → b.position ≡ end → b.written ≡ max a.written end → b.catalog ≡ a.catalog
     → HasTaken g (IsAt g rows b) p payload true
-commit_taken g rows a b p payload m t xid commit end items w at admits is session clear more settled journal position written catalog =
+commit_taken g rows a b p payload m t xid commit end items w at admits is session clear more settled none same position written catalog =
+    let info : CommitInfo = record { commit = commit; end = end } in
+    let store : w.store ≡ a.work.store = ap (λ (v : Serial). v.store) more in
     taken_commit g (IsAt g rows b) p payload m t admits (commits_one g p.state t xid commit end items is) (record {
       workers = at.workers;
       catalog = at.catalog ∙ rw catalog;
       session = session;
       served = is.served;
       commits = record {
-        schema = ap (λ (v : OpenWork). v.schema) settled ∙ ap (λ (v : OpenWork). v.schema) more ∙ at.commits.schema;
+        schema = same.schema ∙ ap (λ (e : Engine). e.schema) store ∙ at.commits.schema;
         base =
-            ap (λ (v : OpenWork). v.base) settled ∙ ap rows_now more ∙ rows_with a.work (changes_of items)
+            ap (λ (v : told_entry.World). v.committed) settled ∙ rows_committed w.store.schema w.store.world xid w.changes info ∙ ap rows_now more ∙ rows_with a.work (changes_of items)
             ∙ ap (λ (sch : Schema). serial sch (rows_now a.work) (changes_of items)) at.commits.schema
             ∙ ap (λ (r : Rows). serial (schema_of g) r (changes_of items)) (rows_at g rows a p at)
             ∙ sym (serial_append (schema_of g) rows (all_changes p.state) (changes_of items))
             ∙ ap (serial (schema_of g) rows) (sym (committed_is g p.state t xid commit end items is));
         journal =
-            journal
-            ∙ ap (λ ts. ts ++ record { xid = xid; changes = w.changes; commit = commit; end = end } ∷ []) at.commits.journal
-            ∙ ap (λ cs. commits p.state ++ record { xid = xid; changes = cs; commit = commit; end = end } ∷ []) (ap (λ (v : OpenWork). v.changes) more ∙ ap (λ cs. cs ++ changes_of items) at.begun)
+            ap (λ (v : told_entry.World). map told_transaction (told_entry.journal v)) settled
+            ∙ ap (map told_transaction) (journal_committed w.store.schema w.store.world xid w.changes info)
+            ∙ map-append told_transaction (told_entry.journal w.store.world) _
+            ∙ ap (λ ts. ts ++ record { xid = xid; changes = w.changes; commit = commit; end = end } ∷ []) (ap (λ (e : Engine). map told_transaction (told_entry.journal e.world)) store ∙ at.commits.journal)
+            ∙ ap (λ cs. commits p.state ++ record { xid = xid; changes = cs; commit = commit; end = end } ∷ []) (ap (λ (v : Serial). v.changes) more ∙ ap (λ cs. cs ++ changes_of items) at.begun)
             ∙ sym (commits_more g p.state t xid commit end items is);
         position = position ∙ sym (ends_at g p.state t xid commit end items is);
       };
       reached = is.position ∙ sym (ends_at g p.state t xid commit end items is);
-      begun = ap (λ (v : OpenWork). v.changes) settled ∙ sym is.begun;
+      begun = none ∙ sym is.begun;
       clear = subst (IsClear (schema_of g) rows) (sym (done_is g p.state t xid commit end items is)) (IsClear-append (schema_of g) rows (all_changes p.state) (changes_of items) at.clear clear);
       seen = written ∙ ap (λ n. max n end) at.seen ∙ ap (max (max p.seen p.state.position)) (sym is.position) ∙ later_max p.seen p.state.position t.position (subst (λ n. p.state.position < n) (sym is.position) is.later);
     })
 
 -- ---- between what the work has and what the definitions say
 
-tables_there : (g : Setting) (rows : Rows) (a : Applier) (p : Progress) → IsAt g rows a p → length a.work.schema ≡ length g.catalog
+tables_there : (g : Setting) (rows : Rows) (a : Applier) (p : Progress) → IsAt g rows a p → length a.work.store.schema ≡ length g.catalog
 tables_there g rows a p at = ap length at.commits.schema ∙ length-map g.catalog keys_of
 
--- tables of the catalog are there
-pub tables_counted : (g : Setting) (rows : Rows) (a : Applier) (p : Progress) (item : Item) → IsAt g rows a p → IsOfTables (length g.catalog) item → IsOfTables (length a.work.schema) item
-tables_counted g rows a p item at is = subst (λ n. IsOfTables n item) (sym (tables_there g rows a p at)) is
+-- items of the catalog's tables name tables that are there
+changes_named : (count : ℕ) (items : List Item) → All (IsOfTables count) items → All (NamesTables count) (changes_of items)
+changes_named count [] all = All-nil (NamesTables count)
+changes_named count (Change sub c ∷ items) all =
+    All-cons (NamesTables count) c (changes_of items) (All-head (IsOfTables count) (Change sub c) items all) (changes_named count items (All-tail (IsOfTables count) (Change sub c) items all))
+changes_named count (Touch sub ∷ items) all = changes_named count items (All-tail (IsOfTables count) (Touch sub) items all)
+changes_named count (BackTo sub ∷ items) all = changes_named count items (All-tail (IsOfTables count) (BackTo sub) items all)
+changes_named count (Last ∷ items) all = changes_named count items (All-tail (IsOfTables count) Last items all)
 
-pub all_counted : (g : Setting) (rows : Rows) (a : Applier) (p : Progress) (items : List Item) → IsAt g rows a p → All (IsOfTables (length g.catalog)) items → All (IsOfTables (length a.work.schema)) items
-all_counted g rows a p items at all = subst (λ n. All (IsOfTables n) items) (sym (tables_there g rows a p at)) all
+pub all_counted : (g : Setting) (rows : Rows) (a : Applier) (p : Progress) (items : List Item) → IsAt g rows a p → All (IsOfTables (length g.catalog)) items
+    → All (NamesTables (length a.work.store.schema)) (changes_of items)
+all_counted g rows a p items at all = subst (λ n. All (NamesTables n) (changes_of items)) (sym (tables_there g rows a p at)) (changes_named (length g.catalog) items all)
+
+pub one_counted : (g : Setting) (rows : Rows) (a : Applier) (p : Progress) (item : Item) → IsAt g rows a p → IsOfTables (length g.catalog) item
+    → All (NamesTables (length a.work.store.schema)) (changes_of (item ∷ []))
+one_counted g rows a p item at is = all_counted g rows a p (item ∷ []) at (All-cons (IsOfTables (length g.catalog)) item [] is (All-nil (IsOfTables (length g.catalog))))
 
 -- changes that are clear on the rows now are clear behind all that was done
-pub clear_behind : (g : Setting) (rows : Rows) (a : Applier) (p : Progress) (cs : List change_type.Change) → IsAt g rows a p → IsClear a.work.schema (rows_now a.work) cs → IsClear (schema_of g) (serial (schema_of g) rows (all_changes p.state)) cs
+pub clear_behind : (g : Setting) (rows : Rows) (a : Applier) (p : Progress) (cs : List change_type.Change) → IsAt g rows a p → IsClear a.work.store.schema (rows_now a.work) cs → IsClear (schema_of g) (serial (schema_of g) rows (all_changes p.state)) cs
 clear_behind g rows a p cs at clear =
     let here = subst (λ (sch : Schema). IsClear sch (rows_now a.work) cs) at.commits.schema clear in
     subst (λ (r : Rows). IsClear (schema_of g) r cs) (rows_at g rows a p at) here

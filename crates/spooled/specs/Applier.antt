@@ -13,8 +13,9 @@ use Rattle.session.specs.State.{Worker, Open, OpenTransactions, State, Setting}
 use Rattle.session.specs.Represents.{Represents}
 use Rattle.spooled.specs.declared.end.End.{End}
 use Rattle.spooled.specs.declared.applier.Applier.{Applier}
-use Rattle.spooled.specs.Work.{IsClear}
-use Rattle.spooled.specs.Commits.{transaction_of, commits, committed_changes, begun_changes, all_changes, last_end}
+use Rattle.engine.specs.Clear.{IsClear}
+use Rattle.world.specs.World.{journal}
+use Rattle.spooled.specs.Commits.{told_transaction, commits, committed_changes, begun_changes, all_changes, last_end}
 use Rattle.spooled.specs.Progress.{Progress, commits_from}
 use Rattle.spooled.specs.Handler.{HasTaken}
 use Rattle.spooled.specs.Cause.{LastStep, schema_of, IsNextCause, IsLastCause}
@@ -30,9 +31,9 @@ AreServed count transactions = (xid : ℕ) (o : Open) → finite.get transaction
 
 -- What is kept of the commits: the rows without open work, the journal, the position.
 pub record HasCommits (g : Setting) (rows : Rows) (a : Applier) (s : State) : Type 0 where
-  pub schema : a.work.schema ≡ schema_of g
-  pub base : a.work.base ≡ serial (schema_of g) rows (committed_changes s)
-  pub journal : map transaction_of a.journal.items ≡ commits s
+  pub schema : a.work.store.schema ≡ schema_of g
+  pub base : a.work.store.world.committed ≡ serial (schema_of g) rows (committed_changes s)
+  pub journal : map told_transaction (journal a.work.store.world) ≡ commits s
   pub position : a.position ≡ last_end s.past
 
 -- All that is kept is that of a progress.

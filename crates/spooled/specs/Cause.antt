@@ -27,7 +27,7 @@ use Rattle.session.specs.Lawful.{Admits, Refuses}
 use Rattle.messages.specs.declared.message.Message.{Message}
 use Rattle.spooled.specs.declared.end.End.{End}
 use Rattle.spooled.specs.declared.end.End.TheVariants as ends
-use Rattle.spooled.specs.Work.{IsClear, ClashesIn}
+use Rattle.engine.specs.Clear.{IsClear, ClashesIn}
 use Rattle.spooled.specs.Commits.{committed_changes, all_changes}
 use Rattle.spooled.specs.Devices.{DeviceState}
 use Rattle.spooled.specs.Progress.{Progress, start_progress, commits_from, Handles, Leads, Update, status_bytes}

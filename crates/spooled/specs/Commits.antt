@@ -1,5 +1,6 @@
 -- The transactions that a session's state tells of, and their changes.
 --     Transaction, commits      each commit of the past, with the changes of its items that survived
+--     transaction_of, told_transaction      the same of an entry of a journal, and of one as a world tells it
 --     committed_changes      the changes of all commits, in commit order
 --     last_end      the position that they reach
 --     begun_changes, all_changes      the changes so far of the transaction that was begun; all changes
@@ -11,6 +12,7 @@ use Rattle.session.specs.declared.phase.Phase.{Phase}
 use Rattle.session.specs.declared.phase.Phase.TheVariants.{Outside, Begun, Block}
 use Rattle.session.specs.Sized.{SizedItems, item_of}
 use Rattle.session.specs.State.{Open, Committed, State, OpenTransactions}
+use Rattle.world.specs.World as told_entry
 use Rattle.engine.specs.declared.entry.Entry.{Entry}
 
 -- a committed transaction
@@ -24,6 +26,10 @@ pub record Transaction : Type 0 where
 -- an entry of a journal, without where it lies in memory
 abbrev pub transaction_of : Entry → Transaction
 transaction_of e = record { xid = e.xid; changes = e.changes; commit = e.commit; end = e.end }
+
+-- a commit as a world tells it
+abbrev pub told_transaction : told_entry.Entry → Transaction
+told_transaction e = record { xid = e.xid; changes = e.changes; commit = e.commit; end = e.end }
 
 -- the changes of a transaction's items that survive
 abbrev pub surviving_changes : ℕ → SizedItems → List Change

@@ -1,7 +1,5 @@
 pub mod Text
 pub mod Report
-pub mod Work
-pub mod WorkInside
 pub mod Commits
 pub mod Progress
 pub mod Clock

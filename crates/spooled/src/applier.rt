@@ -1,18 +1,18 @@
 // What the items of a stream do, one after another.
-ghost use Rattle.std.specs.Prelude.{◌≡◌, max, [], ◌∷◌, ◌++◌, map, OnOk, OnErr};
+ghost use Rattle.std.specs.Prelude.{◌≡◌, ◌<◌, max, [], map, IfOk, IfErr, OnOk, OnErr};
 ghost use Rattle.model.specs.Rows.{Rows, keys_of};
+ghost use Rattle.engine.specs.Engine.{entry_in, IsOtherwiseSame};
+ghost use Rattle.engine.specs.Serial.{committed_by, last_end_in};
+ghost use Rattle.world.specs.World.{journal as journal_of};
 ghost use Rattle.session.specs.State.{Setting, setting};
-ghost use Rattle.spooled.specs.Work.{rows_now};
-ghost use Rattle.spooled.specs.Commits.{transaction_of};
 ghost use Rattle.spooled.specs.Progress.{Progress, start_progress};
 
 use crate::end::End;
 use crate::handler::{Handler, written_with};
 use crate::outcome::Outcome;
-use crate::work::Work;
 use bytes::Bytes;
 use catalog::Catalog;
-use engine::Entry;
+use engine::SerialStore;
 use frames::{CopyItem, Lsn};
 use indexes::Tables;
 use model::OutOfMemory;
@@ -20,14 +20,13 @@ use savepoint::{CommitInfo, Xid};
 use session::{Session, Step};
 use std::alloc::Global;
 
-/// What the items of a stream have done so far.
+/// What the items of a stream have done so far: a store whose transactions come one at a time has it.
 #[derive(Drop)]
 pub struct Applier<'a> {
     alloc: Global,
     catalog: &'a Catalog,
     session: Session,
-    work: Work,
-    journal: Vec<Entry>,
+    work: SerialStore,
     position: Lsn,
     /// The greatest position of the publisher's log so far.
     written: Lsn,
@@ -37,33 +36,41 @@ impl<'a> Applier<'a> {
     ghost use Rattle.spooled.specs.Applier.{IsAtSome, IsAt, TakesMessage};
 
     /// Before the first item: these tables, which are those of the catalog, and spools for so many bytes.
-    pub fn new(alloc: Global, catalog: &'a Catalog, start: Tables, spool: u64) -> Applier<'a>
+    /// Refused for memory, the tables are handed back.
+    pub fn new(
+        alloc: Global,
+        catalog: &'a Catalog,
+        start: Tables,
+        spool: u64,
+    ) -> Result<Applier<'a>, Tables>
         requires { start.schema ≡ map keys_of catalog.now }
-        ensures { IsAt (setting 0 spool catalog.now) start.rows result start_progress }
+        ensures at { IfOk result (λ applier. IsAt (setting 0 spool catalog.now) start.rows applier start_progress) }
+        ensures err { IfErr result (λ tables. tables ≡ start) }
     {
-        Applier {
+        Ok(Applier {
             alloc,
             catalog,
             session: Session::new(alloc, 0, spool),
-            work: Work::new(alloc, start),
-            journal: Vec::new(alloc),
+            work: SerialStore::new(alloc, start)?,
             position: 0,
             written: 0,
-        }
+        })
     }
 
     /// Undoes open work, and answers what is left.
     pub fn leave(self, end: End) -> Outcome
-        ensures tables { result.tables.rows ≡ self.entry.work.base }
-        ensures schema { result.tables.schema ≡ self.entry.work.schema }
-        ensures journal { result.journal ≡ self.entry.journal }
+        ensures tables { result.tables.rows ≡ self.entry.work.store.world.committed }
+        ensures schema { result.tables.schema ≡ self.entry.work.store.schema }
+        ensures journal { map entry_in result.journal.items ≡ journal_of self.entry.work.store.world }
         ensures position { result.position ≡ self.entry.position }
         ensures end { result.end ≡ end }
     {
+        let position = self.position;
+        let (tables, journal) = self.work.shut();
         Outcome {
-            tables: self.work.undo(),
-            journal: self.journal,
-            position: self.position,
+            tables,
+            journal,
+            position,
             end,
         }
     }
@@ -87,26 +94,19 @@ impl<'a> Applier<'a> {
         }
     }
 
-    /// The open work stands from here on, and enters the journal. A refusal leaves both as they were.
+    /// The open work is committed, and the position with it. A refusal leaves both as they were.
     fn commit(&mut self, xid: Xid, info: CommitInfo) -> Result<(), OutOfMemory>
-        ensures ok { OnOk result (self.new.work ≡ record { schema = self.old.work.schema; base = rows_now self.old.work; changes = [] }) }
-        ensures journal { OnOk result (map transaction_of self.new.journal.items ≡ map transaction_of self.old.journal.items
-            ++ (record { xid = xid; changes = self.old.work.changes; commit = info.commit; end = info.end }) ∷ []) }
+        requires { last_end_in self.old.work.store.world < info.end }
+        ensures commits { OnOk result (self.new.work.store.world ≡ committed_by self.old.work.store.schema self.old.work.store.world xid self.old.work.changes info) }
+        ensures none { OnOk result (self.new.work.changes ≡ []) }
+        ensures same { IsOtherwiseSame self.old.work.store self.new.work.store }
         ensures position { OnOk result (self.new.position ≡ info.end) }
         ensures written { OnOk result (self.new.written ≡ max self.old.written info.end) }
         ensures session { self.new.session ≡ self.old.session }
         ensures catalog { self.new.catalog ≡ self.old.catalog }
-        ensures err { OnErr result ((self.new.work ≡ self.old.work) × (self.new.journal.items ≡ self.old.journal.items) × (self.new.position ≡ self.old.position)) }
+        ensures err { OnErr result ((self.new.work ≡ self.old.work) × (self.new.position ≡ self.old.position)) }
     {
-        self.journal.reserve(1)?;
-        let changes = self.work.settle(self.alloc);
-        let entry = Entry {
-            xid,
-            changes,
-            commit: info.commit,
-            end: info.end,
-        };
-        self.journal.push_reserved(entry);
+        self.work.commit(self.alloc, xid, info)?;
         self.position = info.end;
         self.written = self.written.max(info.end);
         Ok(())

@@ -12,7 +12,6 @@
 //   stream    reads the items of a stream, and sends status updates
 //   handler   what takes the items of a stream, as that loop knows it
 //   applier   what each item does, where no transaction has a worker
-//   work      the tables with the changes of one open transaction in them, and what takes these back
 //   outcome   what a run is given and what it leaves; the journal; the clock
 //   end       why a run ended
 //   advice    what an end means, and what to do about it, as text
@@ -30,8 +29,8 @@
 // What a caller of a run needs of the layers below stands here too: sources and sinks, the catalog, the
 // tables with their keys, rows and values, and the faults that an end names.
 //
-// It stands on `frames` for the stream, `session` for what its messages ask for, `change` and `undo`
-// for the tables, `engine` for the journal's entries, and `catalog` for their names. A run whose streamed
+// It stands on `frames` for the stream, `session` for what its messages ask for, `engine` for a store
+// whose transactions come one at a time, and `catalog` for the names of tables. A run whose streamed
 // transactions have workers is `leader`'s: it goes by the same loop, with a handler of its own.
 mod advice;
 mod applier;
@@ -40,7 +39,6 @@ mod handler;
 mod outcome;
 mod printing;
 mod stream;
-mod work;
 
 pub use bytes::ByteStr;
 pub use catalog::{Catalog, CatalogFault, TableDef};

@@ -1,11 +1,13 @@
 // What a run is given, and what it leaves.
 ghost use Rattle.std.specs.Prelude.{◌≡◌, ℤ, Option, List, None, [], ◌∷◌};
 ghost use Rattle.spooled.specs.Clock.{Ticks};
+ghost use Rattle.spooled.specs.declared.end.End.TheVariants.{OutOfMemory as NoMemory};
 
 use crate::end::End;
 use engine::Entry;
 use frames::Lsn;
 use indexes::Tables;
+use std::alloc::Global;
 
 /// The limits of a run.
 #[derive(Clone, Copy, Debug, PartialEq, Eq)]
@@ -27,6 +29,23 @@ pub struct Outcome {
     /// The end LSN of the last commit, or 0.
     pub position: Lsn,
     pub end: End,
+}
+
+impl Outcome {
+    /// What is left of these tables where memory was refused before a byte was read.
+    pub fn unread(alloc: Global, start: Tables) -> Outcome
+        ensures tables { result.tables ≡ start }
+        ensures journal { result.journal.items ≡ [] }
+        ensures position { result.position ≡ 0 }
+        ensures end { result.end ≡ NoMemory }
+    {
+        Outcome {
+            tables: start,
+            journal: Vec::new(alloc),
+            position: 0,
+            end: End::OutOfMemory,
+        }
+    }
 }
 
 /// A clock: microseconds since 2000-01-01.

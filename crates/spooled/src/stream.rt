@@ -88,7 +88,10 @@ pub fn run_over<R: Source, W: Sink, C: Clock>(
     requires { start.schema ≡ map keys_of catalog.now }
     ensures { IsRun (setting 0 config.now.spool catalog.now) start.rows devices.old devices.new result }
 {
-    let mut applier = Applier::new(alloc, catalog, start, config.spool);
+    let mut applier = match Applier::new(alloc, catalog, start, config.spool) {
+        Ok(applier) => applier,
+        Err(start) => return Outcome::unread(alloc, start),
+    };
     let end = match read_all(alloc, devices, &mut applier) {
         Ok(()) => End::Clean,
         Err(end) => end,

@@ -11,5 +11,6 @@ mod refusals;
 mod scene;
 mod script;
 mod seeded;
+mod serial;
 mod shut;
 mod worked;

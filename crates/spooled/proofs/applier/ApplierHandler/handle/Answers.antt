@@ -13,7 +13,7 @@ abbrev seen_to : Applier → ℕ → Applier
 seen_to a written = record a { written = written }
 
 same : (a : Applier) (written : ℕ) → IsSameBut a (seen_to a written)
-same a written = record { catalog = refl; session = refl; work = refl; journal = refl; position = refl }
+same a written = record { catalog = refl; session = refl; work = refl; position = refl }
 
 pub take_message-requires : goal.take_message-requires
 take_message-requires c =

@@ -1,0 +1,144 @@
+-- What a store whose transactions come one at a time keeps through its calls.
+--     known_all      what can be undone is of tables that are there
+--     if_err, on_err, taken_front      an error that is passed on; what holds anyway; what the iterator of a vector has given
+--     change_kept      a change more among items
+--     serially_idle      what the type keeps where no work is open
+--     rows_based, rows_idle      the rows without the open work are the committed ones; where none is open, those of the tables
+--     worked, worked_view, worked_kept      with more changes
+--     item_applied, item_clear, item_refused      items in turn
+use Rattle.std.proofs.Common.{◌≡◌, ℕ, Vec, Global, ◌++◌, ◌∷◌, [], List, None, sym, ap, subst, ◌∙◌, append_assoc}
+use Rattle.std.specs.Prelude.{Result, Ok, Err, IsErrAnd, IfErr, OnErr, All, length, map}
+use Rattle.std.specs.Iterator.{Yields}
+use Rattle.std.specs.Vec.Iter.{into_iter_items, into_iter_steps}
+use Rattle.std.specs.declared.vec.IntoIter.{IntoIter}
+use Rattle.std.specs.FinMap as finite
+use Rattle.std.proofs.lemmas.List.Elements.{All-nil, All-append}
+use Rattle.model.specs.declared.change.Change.{Change}
+use Rattle.model.specs.declared.item.Item.{Item}
+use Rattle.model.specs.declared.item.Item.TheVariants.{Change as ChangeItem}
+use Rattle.model.specs.Named.{NamesTables}
+use Rattle.model.specs.Rows.{Rows, Schema}
+use Rattle.model.specs.Effect.{all_back, serial}
+use Rattle.model.specs.Survivors.{changes_of}
+use Rattle.model.specs.SurvivorLaws.{changes_of_both}
+use Rattle.indexes.specs.Content.{Content}
+use Rattle.change.specs.declared.inverse.Inverse.{Inverse}
+use Rattle.change.specs.Inverse.{edits_of, IsKnown}
+use Rattle.change.specs.declared.outcome.Clash.{Clash}
+use Rattle.undo.specs.Undo.{Log, CanUndo, AreKnownAll}
+use Rattle.undo.specs.UndoLaws.{schema_undone}
+use Rattle.engine.specs.declared.serial.SerialStore.TheInside.{Inside}
+use Rattle.engine.specs.Clear.{IsClear, ClashesIn}
+use Rattle.engine.specs.ClearLaws.{IsClear-append, ClashesIn-behind, ClashesIn-before}
+use Rattle.engine.specs.Answers.{told_stop}
+use Rattle.engine.specs.Engine.{engine_in, world_in, IsStore}
+use Rattle.engine.specs.Serial.{Serial, rows_now, with_changes}
+use Rattle.engine.specs.SerialInside.{base_in, idle_in, serial_in, IsSerial}
+use Rattle.engine.specs.SerialLaws.{idle_rows, rows_with}
+
+-- what can be undone is of tables that are there
+pub known_all : (t : Content) (is : List Inverse) → CanUndo t is → AreKnownAll t.schema is
+known_all t [] can = tt
+known_all t (i ∷ is) can = (subst (λ (s : Schema). IsKnown s i) (schema_undone t is) can.1.known, known_all t is can.0)
+
+-- what holds of an error holds of the result that passes it on
+pub if_err : {T E : Type 0} (result : Result T E) (e : E) (P : E → Type 0) → IsErrAnd result (λ x. x ≡ e) → P e → IfErr result P
+if_err (Ok x) e P is p = absurd is
+if_err (Err x) e P is p = subst P (sym is) p
+
+-- what holds anyway holds where a call is refused
+pub on_err : {T E : Type 0} (result : Result T E) (P : Type 0) → P → OnErr result P
+on_err (Ok x) P p = tt
+on_err (Err e) P p = p
+
+-- what the iterator of a vector has given is a front of its items
+pub taken_front : {X A : Type 0} (s : IntoIter X A) (xs : List X) (t : IntoIter X A) → Yields into_iter_steps s xs t → into_iter_items s ≡ xs ++ into_iter_items t
+taken_front s [] t y = ap into_iter_items y
+taken_front s (x ∷ xs) t y = y.1.0 ∙ ap (λ ys. x ∷ ys) (taken_front y.0 xs t y.2)
+
+-- a change more is kept, behind room that was made
+pub change_kept : (old room new : List Item) (sub : ℕ) (c : Change) → room ≡ old → new ≡ room ++ ChangeItem sub c ∷ [] → changes_of new ≡ changes_of old ++ c ∷ []
+change_kept old room new sub c made pushed = ap changes_of (pushed ∙ ap (λ (items : List Item). items ++ ChangeItem sub c ∷ []) made) ∙ changes_of_both old (ChangeItem sub c ∷ [])
+
+-- where no work is open, it is a store of which the type keeps all
+pub serially_idle : (s : Inside) → IsStore (idle_in s) → s.book.lists ≡ finite.empty → told_stop s.live.stopped ≡ None → s.token ≡ s.line
+    → s.undo.inverses ≡ [] → changes_of s.items.items ≡ [] → IsSerial s
+serially_idle s idle none runs line undone unchanged = record {
+  idle = idle;
+  none = none;
+  runs = runs;
+  line = line;
+  done =
+      ap (λ (is : List Inverse). all_back s.live.tables.rows (map edits_of is)) (sym undone) ∙ idle_rows (idle_in s) idle none
+      ∙ ap (serial s.live.tables.schema (world_in (idle_in s)).committed) (sym unchanged);
+  undoable = subst (CanUndo s.live.tables) (sym undone) tt;
+  named = subst (All (NamesTables (length s.live.tables.schema))) (sym unchanged) (All-nil (NamesTables (length s.live.tables.schema)));
+  clear = subst (IsClear s.live.tables.schema (base_in s)) (sym unchanged) tt;
+}
+
+module _ (s : Inside) (is : IsSerial s) where
+  -- the rows without the open work are the committed ones
+  pub rows_based : base_in s ≡ (world_in (idle_in s)).committed
+  rows_based = idle_rows (idle_in s) is.idle is.none
+
+  -- where no work is open, they are the rows of the tables
+  pub rows_idle : changes_of s.items.items ≡ [] → s.live.tables.rows ≡ base_in s
+  rows_idle unchanged = is.done ∙ ap (serial s.live.tables.schema (world_in (idle_in s)).committed) unchanged ∙ sym rows_based
+
+  -- The tables have more changes in them, which can be undone too.
+  module _ (t : Content) (u : Log) (items : Vec Item Global) (cs : List Change) (schema : t.schema ≡ s.live.tables.schema)
+      (base : all_back t.rows (map edits_of u.inverses) ≡ base_in s) (more : changes_of items.items ≡ changes_of s.items.items ++ cs)
+      (rows : t.rows ≡ serial s.live.tables.schema s.live.tables.rows cs) where
+    abbrev pub worked : Inside
+    worked = record s { live = record s.live { tables = t }; undo = u; items = items }
+
+    same_idle : idle_in worked ≡ idle_in s
+    same_idle = λ i. record (idle_in s) { live = record s.live { tables = record { schema = schema i; rows = base i; room = [] } } }
+
+    pub worked_view : serial_in worked ≡ with_changes (serial_in s) cs
+    worked_view = λ i. record { store = engine_in (same_idle i); changes = more i }
+
+    pub worked_kept : CanUndo t u.inverses → All (NamesTables (length s.live.tables.schema)) cs → IsClear s.live.tables.schema s.live.tables.rows cs → IsSerial worked
+    worked_kept can named clear = record {
+      idle = subst IsStore (sym same_idle) is.idle;
+      none = is.none;
+      runs = is.runs;
+      line = is.line;
+      done = rows ∙ ap (λ (r : Rows). serial s.live.tables.schema r cs) is.done ∙ sym (rows_with (serial_in s) cs) ∙ ap rows_now (sym worked_view);
+      undoable = can;
+      named = subst (λ (keys : Schema). All (NamesTables (length keys)) (changes_of items.items)) (sym schema)
+          (subst (All (NamesTables (length s.live.tables.schema))) (sym more) (All-append (NamesTables (length s.live.tables.schema)) (changes_of s.items.items) cs is.named named));
+      clear =
+          let behind : IsClear s.live.tables.schema (serial s.live.tables.schema (base_in s) (changes_of s.items.items)) cs =
+          subst (λ (r : Rows). IsClear s.live.tables.schema r cs) (is.done ∙ ap (λ (r : Rows). serial s.live.tables.schema r (changes_of s.items.items)) (sym rows_based)) clear in
+          let all = IsClear-append s.live.tables.schema (base_in s) (changes_of s.items.items) cs is.clear behind in
+          subst (λ (ds : List Change). IsClear t.schema (base_in worked) ds) (sym more)
+          (subst (λ (keys : Schema). IsClear keys (base_in worked) (changes_of s.items.items ++ cs)) (sym schema)
+          (subst (λ (r : Rows). IsClear s.live.tables.schema r (changes_of s.items.items ++ cs)) (sym base) all));
+    }
+
+-- ---- items in turn
+
+-- one item more was applied
+pub item_applied : (w v u : Serial) (items : List Item) (item : Item) → v ≡ with_changes w (changes_of items) → u ≡ with_changes v (changes_of (item ∷ [])) → u ≡ with_changes w (changes_of (items ++ item ∷ []))
+item_applied w v u items item first second =
+    second
+    ∙ ap (λ (x : Serial). with_changes x (changes_of (item ∷ []))) first
+    ∙ ap (λ (cs : List Change). record w { changes = cs }) (append_assoc w.changes (changes_of items) (changes_of (item ∷ [])) ∙ ap (λ (cs : List Change). w.changes ++ cs) (sym (changes_of_both items (item ∷ []))))
+
+pub item_clear : (w v : Serial) (items : List Item) (item : Item) → v ≡ with_changes w (changes_of items) → IsClear w.store.schema (rows_now w) (changes_of items) → IsClear v.store.schema (rows_now v) (changes_of (item ∷ [])) → IsClear w.store.schema (rows_now w) (changes_of (items ++ item ∷ []))
+item_clear w v items item first clear here =
+    let there : IsClear w.store.schema (rows_now (with_changes w (changes_of items))) (changes_of (item ∷ [])) = subst (λ (x : Serial). IsClear x.store.schema (rows_now x) (changes_of (item ∷ []))) first here in
+    subst (IsClear w.store.schema (rows_now w)) (sym (changes_of_both items (item ∷ [])))
+    (IsClear-append w.store.schema (rows_now w) (changes_of items) (changes_of (item ∷ [])) clear
+    (subst (λ (at : Rows). IsClear w.store.schema at (changes_of (item ∷ []))) (rows_with w (changes_of items)) there))
+
+-- an item among others was refused
+pub item_refused : (w v : Serial) (items more : List Item) (item : Item) (clash : Clash) → v ≡ with_changes w (changes_of items) → IsClear w.store.schema (rows_now w) (changes_of items) → ClashesIn v.store.schema (rows_now v) (changes_of (item ∷ [])) clash → ClashesIn w.store.schema (rows_now w) (changes_of (items ++ item ∷ more)) clash
+item_refused w v items more item clash first clear here =
+    let there : ClashesIn w.store.schema (rows_now (with_changes w (changes_of items))) (changes_of (item ∷ [])) clash = subst (λ (x : Serial). ClashesIn x.store.schema (rows_now x) (changes_of (item ∷ [])) clash) first here in
+    let at_rows : ClashesIn w.store.schema (serial w.store.schema (rows_now w) (changes_of items)) (changes_of (item ∷ [])) clash = subst (λ (at : Rows). ClashesIn w.store.schema at (changes_of (item ∷ [])) clash) (rows_with w (changes_of items)) there in
+    subst (λ (cs : List Change). ClashesIn w.store.schema (rows_now w) cs clash)
+    (ap (λ (cs : List Change). changes_of items ++ cs) (sym (changes_of_both (item ∷ []) more)) ∙ sym (changes_of_both items (item ∷ more)))
+    (ClashesIn-behind w.store.schema (rows_now w) (changes_of items) (changes_of (item ∷ []) ++ changes_of more) clash clear
+    (ClashesIn-before w.store.schema (serial w.store.schema (rows_now w) (changes_of items)) (changes_of (item ∷ [])) (changes_of more) clash at_rows))

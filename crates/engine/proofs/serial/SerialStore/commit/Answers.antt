@@ -1,0 +1,108 @@
+use Rattle.std.proofs.Common.{◌≡◌, ℕ, ◌+◌, ◌≤◌, ◌<◌, ◌++◌, ◌∷◌, [], List, sym, ap, subst, ◌∙◌, arith}
+use Rattle.std.specs.Prelude.{map, vec_len, vec_capacity}
+use Rattle.model.specs.declared.change.Change.{Change}
+use Rattle.model.specs.declared.item.Item.TheVariants.{Change as ChangeItem}
+use Rattle.model.specs.Rows.{Rows}
+use Rattle.model.specs.Effect.{all_back, serial}
+use Rattle.model.specs.Survivors.{changes_of}
+use Rattle.change.specs.declared.inverse.Inverse.{Inverse}
+use Rattle.change.specs.Inverse.{edits_of}
+use Rattle.indexes.specs.Content.{Content}
+use Rattle.undo.specs.Undo.{Log}
+use Rattle.tokens.specs.Half.{Half}
+use Rattle.world.specs.Steps.{Reaches}
+use Rattle.engine.specs.declared.entry.Entry.{Entry}
+use Rattle.engine.specs.declared.events.LineEvent.{LineEvent}
+use Rattle.engine.specs.declared.events.LineEvent.TheVariants.{Opened as WasOpened, Committed as WasCommitted}
+use Rattle.engine.specs.declared.store.Store.TheInside.{Inside}
+use Rattle.engine.specs.Clear.{IsClear}
+use Rattle.engine.specs.Engine.{entry_in, world_in, IsStore}
+use Rattle.engine.specs.Serial.{Serial, committed_by, last_end_in}
+use Rattle.engine.specs.SerialInside.{idle_in}
+use Rattle.engine.specs.SerialLaws.{with_commit, idle_committed, reaches_commit}
+use Rattle.engine.proofs.SerialSteps.{known_all, serially_idle, rows_based}
+use Rattle.engine.proofs.serial.SerialStore.commit.Goals as goal
+use Rattle.engine.proofs.serial.SerialStore.commit.Goals.{After-push_reserved}
+
+pub settle-requires : goal.settle-requires
+settle-requires c = known_all c.self.inside.live.tables c.self.inside.undo.inverses c.self.invariant.undoable
+
+one_fits : (old new was is : ℕ) → new ≡ old + 1 → is ≡ was → old + 1 ≤ was → new ≤ is
+one_fits old new was is more same fits = omega (arith, more, same, fits)
+
+module _ (c : After-push_reserved) where
+  -- the changes that were open, the tables without an open one, and the entry that tells the commit
+  abbrev changes : List Change
+  changes = changes_of c.self.inside.items.items
+
+  abbrev tables : Content
+  tables = record { schema = c.settle.new.t.schema; rows = all_back c.settle.new.t.rows (map edits_of c.new.result.inverses); room = [] }
+
+  abbrev entry : Entry
+  entry = record { xid = c.args.xid; changes = c.of_items.result; commit = c.args.info.commit; end = c.args.info.end }
+
+  undone : c.new.result.inverses ≡ []
+  undone = ap (λ (log : Log). log.inverses) c.new.ensures
+
+  abbrev before : Inside
+  before = idle_in c.self.inside
+
+  clear : IsClear before.live.tables.schema (world_in before).committed changes
+  clear = subst (λ (r : Rows). IsClear before.live.tables.schema r changes) (rows_based c.self.inside c.self.invariant) c.self.invariant.clear
+
+  rows : tables.rows ≡ serial before.live.tables.schema (world_in before).committed changes
+  rows = ap (λ (is : List Inverse). all_back c.settle.new.t.rows (map edits_of is)) undone ∙ c.settle.ensures.rows ∙ c.self.invariant.done
+
+  line : c.tell_changes.new.kept ≡ record before.line { list = (before.line.list ++ WasOpened c.args.xid ∷ []) ++ WasCommitted c.args.xid (map (ChangeItem c.args.xid) changes) c.args.info ∷ [] }
+  line = c.tell_changes.ensures.kept ∙ (λ i. let half : Half LineEvent = c.grow.ensures.kept i in
+      record half { list = half.list ++ WasCommitted c.args.xid (map (ChangeItem c.args.xid) (changes_of (c.deref.ensures.value i))) c.args.info ∷ [] })
+
+  items : c.push_reserved.new.self.items ≡ before.journal.items ++ entry ∷ []
+  items = c.push_reserved.ensures.items ∙ ap (λ (es : List Entry). es ++ entry ∷ []) c.in_ok-reserve.ensures.items
+
+  fits : vec_len c.push_reserved.new.self ≤ vec_capacity c.push_reserved.new.self
+  fits = one_fits _ _ _ _ c.push_reserved.ensures.len c.push_reserved.ensures.capacity c.in_ok-reserve.ensures.ok
+
+  tells : entry_in entry ≡ record { xid = c.args.xid; changes = changes; commit = c.args.info.commit; end = c.args.info.end }
+  tells = λ i. record { xid = c.args.xid; changes = (c.of_items.ensures ∙ ap (λ v. changes_of v.items) c.replace-items.ensures.value) i; commit = c.args.info.commit; end = c.args.info.end }
+
+  above : last_end_in (world_in before) < c.args.info.end
+  above = subst (λ (s : Serial). last_end_in s.store.world < c.args.info.end) (sym c.self.view_is) c.requires
+
+  committed : (world_in (with_commit before tables c.push_reserved.new.self c.tell_changes.new.kept) ≡ committed_by before.live.tables.schema (world_in before) c.args.xid changes c.args.info)
+      × IsStore (with_commit before tables c.push_reserved.new.self c.tell_changes.new.kept)
+  committed =
+      idle_committed before c.self.invariant.idle c.self.invariant.none tables c.settle.ensures.schema c.self.invariant.runs c.args.xid changes c.args.info c.push_reserved.new.self c.tell_changes.new.kept
+      entry clear rows line items fits tells c.self.invariant.named above
+
+  reached : Reaches before.live.tables.schema (world_in before) (world_in (with_commit before tables c.push_reserved.new.self c.tell_changes.new.kept))
+  reached =
+      subst (Reaches before.live.tables.schema (world_in before)) (sym committed.0)
+      (reaches_commit before c.self.invariant.idle c.self.invariant.none tables c.settle.ensures.schema c.self.invariant.runs c.args.xid changes c.args.info c.push_reserved.new.self c.tell_changes.new.kept
+      entry clear rows line items fits tells c.self.invariant.named above)
+
+  -- both halves of the line are told the same
+  opened_alike : c.grow.new.token ≡ c.grow.new.kept
+  opened_alike =
+      c.grow.ensures.token ∙ (λ i. let half : Half LineEvent = c.self.invariant.line i in record half { list = half.list ++ WasOpened c.args.xid ∷ [] }) ∙ sym c.grow.ensures.kept
+
+  told_alike : c.tell_changes.new.token ≡ c.tell_changes.new.kept
+  told_alike =
+      c.tell_changes.ensures.token ∙ (λ i. let half : Half LineEvent = opened_alike i in
+      record half { list = half.list ++ WasCommitted c.args.xid (map (ChangeItem c.args.xid) (changes_of c.deref.result.now)) c.args.info ∷ [] }) ∙ sym c.tell_changes.ensures.kept
+
+pub invariant_of-self-2 : goal.invariant_of-self-2
+invariant_of-self-2 c =
+    let at = (goal.at.invariant_of-self-2 c).After-push_reserved in
+    serially_idle _ (committed at).1 c.self.invariant.none c.self.invariant.runs (told_alike at) (undone at)
+    (ap (λ v. changes_of v.items) c.replace-items.ensures.after ∙ ap changes_of c.new-2.ensures.items)
+
+pub returns-clause-commits : goal.returns-clause-commits
+returns-clause-commits c =
+    let at = (goal.at.returns-clause-commits c).After-push_reserved in
+    (committed at).0 ∙ ap (λ (s : Serial). committed_by s.store.schema s.store.world c.args.xid s.changes c.args.info) c.self.view_is
+
+pub returns-clause-reached : goal.returns-clause-reached
+returns-clause-reached c =
+    let at = (goal.at.returns-clause-reached c).After-push_reserved in
+    subst (λ (s : Serial). Reaches s.store.schema s.store.world (world_in (with_commit (before at) (tables at) c.push_reserved.new.self c.tell_changes.new.kept))) c.self.view_is (reached at)

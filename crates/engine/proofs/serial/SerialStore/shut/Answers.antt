@@ -1,0 +1,26 @@
+use Rattle.std.proofs.Common.{◌≡◌, subst, ◌∙◌}
+use Rattle.std.specs.Prelude.{map}
+use Rattle.world.specs.Steps.{Closes}
+use Rattle.engine.specs.Engine.{entry_in, world_in}
+use Rattle.engine.specs.Journal.{rows_after}
+use Rattle.engine.specs.Serial.{Serial}
+use Rattle.engine.specs.SerialInside.{idle_in}
+use Rattle.engine.specs.SerialLaws.{nobody_open}
+use Rattle.engine.specs.StoreLaws.{store_serial}
+use Rattle.engine.proofs.SerialSteps.{rows_based}
+use Rattle.engine.proofs.serial.SerialStore.shut.Goals as goal
+use Rattle.engine.proofs.serial.SerialStore.shut.Goals.{After-undo_to}
+
+-- the rows that are left are the committed ones
+left : (c : After-undo_to) → c.undo_to.new.t.rows ≡ (world_in (idle_in c.self.inside)).committed
+left c = c.undo_to.ensures.rows ∙ rows_based c.self.inside c.self.invariant
+
+pub returns-clause-closes : goal.returns-clause-closes
+returns-clause-closes c =
+    subst (λ (s : Serial). Closes s.store.world c.undo_to.new.t.rows (map entry_in c.self.inside.journal.items)) c.self.view_is
+    (nobody_open (idle_in c.self.inside) c.self.invariant.idle c.self.invariant.none, left (goal.at.returns-clause-closes c).After-undo_to, c.self.invariant.idle.told)
+
+pub returns-clause-serial : goal.returns-clause-serial
+returns-clause-serial c =
+    subst (λ (s : Serial). c.undo_to.new.t.rows ≡ rows_after s.store.schema s.store.world.start (map entry_in c.self.inside.journal.items)) c.self.view_is
+    (left (goal.at.returns-clause-serial c).After-undo_to ∙ store_serial (idle_in c.self.inside) c.self.invariant.idle)

@@ -1,0 +1,11 @@
+use Rattle.std.proofs.Common.{◌≡◌}
+use Rattle.indexes.specs.Content.{Keeps}
+use Rattle.engine.proofs.serial.make_room.Given as goal
+
+abbrev pub invariant-loop-table : goal.invariant-loop-table
+invariant-loop-table l =
+    record {
+      schema : l.tables.schema ≡ l.fn.tables.schema;
+      rows : l.tables.rows ≡ l.fn.tables.rows;
+      room : Keeps l.fn.tables.room l.tables.room;
+    }

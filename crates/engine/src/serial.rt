@@ -1,0 +1,357 @@
+// A store whose transactions come one at a time.
+ghost use Rattle.std.specs.Prelude.{◌≡◌, ◌<◌, [], ◌∷◌, ◌++◌, OnOk, OnErr, IfOk, IfErr, All, length, map};
+ghost use Rattle.model.specs.declared.item.Item.TheVariants.{Change as ChangeItem};
+ghost use Rattle.model.specs.Effect.{all_back, serial};
+ghost use Rattle.model.specs.Named.{NamesTables};
+ghost use Rattle.model.specs.Survivors.{changes_of};
+ghost use Rattle.change.specs.Inverse.{edits_of};
+ghost use Rattle.change.specs.Refusal.{HasNoClash, ClashesAs};
+ghost use Rattle.indexes.specs.Content.{Keeps};
+ghost use Rattle.undo.specs.Undo.{CanUndo};
+ghost use Rattle.world.specs.World.{starting};
+ghost use Rattle.world.specs.Steps.{Closes, Reaches};
+ghost use Rattle.engine.specs.declared.events.LineEvent.TheVariants.{Opened as WasOpened, Committed as WasCommitted};
+ghost use Rattle.engine.specs.Clear.{IsClear, ClashesIn};
+ghost use Rattle.engine.specs.Engine.{entry_in, IsOtherwiseSame};
+ghost use Rattle.engine.specs.Journal.{rows_after};
+ghost use Rattle.engine.specs.Serial.{rows_now, with_changes, HasBegun, committed_by, last_end_in};
+
+use crate::entry::{Changes, Entry};
+use crate::events::{Event, LineEvent};
+use crate::live::Live;
+use crate::store::{Store, new_tokens};
+use crate::tickets::Line;
+use change::Clash;
+use indexes::Tables;
+use model::{Change, CommitInfo, Item, OutOfMemory, Xid};
+use std::alloc::Global;
+use std::marker::{Brand, Model};
+use std::mem;
+use tokens::{Book, Items, Kept, Token, grow, grow_by, pair};
+use undo::UndoLog;
+
+/// A store whose transactions come one at a time, by one hand that has the store and its line: so no
+/// transaction needs a ticket, and none holds a cell. Where no work is open it is a `Store` in which no
+/// transaction is, but for a copy of its tables at the start, which it does without.
+///
+/// A clause sees the store without the open work, and the changes that are open. A commit is what the
+/// calls of a `Store` come to: one transaction opens, makes these changes and is committed.
+#[derive(Debug, Drop)]
+pub struct SerialStore {
+    live: Live,
+    /// One list of the tables at the start, which proofs alone know.
+    start: Kept<Tables>,
+    journal: Vec<Entry>,
+    book: Book<Event>,
+    line: Kept<LineEvent>,
+    token: Token<LineEvent>,
+    undo: UndoLog,
+    items: Vec<Item>,
+}
+
+impl Model for SerialStore {
+    ghost use Rattle.engine.specs.Serial.{Serial, serial_code};
+
+    ghost Value = { Serial };
+
+    ghost coded = { serial_code };
+
+    ghost use Rattle.engine.specs.SerialInside.{serial_in, IsSerial};
+
+    ghost view = { serial_in };
+
+    ghost invariant = { IsSerial };
+}
+
+impl SerialStore {
+    /// A store over these tables, with no work open. No copy of them is made. Refused for memory, the
+    /// tables are handed back.
+    pub fn new(alloc: Global, start: Tables) -> Result<SerialStore, Tables>
+        ensures world { IfOk result (λ made. made.store.world ≡ starting start.rows) }
+        ensures schema { IfOk result (λ made. made.store.schema ≡ start.schema) }
+        ensures line { IfOk result (λ made. made.store.line.list ≡ []) }
+        ensures none { IfOk result (λ made. made.changes ≡ []) }
+        ensures err { IfErr result (λ tables. tables ≡ start) }
+    {
+        let Ok(told) = tell_start(alloc, &start) else {
+            return Err(start);
+        };
+        let Ok((book, line, token)) = new_tokens(alloc) else {
+            return Err(start);
+        };
+        Ok(SerialStore {
+            live: Live::new(alloc, start),
+            start: told,
+            journal: Vec::new(alloc),
+            book,
+            line,
+            token,
+            undo: UndoLog::new(alloc),
+            items: Vec::new(alloc),
+        })
+    }
+
+    /// The store for several open transactions, with its line, once no work is open, given its tables
+    /// at the start. It takes no memory.
+    pub fn into_store(self, start: Tables) -> (Store, Line)
+        requires none { self.changes ≡ [] }
+        requires rows { start.rows ≡ self.store.world.start }
+        requires schema { start.schema ≡ self.store.schema }
+        ensures store { result.0 ≡ self.store }
+        ensures line { result.1 ≡ self.store.line }
+    {
+        let SerialStore {
+            live,
+            start: _,
+            journal,
+            book,
+            line,
+            token,
+            undo: _,
+            items: _,
+        } = self;
+        let store = Store {
+            live,
+            start,
+            journal,
+            book,
+            line,
+        };
+        (store, Line { token })
+    }
+
+    // Applies a change of a subtransaction as open work. A refusal leaves all as it was.
+    fn act(&mut self, alloc: Global, sub: Xid, change: Change) -> Result<(), Clash>
+        requires { NamesTables (length self.old.store.schema) change }
+        ensures passes { OnOk result (HasNoClash self.old.store.schema (rows_now self.old) change) }
+        ensures ok { OnOk result (self.new ≡ with_changes self.old (change ∷ [])) }
+        ensures refused { IfErr result (ClashesAs self.old.store.schema (rows_now self.old) change) }
+        ensures err { OnErr result (self.new ≡ self.old) }
+    {
+        self.items.reserve(1)?;
+        self.undo.apply(alloc, &mut self.live.tables, &change)?;
+        self.items.push_reserved(Item::Change { sub, change });
+        Ok(())
+    }
+
+    /// Applies an item's change, if it has one, as open work. A refusal leaves all as it was.
+    pub fn take(&mut self, alloc: Global, item: Item) -> Result<(), Clash>
+        requires { All (NamesTables (length self.old.store.schema)) (changes_of (item ∷ [])) }
+        ensures clear { OnOk result (IsClear self.old.store.schema (rows_now self.old) (changes_of (item ∷ []))) }
+        ensures ok { OnOk result (self.new ≡ with_changes self.old (changes_of (item ∷ []))) }
+        ensures refused { IfErr result (ClashesIn self.old.store.schema (rows_now self.old) (changes_of (item ∷ []))) }
+        ensures err { OnErr result (self.new ≡ self.old) }
+    {
+        match item {
+            Item::Change { sub, change } => self.act(alloc, sub, change),
+            Item::Touch(_) | Item::BackTo(_) | Item::Last => Ok(()),
+        }
+    }
+
+    /// Applies the changes of items in turn, as open work. A refusal leaves a beginning of them as open
+    /// work.
+    pub fn take_all(&mut self, alloc: Global, items: Vec<Item>) -> Result<(), Clash>
+        requires { All (NamesTables (length self.old.store.schema)) (changes_of items.items) }
+        ensures clear { OnOk result (IsClear self.old.store.schema (rows_now self.old) (changes_of items.items)) }
+        ensures ok { OnOk result (self.new ≡ with_changes self.old (changes_of items.items)) }
+        ensures refused { IfErr result (ClashesIn self.old.store.schema (rows_now self.old) (changes_of items.items)) }
+        ensures err { OnErr result (HasBegun self.old (changes_of items.items) self.new) }
+        ensures store { self.new.store ≡ self.old.store }
+    {
+        if self.items.is_empty() {
+            return self.take_list(alloc, items);
+        }
+        for item in items {
+            self.take(alloc, item)?;
+        }
+        Ok(())
+    }
+
+    // The same where no work is open: the list becomes the open work's own. A refusal leaves none open.
+    fn take_list(&mut self, alloc: Global, items: Vec<Item>) -> Result<(), Clash>
+        requires named { All (NamesTables (length self.old.store.schema)) (changes_of items.items) }
+        requires none { self.old.changes ≡ [] }
+        ensures clear { OnOk result (IsClear self.old.store.schema (rows_now self.old) (changes_of items.items)) }
+        ensures ok { OnOk result (self.new ≡ with_changes self.old (changes_of items.items)) }
+        ensures refused { IfErr result (ClashesIn self.old.store.schema (rows_now self.old) (changes_of items.items)) }
+        ensures err { OnErr result (self.new ≡ self.old) }
+    {
+        make_room(alloc, &mut self.live.tables, &items);
+        if let Err(clash) = apply_each(alloc, &mut self.live.tables, &mut self.undo, &items) {
+            self.undo.undo_to(&mut self.live.tables, 0);
+            return Err(clash);
+        }
+        self.items = items;
+        Ok(())
+    }
+
+    /// The open work is committed as a transaction of this number: its changes are an entry of the
+    /// journal. The log goes on behind it above where it went on behind the commit before. A refusal
+    /// leaves all as it was.
+    pub fn commit(&mut self, alloc: Global, xid: Xid, info: CommitInfo) -> Result<(), OutOfMemory>
+        requires { last_end_in self.old.store.world < info.end }
+        ensures commits { OnOk result (self.new.store.world ≡ committed_by self.old.store.schema self.old.store.world xid self.old.changes info) }
+        ensures reached { OnOk result (Reaches self.old.store.schema self.old.store.world self.new.store.world) }
+        ensures none { OnOk result (self.new.changes ≡ []) }
+        ensures line { OnOk result (self.new.store.line.list ≡ (self.old.store.line.list ++ WasOpened xid ∷ []) ++ WasCommitted xid (map (ChangeItem xid) self.old.changes) info ∷ []) }
+        ensures same { IsOtherwiseSame self.old.store self.new.store }
+        ensures err { OnErr result (self.new ≡ self.old) }
+    {
+        self.journal.reserve(1)?;
+        grow(&mut self.line, &mut self.token, &LineEvent::Opened(xid));
+        tell_changes(&mut self.line, &mut self.token, xid, &self.items, info);
+        self.undo.settle(&mut self.live.tables);
+        self.undo = UndoLog::new(alloc);
+        let items = mem::replace(&mut self.items, Vec::new(alloc));
+        self.journal.push_reserved(Entry {
+            xid,
+            changes: Changes::of_items(items),
+            commit: info.commit,
+            end: info.end,
+        });
+        Ok(())
+    }
+
+    /// The tables and the journal, without the open work. It takes no memory.
+    pub fn shut(self) -> (Tables, Vec<Entry>)
+        ensures closes { Closes self.store.world result.0.rows (map entry_in result.1.items) }
+        ensures serial { result.0.rows ≡ rows_after self.store.schema self.store.world.start (map entry_in result.1.items) }
+        ensures schema { result.0.schema ≡ self.store.schema }
+    {
+        let SerialStore {
+            live,
+            start: _,
+            journal,
+            book: _,
+            line: _,
+            token: _,
+            mut undo,
+            items: _,
+        } = self;
+        let Live { mut tables, .. } = live;
+        undo.undo_to(&mut tables, 0);
+        (tables, journal)
+    }
+}
+
+// The tables as they are now, for proofs alone.
+fn tell_start(alloc: Global, tables: &Tables) -> Result<Kept<Tables>, OutOfMemory>
+    ensures { IfOk result (λ told. told.list ≡ tables.now ∷ []) }
+{
+    let (mut kept, mut token) = pair(alloc)?;
+    grow(&mut kept, &mut token, tables);
+    Ok(kept)
+}
+
+// Appends a commit to the line, of a transaction that has made the changes among items and nothing else.
+fn tell_changes(
+    kept: &mut Kept<LineEvent>,
+    token: &mut Token<LineEvent>,
+    xid: Xid,
+    items: &[Item],
+    info: CommitInfo,
+)
+    requires { token.old.name ≡ kept.old.name }
+    ensures kept { kept.new ≡ record kept.old { list = kept.old.list ++ WasCommitted xid (map (ChangeItem xid) (changes_of items.now)) info ∷ [] } }
+    ensures token { token.new ≡ record token.old { list = token.old.list ++ WasCommitted xid (map (ChangeItem xid) (changes_of items.now)) info ∷ [] } }
+{
+    grow_changes::<Brand>(kept, token, xid, items, info);
+}
+
+fn grow_changes<N: Items<LineEvent>>(
+    kept: &mut Kept<LineEvent>,
+    token: &mut Token<LineEvent>,
+    xid: Xid,
+    items: &[Item],
+    info: CommitInfo,
+)
+    requires name { token.old.name ≡ kept.old.name }
+    requires items { N.items ≡ WasCommitted xid (map (ChangeItem xid) (changes_of items.now)) info ∷ [] }
+    ensures kept { kept.new ≡ record kept.old { list = kept.old.list ++ WasCommitted xid (map (ChangeItem xid) (changes_of items.now)) info ∷ [] } }
+    ensures token { token.new ≡ record token.old { list = token.old.list ++ WasCommitted xid (map (ChangeItem xid) (changes_of items.now)) info ∷ [] } }
+{
+    let _ = xid;
+    let _ = items;
+    let _ = info;
+    grow_by::<LineEvent, N>(kept, token);
+}
+
+// Room in each table for the rows that items put into it, so that the tables grow once and not again
+// and again. Where memory for it is refused, they grow as the rows come.
+fn make_room(alloc: Global, tables: &mut Tables, items: &[Item])
+    ensures schema { tables.new.schema ≡ tables.old.schema }
+    ensures rows { tables.new.rows ≡ tables.old.rows }
+    ensures room { Keeps tables.old.room tables.new.room }
+{
+    let Ok(counts) = count_rows(alloc, tables.len(), items) else {
+        return;
+    };
+    for table in 0..tables.len() {
+        let count = counts.get(table).copied().unwrap_or(0);
+        if tables.make_room(table, count).is_err() {
+            return;
+        }
+    }
+}
+
+// How many rows items put into each of so many tables.
+fn count_rows(alloc: Global, tables: usize, items: &[Item]) -> Result<Vec<usize>, OutOfMemory> {
+    let mut counts = vec![in alloc; 0; tables]?;
+    for item in items {
+        if let Item::Change {
+            change: Change::Put { table, .. },
+            ..
+        } = item
+        {
+            if let Some(count) = counts.get_mut(*table) {
+                *count = usize::saturating_add(*count, 1);
+            }
+        }
+    }
+    Ok(counts)
+}
+
+// Applies the changes of items in turn, and logs what takes each back. A refusal leaves those before
+// the refused one.
+fn apply_each(
+    alloc: Global,
+    tables: &mut Tables,
+    undo: &mut UndoLog,
+    items: &[Item],
+) -> Result<(), Clash>
+    requires tables { All (NamesTables (length tables.old.schema)) (changes_of items.now) }
+    requires can_undo { CanUndo tables.old undo.old.inverses }
+    ensures clear { OnOk result (IsClear tables.old.schema tables.old.rows (changes_of items.now)) }
+    ensures ok { OnOk result (tables.new.rows ≡ serial tables.old.schema tables.old.rows (changes_of items.now)) }
+    ensures refused { IfErr result (ClashesIn tables.old.schema tables.old.rows (changes_of items.now)) }
+    ensures base { all_back tables.new.rows (map edits_of undo.new.inverses) ≡ all_back tables.old.rows (map edits_of undo.old.inverses) }
+    ensures schema { tables.new.schema ≡ tables.old.schema }
+    ensures can_undo { CanUndo tables.new undo.new.inverses }
+{
+    for item in items {
+        apply_item(alloc, tables, undo, item)?;
+    }
+    Ok(())
+}
+
+// Applies an item's change, if it has one, and logs what takes it back. A refusal changes no row.
+fn apply_item(
+    alloc: Global,
+    tables: &mut Tables,
+    undo: &mut UndoLog,
+    item: &Item,
+) -> Result<(), Clash>
+    requires tables { All (NamesTables (length tables.old.schema)) (changes_of (item.now ∷ [])) }
+    requires can_undo { CanUndo tables.old undo.old.inverses }
+    ensures clear { OnOk result (IsClear tables.old.schema tables.old.rows (changes_of (item.now ∷ []))) }
+    ensures ok { OnOk result (tables.new.rows ≡ serial tables.old.schema tables.old.rows (changes_of (item.now ∷ []))) }
+    ensures refused { IfErr result (ClashesIn tables.old.schema tables.old.rows (changes_of (item.now ∷ []))) }
+    ensures base { all_back tables.new.rows (map edits_of undo.new.inverses) ≡ all_back tables.old.rows (map edits_of undo.old.inverses) }
+    ensures schema { tables.new.schema ≡ tables.old.schema }
+    ensures can_undo { CanUndo tables.new undo.new.inverses }
+{
+    match item {
+        Item::Change { change, .. } => undo.apply(alloc, tables, change),
+        Item::Touch(_) | Item::BackTo(_) | Item::Last => Ok(()),
+    }
+}
