@@ -1,11 +1,8 @@
-// Measures the layers that read a stream, frames, messages and the planning of changes, and the ring
-// between two threads.
+// Measures the reading of frames, and the ring between two threads.
 //
 //     bench                          runs each of these at a small size
 //     bench frames COUNT PIECE       feeds COUNT frames of 100 bytes, in pieces of PIECE bytes
 //     bench pull COUNT PIECE         the same from a source that gives PIECE bytes a read
-//     bench messages COUNT           decodes COUNT inserts of three columns
-//     bench plan COUNT               decodes them, and plans each by a mapping that was resolved once
 //     bench ring COUNT SLOTS         COUNT numbers through `ring`, whose taker looks again and again
 //     bench wait COUNT SLOTS         the same, and its taker sleeps where nothing is left
 //     bench rtrb COUNT SLOTS         the same numbers through the kit's `rtrb`
@@ -16,7 +13,6 @@
 #![tactic(auto)]
 
 mod counts;
-mod inserts;
 mod rings;
 mod stream;
 
@@ -39,12 +35,6 @@ enum Job {
         laps: u64,
         piece: usize,
     },
-    Messages {
-        laps: u64,
-    },
-    Plan {
-        laps: u64,
-    },
     Ring {
         kind: Kind,
         count: u64,
@@ -52,10 +42,10 @@ enum Job {
     },
 }
 
-/// How many frames or messages a lap has.
+/// How many frames a lap has.
 const LAP: usize = 10000;
 
-const SMALL: [Job; 6] = [
+const SMALL: [Job; 4] = [
     Job::Frames {
         laps: 1,
         piece: 65536,
@@ -72,8 +62,6 @@ const SMALL: [Job; 6] = [
         laps: 1,
         piece: 1024,
     },
-    Job::Messages { laps: 1 },
-    Job::Plan { laps: 1 },
 ];
 
 fn main(rt: HostRuntime) -> anyhow::Result<()> {
@@ -83,11 +71,7 @@ fn main(rt: HostRuntime) -> anyhow::Result<()> {
     }
     match job_of(&words) {
         Some(job) => run(&rt, rt.alloc(), job),
-        None => {
-            bail!(
-                "usage: bench [frames|pull|messages|plan COUNT [PIECE] | ring|wait|rtrb COUNT SLOTS]"
-            )
-        }
+        None => { bail!("usage: bench [frames|pull COUNT PIECE | ring|wait|rtrb COUNT SLOTS]") }
     }
 }
 
@@ -116,8 +100,6 @@ fn job_of(words: &[String]) -> Option<Job> {
             laps,
             piece: number_at(words, 3)? as usize,
         }),
-        "messages" => Some(Job::Messages { laps }),
-        "plan" => Some(Job::Plan { laps }),
         _ => Some(Job::Ring {
             kind: kind_of(name)?,
             count,
@@ -151,8 +133,6 @@ fn run<R: Print + Threads + Wait + Sync>(rt: &R, alloc: Global, job: Job) -> any
     let (name, counts) = match job {
         Job::Frames { laps, piece } => ("frames", stream::feed(alloc, laps, piece)?),
         Job::Pull { laps, piece } => ("pull", stream::pull(alloc, laps, piece)?),
-        Job::Messages { laps } => ("messages", inserts::decode_all(alloc, laps)?),
-        Job::Plan { laps } => ("plan", inserts::plan_all(alloc, laps)?),
         Job::Ring { kind, count, slots } => return run_ring(rt, alloc, kind, count, slots),
     };
     let Counts { items, bytes } = counts;

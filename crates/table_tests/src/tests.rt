@@ -1,5 +1,6 @@
 // The files, and what each tests or gives the others.
 //
+//   aborts       assertions that are proved once, and end the process
 //   calls        what the others write: tables, rows and changes in plain words
 //   cells        `change`, the cells of changes
 //   changes      `change`
@@ -9,6 +10,7 @@
 //   shown        what tables show: rows, and what look-ups find
 //   stores       `engine`
 //   undo_logs    `undo`
+mod aborts;
 mod calls;
 mod cells;
 mod changes;

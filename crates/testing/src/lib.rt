@@ -1,4 +1,4 @@
-// What the tests of several crates share, and programs that measure. No other program stands on it.
+// What the tests of several crates share. No program stands on it.
 //
 //   asserts    assertions, whose failure is the test's result
 //   accounts   the table of most tests: its catalog, and the relation that a publisher sends of it

@@ -1,5 +1,5 @@
-// Tables, rows and changes in plain words: what the tests write, what the model by hand reads, and what
-// the crates are given.
+// Tables, rows and changes in plain words: what the tests write, and what the crates
+// are given.
 ghost use Rattle.std.specs.Prelude.{IsTrue, ℕ};
 ghost use Rattle.model.specs.Named.{NamesTables};
 

@@ -1,6 +1,7 @@
 // The cells of changes, as they are told and as they are found in place.
 
 use self::Told::{Row, Uniq, Whole};
+use crate::tests::aborts::{assert_holds, assert_same};
 use crate::tests::calls::Call::{Put, Remove, Set, Wipe};
 use crate::tests::calls::{Call, Word, are_there, change, key};
 use crate::tests::changes::{NO_UNIQUE, ONE_UNIQUE, TWO_UNIQUES, filled};
@@ -82,15 +83,13 @@ fn has_cells(
 ) -> Result<(), Fail> {
     let change = change(alloc, call)?;
     let cells = told_cells(rt, alloc, t, &change)?;
-    assert_eq!(rt; cells.len(), wanted.len(), "{call:?}");
-    assert!(rt;
-        !finds(rt, alloc, t, &change, &Row(TWO_UNIQUES, "9"))?,
-        "{call:?}"
-    );
+    assert_same(rt, cells.len(), wanted.len(), call);
+    let finds_another = finds(rt, alloc, t, &change, &Row(TWO_UNIQUES, "9"))?;
+    assert_holds(rt, !finds_another, call);
     for (told, found) in wanted.iter().zip(cells.iter()) {
         let cell = cell(alloc, told)?;
-        assert_eq!(rt; *found, cell, "{call:?}");
-        assert!(rt; finds(rt, alloc, t, &change, told)?, "{call:?}");
+        assert_same(rt, found, &cell, call);
+        assert_holds(rt, finds(rt, alloc, t, &change, told)?, call);
     }
     Ok(())
 }
@@ -120,11 +119,6 @@ const PUTS: [(Call, &[Told]); 4] = [
     (Put(NO_UNIQUE, (r"\N", "c", "w")), &[]),
 ];
 
-#[test]
-fn a_put_fills_its_place_and_its_unique_values(rt: HostRuntime) -> Result<(), Fail> {
-    cells_of_each(&rt, rt.alloc(), &PUTS)
-}
-
 const SETS: [(Call, &[Told]); 5] = [
     (
         Set(TWO_UNIQUES, "1", ("-", "a", "-")),
@@ -153,11 +147,6 @@ const SETS: [(Call, &[Told]); 5] = [
     ),
 ];
 
-#[test]
-fn a_set_moves_what_differs(rt: HostRuntime) -> Result<(), Fail> {
-    cells_of_each(&rt, rt.alloc(), &SETS)
-}
-
 const REMOVES_AND_WIPES: [(Call, &[Told]); 3] = [
     (
         Remove(ONE_UNIQUE, "1"),
@@ -170,9 +159,13 @@ const REMOVES_AND_WIPES: [(Call, &[Told]); 3] = [
     ),
 ];
 
+// A put fills its place and its unique values, a set moves those that differ.
 #[test]
-fn a_remove_and_a_wipe_have_their_cells(rt: HostRuntime) -> Result<(), Fail> {
-    cells_of_each(&rt, rt.alloc(), &REMOVES_AND_WIPES)
+fn changes_have_their_cells(rt: HostRuntime) -> Result<(), Fail> {
+    for cases in [&PUTS[..], &SETS[..], &REMOVES_AND_WIPES[..]] {
+        cells_of_each(&rt, rt.alloc(), cases)?;
+    }
+    Ok(())
 }
 
 #[test]
@@ -180,9 +173,9 @@ fn a_set_looks_its_row_up(rt: HostRuntime) -> Result<(), Fail> {
     let alloc = rt.alloc();
     let set = change(alloc, &Set(ONE_UNIQUE, "7", ("4", "c", "-")))?;
     let wanted = cell(alloc, &Row(ONE_UNIQUE, "7"))?;
-    assert_eq!(rt; looked_up(&set)?, Some(wanted));
+    assert_same(&rt, looked_up(&set)?.as_ref(), Some(&wanted), "a set");
     let put = change(alloc, &Put(ONE_UNIQUE, ("4", "c", "w")))?;
-    assert_eq!(rt; looked_up(&put)?, None);
+    assert_same(&rt, looked_up(&put)?.as_ref(), None, "a put");
     Ok(())
 }
 

@@ -3,6 +3,7 @@ ghost use Rattle.change.specs.Applied.{IfDone};
 ghost use Rattle.change.specs.Inverse.{CanPutBack};
 
 use self::Answer::{Agrees, Done, NullKey, Skipped};
+use crate::tests::aborts::{assert_holds, assert_same};
 use crate::tests::calls::Call::{Put, Remove, Set, Wipe};
 use crate::tests::calls::{Call, Word, Words, are_there, change, empty_tables, key, rows_of};
 use crate::tests::cells::{Told, cell};
@@ -70,7 +71,7 @@ fn is_held_by(
         None => None,
         Some(id) => Some(key(alloc, id)?),
     };
-    assert_eq!(rt; found, wanted, "{text}");
+    assert_same(rt, found.as_ref(), wanted.as_ref(), text);
     Ok(())
 }
 
@@ -85,7 +86,7 @@ fn tried(
     match run(rt, alloc, t, call) {
         Ok(Applied::Done(inverse)) => {
             let after = shown(rt, alloc, t)?;
-            assert!(rt; after.as_str() != before, "{call:?} changes something");
+            assert_holds(rt, after.as_str() != before, call);
             put_back(t, inverse);
             Ok(Answer::Done)
         }
@@ -102,9 +103,9 @@ fn answers(rt: &impl Abort, alloc: Global, cases: &[(Call, Answer)]) -> Result<(
     let before = shown(rt, alloc, &t)?;
     for (call, want) in cases {
         let answer = tried(rt, alloc, &mut t, call, before.as_str())?;
-        assert_eq!(rt; answer, *want, "{call:?}");
+        assert_same(rt, answer, *want, call);
         let after = shown(rt, alloc, &t)?;
-        assert_eq!(rt; after.as_str(), before.as_str(), "after {call:?}");
+        assert_same(rt, after.as_str(), before.as_str(), call);
     }
     Ok(())
 }
@@ -126,11 +127,6 @@ const PUTS: [(Call, Answer); 15] = [
     (Put(TWO_UNIQUES, ("3", "b", "n")), Agrees(TWO_UNIQUES, 0)),
     (Put(TWO_UNIQUES, (r"\N", "b", "n")), NullKey(TWO_UNIQUES)),
 ];
-
-#[test]
-fn a_put_has_its_answer(rt: HostRuntime) -> Result<(), Fail> {
-    answers(&rt, rt.alloc(), &PUTS)
-}
 
 const SETS: [(Call, Answer); 13] = [
     (Set(ONE_UNIQUE, "1", ("-", "b", "-")), Agrees(ONE_UNIQUE, 1)),
@@ -154,11 +150,6 @@ const SETS: [(Call, Answer); 13] = [
     (Set(TWO_UNIQUES, "1", ("4", "a", "w")), Done),
 ];
 
-#[test]
-fn a_set_has_its_answer(rt: HostRuntime) -> Result<(), Fail> {
-    answers(&rt, rt.alloc(), &SETS)
-}
-
 const REMOVES_AND_WIPES: [(Call, Answer); 6] = [
     (Remove(TWO_UNIQUES, "1"), Done),
     (Remove(ONE_UNIQUE, "3"), Done),
@@ -169,8 +160,11 @@ const REMOVES_AND_WIPES: [(Call, Answer); 6] = [
 ];
 
 #[test]
-fn a_remove_and_a_wipe_have_their_answers(rt: HostRuntime) -> Result<(), Fail> {
-    answers(&rt, rt.alloc(), &REMOVES_AND_WIPES)
+fn changes_have_their_answers(rt: HostRuntime) -> Result<(), Fail> {
+    for cases in [&PUTS[..], &SETS[..], &REMOVES_AND_WIPES[..]] {
+        answers(&rt, rt.alloc(), cases)?;
+    }
+    Ok(())
 }
 
 /// A table has these rows.
@@ -182,7 +176,7 @@ fn has_rows(
     rows: &str,
 ) -> Result<(), OutOfMemory> {
     let found = rows_of(rt, alloc, t, table)?;
-    assert_eq!(rt; found.as_str(), rows, "in table {table}");
+    assert_same(rt, found.as_str(), rows, table);
     Ok(())
 }
 
@@ -272,9 +266,9 @@ fn was_refused(
     let never_asked = changed(rt, alloc, done)?;
     let before = shown(rt, alloc, &never_asked)?;
     let after = shown(rt, alloc, t)?;
-    assert_eq!(rt; after.as_str(), before.as_str(), "after {call:?}");
+    assert_same(rt, after.as_str(), before.as_str(), call);
     let again = run(rt, alloc, t, call);
-    assert!(rt; matches!(again, Ok(Applied::Done(_))), "{call:?} again");
+    assert_holds(rt, matches!(again, Ok(Applied::Done(_))), call);
     Ok(())
 }
 
@@ -283,7 +277,7 @@ fn change_until_refused(rt: &impl Abort, alloc: Global) -> Result<(), Clash> {
     let mut t = filled(rt, alloc)?;
     for (count, call) in CHANGES.iter().enumerate() {
         if let Err(clash) = run(rt, alloc, &mut t, call) {
-            assert_eq!(rt; clash, Clash::OutOfMemory);
+            assert_same(rt, clash, Clash::OutOfMemory, call);
             return was_refused(rt, alloc, &mut t, (&CHANGES[..count], call));
         }
     }
@@ -294,6 +288,6 @@ fn change_until_refused(rt: &impl Abort, alloc: Global) -> Result<(), Clash> {
 #[test]
 fn changes_where_memory_is_refused(rt: HostRuntime) {
     if let Err(clash) = change_until_refused(&rt, rt.alloc()) {
-        assert_eq!(rt; clash, Clash::OutOfMemory);
+        assert_same(&rt, clash, Clash::OutOfMemory, "refused");
     }
 }

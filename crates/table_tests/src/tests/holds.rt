@@ -1,4 +1,5 @@
 // That the calls succeed with ample memory, what they then answer, and that a refusal changes nothing.
+use crate::tests::aborts;
 use keyholds::{Cell, Holds, SoughtRow, Xid};
 use model::{Key, OutOfMemory, TableId, Value};
 use std::alloc::Global;
@@ -12,11 +13,6 @@ const BRANCHES: TableId = 1;
 
 fn row(alloc: Global, table: TableId, key: i64) -> Result<Cell, OutOfMemory> {
     Ok(Cell::Row(table, Key::from_value(alloc, Value::Int(key))?))
-}
-
-fn values(alloc: Global, table: TableId, number: usize, key: i64) -> Result<Cell, OutOfMemory> {
-    let key = Key::from_value(alloc, Value::Int(key))?;
-    Ok(Cell::Uniq(table, number, key))
 }
 
 /// Takes a cell, or answers the transaction that is in its way.
@@ -34,66 +30,6 @@ fn hold(
     cells.push((cell, stood))?;
     holds.take(xid, cells)?;
     Ok(None)
-}
-
-// 700 holds a row of the accounts, and 701 values of their first unique key.
-fn two_held(alloc: Global) -> Result<Holds<i64>, Fail> {
-    let mut holds = Holds::new(alloc);
-    let first = row(alloc, ACCOUNTS, 1)?;
-    assert_same(hold(alloc, &mut holds, 700, first, 0)?, None, "first")?;
-    let taken = values(alloc, ACCOUNTS, 1, 8)?;
-    assert_same(hold(alloc, &mut holds, 701, taken, 0)?, None, "taken")?;
-    Ok(holds)
-}
-
-#[test]
-fn a_cell_of_another_is_not_free(rt: HostRuntime) -> Result<(), Fail> {
-    let alloc = rt.alloc();
-    let holds = two_held(alloc)?;
-    let both = [values(alloc, ACCOUNTS, 1, 8)?, row(alloc, ACCOUNTS, 1)?];
-    // Of two that are in the way the first decides.
-    for (xid, other) in [(702u32, 701u32), (701, 700), (700, 701)] {
-        assert_same(holds.free_for(xid, &both), Some(other), xid)?;
-    }
-    Ok(())
-}
-
-#[test]
-fn other_cells_are_free(rt: HostRuntime) -> Result<(), Fail> {
-    let alloc = rt.alloc();
-    let holds = two_held(alloc)?;
-    let apart = [
-        values(alloc, ACCOUNTS, 1, 1)?,
-        values(alloc, ACCOUNTS, 2, 8)?,
-        row(alloc, ACCOUNTS, 8)?,
-        row(alloc, BRANCHES, 1)?,
-        Cell::Whole(BRANCHES),
-    ];
-    assert_same(holds.free_for(702, &apart), None, "apart")?;
-    assert_same(holds.free_for(702, &[]), None, "no cells")?;
-    Ok(())
-}
-
-#[test]
-fn a_whole_table_overlaps_its_cells(rt: HostRuntime) -> Result<(), Fail> {
-    let alloc = rt.alloc();
-    let mut holds = Holds::new(alloc);
-    for (xid, key) in [(701u32, 1i64), (701, 2), (700, 3), (702, 4)] {
-        let cell = row(alloc, ACCOUNTS, key)?;
-        assert_same(hold(alloc, &mut holds, xid, cell, 0)?, None, key)?;
-    }
-    let table = [Cell::Whole(ACCOUNTS)];
-    for other in [700u32, 702] {
-        assert_same(holds.free_for(701, &table), Some(other), other)?;
-        holds.release_all(other);
-    }
-    assert_same(holds.free_for(701, &table), None, "its own alone are left")?;
-    let whole = hold(alloc, &mut holds, 701, Cell::Whole(ACCOUNTS), 0)?;
-    assert_same(whole, None, "the whole table")?;
-    let untouched = row(alloc, ACCOUNTS, 9)?;
-    assert_same(holds.other_holder(700, &untouched), Some(701), "another")?;
-    assert_same(holds.other_holder(701, &untouched), None, "its own")?;
-    Ok(())
 }
 
 #[test]
@@ -133,9 +69,10 @@ fn cells_past_a_mark_are_let_go_from_the_last(rt: HostRuntime) -> Result<(), Fai
     }
     for key in [3i64, 2] {
         let cell = row(alloc, ACCOUNTS, key)?;
-        assert_eq!(rt; holds.release_last(700, 1), Some(cell));
+        let last = holds.release_last(700, 1);
+        assert_same(last.as_ref(), Some(&cell), key)?;
     }
-    assert_eq!(rt; holds.release_last(700, 1), None);
+    assert_same(holds.release_last(700, 1).as_ref(), None, "at the mark")?;
     for (key, other) in [(1i64, Some(700u32)), (2, None), (3, None)] {
         let cell = row(alloc, ACCOUNTS, key)?;
         assert_same(holds.other_holder(701, &cell), other, key)?;
@@ -183,14 +120,15 @@ fn take_until_refused(rt: &impl Abort, alloc: Global) -> Result<(), OutOfMemory>
         let cell = row(alloc, table, key)?;
         let again = row(alloc, table, key)?;
         if hold(alloc, &mut holds, xid, cell, key).is_err() {
-            assert_eq!(rt; holds.mark(xid), before);
-            assert_eq!(rt; holds.stood(&again), None);
-            assert_eq!(rt; holds.other_holder(702, &again), None);
-            assert_eq!(rt; hold(alloc, &mut holds, xid, again, key)?, None);
+            aborts::assert_same(rt, holds.mark(xid), before, xid);
+            aborts::assert_same(rt, holds.stood(&again), None, xid);
+            aborts::assert_same(rt, holds.other_holder(702, &again), None, xid);
+            let held = hold(alloc, &mut holds, xid, again, key)?;
+            aborts::assert_same(rt, held, None, xid);
             return Err(OutOfMemory);
         }
-        assert!(rt; holds.mark(xid) > before);
-        assert_eq!(rt; holds.other_holder(702, &again), Some(xid));
+        aborts::assert_holds(rt, holds.mark(xid) > before, xid);
+        aborts::assert_same(rt, holds.other_holder(702, &again), Some(xid), xid);
     }
     Ok(())
 }
@@ -200,33 +138,39 @@ fn take_until_refused(rt: &impl Abort, alloc: Global) -> Result<(), OutOfMemory>
 fn cells_where_memory_is_refused(rt: HostRuntime) {
     if take_until_refused(&rt, rt.alloc()).is_err() {
         let again = take_until_refused(&rt, rt.alloc());
-        assert!(rt; again.is_ok(), "memory is there again");
+        aborts::assert_holds(&rt, again.is_ok(), "memory is there again");
     }
 }
 
-/// Takes many rows, looks each up for another transaction, and lets them go in two parts.
-fn hold_many(rt: &impl Abort, alloc: Global, count: i64) -> Result<(), OutOfMemory> {
-    let mut holds = Holds::new(alloc);
+fn take_many(alloc: Global, holds: &mut Holds<i64>, count: i64) -> Result<(), Fail> {
     for key in 0..count {
         let cell = row(alloc, ACCOUNTS, key)?;
-        assert_eq!(rt; hold(alloc, &mut holds, 700, cell, key)?, None);
+        assert_same(hold(alloc, holds, 700, cell, key)?, None, key)?;
     }
+    Ok(())
+}
+
+/// Looks many rows up for another transaction, and the whole table each time for their holder.
+fn find_many(alloc: Global, holds: &Holds<i64>, count: i64) -> Result<(), Fail> {
     let table = [Cell::Whole(ACCOUNTS)];
     for key in 0..count {
         let cell = [row(alloc, ACCOUNTS, key)?];
-        assert_eq!(rt; holds.free_for(701, &cell), Some(700));
-        assert_eq!(rt; holds.free_for(700, &table), None);
+        assert_same(holds.free_for(701, &cell), Some(700), key)?;
+        assert_same(holds.free_for(700, &table), None, key)?;
     }
-    holds.release_since(700, 2);
-    assert_eq!(rt; holds.mark(700), 2);
-    assert_eq!(rt; holds.free_for(701, &table), Some(700));
-    holds.release_all(700);
-    assert_eq!(rt; holds.free_for(701, &table), None);
     Ok(())
 }
 
 #[test]
 fn a_million_cells_are_held_and_let_go(rt: HostRuntime) -> Result<(), Fail> {
-    hold_many(&rt, rt.alloc(), 1_000_000)?;
-    Ok(())
+    let alloc = rt.alloc();
+    let mut holds = Holds::new(alloc);
+    take_many(alloc, &mut holds, 1_000_000)?;
+    find_many(alloc, &holds, 1_000_000)?;
+    let table = [Cell::Whole(ACCOUNTS)];
+    holds.release_since(700, 2);
+    assert_same(holds.mark(700), 2, "two are left")?;
+    assert_same(holds.free_for(701, &table), Some(700), "two are left")?;
+    holds.release_all(700);
+    assert_same(holds.free_for(701, &table), None, "none is left")
 }

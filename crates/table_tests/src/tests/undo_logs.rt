@@ -3,6 +3,7 @@ ghost use Rattle.std.specs.Prelude.{length, ◌≤◌, IfOk};
 ghost use Rattle.model.specs.Named.{NamesTables};
 ghost use Rattle.undo.specs.Undo.{CanUndo};
 
+use crate::tests::aborts::{assert_holds, assert_same};
 use crate::tests::calls::Call::{Put, Remove, Set, Wipe};
 use crate::tests::calls::{Call, Word, are_there, change, empty_tables, key};
 use crate::tests::shown::shown;
@@ -12,6 +13,7 @@ use model::{Key, OutOfMemory, TableId};
 use std::alloc::Global;
 use std::process::Abort;
 use std::test::Fail;
+use testing::asserts;
 use undo::UndoLog;
 
 // A table of an int, which is the primary key, and two texts, the first of them unique.
@@ -72,7 +74,7 @@ fn filled(rt: &impl Abort, alloc: Global) -> Result<Tables, Clash> {
 /// The table shows this.
 fn shows(rt: &impl Abort, alloc: Global, t: &Tables, wanted: &str) -> Result<(), OutOfMemory> {
     let found = shown(rt, alloc, t)?;
-    assert_eq!(rt; found.as_str(), wanted);
+    assert_same(rt, found.as_str(), wanted, "shown");
     Ok(())
 }
 
@@ -81,11 +83,8 @@ fn has_the_first(rt: &impl Abort, t: &Tables, id: &Key, email: &Key, calls: &[Ca
     assert!(rt; ACCOUNTS < t.len());
     assert!(rt; 1 <= t.unique_count(ACCOUNTS));
     let holder = t.find_unique(ACCOUNTS, 1, email);
-    assert!(rt;
-        matches!(holder, Some(key) if *key == *id),
-        "undone {calls:?}"
-    );
-    assert!(rt; t.get(ACCOUNTS, id).is_some(), "undone {calls:?}");
+    assert_same(rt, holder, Some(id), calls);
+    assert_holds(rt, t.get(ACCOUNTS, id).is_some(), calls);
 }
 
 /// Runs calls, up to the first that is refused, and undoes what was done: all is as it was first.
@@ -97,7 +96,7 @@ fn run_and_undo(rt: &impl Abort, alloc: Global, calls: &[Call]) -> Result<(), Cl
     let answer = run_all(rt, alloc, &mut log, &mut t, calls);
     undo_to(&mut log, &mut t, 0);
     // Memory may be refused from here on.
-    assert_eq!(rt; log.mark(), 0);
+    assert_same(rt, log.mark(), 0, calls);
     has_the_first(rt, &t, &id, &email, calls);
     is_as_first(rt, alloc, &t)?;
     answer
@@ -153,7 +152,7 @@ fn an_undo_gives_the_first_rows(rt: HostRuntime) -> Result<(), Fail> {
         table: ACCOUNTS,
         key: 1,
     };
-    assert_eq!(rt; answer.err(), Some(clash));
+    asserts::assert_same(answer, Err(clash), "the same email")?;
     Ok(())
 }
 
@@ -171,12 +170,12 @@ fn logged(rt: &impl Abort, alloc: Global, calls: &[Call]) -> Result<(Tables, Und
 fn an_undo_to_a_mark_keeps_what_came_before_it(rt: HostRuntime) -> Result<(), Fail> {
     let alloc = rt.alloc();
     let (mut t, mut log) = logged(&rt, alloc, &CHANGES[..3])?;
-    assert_eq!(rt; log.mark(), 3);
+    asserts::assert_same(log.mark(), 3, "at the mark")?;
     let at_mark = shown(&rt, alloc, &t)?;
     run_all(&rt, alloc, &mut log, &mut t, &CHANGES[3..])?;
-    assert_eq!(rt; log.mark(), 7);
+    asserts::assert_same(log.mark(), 7, "after all")?;
     undo_to(&mut log, &mut t, 3);
-    assert_eq!(rt; log.mark(), 3);
+    asserts::assert_same(log.mark(), 3, "at the mark again")?;
     shows(&rt, alloc, &t, at_mark.as_str())?;
     Ok(())
 }
@@ -213,7 +212,7 @@ fn a_log_lends_the_rows_that_went(rt: HostRuntime) -> Result<(), Fail> {
         (7, "4", false),
     ] {
         let keeps = keeps_row(rt.alloc(), &log, number, id)?;
-        assert_eq!(rt; keeps, wanted, "{number} at {id}");
+        asserts::assert_same(keeps, wanted, number)?;
     }
     Ok(())
 }
@@ -222,6 +221,6 @@ fn a_log_lends_the_rows_that_went(rt: HostRuntime) -> Result<(), Fail> {
 #[test]
 fn an_undo_where_memory_is_refused(rt: HostRuntime) {
     if let Err(clash) = run_and_undo(&rt, rt.alloc(), &CHANGES) {
-        assert_eq!(rt; clash, Clash::OutOfMemory);
+        assert_same(&rt, clash, Clash::OutOfMemory, "refused");
     }
 }

@@ -350,9 +350,9 @@ fn each_call_succeeds(rt: HostRuntime) -> Result<(), Fail> {
     book.grow(&mut slip, &1);
     book.grow_by::<Brand>(&mut slip);
     book.meet(&mut slip);
-    assert_eq!(rt; slip.number(), 700);
+    assert_same(&rt, slip.number(), 700, "its number");
     book.close(slip);
     let slip = book.open(700);
-    assert_eq!(rt; slip.number(), 700);
+    assert_same(&rt, slip.number(), 700, "again");
     Ok(())
 }

@@ -1,5 +1,5 @@
-// What no clause says of an origin: what each call answers on one thread, that a load sees what was
-// published, also by another thread, and that a refused allocation is told.
+// What no clause says of an origin: that two threads load while a third publishes, and that a refused
+// allocation is told.
 ghost use Rattle.std.specs.Prelude.{◌≡◌, ◌≤◌, ◌<◌, []};
 ghost use Rattle.origin.specs.Commits.{Begins, commits_of};
 
@@ -89,47 +89,6 @@ fn two_threads_load_while_positions_are_published(rt: HostRuntime) -> Result<(),
         origin.meet(&rt, &mut publisher, &mut one);
         origin.meet(&rt, &mut publisher, &mut other);
     }
-    Ok(())
-}
-
-// The contract says that the second of two loads is not older.
-fn load_twice<R: Wait>(rt: &R, origin: &Origin, loader: &mut Loader) -> (Position, Position)
-    requires { loader.old.origin ≡ origin.now }
-    ensures later { result.0.commits ≤ result.1.commits }
-    ensures same { loader.new.origin ≡ loader.old.origin }
-{
-    let first = origin.load(rt, loader);
-    (first, origin.load(rt, loader))
-}
-
-#[test]
-fn each_load_has_the_last_position(rt: HostRuntime) -> Result<(), Fail> {
-    let (origin, mut publisher, mut loader) = Origin::new(rt.alloc())?;
-    let start = Position {
-        commits: 0,
-        end_lsn: 0,
-    };
-    assert_same(
-        &rt,
-        load_twice(&rt, &origin, &mut loader),
-        (start, start),
-        "the start",
-    );
-    let first = Position {
-        commits: 1,
-        end_lsn: 0x140,
-    };
-    origin.publish(&rt, &mut publisher, first);
-    let (mut one, mut other) = loader.split(&origin);
-    assert_same(&rt, origin.load(&rt, &mut one), first, "the first");
-    let second = Position {
-        commits: 2,
-        end_lsn: 0x220,
-    };
-    origin.publish(&rt, &mut publisher, second);
-    origin.meet(&rt, &mut publisher, &mut one);
-    assert_same(&rt, origin.load(&rt, &mut one), second, "the second");
-    assert_same(&rt, origin.load(&rt, &mut other), second, "the second");
     Ok(())
 }
 

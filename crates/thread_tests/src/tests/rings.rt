@@ -2,6 +2,7 @@
 // an item is dropped, and that a refused allocation is told.
 ghost use Rattle.std.specs.Prelude.{◌≡◌, ◌<◌, IfOk};
 
+use crate::tests::asserts::{assert_holds, assert_same};
 use model::OutOfMemory;
 use ring::{Ends, Full, Ring, Sender, Taker, meet};
 use std::alloc::Global;
@@ -13,29 +14,31 @@ use std::thread;
 #[test]
 fn a_ring_of_one_slot(rt: HostRuntime) -> Result<(), Fail> {
     let (mut sender, mut taker) = Ring::new::<u64>(rt.alloc(), 1)?;
-    assert_eq!(rt; sender.try_send(5), Ok(()));
-    assert_eq!(rt; sender.try_send(6), Err(Full(6)));
+    assert_holds(&rt, sender.try_send(5).is_ok(), "the first");
+    assert_holds(&rt, sender.try_send(6) == Err(Full(6)), "a full ring");
     let said = format!(in rt.alloc(); "{}: {:?} by {sender:?} to {taker:?}", Full(6), Full(6))?;
-    assert_eq!(rt;
+    assert_same(
+        &rt,
         said.as_str(),
-        "the ring is full: Full(6) by Sender { .. } to Taker { .. }"
+        "the ring is full: Full(6) by Sender { .. } to Taker { .. }",
+        "printed",
     );
-    assert_eq!(rt; taker.take(), Some(&5));
-    assert_eq!(rt; taker.take(), Some(&5));
+    assert_same(&rt, taker.take(), Some(&5), "the first");
+    assert_same(&rt, taker.take(), Some(&5), "the first again");
     taker.ack();
-    assert_eq!(rt; sender.try_send(6), Ok(()));
-    assert_eq!(rt; sender.acked(), 1);
+    assert_holds(&rt, sender.try_send(6).is_ok(), "there is room");
+    assert_same(&rt, sender.acked(), 1, "one is acknowledged");
     sender.doom();
-    assert!(rt; taker.doomed());
+    assert_holds(&rt, taker.doomed(), "a doom");
     let mut ends = meet(sender, taker);
-    assert_eq!(rt; ends.acked(), 1);
-    assert_eq!(rt; ends.next_left(), Some(6));
+    assert_same(&rt, ends.acked(), 1, "both ends");
+    assert_same(&rt, ends.next_left(), Some(6), "one is left");
     let None = ends.next_left() else {
         panic!(rt; "an item too many")
     };
     let (_sender, mut taker) = ends.reopen();
-    assert!(rt; !taker.doomed());
-    assert_eq!(rt; taker.take(), None);
+    assert_holds(&rt, !taker.doomed(), "opened again");
+    assert_same(&rt, taker.take(), None, "no item yet");
     Ok(())
 }
 
@@ -87,9 +90,9 @@ fn numbers_through_a_ring(rt: HostRuntime) -> Result<(), Fail> {
             || send_all(&rt, sender, 100000),
             || take_all(&rt, taker, 100000),
         );
-        assert!(rt; in_order, "through {capacity} slots");
-        assert_eq!(rt; sender.acked(), 100000);
-        assert_eq!(rt; taker.take(), None);
+        assert_holds(&rt, in_order, capacity);
+        assert_same(&rt, sender.acked(), 100000, capacity);
+        assert_same(&rt, taker.take(), None, capacity);
     }
     Ok(())
 }
@@ -143,7 +146,7 @@ fn a_doom_at_each_place(rt: HostRuntime) -> Result<(), Fail> {
             || doom_at(&rt, sender, place),
             || take_until_doomed(&rt, taker),
         );
-        assert!(rt; are_left(meet(sender, taker), sent), "at {place}");
+        assert_holds(&rt, are_left(meet(sender, taker), sent), place);
     }
     Ok(())
 }
@@ -152,13 +155,13 @@ fn a_doom_at_each_place(rt: HostRuntime) -> Result<(), Fail> {
 #[test]
 fn an_early_wake(rt: HostRuntime) -> Result<(), Fail> {
     let (mut sender, mut taker) = Ring::new::<u64>(rt.alloc(), 2)?;
-    assert!(rt; sender.try_send(7).is_ok());
+    assert_holds(&rt, sender.try_send(7).is_ok(), "an item");
     taker.wait_more(&rt);
-    assert_eq!(rt; taker.take(), Some(&7));
+    assert_same(&rt, taker.take(), Some(&7), "an item");
     taker.ack();
     sender.doom();
     taker.wait_more(&rt);
-    assert!(rt; taker.doomed());
+    assert_holds(&rt, taker.doomed(), "a doom");
     Ok(())
 }
 
@@ -185,29 +188,30 @@ fn started(
 fn ends_dropped_with_items_left(rt: HostRuntime) -> Result<(), Fail> {
     let item = Arc::new(rt.alloc(), 0u8)?;
     let (sender, taker) = started(rt.alloc(), &item)?;
-    assert_eq!(rt; Arc::strong_count(&item), 3);
+    assert_same(&rt, Arc::strong_count(&item), 3, "in the ring");
     drop(sender);
     drop(taker);
-    assert_eq!(rt; Arc::strong_count(&item), 1);
+    assert_same(&rt, Arc::strong_count(&item), 1, "the sender first");
     let (sender, taker) = started(rt.alloc(), &item)?;
     drop(taker);
     drop(sender);
-    assert_eq!(rt; Arc::strong_count(&item), 1);
+    assert_same(&rt, Arc::strong_count(&item), 1, "the taker first");
     let (sender, taker) = started(rt.alloc(), &item)?;
     let mut ends = meet(sender, taker);
-    assert_eq!(rt; ends.acked(), 1);
+    assert_same(&rt, ends.acked(), 1, "one is acknowledged");
     drop(ends.next_left());
-    assert_eq!(rt; Arc::strong_count(&item), 2);
+    assert_same(&rt, Arc::strong_count(&item), 2, "one is left");
     drop(ends);
-    assert_eq!(rt; Arc::strong_count(&item), 1);
+    assert_same(&rt, Arc::strong_count(&item), 1, "both ends");
     Ok(())
 }
 
 // A refused allocation is told, and what was made before it is given up.
 #[test]
 fn a_ring_where_memory_is_refused(rt: HostRuntime) {
-    match Ring::new::<u64>(rt.alloc(), 1024) {
-        Ok((mut sender, _taker)) => assert!(rt; sender.try_send(1).is_ok()),
-        Err(refused) => assert_eq!(rt; refused, OutOfMemory),
-    }
+    let sent = match Ring::new::<u64>(rt.alloc(), 1024) {
+        Ok((mut sender, _taker)) => sender.try_send(1).is_ok(),
+        Err(OutOfMemory) => true,
+    };
+    assert_holds(&rt, sent, "an item");
 }

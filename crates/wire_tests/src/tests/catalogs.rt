@@ -1,5 +1,5 @@
-use catalog::{Catalog, CatalogFault, Column, ColumnType, Key, Row, Value};
-use model::{KeptText, ValueRef};
+use catalog::{Catalog, CatalogFault, Column, ColumnType, Value};
+use model::KeptText;
 use std::alloc::{AllocError, Global};
 use std::test::Fail;
 use testing::accounts::CATALOG;
@@ -266,39 +266,4 @@ fn takes_up_to_the_limits(rt: HostRuntime) -> Result<(), Fail> {
         assert_same(fault, want, tables)?;
     }
     Ok(())
-}
-
-#[test]
-fn orders_and_copies_values(rt: HostRuntime) -> Result<(), Fail> {
-    let ascending = [
-        Value::Int(-2),
-        Value::Int(1),
-        Value::Text(KeptText::from_str(rt.alloc(), "")?),
-        Value::Text(KeptText::from_str(rt.alloc(), "ab")?),
-        Value::Text(KeptText::from_str(rt.alloc(), "b")?),
-        Value::Bool(false),
-        Value::Bool(true),
-    ];
-    for (place, value) in ascending.iter().enumerate() {
-        for (other_place, other) in ascending.iter().enumerate() {
-            assert_same(value.cmp(other), place.cmp(&other_place), place)?;
-        }
-        assert_holds(value.copy()? == *value, place)?;
-    }
-    Ok(())
-}
-
-#[test]
-fn orders_and_copies_keys_and_rows(rt: HostRuntime) -> Result<(), Fail> {
-    let key = Key::from_values(vec![in rt.alloc(); Value::Int(1), Value::Bool(true)]?)?;
-    let longer = Key::from_values(vec![in rt.alloc();
-        Value::Int(1),
-        Value::Bool(true),
-        Value::Int(0),
-    ]?)?;
-    assert_holds(key < longer && key.copy()? == key, "key")?;
-    let row = Row::from_values(vec![in rt.alloc(); None, Some(Value::Int(1))]?)?;
-    let copy = row.copy()?;
-    assert_holds(copy.len() == 2 && copy.get(0).is_none(), "null")?;
-    assert_holds(matches!(copy.get(1), Some(ValueRef::Int(1))), "value")
 }

@@ -12,7 +12,7 @@ use frames::{
 use std::alloc::{AllocError, Global};
 use std::io::Cursor;
 use std::test::Fail;
-use testing::asserts::{assert_holds, assert_same};
+use testing::asserts::assert_same;
 use testing::devices::{Kept, Pieces};
 
 // One transaction of an insert: Begin, Relation, Insert and Commit, each in a frame of its own.
@@ -131,35 +131,6 @@ fn whole_within(count: usize) -> usize {
         .count()
 }
 
-// How the stream ends where it is cut.
-fn end_of_cut(cut: usize) -> Result<(), FrameFault> {
-    if EDGES.contains(&cut) {
-        Ok(())
-    } else {
-        Err(FrameFault::Truncated)
-    }
-}
-
-// The stream that is cut gives a beginning of all items.
-fn assert_cut(alloc: Global, whole: &[CopyItem], cut: usize, size: usize) -> Result<(), Fail> {
-    let (items, end) = read_pieces(alloc, STREAM.get(..cut).unwrap_or(&[]), size)?;
-    assert_same(end, end_of_cut(cut), cut)?;
-    assert_same(items.len(), whole_within(cut), cut)?;
-    assert_holds(whole.starts_with(items.as_slice()), cut)
-}
-
-#[test]
-fn a_stream_cut_at_each_byte(rt: HostRuntime) -> Result<(), Fail> {
-    let (whole, _) = read_pieces(rt.alloc(), STREAM, STREAM.len())?;
-    assert_same(whole.len(), 4, "whole")?;
-    for cut in 0..=STREAM.len() {
-        for size in [1, 7, cut] {
-            assert_cut(rt.alloc(), whole.as_slice(), cut, size)?;
-        }
-    }
-    Ok(())
-}
-
 #[test]
 fn a_source_that_fails_at_each_read(rt: HostRuntime) -> Result<(), Fail> {
     for fails_at in 0..=STREAM.len() {
@@ -170,30 +141,6 @@ fn a_source_that_fails_at_each_read(rt: HostRuntime) -> Result<(), Fail> {
         assert_same(items.len(), whole_within(fails_at), fails_at)?;
     }
     Ok(())
-}
-
-// Whatever is fed or read behind it, the fault is answered.
-fn assert_comes_again(frames: &mut Frames) -> Result<(), Fail> {
-    let fault = Err(FrameFault::ServerError);
-    assert_same(frames.feed(b"c\x00\x00\x00\x04"), fault, "feed")?;
-    let pulled = frames.pull(&mut ReadSource::new(Cursor::new(STREAM)));
-    assert_same(pulled, Err(FrameFault::ServerError), "pulled")?;
-    assert_same(frames.finish(), fault, "finish")
-}
-
-// A fault comes behind the items before it, and comes again.
-#[test]
-fn a_fault_comes_again(rt: HostRuntime) -> Result<(), Fail> {
-    let mut frames = Frames::new(rt.alloc());
-    let bytes = b"d\x00\x00\x00\x16k\0\0\0\0\0\0\x02\x00\0\0\0\0\0\0\0\0\x02E\x00\x00\x00\x04";
-    assert_same(frames.feed(bytes), Err(FrameFault::ServerError), "feed")?;
-    assert_comes_again(&mut frames)?;
-    let keepalive = CopyItem::Keepalive {
-        end: 0x200,
-        reply: true,
-    };
-    assert_same(&frames.next(), &Some(keepalive), "next")?;
-    assert_same(&frames.next(), &None, "next")
 }
 
 // Where the payloads of its frames lie.

@@ -151,47 +151,12 @@ fn each_case_reads_as_it_must(rt: HostRuntime) -> Result<(), Fail> {
     Ok(())
 }
 
-// A payload that is cut ends too early, unless the fault that stands in all of it stands before the cut.
-fn assert_cut(
-    cut: Result<Message, MsgFault>,
-    whole: Option<MsgFault>,
-    line: &str,
-) -> Result<(), Fail> {
-    match cut {
-        Err(MsgFault::Short) => Ok(()),
-        Err(other) => assert_same(Some(other), whole, line),
-        Ok(_) => assert_same(whole, Some(MsgFault::Trailing), line),
-    }
-}
-
-#[test]
-fn each_prefix_is_short_or_has_the_same_fault(rt: HostRuntime) -> Result<(), Fail> {
-    for line in CASES.lines() {
-        let (payload, in_block, _) = case_of(rt.alloc(), line)?;
-        let whole = decode(rt.alloc(), &payload, in_block).err();
-        for cut in 0..payload.len() {
-            let answer = decode(rt.alloc(), &payload.slice(..cut)?, in_block);
-            assert_cut(answer, whole, line)?;
-        }
-    }
-    Ok(())
-}
-
 // What a payload spells, if it is a message, is written as this payload.
 fn assert_written_again(alloc: Global, payload: &Bytes, in_block: bool) -> Result<(), Fail> {
     match decode(alloc, payload, in_block) {
         Ok(m) => assert_written(alloc, &m, in_block, payload.as_slice()),
         Err(_) => Ok(()),
     }
-}
-
-#[test]
-fn what_is_read_is_written_again(rt: HostRuntime) -> Result<(), Fail> {
-    for line in CASES.lines() {
-        let (payload, in_block, _) = case_of(rt.alloc(), line)?;
-        assert_written_again(rt.alloc(), &payload, in_block)?;
-    }
-    Ok(())
 }
 
 // The message is written as this payload, behind what is there.

@@ -215,28 +215,6 @@ fn a_relation_has_its_first_fault(rt: HostRuntime) -> Result<(), Fail> {
     Ok(())
 }
 
-/// The cache learns a relation, and what it then answers.
-fn learn_again(
-    rt: &impl Abort,
-    alloc: Global,
-    cache: &mut RelCache,
-    named: &[(&'static str, bool)],
-) -> Result<Option<RelFault>, Fail> {
-    let tables = tables(alloc)?;
-    cache.learn(&relation(rt, alloc, PUBLIC, named)?)?;
-    Ok(cache.resolve(alloc, &tables, ACCOUNTS_OID).err())
-}
-
-#[test]
-fn the_relation_learnt_last_counts(rt: HostRuntime) -> Result<(), Fail> {
-    let mut cache = RelCache::new(rt.alloc());
-    for (column, fault) in [("zip", Some(RelFault::ColumnMissing)), ("id", None)] {
-        let answer = learn_again(&rt, rt.alloc(), &mut cache, &[(column, true)])?;
-        assert_same(answer, fault, column)?;
-    }
-    Ok(())
-}
-
 /// Whether a row message is an insert or an update without an old tuple.
 #[derive(Clone, Copy)]
 enum Kind {

@@ -2,9 +2,10 @@
 // never asked: the same calls have the same answers in both from then on, and both end with the same
 // tables. `rt try --test --fail-alloc 1..` refuses each allocation in turn.
 use super::scene::{ACCOUNTS, Deed, NAMES, Scene, TABLES, WORKED};
+use crate::tests::aborts::{assert_holds, assert_same};
 use crate::tests::calls::Call::{self, Put, Remove, Set, Wipe};
 use crate::tests::calls::{Word, Words, is_row, key, rows_of};
-use engine::{Acted, EngineFault};
+use engine::{Acted, EngineFault, NotSettled};
 use indexes::Tables;
 use model::{OutOfMemory, TableId, Xid};
 use std::alloc::Global;
@@ -128,7 +129,7 @@ fn new_scene(rt: &impl Abort, alloc: Global) -> Result<Scene, EngineFault> {
         Ok(scene) => Ok(scene),
         Err(tables) => {
             let rows = rows_of(rt, alloc, &tables, ACCOUNTS)?;
-            assert_eq!(rt; rows.as_str(), WORKED);
+            assert_same(rt, rows.as_str(), WORKED, "handed back");
             Err(EngineFault::OutOfMemory)
         }
     }
@@ -311,7 +312,7 @@ fn read_alike(
     show_reads(rt, alloc, one, &mut shown)?;
     let mut wanted = String::new(alloc);
     show_reads(rt, alloc, other, &mut wanted)?;
-    assert_eq!(rt; shown.as_str(), wanted.as_str(), "{step:?}");
+    assert_same(rt, shown.as_str(), wanted.as_str(), step);
     Ok(())
 }
 
@@ -336,7 +337,7 @@ fn told_alike(
 ) -> Result<(), EngineFault> {
     let wanted = told(rt, alloc, other)?;
     let left = told(rt, alloc, one)?;
-    assert_eq!(rt; left.as_str(), wanted.as_str(), "{step:?}");
+    assert_same(rt, left.as_str(), wanted.as_str(), step);
     Ok(())
 }
 
@@ -351,7 +352,7 @@ fn answers_alike(
     let (mut one, mut other) = (one, other);
     let again = make(rt, alloc, &mut one, step);
     let answer = make(rt, alloc, &mut other, step);
-    assert_eq!(rt; again, answer, "{step:?} again");
+    assert_same(rt, again, answer, step);
     told_alike(rt, alloc, one, other, step)
 }
 
@@ -373,7 +374,7 @@ fn step_until_refused(rt: &impl Abort, alloc: Global) -> Result<(), EngineFault>
     let mut scene = stepped(rt, alloc, 0)?;
     for (count, step) in STEPS.iter().enumerate() {
         if let Err(fault) = make(rt, alloc, &mut scene, step) {
-            assert_eq!(rt; fault, EngineFault::OutOfMemory, "{step:?}");
+            assert_same(rt, fault, EngineFault::OutOfMemory, step);
             return was_refused(rt, alloc, scene, (count, step));
         }
     }
@@ -383,7 +384,7 @@ fn step_until_refused(rt: &impl Abort, alloc: Global) -> Result<(), EngineFault>
 #[test]
 fn calls_where_memory_is_refused(rt: HostRuntime) {
     if let Err(fault) = step_until_refused(&rt, rt.alloc()) {
-        assert_eq!(rt; fault, EngineFault::OutOfMemory);
+        assert_same(&rt, fault, EngineFault::OutOfMemory, "refused");
     }
 }
 
@@ -430,7 +431,7 @@ fn waiting(rt: &impl Abort, alloc: Global) -> Result<Scene, EngineFault> {
     scene.make_all(rt, alloc, &THREE_OPEN)?;
     for (deed, holder) in &WAITING {
         let answer = scene.make(rt, alloc, deed)?;
-        assert_eq!(rt; answer, Acted::Held(*holder));
+        assert_same(rt, answer, Acted::Held(*holder), deed);
     }
     Ok(scene)
 }
@@ -438,12 +439,14 @@ fn waiting(rt: &impl Abort, alloc: Global) -> Result<Scene, EngineFault> {
 /// From here on nothing is made.
 fn end_waiting(rt: &impl Abort, alloc: Global, scene: Scene) -> Result<(), EngineFault> {
     let mut scene = scene;
-    assert!(rt; scene.stop_held(700, &[]).is_err());
-    assert_eq!(rt; scene.stop_held(700, &[(702, 1)]), Ok(701));
+    let unsettled = scene.stop_held(700, &[]);
+    assert_same(rt, unsettled, Err(NotSettled), "more can come");
+    let settled = scene.stop_held(700, &[(702, 1)]);
+    assert_same(rt, settled, Ok(701), "all wait");
     scene.make_all(rt, alloc, &ENDS)?;
     let (tables, journal) = scene.close(rt);
-    assert!(rt; has_accounts(&tables, &ENDED));
-    assert_eq!(rt; journal.len(), 3);
+    assert_holds(rt, has_accounts(&tables, &ENDED), "the accounts");
+    assert_same(rt, journal.len(), 3, "entries");
     Ok(())
 }
 
@@ -454,8 +457,8 @@ fn ends_where_memory_is_refused(rt: HostRuntime) {
     match waiting(&rt, rt.alloc()) {
         Ok(scene) => {
             let ended = end_waiting(&rt, rt.alloc(), scene);
-            assert!(rt; ended.is_ok(), "an end takes no memory");
+            assert_holds(&rt, ended.is_ok(), "an end takes no memory");
         }
-        Err(fault) => assert_eq!(rt; fault, EngineFault::OutOfMemory),
+        Err(fault) => assert_same(&rt, fault, EngineFault::OutOfMemory, "refused"),
     }
 }

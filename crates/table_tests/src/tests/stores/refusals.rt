@@ -12,6 +12,7 @@ use model::Xid;
 use std::alloc::Global;
 use std::process::Abort;
 use std::test::Fail;
+use testing::asserts::assert_same;
 
 const NULL_KEY: Clash = Clash::NullKey { table: ACCOUNTS };
 
@@ -181,19 +182,21 @@ fn each_refusal_says_why(rt: HostRuntime) -> Result<(), Fail> {
         EngineFault::Stopped,
         EngineFault::OutOfMemory
     )?;
-    assert_eq!(rt;
+    assert_same(
         faults.as_str(),
-        "a transaction of that number is open; 4096 transactions are open, and no more can be; the change clashes, and the store is stopped: a row of table 0 agrees with another in key 1 (0 is the primary key, and the first table); the store is stopped: what is open can be rolled back, committed and aborted; the system had no memory for it"
-    );
+        "a transaction of that number is open; 4096 transactions are open, and no more can be; the change clashes, and the store is stopped: a row of table 0 agrees with another in key 1 (0 is the primary key, and the first table); the store is stopped: what is open can be rolled back, committed and aborted; the system had no memory for it",
+        "faults",
+    )?;
     let stops = format!(in rt.alloc();
         "{}; {}; {}",
         Stop::Clash(700, NULL_KEY),
         Stop::Held(900, 700),
         NotSettled
     )?;
-    assert_eq!(rt;
+    assert_same(
         stops.as_str(),
-        "a change of transaction 700 clashed: a row of table 0 has a null in its primary key (0 is the first table); transaction 900 waits for a row or key that transaction 700 holds, and nothing can come that lets it go; more can come that lets the waiting change go"
-    );
+        "a change of transaction 700 clashed: a row of table 0 has a null in its primary key (0 is the first table); transaction 900 waits for a row or key that transaction 700 holds, and nothing can come that lets it go; more can come that lets the waiting change go",
+        "stops",
+    )?;
     Ok(())
 }

@@ -4,6 +4,7 @@ ghost use Rattle.std.specs.Ordering.{nat_cmp};
 ghost use Rattle.std.specs.BTreeMap as tree;
 ghost use Rattle.table_tests.specs.Scenes.{IsScene};
 
+use crate::tests::aborts::assert_same;
 use crate::tests::calls::{Call, Words, are_there, change, empty_tables, rows_of, rows_text};
 use change::Clash;
 use engine::{Acted, EngineFault, Entry, Line, NotSettled, Stop, Store, Ticket};
@@ -316,8 +317,9 @@ impl Scene {
         entries: usize,
     ) -> Result<(), Fail> {
         let (tables, journal) = self.close(rt);
-        assert_eq!(rt; journal.len(), entries);
-        assert_eq!(rt; rows_of(rt, alloc, &tables, ACCOUNTS)?.as_str(), accounts);
+        let rows = rows_of(rt, alloc, &tables, ACCOUNTS)?;
+        assert_same(rt, journal.len(), entries, "entries");
+        assert_same(rt, rows.as_str(), accounts, "accounts");
         Ok(())
     }
 }
@@ -328,7 +330,7 @@ fn worked_tables(rt: &impl Abort, alloc: Global) -> Result<Tables, EngineFault> 
     scene.open(alloc, 1)?;
     for row in ROWS {
         let acted = scene.act(rt, alloc, 1, 1, &Call::Put(ACCOUNTS, row))?;
-        assert_eq!(rt; acted, Acted::Done);
+        assert_same(rt, acted, Acted::Done, "a first row");
     }
     scene.commit(rt, 1);
     let (tables, _) = scene.close(rt);

@@ -1,5 +1,6 @@
 // Calls of a store as a table of steps, each with what comes of it.
 use super::scene::{Deed, Scene, WORKED, commit_info};
+use crate::tests::aborts::{assert_holds, assert_same};
 use crate::tests::calls::Call;
 use change::Clash;
 use engine::{Acted, EngineFault, Entry, Stop};
@@ -103,14 +104,14 @@ impl Shown {
 fn take(rt: &impl Abort, alloc: Global, scene: &mut Scene, step: &Step) {
     if let Some((deed, wanted)) = step.call() {
         let answer = scene.make(rt, alloc, &deed);
-        assert_eq!(rt; answer, wanted, "{step:?}");
+        assert_same(rt, answer, wanted, step);
     }
 }
 
 fn ask(rt: &impl Abort, scene: &mut Scene, step: &Step) {
     if let Step::Wants(xid, wanted) = step {
         let wants = scene.wants(rt, *xid);
-        assert_eq!(rt; wants, *wanted, "{step:?}");
+        assert_same(rt, wants, *wanted, step);
     }
 }
 
@@ -123,11 +124,11 @@ fn look(
     step: &Step,
 ) -> Result<(), Fail> {
     let accounts = scene.accounts(rt, alloc)?;
-    assert_eq!(rt; accounts.as_str(), shown.accounts, "{step:?}");
-    assert_eq!(rt; scene.stop(), shown.stop, "{step:?}");
+    assert_same(rt, accounts.as_str(), shown.accounts, step);
+    assert_same(rt, scene.stop(), shown.stop, step);
     let journal = scene.store.journal();
-    assert_eq!(rt; journal.len(), shown.entries, "{step:?}");
-    assert!(rt; shown.is_last(journal.last()), "{step:?}");
+    assert_same(rt, journal.len(), shown.entries, step);
+    assert_holds(rt, shown.is_last(journal.last()), step);
     Ok(())
 }
 

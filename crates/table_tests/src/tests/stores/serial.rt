@@ -3,6 +3,7 @@ ghost use Rattle.std.specs.Prelude.{◌≡◌, length, IfOk};
 ghost use Rattle.engine.specs.Serial.{last_end_in};
 
 use super::scene::{ACCOUNTS, SAME_EMAIL, WORKED};
+use crate::tests::aborts;
 use crate::tests::calls::Call::Put;
 use crate::tests::calls::{Call, are_there, change, empty_tables, rows_of};
 use change::Clash;
@@ -11,6 +12,7 @@ use model::{CommitInfo, Item, OutOfMemory};
 use std::alloc::Global;
 use std::process::Abort;
 use std::test::Fail;
+use testing::asserts::assert_same;
 
 const COMMIT: CommitInfo = CommitInfo {
     commit: 16,
@@ -55,14 +57,14 @@ fn a_store_for_several_goes_on_from_it(rt: HostRuntime) -> Result<(), Fail> {
     take_two(&rt, alloc, &mut serial)?;
     serial.commit(alloc, 700, COMMIT)?;
     let (store, line) = serial.into_store(kept);
-    assert_eq!(rt; store.journal().len(), 1);
+    assert_same(store.journal().len(), 1, "entries")?;
     let (tables, _) = store.shut(line);
     let rows = rows_of(&rt, alloc, &tables, ACCOUNTS)?;
-    assert_eq!(rt; rows.as_str(), WORKED);
+    assert_same(rows.as_str(), WORKED, "rows")?;
     Ok(())
 }
 
-// A list that is refused leaves the work that was committed, and what is open at the end is undone.
+// A change that is refused leaves the work that was committed, and what is open at the end is undone.
 #[test]
 fn what_is_not_committed_is_undone(rt: HostRuntime) -> Result<(), Fail> {
     let alloc = rt.alloc();
@@ -71,11 +73,11 @@ fn what_is_not_committed_is_undone(rt: HostRuntime) -> Result<(), Fail> {
     serial.commit(alloc, 700, COMMIT)?;
     take(&rt, alloc, &mut serial, &Put(ACCOUNTS, ("3", "c", "n")))?;
     let refused = take(&rt, alloc, &mut serial, &Put(ACCOUNTS, ("4", "a", "n")));
-    assert_eq!(rt; refused.err(), Some(SAME_EMAIL));
+    assert_same(refused, Err(SAME_EMAIL), "the same email")?;
     let (tables, journal) = serial.shut();
     let rows = rows_of(&rt, alloc, &tables, ACCOUNTS)?;
-    assert_eq!(rt; rows.as_str(), WORKED);
-    assert_eq!(rt; journal.len(), 1);
+    assert_same(rows.as_str(), WORKED, "rows")?;
+    assert_same(journal.len(), 1, "entries")?;
     Ok(())
 }
 
@@ -97,11 +99,9 @@ fn a_transaction_where_memory_is_refused(rt: HostRuntime) {
     };
     let done = commit_two(&rt, alloc, &mut serial);
     let (_, journal) = serial.shut();
-    match done {
-        Ok(()) => assert_eq!(rt; journal.len(), 1),
-        Err(clash) => {
-            assert_eq!(rt; clash, Clash::OutOfMemory);
-            assert_eq!(rt; journal.len(), 0);
-        }
-    }
+    let entries = match done {
+        Err(Clash::OutOfMemory) => 0,
+        _ => 1,
+    };
+    aborts::assert_same(&rt, journal.len(), entries, done);
 }

@@ -8,7 +8,7 @@ use super::watchers::watch_in_two;
 use crate::tests::asserts::{assert_holds, assert_same};
 use crate::tests::table::{TABLE, key, put};
 use engine::{EngineFault, SharedStore, StoreNames};
-use model::{Change, Key, Lsn, TableId, Xid};
+use model::{Change, Key, Lsn, Xid};
 use origin::{Origin, Position, Publisher};
 use snapshot::{ReadFault, Reader};
 use std::alloc::Global;
@@ -23,7 +23,6 @@ use std::thread::Threads;
 pub(super) enum Scenario {
     Between,
     Positions,
-    Unknown,
     Published,
     Refused,
     Watched,
@@ -199,37 +198,6 @@ fn reads_positions<N: StoreNames, R: Abort + Wait>(
     reads_rows_at(rt, alloc, reader, &[(65, "1|10 9|90"), (16, "2|20")])
 }
 
-// A table that isn't there, whatever the position.
-fn reads_unknown<N: StoreNames, R: Abort + Wait>(
-    rt: &R,
-    alloc: Global,
-    reader: &mut Reader<'_, N>,
-) -> Result<(), Fail> {
-    let unknown = Some(ReadFault::UnknownTable);
-    for table in [1, 2, TableId::MAX] {
-        assert_same(
-            rt,
-            reader.get(rt, table, &key(alloc, 1)?).err(),
-            unknown,
-            table,
-        );
-        assert_same(rt, reader.rows(rt, alloc, table).err(), unknown, table);
-        assert_same(
-            rt,
-            reader.rows_at(rt, alloc, table, 0).err(),
-            unknown,
-            table,
-        );
-        assert_same(
-            rt,
-            reader.rows_at(rt, alloc, table, 7).err(),
-            unknown,
-            table,
-        );
-    }
-    Ok(())
-}
-
 // Commits a row, or gives up for memory.
 fn commit_a_row<N: StoreNames, R: Abort + Wait>(
     rt: &R,
@@ -308,7 +276,6 @@ fn play_alone<N: StoreNames, R: Abort + Wait>(
     match which {
         Scenario::Between => reads_between(rt, alloc, &mut scene, &mut reader),
         Scenario::Positions => reads_positions(rt, alloc, &mut scene, &mut reader),
-        Scenario::Unknown => reads_unknown(rt, alloc, &mut reader),
         Scenario::Refused => reads_refused(rt, alloc, &mut scene, &mut reader),
         _ => {
             reads_published(rt, store, origin, publisher, reader);
@@ -364,16 +331,6 @@ fn a_reader_sees_the_rows_at_each_position(rt: HostRuntime) -> Result<(), Fail> 
         rt.alloc(),
         Parts::new(&rt, rt.alloc())?,
         Scenario::Positions,
-    )
-}
-
-#[test]
-fn a_table_that_is_not_there_is_told(rt: HostRuntime) -> Result<(), Fail> {
-    play(
-        &rt,
-        rt.alloc(),
-        Parts::new(&rt, rt.alloc())?,
-        Scenario::Unknown,
     )
 }
 

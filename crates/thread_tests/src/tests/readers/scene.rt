@@ -7,6 +7,7 @@ ghost use Rattle.engine.specs.EngineCode.{world_code};
 ghost use Rattle.engine.specs.Events.{last_end};
 ghost use Rattle.origin.specs.Commits.{commits_of};
 
+use crate::tests::asserts::assert_same;
 use crate::tests::table::{TABLE, empty_tables, key};
 use engine::{Acted, EngineFault, Line, SharedStore, Store, StoreNames, Ticket};
 use model::{Change, CommitInfo, Lsn, OutOfMemory, Row, ValueRef, Xid};
@@ -153,7 +154,7 @@ impl<'a, N: StoreNames> Scene<'a, N> {
         if acted == Err(EngineFault::OutOfMemory) {
             return Err(OutOfMemory);
         }
-        assert_eq!(rt; acted, Ok(Acted::Done));
+        assert_same(rt, acted, Ok(Acted::Done), xid);
         Ok(())
     }
 

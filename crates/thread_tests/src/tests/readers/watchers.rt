@@ -110,7 +110,8 @@ fn commit_all<N: StoreNames, R: Abort + Wait>(
         let Ok(change) = put(alloc, commits as i64 + 1, 0) else {
             panic!(rt; "no memory for a change")
         };
-        assert!(rt; scene.act(rt, alloc, &mut ticket, &change).is_ok());
+        let acted = scene.act(rt, alloc, &mut ticket, &change);
+        assert_holds(rt, acted.is_ok(), commits);
         scene.commit(rt, ticket, (commits + 1) * 16);
         origin.publish(rt, &mut publisher, position(commits + 1));
         thread::yield_now();

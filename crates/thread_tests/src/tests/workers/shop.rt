@@ -4,6 +4,7 @@ ghost use Rattle.world.specs.World.{starting};
 ghost use Rattle.engine.specs.Events.{last_end};
 
 use super::steps::{Step, int_at, item_of};
+use crate::tests::asserts::assert_same;
 use crate::tests::table::{TABLE, empty_tables, key};
 use engine::{Acted, EngineFault, Line, SharedStore, Stop, Store, StoreNames, Ticket};
 use model::{CommitInfo, Item, Lsn, Xid};
@@ -100,7 +101,7 @@ impl<'a, N: StoreNames, R: Wait + Abort> Hand<'a, N, R> {
         let mut ticket = self.open(1);
         for key in keys {
             let acted = self.act(&mut ticket, Step::Put(*key));
-            assert_eq!(self.rt; acted, Ok(Acted::Done));
+            assert_same(self.rt, acted, Ok(Acted::Done), *key);
         }
         self.commit(ticket);
     }
