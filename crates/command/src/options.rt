@@ -60,23 +60,36 @@ Rows, position and end are printed to standard output. Exit statuses:
 
 /// The commands and their options.
 pub fn command<'a>(alloc: Global) -> Result<Command<'a>, AllocError> {
-    let apply = with_workers(alloc, reading(alloc, "apply", stream_file(alloc))?)?
-        .about("Apply a stream from a file, streamed transactions while they come")
-        .after_help(example!("apply", "--stream accounts.stream"));
-    let follow = with_workers(alloc, reading(alloc, "follow", address(alloc))?)?
-        .about("Apply a stream from a connection, and tell its sender how far it was applied")
-        .after_help(example!("follow", "--connect localhost:5500"));
-    let replay = reading(alloc, "replay", stream_file(alloc))?
-        .about("Apply a stream from a file, each streamed transaction at its commit")
-        .after_help(example!("replay", "--stream accounts.stream"));
     Command::new(alloc, "pgapply")
         .version("0.1.0")
         .about("Applies a PostgreSQL logical replication stream to tables, and prints them")
         .after_help(STATUSES)
         .subcommand_required(true)
-        .subcommand(apply)?
-        .subcommand(follow)?
-        .subcommand(replay)
+        .subcommand(apply(alloc)?)?
+        .subcommand(follow(alloc)?)?
+        .subcommand(replay(alloc)?)
+}
+
+fn apply<'a>(alloc: Global) -> Result<Command<'a>, AllocError> {
+    let command = reading(alloc, "apply", stream_file(alloc))?
+        .about("Apply a stream from a file, streamed transactions while they come")
+        .after_help(example!("apply", "--stream accounts.stream"));
+    with_workers(alloc, command)
+}
+
+fn follow<'a>(alloc: Global) -> Result<Command<'a>, AllocError> {
+    let command = reading(alloc, "follow", address(alloc))?
+        .about("Apply a stream from a connection, and tell its sender how far it was applied")
+        .after_help(example!("follow", "--connect localhost:5500"));
+    with_workers(alloc, command)
+}
+
+fn replay<'a>(alloc: Global) -> Result<Command<'a>, AllocError> {
+    Ok(
+        reading(alloc, "replay", stream_file(alloc))?
+            .about("Apply a stream from a file, each streamed transaction at its commit")
+            .after_help(example!("replay", "--stream accounts.stream")),
+    )
 }
 
 /// A command that reads a stream from this input.
@@ -180,6 +193,15 @@ fn number<'a>(
 pub fn parse<'a>(alloc: Global, words: &'a [String]) -> Result<Options<'a>, Error> {
     let mut program = command(alloc)?;
     let matches = program.try_get_matches_from_mut(words)?;
+    read_matches(alloc, &mut program, &matches)
+}
+
+/// What the matched words ask for, or the text of a usage fault.
+fn read_matches<'a>(
+    alloc: Global,
+    program: &mut Command<'_>,
+    matches: &ArgMatches<'a>,
+) -> Result<Options<'a>, Error> {
     let Some((name, given)) = matches.subcommand() else {
         return Err(program.error(ErrorKind::MissingSubcommand, "a command is missing")?);
     };

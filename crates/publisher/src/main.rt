@@ -17,6 +17,7 @@
 // `publication` do the work.
 #![tactic(auto)]
 
+use publication::catalog::Printed;
 use server::capture::{Destination, capture};
 use server::fault::Fault;
 use server::host::Server;
@@ -24,6 +25,7 @@ use server::relay::Bounds;
 use server::serve::serve;
 use server::stream::Subscription;
 use settings::{Job, Options, Variables};
+use std::alloc::AllocError;
 use std::env::VarError;
 use std::io;
 use std::io::Write;
@@ -42,12 +44,24 @@ fn main(rt: HostRuntime) -> anyhow::Result<ExitCode> {
 
 /// Runs a command. It answers the exit status.
 fn run(rt: &HostRuntime, options: &Options<'_>) -> io::Result<u8> {
+    match choose_server(rt, options)? {
+        Some(server) => run_at(rt, options, &server),
+        None => {
+            eprintln!(rt; "publisher: NoUser: give --user, or set PGUSER")?;
+            Ok(1)
+        }
+    }
+}
+
+/// The server that is meant. None where no user is named.
+fn choose_server(rt: &HostRuntime, options: &Options<'_>) -> Result<Option<Server>, AllocError> {
     let variables = read_variables(rt);
-    let Some(server) = settings::choose_server(rt.alloc(), options, &variables)? else {
-        eprintln!(rt; "publisher: NoUser: give --user, or set PGUSER")?;
-        return Ok(1);
-    };
-    match run_job(rt, options, &server) {
+    settings::choose_server(rt.alloc(), options, &variables)
+}
+
+/// Runs a command at this server, and says its fault. It answers the exit status.
+fn run_at(rt: &HostRuntime, options: &Options<'_>, server: &Server) -> io::Result<u8> {
+    match run_job(rt, options, server) {
         Ok(()) => Ok(0),
         Err(fault) => {
             eprintln!(rt; "publisher: {fault}")?;
@@ -123,6 +137,11 @@ fn print_catalog(
     let mut connection = server.connect(rt.alloc(), rt, false)?;
     let answers = publication::catalog::ask(&mut connection, publication)?;
     let printed = publication::catalog::print(rt.alloc(), &answers, text)?;
+    write_catalog(rt, &printed)
+}
+
+/// Writes a catalog and its notes.
+fn write_catalog(rt: &HostRuntime, printed: &Printed) -> Result<(), Fault> {
     for note in &printed.notes {
         eprintln!(rt; "publisher: {note}").map_err(Fault::CannotWrite)?;
     }

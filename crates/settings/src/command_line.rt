@@ -111,24 +111,45 @@ static SERVE: [Choice; 2] = [
 
 /// The commands and their options.
 fn command<'a>(alloc: Global) -> Result<Command<'a>, AllocError> {
-    let catalog = Command::new(alloc, "catalog").about(
-        "Print the catalog of a publication's tables as TOML",
-    );
-    let capture = Command::new(alloc, "capture").about(
-        "Write the bytes of a publication's stream to a file (PostgreSQL 16 or later)",
-    );
-    let serve = Command::new(alloc, "serve").about(
-        "Give the stream to one follower at a time (PostgreSQL 16 or later)",
-    );
-    Command::new(alloc, "publisher")
+    let program = Command::new(alloc, "publisher")
         .about(
             "Makes inputs for pgapply from a live PostgreSQL server, 14 or later. The password is \
                 taken from PGPASSWORD. There is no TLS: go through a tunnel, as ssh -L.",
         )
-        .subcommand_required(true)
-        .subcommand(with_choices(alloc, catalog, &[&COMMON, &CATALOG])?)?
-        .subcommand(with_choices(alloc, capture, &[&COMMON, &STREAMING, &CAPTURE])?)?
-        .subcommand(with_choices(alloc, serve, &[&COMMON, &STREAMING, &SERVE])?)
+        .subcommand_required(true);
+    let program = with_subcommand(
+        alloc,
+        program,
+        "catalog",
+        "Print the catalog of a publication's tables as TOML",
+        &[&COMMON, &CATALOG],
+    )?;
+    let program = with_subcommand(
+        alloc,
+        program,
+        "capture",
+        "Write the bytes of a publication's stream to a file (PostgreSQL 16 or later)",
+        &[&COMMON, &STREAMING, &CAPTURE],
+    )?;
+    with_subcommand(
+        alloc,
+        program,
+        "serve",
+        "Give the stream to one follower at a time (PostgreSQL 16 or later)",
+        &[&COMMON, &STREAMING, &SERVE],
+    )
+}
+
+/// The program with a command of this name, help and options.
+fn with_subcommand<'a>(
+    alloc: Global,
+    program: Command<'a>,
+    name: &'a str,
+    about: &'a str,
+    lists: &[&[Choice]],
+) -> Result<Command<'a>, AllocError> {
+    let command = Command::new(alloc, name).about(about);
+    program.subcommand(with_choices(alloc, command, lists)?)
 }
 
 /// The command with these options, in order.
@@ -174,11 +195,20 @@ fn value_argument<'a>(alloc: Global, name: &'a str, value: &'a str, help: &'a st
 pub fn parse<'a>(alloc: Global, words: &'a [String]) -> Result<Options<'a>, Error> {
     let mut program = command(alloc)?;
     let matches = program.try_get_matches_from_mut(words)?;
-    if let Some((option, text, wanted)) = first_refused(&matches) {
+    read_matches(alloc, &mut program, &matches)
+}
+
+/// What a command line asks for that the program matches, or the text of a usage fault.
+fn read_matches<'a>(
+    alloc: Global,
+    program: &mut Command<'_>,
+    matches: &ArgMatches<'a>,
+) -> Result<Options<'a>, Error> {
+    if let Some((option, text, wanted)) = first_refused(matches) {
         let message = format!(in alloc; "invalid value '{text}' for '--{option}': {wanted}")?;
         return Err(program.error(ErrorKind::ValueValidation, message.as_str())?);
     }
-    match given_options(&matches) {
+    match given_options(matches) {
         Some(options) => Ok(options),
         None => Err(program.error(ErrorKind::MissingRequiredArgument, "an option is missing")?),
     }
