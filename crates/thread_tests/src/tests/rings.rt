@@ -14,35 +14,29 @@ use std::thread;
 #[test]
 fn a_ring_of_one_slot(rt: HostRuntime) -> Result<(), Fail> {
     let (mut sender, mut taker) = Ring::new::<u64>(rt.alloc(), 1)?;
-    assert_holds(&rt, sender.try_send(5).is_ok(), "the first");
-    assert_holds(&rt, sender.try_send(6) == Err(Full(6)), "a full ring");
+    assert_eq!(rt; sender.try_send(5), Ok(()));
+    assert_eq!(rt; sender.try_send(6), Err(Full(6)));
     let said = format!(in rt.alloc(); "{}: {:?} by {sender:?} to {taker:?}", Full(6), Full(6))?;
-    assert_same(
-        &rt,
+    assert_eq!(rt;
         said.as_str(),
-        "the ring is full: Full(6) by Sender { .. } to Taker { .. }",
-        "printed",
+        "the ring is full: Full(6) by Sender { .. } to Taker { .. }"
     );
-    let Some(&5) = taker.take() else {
-        panic!(rt; "not the first item")
-    };
-    let Some(&5) = taker.take() else {
-        panic!(rt; "not the first item again")
-    };
+    assert_eq!(rt; taker.take(), Some(&5));
+    assert_eq!(rt; taker.take(), Some(&5));
     taker.ack();
-    assert_holds(&rt, sender.try_send(6).is_ok(), "there is room");
-    assert_same(&rt, sender.acked(), 1, "one is acknowledged");
+    assert_eq!(rt; sender.try_send(6), Ok(()));
+    assert_eq!(rt; sender.acked(), 1);
     sender.doom();
-    assert_holds(&rt, taker.doomed(), "a doom");
+    assert!(rt; taker.doomed());
     let mut ends = meet(sender, taker);
-    assert_same(&rt, ends.acked(), 1, "both ends");
-    assert_same(&rt, ends.next_left(), Some(6), "one is left");
+    assert_eq!(rt; ends.acked(), 1);
+    assert_eq!(rt; ends.next_left(), Some(6));
     let None = ends.next_left() else {
         panic!(rt; "an item too many")
     };
     let (_sender, mut taker) = ends.reopen();
-    assert_holds(&rt, !taker.doomed(), "opened again");
-    assert_holds(&rt, taker.take().is_none(), "no item yet");
+    assert!(rt; !taker.doomed());
+    assert_eq!(rt; taker.take(), None);
     Ok(())
 }
 
