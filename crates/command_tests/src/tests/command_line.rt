@@ -8,7 +8,7 @@ use std::test::Fail;
 use testing::asserts::{assert_holds, assert_same};
 
 /// An option, its text, and the number that is read, or none where the text is refused.
-const NUMBERS: [(&str, &str, Option<u64>); 13] = [
+static NUMBERS: [(&str, &str, Option<u64>); 13] = [
     ("--workers", "0", Some(0)),
     ("--workers", "16", Some(16)),
     ("--workers", "17", None),

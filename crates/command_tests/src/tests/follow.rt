@@ -17,7 +17,7 @@ use testing::accounts::CATALOG;
 use testing::asserts::{assert_holds, assert_same};
 
 /// B(500,0/100), the relation, I(1,a,n), I(2,b,n) and C(0/100,0/140).
-const TWO_INSERTS: [&str; 5] = [
+static TWO_INSERTS: [&str; 5] = [
     "4200000000000001000000000000000000000001f4",
     "52000040017075626c6963006163636f756e7473006400030169640000000017ffffffff00656d61696c0000000019ffffffff006e6f74650000000019ffffffff",
     "49000040014e000374000000013174000000016174000000016e",

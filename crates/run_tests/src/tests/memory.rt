@@ -27,7 +27,7 @@ const BEGUN: &str = "table public.accounts 2\n1|a|n\n2|b|n\nposition 0/140\n";
 const CLASH: End = End::Unique { table: 0, key: 1 };
 
 // Nulls, rollbacks that cut much and nothing, a key that moves, and two clashes.
-const REFUSED: [Refused; 6] = [
+static REFUSED: [Refused; 6] = [
     Refused {
         row: 1,
         after: &[

@@ -68,7 +68,7 @@ const KEYS: [&str; 11] = [
 ];
 
 /// What a server says of a publication: its version, how many publications have the name, and the tables.
-const SHOP: [&[&str]; 5] = [&["170002"], &["1"], &TABLES, &COLUMNS, &KEYS];
+static SHOP: [&[&str]; 5] = [&["170002"], &["1"], &TABLES, &COLUMNS, &KEYS];
 
 /// The first of these tables, whose names need escapes and whose key is not its first column.
 const ODD: &str = r#"[[table]]
@@ -90,7 +90,7 @@ type = "int"
 "#;
 
 /// A server's version, how many publications have the name, and the fault where it then closes.
-const REFUSED: [(&str, &str, &str); 3] = [
+static REFUSED: [(&str, &str, &str); 3] = [
     ("139999", "1", "OldServer"),
     ("140000", "0", "NoPublication"),
     ("140000", "1", "Closed"),
@@ -119,7 +119,7 @@ fn what_is_kept_and_what_is_left_out(rt: HostRuntime) -> Result<(), Fail> {
 }
 
 /// What stands in the catalog where columns of other types are kept as text, and what doesn't.
-const PARTS: [(&str, bool); 4] = [
+static PARTS: [(&str, bool); 4] = [
     ("name = \"price\"\ntype = \"text\"\n[[", true),
     ("name = \"face\"\ntype = \"text\"\n", true),
     ("page", false),
@@ -138,7 +138,7 @@ fn what_is_kept_as_text(rt: HostRuntime) -> Result<(), Fail> {
 }
 
 /// Defaults as a server prints them, and what each is.
-const DEFAULTS: [(Kind, &str, &str); 20] = [
+static DEFAULTS: [(Kind, &str, &str); 20] = [
     (Kind::Int, "7", "Int(7)"),
     (Kind::Int, "'-7'::integer", "Int(-7)"),
     (Kind::Int, "(-7)", "Int(-7)"),

@@ -35,7 +35,7 @@ fn two_rows(alloc: Global) -> Result<Vec<u8>, Fail> {
 }
 
 /// The rows' values, by row and column.
-const VALUES: [(usize, usize, &str); 4] = [(0, 0, "ab"), (0, 1, "null"), (1, 0, ""), (1, 1, "t")];
+static VALUES: [(usize, usize, &str); 4] = [(0, 0, "ab"), (0, 1, "null"), (1, 0, ""), (1, 1, "t")];
 
 fn assert_values(rows: &[Row]) -> Result<(), Fail> {
     for (row, column, want) in &VALUES {

@@ -82,7 +82,7 @@ const SERVER_FIRST: &[u8] =
 const SERVER_FINAL: &[u8] = b"\0\0\0\x0cv=kRbWEG7pJ6chi8GuJop5Ip3MhNcr+lsdu40NBVHFTM0=";
 
 /// What the client answers to these.
-const CLIENT: [Message<'static>; 2] = [
+static CLIENT: [Message<'static>; 2] = [
     (
         b'p',
         b"SCRAM-SHA-256\0\x00\x00\x00\x20n,,n=,r=AAECAwQFBgcICQoLDA0ODxAR",
@@ -111,7 +111,7 @@ fn assert_login(alloc: Global, input: &[u8], want: &[u8]) -> Result<(), Fail> {
 }
 
 /// What a server asks for, and the client's answer: for nothing, a password in clear text, one as MD5.
-const WAYS: [(&[Message<'static>], &[u8]); 3] = [
+static WAYS: [(&[Message<'static>], &[u8]); 3] = [
     (&[], b""),
     (&[(b'R', b"\0\0\0\x03")], b"p\x00\x00\x00\x0bsecret\0"),
     (
@@ -137,7 +137,7 @@ fn scram_with_a_server_that_knows_the_password(rt: HostRuntime) -> Result<(), Fa
 }
 
 /// What is no whole message, and the fault where the server then closes.
-const HEADERS: [(&[u8], &str); 5] = [
+static HEADERS: [(&[u8], &str); 5] = [
     (b"", "Closed"),
     (b"R\0\0\0", "Closed"),
     (b"R\0\0\0\x03", "Nonsense"),
@@ -165,7 +165,7 @@ fn a_server_that_stalls(rt: HostRuntime) -> Result<(), Fail> {
 }
 
 /// The client's password, the server's last message of SCRAM, and the fault.
-const STRANGERS: [(Option<&str>, &[u8], &str); 3] = [
+static STRANGERS: [(Option<&str>, &[u8], &str); 3] = [
     (None, SERVER_FINAL, "NoPassword"),
     (Some("other"), SERVER_FINAL, "NotVerified"),
     (Some("secret"), b"\0\0\0\x0cv=AAAA", "NotVerified"),
@@ -191,7 +191,7 @@ fn a_server_without_the_password(rt: HostRuntime) -> Result<(), Fail> {
 }
 
 /// The server's first message of SCRAM, what it says behind the client's answer, and the fault.
-const CHALLENGES: [(&[u8], &[Message<'static>], &str); 9] = [
+static CHALLENGES: [(&[u8], &[Message<'static>], &str); 9] = [
     (
         b"\0\0\0\x0br=AAECAwQFBgcICQoLDA0ODxAR,s=AAAA,i=2",
         &[],

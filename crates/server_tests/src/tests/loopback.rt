@@ -97,7 +97,7 @@ const SERVER: [Message<'static>; 3] = [BEGUN, KEEPALIVE, (b'C', b"COPY 0\0")];
 const FOLLOWER: [Message<'static>; 2] = [KEEPALIVE, (b'c', b"")];
 
 /// A follower's status update at 9.
-const UPDATE: [u8; 39] = [
+static UPDATE: [u8; 39] = [
     b'd', 0, 0, 0, 38, b'r', 0, 0, 0, 0, 0, 0, 0, 9, 0, 0, 0, 0, 0, 0, 0, 9, 0, 0, 0, 0, 0, 0, 0,
     9, 0, 0, 0, 0, 0, 0, 0, 0, 0,
 ];
@@ -164,7 +164,7 @@ fn server_at(alloc: Global, host: &str, port: &str) -> Result<Server, Fail> {
 }
 
 /// Hosts and ports where no server is.
-const NOWHERE: [(&str, &str); 3] = [("127.0.0.1", "0"), ("127.0.0.1", "x"), ("/nowhere", "5432")];
+static NOWHERE: [(&str, &str); 3] = [("127.0.0.1", "0"), ("127.0.0.1", "x"), ("/nowhere", "5432")];
 
 #[test]
 fn where_no_server_is(rt: HostRuntime) -> Result<(), Fail> {
@@ -213,7 +213,7 @@ where
 
 /// What a server says to one capture after another, the fault, whether the server was asked for a stream,
 /// and how long the file then is. One that is there is refused before anything is asked for.
-const CAPTURES: [(&[u8], &str, bool, Option<u64>); 3] = [
+static CAPTURES: [(&[u8], &str, bool, Option<u64>); 3] = [
     (
         b"E\0\0\0\x19SERROR\0C42704\0Mgone\0\0",
         "Server",

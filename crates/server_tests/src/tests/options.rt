@@ -15,7 +15,7 @@ fn words(alloc: Global, line: &str) -> Result<Vec<String>, Fail> {
 }
 
 /// An option of `capture` with its value, and whether it is read.
-const VALUES: [(&str, bool); 12] = [
+static VALUES: [(&str, bool); 12] = [
     ("--timeout 1", true),
     ("--timeout 0", false),
     ("--timeout 1000000001", false),

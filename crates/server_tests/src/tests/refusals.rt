@@ -19,7 +19,7 @@ const CLOSED: Outcome = ["Closed"; 3];
 
 /// What a server says before it closes, and what comes of it. The last three errors are of a slot that is busy
 /// or gone, and of a server without version 4.
-const REFUSALS: [(Message<'static>, Outcome); 27] = [
+static REFUSALS: [(Message<'static>, Outcome); 27] = [
     ((b'E', b"SFATAL\0C28P01"), NONSENSE),
     ((b'E', b"SFATAL\0C28P01\0Mno\0\0"), SERVER),
     ((b'E', b"SERROR\0C42P01\0Mno\0\0"), SERVER),

@@ -111,7 +111,7 @@ fn end_of(answer: &Result<End, Fault>) -> Option<End> {
 
 /// Three pieces of the log, at 16, 48 and 64, notices and a keepalive at 32 that wants an answer among them:
 /// 151 bytes, 6 frames.
-const STREAM: [Message<'static>; 6] = [
+static STREAM: [Message<'static>; 6] = [
     (
         b'd',
         b"w\0\0\0\0\0\0\0\x10\0\0\0\0\0\0\0\x10\0\0\0\0\0\0\0\0B",
@@ -133,7 +133,7 @@ const STREAM: [Message<'static>; 6] = [
 const LENGTH: usize = 151;
 
 /// Where its frames end.
-const EDGES: [usize; 7] = [0, 31, 45, 75, 98, 107, LENGTH];
+static EDGES: [usize; 7] = [0, 31, 45, 75, 98, 107, LENGTH];
 
 /// A status update at a place that asks for a keepalive, as the manual spells it.
 fn update_at(place: u8) -> [u8; 39] {
@@ -225,7 +225,7 @@ fn cut_anywhere_only_whole_frames_are_put(rt: HostRuntime) -> Result<(), Fail> {
 }
 
 /// What a server sends behind the stream, what is put of it, what it ends with, and the name of the fault.
-const BEHIND: [(Message<'static>, &[u8], Option<End>, &str); 9] = [
+static BEHIND: [(Message<'static>, &[u8], Option<End>, &str); 9] = [
     ((b'C', b"COPY 0\0"), &COPY_DONE, Some(End::Shutdown), "none"),
     (
         (b'E', b"SFATAL\0C57P01\0Mbye\0\0"),
@@ -256,7 +256,7 @@ fn what_ends_a_stream(rt: HostRuntime) -> Result<(), Fail> {
 }
 
 /// A place where a stream is to end, how much is put at most, what ends it, and the name of the fault.
-const PLACES: [(u64, usize, Option<End>, &str); 4] = [
+static PLACES: [(u64, usize, Option<End>, &str); 4] = [
     (8, 0, Some(End::Reached), "none"),
     (16, 98, Some(End::Reached), "none"),
     (48, 107, Some(End::Reached), "none"),
@@ -282,7 +282,7 @@ fn a_place_where_a_stream_ends(rt: HostRuntime) -> Result<(), Fail> {
 }
 
 /// Whether more is wanted, and what ends a stream whose server is silent behind it.
-const TIMES: [(bool, End); 2] = [(true, End::Elapsed), (false, End::Enough)];
+static TIMES: [(bool, End); 2] = [(true, End::Elapsed), (false, End::Enough)];
 
 #[test]
 fn a_time_after_which_a_stream_ends(rt: HostRuntime) -> Result<(), Fail> {
@@ -343,7 +343,7 @@ fn a_follower_is_heard_in_pieces(rt: HostRuntime) -> Result<(), Fail> {
 }
 
 /// What no follower says.
-const NO_FOLLOWER: [&[u8]; 4] = [
+static NO_FOLLOWER: [&[u8]; 4] = [
     b"GET / HTTP",
     b"d\0\0\0\x05r",
     b"d\0\0\0\x04",
@@ -363,7 +363,7 @@ fn what_no_follower_says_is_refused(rt: HostRuntime) -> Result<(), Fail> {
 }
 
 /// Commits that end at 24 and 40, the latter of a streamed transaction, and what is none.
-const COMMITS: [Message<'static>; 4] = [
+static COMMITS: [Message<'static>; 4] = [
     (
         b'd',
         b"w\0\0\0\0\0\0\0\x10\0\0\0\0\0\0\0\x10\0\0\0\0\0\0\0\0\

@@ -18,7 +18,7 @@ const CHALLENGE: &str =
 const ANSWER: &str =
     "c=biws,r=rOprNGfwEbeRWgbNEkqO%hvYDpWUa2RaTCAfuxFIlj)hNlF$k0,p=dHzbZapWIk4jUhN+Ute9ytag9zjfMHgsqmmiz7AndVQ=";
 
-const FINALS: [(&str, bool); 5] = [
+static FINALS: [(&str, bool); 5] = [
     ("v=6rriTRBi23WpRR/wtup+mMhUZUn/dB5nLTJRsjl95G4=", true),
     ("v=7rriTRBi23WpRR/wtup+mMhUZUn/dB5nLTJRsjl95G4=", false),
     ("v=6rriTRBi23WpRR/wtup+mMhUZUn/dB5nLTJRsjl95A==", false),
@@ -46,7 +46,7 @@ fn a_server_is_known_by_its_last_message(rt: HostRuntime) -> Result<(), Fail> {
 }
 
 /// A key, a message in two parts, and its hash.
-const HASHED: [(&[u8], &[u8], &[u8], &str); 2] = [
+static HASHED: [(&[u8], &[u8], &[u8], &str); 2] = [
     (
         b"Jefe",
         b"what do ya want ",

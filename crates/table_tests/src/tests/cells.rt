@@ -102,7 +102,7 @@ fn cells_of_each(rt: &impl Abort, alloc: Global, cases: &[(Call, &[Told])]) -> R
     Ok(())
 }
 
-const PUTS: [(Call, &[Told]); 4] = [
+static PUTS: [(Call, &[Told]); 4] = [
     (Put(NO_UNIQUE, ("4", "c", "w")), &[Row(NO_UNIQUE, "4")]),
     (
         Put(TWO_UNIQUES, ("4", "c", "w")),
@@ -119,7 +119,7 @@ const PUTS: [(Call, &[Told]); 4] = [
     (Put(NO_UNIQUE, (r"\N", "c", "w")), &[]),
 ];
 
-const SETS: [(Call, &[Told]); 5] = [
+static SETS: [(Call, &[Told]); 5] = [
     (
         Set(TWO_UNIQUES, "1", ("-", "a", "-")),
         &[Row(TWO_UNIQUES, "1")],
@@ -147,7 +147,7 @@ const SETS: [(Call, &[Told]); 5] = [
     ),
 ];
 
-const REMOVES_AND_WIPES: [(Call, &[Told]); 3] = [
+static REMOVES_AND_WIPES: [(Call, &[Told]); 3] = [
     (
         Remove(ONE_UNIQUE, "1"),
         &[Row(ONE_UNIQUE, "1"), Uniq(ONE_UNIQUE, 1, "a")],
@@ -162,10 +162,9 @@ const REMOVES_AND_WIPES: [(Call, &[Told]); 3] = [
 // A put fills its place and its unique values, a set moves those that differ.
 #[test]
 fn changes_have_their_cells(rt: HostRuntime) -> Result<(), Fail> {
-    for cases in [&PUTS[..], &SETS[..], &REMOVES_AND_WIPES[..]] {
-        cells_of_each(&rt, rt.alloc(), cases)?;
-    }
-    Ok(())
+    cells_of_each(&rt, rt.alloc(), &PUTS)?;
+    cells_of_each(&rt, rt.alloc(), &SETS)?;
+    cells_of_each(&rt, rt.alloc(), &REMOVES_AND_WIPES)
 }
 
 #[test]

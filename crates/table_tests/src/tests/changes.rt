@@ -110,7 +110,7 @@ fn answers(rt: &impl Abort, alloc: Global, cases: &[(Call, Answer)]) -> Result<(
     Ok(())
 }
 
-const PUTS: [(Call, Answer); 15] = [
+static PUTS: [(Call, Answer); 15] = [
     (Put(NO_UNIQUE, ("4", "a", "n")), Done),
     (Put(NO_UNIQUE, ("2", "a", "n")), Agrees(NO_UNIQUE, 0)),
     (Put(NO_UNIQUE, (r"\N", "a", "n")), NullKey(NO_UNIQUE)),
@@ -128,7 +128,7 @@ const PUTS: [(Call, Answer); 15] = [
     (Put(TWO_UNIQUES, (r"\N", "b", "n")), NullKey(TWO_UNIQUES)),
 ];
 
-const SETS: [(Call, Answer); 13] = [
+static SETS: [(Call, Answer); 13] = [
     (Set(ONE_UNIQUE, "1", ("-", "b", "-")), Agrees(ONE_UNIQUE, 1)),
     (Set(ONE_UNIQUE, "1", ("2", "b", "-")), Agrees(ONE_UNIQUE, 0)),
     (Set(ONE_UNIQUE, "2", ("-", "b", "w")), Done),
@@ -150,7 +150,7 @@ const SETS: [(Call, Answer); 13] = [
     (Set(TWO_UNIQUES, "1", ("4", "a", "w")), Done),
 ];
 
-const REMOVES_AND_WIPES: [(Call, Answer); 6] = [
+static REMOVES_AND_WIPES: [(Call, Answer); 6] = [
     (Remove(TWO_UNIQUES, "1"), Done),
     (Remove(ONE_UNIQUE, "3"), Done),
     (Remove(ONE_UNIQUE, "4"), Skipped),
@@ -161,10 +161,9 @@ const REMOVES_AND_WIPES: [(Call, Answer); 6] = [
 
 #[test]
 fn changes_have_their_answers(rt: HostRuntime) -> Result<(), Fail> {
-    for cases in [&PUTS[..], &SETS[..], &REMOVES_AND_WIPES[..]] {
-        answers(&rt, rt.alloc(), cases)?;
-    }
-    Ok(())
+    answers(&rt, rt.alloc(), &PUTS)?;
+    answers(&rt, rt.alloc(), &SETS)?;
+    answers(&rt, rt.alloc(), &REMOVES_AND_WIPES)
 }
 
 /// A table has these rows.
@@ -194,7 +193,7 @@ fn a_set_that_moves_its_row_leaves_nothing_behind(rt: HostRuntime) -> Result<(),
 }
 
 // The cells of the first row of the table with one unique key, and some that no row can fill.
-const GIVEN_UP: [Told; 5] = [
+static GIVEN_UP: [Told; 5] = [
     Told::Row(ONE_UNIQUE, "1"),
     Told::Uniq(ONE_UNIQUE, 1, "a"),
     Told::Uniq(ONE_UNIQUE, 2, "a"),
@@ -202,23 +201,31 @@ const GIVEN_UP: [Told; 5] = [
     Told::Whole(ONE_UNIQUE),
 ];
 
+fn give_up_each(alloc: Global, t: &mut Tables) -> Result<(), OutOfMemory> {
+    for told in &GIVEN_UP {
+        t.give_up(&cell(alloc, told)?);
+    }
+    Ok(())
+}
+
+/// The row stays where its cells are given up, goes, and comes again once they are given up.
+fn go_and_come(rt: &impl Abort, alloc: Global, t: &mut Tables) -> Result<(), Clash> {
+    give_up_each(alloc, t)?;
+    is_held_by(rt, alloc, t, (ONE_UNIQUE, 1), "a", Some("1"))?;
+    run(rt, alloc, t, &Remove(ONE_UNIQUE, "1"))?;
+    give_up_each(alloc, t)?;
+    run(rt, alloc, t, &Put(ONE_UNIQUE, ("1", "a", "n")))?;
+    Ok(())
+}
+
 #[test]
 fn a_row_keeps_its_cells_and_comes_again_once_they_are_given_up(
     rt: HostRuntime,
 ) -> Result<(), Fail> {
     let alloc = rt.alloc();
     let mut t = filled(&rt, alloc)?;
-    for _ in 0..2 {
-        for told in GIVEN_UP {
-            t.give_up(&cell(alloc, &told)?);
-        }
-        is_held_by(&rt, alloc, &t, (ONE_UNIQUE, 1), "a", Some("1"))?;
-        run(&rt, alloc, &mut t, &Remove(ONE_UNIQUE, "1"))?;
-        for told in GIVEN_UP {
-            t.give_up(&cell(alloc, &told)?);
-        }
-        run(&rt, alloc, &mut t, &Put(ONE_UNIQUE, ("1", "a", "n")))?;
-    }
+    go_and_come(&rt, alloc, &mut t)?;
+    go_and_come(&rt, alloc, &mut t)?;
     has_rows(&rt, alloc, &t, ONE_UNIQUE, r"1|a|n 2|b|m 3|\N|\N")?;
     Ok(())
 }
@@ -240,7 +247,7 @@ fn a_wipe_empties_the_tables_that_it_names(rt: HostRuntime) -> Result<(), Fail> 
 }
 
 // Changes of each kind, one after another.
-const CHANGES: [Call; 4] = [
+static CHANGES: [Call; 4] = [
     Put(TWO_UNIQUES, ("4", "c", "w")),
     Set(TWO_UNIQUES, "1", ("5", "-", "v")),
     Remove(TWO_UNIQUES, "2"),

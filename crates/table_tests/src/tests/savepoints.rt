@@ -2,10 +2,10 @@
 ghost use Rattle.std.specs.Prelude.{OnOk};
 ghost use Rattle.savepoint.specs.Record.{AllAreNamed};
 
+use crate::tests::aborts::assert_same;
 use model::OutOfMemory;
 use savepoint::{Mark, Savepoints, TxRecord, Xid};
 use std::test::Fail;
-use testing::asserts::assert_same;
 
 #[test]
 fn a_cut_drops_the_later_savepoints(rt: HostRuntime) -> Result<(), Fail> {
@@ -13,16 +13,16 @@ fn a_cut_drops_the_later_savepoints(rt: HostRuntime) -> Result<(), Fail> {
     for (sub, mark) in [(700u32, 0u8), (711, 1), (712, 2), (711, 3), (713, 4)] {
         savepoints.note(sub, mark)?;
     }
-    assert_same(savepoints.mark_of(711), Some(1), "its first mark")?;
-    assert_same(savepoints.cut(714), None, "no savepoint")?;
-    assert_same(savepoints.cut(712), Some(2), "its own mark")?;
+    assert_same(&rt, savepoints.mark_of(711), Some(1), "its first mark");
+    assert_same(&rt, savepoints.cut(714), None, "no savepoint");
+    assert_same(&rt, savepoints.cut(712), Some(2), "its own mark");
     for (sub, mark) in [
         (700u32, Some(0u8)),
         (711, Some(1)),
         (712, None),
         (713, None),
     ] {
-        assert_same(savepoints.mark_of(sub), mark, sub)?;
+        assert_same(&rt, savepoints.mark_of(sub), mark, sub);
     }
     Ok(())
 }
@@ -38,20 +38,28 @@ fn touch(transaction: &mut TxRecord, sub: Xid, held: usize) -> Result<(), OutOfM
     Ok(())
 }
 
+// One subtransaction after another, of which the last had an item already.
+fn touch_each(transaction: &mut TxRecord) -> Result<(), OutOfMemory>
+    requires { AllAreNamed transaction.old }
+    ensures { OnOk result (AllAreNamed transaction.new) }
+{
+    touch(transaction, 700, 0)?;
+    touch(transaction, 711, 1)?;
+    touch(transaction, 712, 2)?;
+    touch(transaction, 711, 3)
+}
+
 #[test]
 fn a_record_keeps_the_items_before_a_savepoint(rt: HostRuntime) -> Result<(), Fail> {
     let mut transaction = TxRecord::new(rt.alloc(), 700);
-    touch(&mut transaction, 700, 0)?;
-    touch(&mut transaction, 711, 1)?;
-    touch(&mut transaction, 712, 2)?;
-    touch(&mut transaction, 711, 3)?;
-    assert_same(transaction.mark_of(700), None, "the top transaction")?;
+    touch_each(&mut transaction)?;
+    assert_same(&rt, transaction.mark_of(700), None, "the top transaction");
     let mark = Mark { undo: 0, held: 1 };
-    assert_same(transaction.mark_of(711), Some(mark), "711")?;
+    assert_same(&rt, transaction.mark_of(711), Some(mark), "711");
     for (sub, left) in [(713u32, 4), (700, 4), (712, 2), (711, 1)] {
         transaction.cut(sub);
-        assert_same(transaction.survivors().len(), left, sub)?;
-        assert_same(transaction.mark_of(sub), None, sub)?;
+        assert_same(&rt, transaction.survivors().len(), left, sub);
+        assert_same(&rt, transaction.mark_of(sub), None, sub);
     }
     Ok(())
 }

@@ -13,7 +13,6 @@ use model::{Key, OutOfMemory, TableId};
 use std::alloc::Global;
 use std::process::Abort;
 use std::test::Fail;
-use testing::asserts;
 use undo::UndoLog;
 
 // A table of an int, which is the primary key, and two texts, the first of them unique.
@@ -115,7 +114,7 @@ const ROWS: [Call; 2] = [
 ];
 
 // Changes of each kind: the row that was removed comes again and goes, the other moves and clashes.
-const CHANGES: [Call; 7] = [
+static CHANGES: [Call; 7] = [
     Remove(ACCOUNTS, "1"),
     Put(ACCOUNTS, ("3", "a", "n")),
     Set(ACCOUNTS, "2", ("4", "c", r"\N")),
@@ -125,13 +124,13 @@ const CHANGES: [Call; 7] = [
     Put(ACCOUNTS, ("5", "a", "n")),
 ];
 
-const COMES_AND_GOES: [Call; 3] = [
+static COMES_AND_GOES: [Call; 3] = [
     Remove(ACCOUNTS, "1"),
     Put(ACCOUNTS, ("3", "a", "n")),
     Remove(ACCOUNTS, "3"),
 ];
 
-const EMPTIED_AND_CLASHING: [Call; 3] = [
+static EMPTIED_AND_CLASHING: [Call; 3] = [
     Wipe(&[ACCOUNTS]),
     Put(ACCOUNTS, ("5", "a", "n")),
     Put(ACCOUNTS, ("6", "a", "n")),
@@ -152,7 +151,7 @@ fn an_undo_gives_the_first_rows(rt: HostRuntime) -> Result<(), Fail> {
         table: ACCOUNTS,
         key: 1,
     };
-    asserts::assert_same(answer, Err(clash), "the same email")?;
+    assert_same(&rt, answer, Err(clash), "the same email");
     Ok(())
 }
 
@@ -170,12 +169,12 @@ fn logged(rt: &impl Abort, alloc: Global, calls: &[Call]) -> Result<(Tables, Und
 fn an_undo_to_a_mark_keeps_what_came_before_it(rt: HostRuntime) -> Result<(), Fail> {
     let alloc = rt.alloc();
     let (mut t, mut log) = logged(&rt, alloc, &CHANGES[..3])?;
-    asserts::assert_same(log.mark(), 3, "at the mark")?;
+    assert_same(&rt, log.mark(), 3, "at the mark");
     let at_mark = shown(&rt, alloc, &t)?;
     run_all(&rt, alloc, &mut log, &mut t, &CHANGES[3..])?;
-    asserts::assert_same(log.mark(), 7, "after all")?;
+    assert_same(&rt, log.mark(), 7, "after all");
     undo_to(&mut log, &mut t, 3);
-    asserts::assert_same(log.mark(), 3, "at the mark again")?;
+    assert_same(&rt, log.mark(), 3, "at the mark again");
     shows(&rt, alloc, &t, at_mark.as_str())?;
     Ok(())
 }
@@ -212,7 +211,7 @@ fn a_log_lends_the_rows_that_went(rt: HostRuntime) -> Result<(), Fail> {
         (7, "4", false),
     ] {
         let keeps = keeps_row(rt.alloc(), &log, number, id)?;
-        asserts::assert_same(keeps, wanted, number)?;
+        assert_same(&rt, keeps, wanted, number);
     }
     Ok(())
 }

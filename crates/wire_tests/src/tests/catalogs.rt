@@ -6,7 +6,7 @@ use testing::accounts::CATALOG;
 use testing::asserts::{assert_holds, assert_same};
 
 // The columns of the accounts.
-const COLUMNS: [(&str, ColumnType); 3] = [
+static COLUMNS: [(&str, ColumnType); 3] = [
     ("id", ColumnType::Int),
     ("email", ColumnType::Text),
     ("note", ColumnType::Text),
@@ -49,7 +49,7 @@ fn reads_the_keys_of_the_accounts(rt: HostRuntime) -> Result<(), Fail> {
 }
 
 // Texts that are a catalog, and how many tables they have.
-const TAKEN: [(&str, usize); 7] = [
+static TAKEN: [(&str, usize); 7] = [
     ("", 0),
     ("# no table\n", 0),
     ("table = []", 0),
@@ -73,7 +73,7 @@ const TAKEN: [(&str, usize); 7] = [
 
 #[test]
 fn takes_what_is_a_catalog(rt: HostRuntime) -> Result<(), Fail> {
-    for (text, count) in TAKEN {
+    for &(text, count) in &TAKEN {
         let catalog = Catalog::read(rt.alloc(), text)?;
         assert_same(catalog.tables().len(), count, text)?;
     }
@@ -81,7 +81,7 @@ fn takes_what_is_a_catalog(rt: HostRuntime) -> Result<(), Fail> {
 }
 
 // Faults, and texts for which each is answered.
-const REFUSED: [(CatalogFault, &[&str]); 13] = [
+static REFUSED: [(CatalogFault, &[&str]); 13] = [
     (
         CatalogFault::NotToml,
         &[
@@ -200,7 +200,7 @@ const REFUSED: [(CatalogFault, &[&str]); 13] = [
 
 #[test]
 fn answers_the_least_fault(rt: HostRuntime) -> Result<(), Fail> {
-    for (fault, texts) in REFUSED {
+    for &(fault, texts) in &REFUSED {
         for text in texts {
             let answer = Catalog::read(rt.alloc(), *text).err();
             assert_same(answer, Some(fault), *text)?;
@@ -249,7 +249,7 @@ fn large_text(
 }
 
 // Tables, columns and unique keys, and whether a catalog may have so many.
-const SIZES: [(usize, usize, usize, Option<CatalogFault>); 6] = [
+static SIZES: [(usize, usize, usize, Option<CatalogFault>); 6] = [
     (1024, 1, 0, None),
     (1025, 1, 0, Some(CatalogFault::OverLimit)),
     (1, 1600, 0, None),
@@ -260,7 +260,7 @@ const SIZES: [(usize, usize, usize, Option<CatalogFault>); 6] = [
 
 #[test]
 fn takes_up_to_the_limits(rt: HostRuntime) -> Result<(), Fail> {
-    for (tables, columns, uniques, want) in SIZES {
+    for &(tables, columns, uniques, want) in &SIZES {
         let text = large_text(rt.alloc(), tables, columns, uniques)?;
         let fault = Catalog::read(rt.alloc(), text.as_str()).err();
         assert_same(fault, want, tables)?;

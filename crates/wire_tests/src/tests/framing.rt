@@ -30,7 +30,7 @@ const STREAM: &[u8] = b"\
     C\x00\0\0\0\0\0\0\x01\x00\0\0\0\0\0\0\x01\x20\0\0\0\0\0\0\0\0";
 
 // Where its frames end.
-const EDGES: [usize; 5] = [0, 51, 146, 202, 258];
+static EDGES: [usize; 5] = [0, 51, 146, 202, 258];
 
 fn take_kept(frames: &mut Frames, items: &mut Vec<CopyItem>) -> Result<(), AllocError>
     ensures none { OnOk result (frames.new.items ≡ []) }
@@ -83,7 +83,7 @@ fn read_pieces(
 }
 
 // Frames, and how they end.
-const ENDS: [(&[u8], Result<(), FrameFault>); 17] = [
+static ENDS: [(&[u8], Result<(), FrameFault>); 17] = [
     (b"d\x00\x00\x00\x04", Err(FrameFault::BadLength)),
     (b"d\x80\x00\x00\x00", Err(FrameFault::BadLength)),
     (b"c\x00\x00\x00\x05", Err(FrameFault::BadLength)),
@@ -144,7 +144,7 @@ fn a_source_that_fails_at_each_read(rt: HostRuntime) -> Result<(), Fail> {
 }
 
 // Where the payloads of its frames lie.
-const PAYLOADS: [(usize, usize); 4] = [(30, 51), (81, 146), (176, 202), (232, 258)];
+static PAYLOADS: [(usize, usize); 4] = [(30, 51), (81, 146), (176, 202), (232, 258)];
 
 // The item of the stream's frame whose payload lies here.
 fn item_at(place: Option<&(usize, usize)>) -> CopyItem {
@@ -209,7 +209,7 @@ fn status(written: Lsn) -> Status {
 const UPDATE: &[u8] = b"\
     d\x00\x00\x00\x26r\0\0\0\0\0\0\x01\x20\0\0\0\0\0\0\x01\x20\0\0\0\0\0\0\x01\x20\0\0\0\0\0\0\0\x05\0";
 
-const UPDATES: [(Lsn, &[u8]); 2] = [
+static UPDATES: [(Lsn, &[u8]); 2] = [
     (0x120, UPDATE),
     (
         0x200,
@@ -219,7 +219,7 @@ const UPDATES: [(Lsn, &[u8]); 2] = [
 
 // How many writes of three bytes come before one that fails, how many bytes of an update were taken by
 // them, and what is answered.
-const SENT: [(u64, usize, Result<(), FrameFault>); 3] = [
+static SENT: [(u64, usize, Result<(), FrameFault>); 3] = [
     (0, 0, Err(FrameFault::Device)),
     (12, 36, Err(FrameFault::Device)),
     (13, 39, Ok(())),
@@ -227,7 +227,7 @@ const SENT: [(u64, usize, Result<(), FrameFault>); 3] = [
 
 #[test]
 fn status_updates(rt: HostRuntime) -> Result<(), Fail> {
-    for (written, want) in UPDATES {
+    for &(written, want) in &UPDATES {
         let mut out = Vec::new(rt.alloc());
         out.push(7)?;
         assert_same(write_status(&status(written), &mut out), Ok(()), "written")?;
@@ -244,8 +244,8 @@ fn status_updates(rt: HostRuntime) -> Result<(), Fail> {
 
 #[test]
 fn status_updates_to_a_sink_that_fails(rt: HostRuntime) -> Result<(), Fail> {
-    for (written, want) in UPDATES {
-        for (writes, taken, answer) in SENT {
+    for &(written, want) in &UPDATES {
+        for &(writes, taken, answer) in &SENT {
             let mut bytes = Vec::new(rt.alloc());
             let mut sink = Kept::with_writes(&mut bytes, 3, writes);
             let sent = send_status(rt.alloc(), &status(written), &mut sink);

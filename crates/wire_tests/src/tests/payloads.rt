@@ -182,7 +182,7 @@ fn read_text(alloc: Global, payload: &Bytes, in_block: bool) -> Result<String, F
 }
 
 // Payloads, whether they stand in a block, and the message that is read, with each of its fields.
-const PRINTED: [(&str, bool, &str); 12] = [
+static PRINTED: [(&str, bool, &str); 12] = [
     (
         "420000000000000100fffffffffffffffe00000384",
         false,
@@ -254,7 +254,7 @@ fn assert_read(alloc: Global, digits: &str, in_block: bool, want: &str) -> Resul
 
 #[test]
 fn each_field_is_read_and_written(rt: HostRuntime) -> Result<(), Fail> {
-    for (digits, in_block, want) in PRINTED {
+    for &(digits, in_block, want) in &PRINTED {
         assert_read(rt.alloc(), digits, in_block, want)?;
     }
     Ok(())
@@ -382,7 +382,7 @@ fn fields_are_read(rt: HostRuntime) -> Result<(), Fail> {
 }
 
 // One payload of each message that takes memory, and whether it stands in a block.
-const PAYLOADS: [(&[u8], bool); 8] = [
+static PAYLOADS: [(&[u8], bool); 8] = [
     (b"O\0\0\0\0\0\0\0\x01o\0", false),
     (
         b"R\0\0\x40\x01p\0q\0d\0\x01\x01id\0\0\0\0\x17\xff\xff\xff\xff",
@@ -434,7 +434,7 @@ fn assert_read_or_refused(
 // Where memory is refused it is said by its name, and nothing is written. With ample memory it isn't refused.
 #[test]
 fn answers_where_memory_is_refused(rt: HostRuntime) -> Result<(), Fail> {
-    for (bytes, in_block) in PAYLOADS {
+    for &(bytes, in_block) in &PAYLOADS {
         let Ok(payload) = Bytes::copy_from_slice(rt.alloc(), bytes) else {
             continue;
         };

@@ -100,7 +100,7 @@ fn mapping(
 const PUBLIC: (&str, &str) = ("public", "accounts");
 
 /// The columns `id`, which is in the key, and `email`.
-const SENT: [(&str, bool); 2] = [("id", true), ("email", false)];
+static SENT: [(&str, bool); 2] = [("id", true), ("email", false)];
 
 /// What a row message makes of the relation of these columns.
 fn planned(
@@ -197,7 +197,7 @@ fn what_was_not_learnt_is_unknown(rt: HostRuntime) -> Result<(), Fail> {
 }
 
 /// A table, the third column of a relation that names `id` twice before it, and its fault.
-const RELATIONS: [(&str, &str, &str, RelFault); 5] = [
+static RELATIONS: [(&str, &str, &str, RelFault); 5] = [
     ("private", "accounts", "zip", RelFault::TableMissing),
     ("public", "Accounts", "id", RelFault::TableMissing),
     ("", "accounts", "id", RelFault::TableMissing),
@@ -207,7 +207,7 @@ const RELATIONS: [(&str, &str, &str, RelFault); 5] = [
 
 #[test]
 fn a_relation_has_its_first_fault(rt: HostRuntime) -> Result<(), Fail> {
-    for (namespace, table, third, fault) in RELATIONS {
+    for &(namespace, table, third, fault) in &RELATIONS {
         let columns = [("id", true), ("id", true), (third, false)];
         let answer = mapping(&rt, rt.alloc(), (namespace, table), &columns)?;
         assert_same(answer.err(), Some(fault), namespace)?;
@@ -259,7 +259,7 @@ fn assert_faults(
 
 /// A bad value in three columns; no int; an unchanged key; a null in the key; none; an unchanged value that
 /// is inserted.
-const WITH_KEY: [Case; 6] = [
+static WITH_KEY: [Case; 6] = [
     (
         Kind::Update,
         &[Some("q"), None, None],
@@ -281,7 +281,7 @@ const WITH_KEY: [Case; 6] = [
 ];
 
 /// Three columns, and no key; an insert needs none.
-const WITHOUT_KEY: [Case; 2] = [
+static WITHOUT_KEY: [Case; 2] = [
     (
         Kind::Update,
         &[None, None, None],
@@ -298,7 +298,7 @@ fn a_row_message_has_its_first_fault(rt: HostRuntime) -> Result<(), Fail> {
 }
 
 /// A bad value in the key, one behind it, and a null in the key alone.
-const NULL_NAMES: [Case; 3] = [
+static NULL_NAMES: [Case; 3] = [
     (
         Kind::Update,
         &[None, Some("q"), Some("t")],
@@ -338,7 +338,7 @@ fn removed(
 }
 
 /// Texts, and the ints that they are.
-const INTS: [(&str, Option<i64>); 15] = [
+static INTS: [(&str, Option<i64>); 15] = [
     ("+07", Some(7)),
     ("-0", Some(0)),
     ("0000000000000000000000000001", Some(1)),
@@ -359,7 +359,7 @@ const INTS: [(&str, Option<i64>); 15] = [
 #[test]
 fn ints_are_read_within_64_bits(rt: HostRuntime) -> Result<(), Fail> {
     let m = mapping(&rt, rt.alloc(), PUBLIC, &[("id", true)])??;
-    for (text, number) in INTS {
+    for &(text, number) in &INTS {
         let want = match number {
             Some(number) => Ok(Key::from_value(rt.alloc(), Value::Int(number))?),
             None => Err(RelFault::BadValue),

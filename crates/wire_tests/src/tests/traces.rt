@@ -92,7 +92,7 @@ fn a_read_stops_at_a_frame(rt: HostRuntime) -> Result<(), Fail> {
 }
 
 /// What is no stream, and how many frames are counted of it.
-const NO_STREAMS: [(&[u8], u64); 4] = [
+static NO_STREAMS: [(&[u8], u64); 4] = [
     (b"", 0),
     (b"d\0\0", 0),
     (b"HTTP/1.1 400 Bad Request\r\n", 0),

@@ -22,7 +22,7 @@ enum Step {
     RowsAfter(TableId, usize),
 }
 
-const BEGIN: [Deed; 5] = [
+static BEGIN: [Deed; 5] = [
     Deed::Open(699),
     Deed::Open(700),
     Deed::Open(701),
@@ -32,7 +32,7 @@ const BEGIN: [Deed; 5] = [
 
 // One call after another, with two transactions open over two accounts, of which one is committed
 // then: rows that come, change, move, go and are not there, one that waits, and an emptied table.
-const STEPS: [Step; 21] = [
+static STEPS: [Step; 21] = [
     Step::Make(Deed::Act(701, 701, Put(ACCOUNTS, ("4", "d", "n")))),
     Step::Make(Deed::Open(702)),
     Step::Make(Deed::Touch(700, 711)),
@@ -57,12 +57,12 @@ const STEPS: [Step; 21] = [
 ];
 
 // What ends the transactions that may be open then, in two parts.
-const ROLLBACKS: [Deed; 2] = [Deed::BackTo(700, 712), Deed::BackTo(701, 722)];
+static ROLLBACKS: [Deed; 2] = [Deed::BackTo(700, 712), Deed::BackTo(701, 722)];
 
-const COMMITS: [Deed; 2] = [Deed::Commit(700), Deed::Commit(701)];
+static COMMITS: [Deed; 2] = [Deed::Commit(700), Deed::Commit(701)];
 
 // What another transaction tries, to tell who holds each place.
-const TRIES: [Call; 19] = [
+static TRIES: [Call; 19] = [
     Remove(ACCOUNTS, "1"),
     Remove(ACCOUNTS, "2"),
     Remove(ACCOUNTS, "3"),
@@ -84,7 +84,7 @@ const TRIES: [Call; 19] = [
     Wipe(&[ACCOUNTS]),
 ];
 
-const IDS: [Word; 9] = ["1", "2", "3", "4", "5", "6", "7", "8", "9"];
+static IDS: [Word; 9] = ["1", "2", "3", "4", "5", "6", "7", "8", "9"];
 
 /// Reads, and says nothing of what.
 fn read(rt: &impl Abort, alloc: Global, scene: &Scene, step: &Step) -> Result<(), EngineFault> {
@@ -169,7 +169,7 @@ fn show_places(
     scene: &Scene,
     out: &mut String,
 ) -> Result<(), EngineFault> {
-    for id in IDS {
+    for id in &IDS {
         let key = key(alloc, id)?;
         let live = scene.live(rt, ACCOUNTS, &key)?;
         let committed = scene.committed(rt, ACCOUNTS, &key)?;
@@ -369,16 +369,29 @@ fn was_refused(
     answers_alike(rt, alloc, scene, never_asked, step)
 }
 
+/// Makes these calls up to the first that is refused, and tells how many came before it.
+fn first_refused<'a>(
+    rt: &impl Abort,
+    alloc: Global,
+    scene: &mut Scene,
+    steps: &'a [Step],
+) -> Option<(usize, &'a Step)> {
+    for (count, step) in steps.iter().enumerate() {
+        if let Err(fault) = make(rt, alloc, scene, step) {
+            assert_same(rt, fault, EngineFault::OutOfMemory, step);
+            return Some((count, step));
+        }
+    }
+    None
+}
+
 /// Makes the calls up to the first that is refused. Then memory is there again.
 fn step_until_refused(rt: &impl Abort, alloc: Global) -> Result<(), EngineFault> {
     let mut scene = stepped(rt, alloc, 0)?;
-    for (count, step) in STEPS.iter().enumerate() {
-        if let Err(fault) = make(rt, alloc, &mut scene, step) {
-            assert_same(rt, fault, EngineFault::OutOfMemory, step);
-            return was_refused(rt, alloc, scene, (count, step));
-        }
+    match first_refused(rt, alloc, &mut scene, &STEPS) {
+        Some(refused) => was_refused(rt, alloc, scene, refused),
+        None => Ok(()),
     }
-    Ok(())
 }
 
 #[test]
@@ -404,7 +417,7 @@ fn has_accounts(t: &Tables, wanted: &[Words]) -> bool {
 }
 
 // Two wait for each other and a third has done more, which the store is told of.
-const THREE_OPEN: [Deed; 5] = [
+static THREE_OPEN: [Deed; 5] = [
     Deed::Open(702),
     Deed::Act(700, 700, Set(ACCOUNTS, "1", ("-", "e", "-"))),
     Deed::Act(700, 711, Set(ACCOUNTS, "2", ("5", "f", "-"))),
@@ -412,27 +425,32 @@ const THREE_OPEN: [Deed; 5] = [
     Deed::Act(702, 702, Remove(ACCOUNTS, "3")),
 ];
 
-const WAITING: [(Deed, Xid); 2] = [
+static WAITING: [(Deed, Xid); 2] = [
     (Deed::Act(700, 712, Remove(ACCOUNTS, "4")), 701),
     (Deed::Act(701, 722, Remove(ACCOUNTS, "1")), 700),
 ];
 
-const ENDS: [Deed; 4] = [
+static ENDS: [Deed; 4] = [
     Deed::BackTo(700, 711),
     Deed::Commit(700),
     Deed::Commit(702),
     Deed::Abort(701),
 ];
 
-const ENDED: [Words; 2] = [("1", "e", "n"), ("2", "b", "n")];
+static ENDED: [Words; 2] = [("1", "e", "n"), ("2", "b", "n")];
 
-fn waiting(rt: &impl Abort, alloc: Global) -> Result<Scene, EngineFault> {
-    let mut scene = stepped(rt, alloc, 0)?;
+fn have_all_wait(rt: &impl Abort, alloc: Global, scene: &mut Scene) -> Result<(), EngineFault> {
     scene.make_all(rt, alloc, &THREE_OPEN)?;
     for (deed, holder) in &WAITING {
         let answer = scene.make(rt, alloc, deed)?;
         assert_same(rt, answer, Acted::Held(*holder), deed);
     }
+    Ok(())
+}
+
+fn waiting(rt: &impl Abort, alloc: Global) -> Result<Scene, EngineFault> {
+    let mut scene = stepped(rt, alloc, 0)?;
+    have_all_wait(rt, alloc, &mut scene)?;
     Ok(scene)
 }
 

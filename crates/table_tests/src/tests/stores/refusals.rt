@@ -16,7 +16,7 @@ use testing::asserts::assert_same;
 
 const NULL_KEY: Clash = Clash::NullKey { table: ACCOUNTS };
 
-const OPENED_AGAIN: [Step; 7] = [
+static OPENED_AGAIN: [Step; 7] = [
     Does(700, 700, Put(ACCOUNTS, ("3", "c", "n"))),
     OpensNot(700, EngineFault::AlreadyOpen),
     Does(700, 700, Put(ACCOUNTS, ("4", "d", "n"))),
@@ -32,7 +32,7 @@ fn a_number_that_is_open_does_not_open_again(rt: HostRuntime) -> Result<(), Fail
 }
 
 // With the numbers below 4096 open.
-const FULL: [Step; 7] = [
+static FULL: [Step; 7] = [
     OpensNot(5000, EngineFault::TooManyOpen),
     OpensNot(4095, EngineFault::AlreadyOpen),
     Does(4095, 4095, Put(ACCOUNTS, ("3", "c", "n"))),
@@ -66,7 +66,7 @@ fn no_more_than_4096_are_open(rt: HostRuntime) -> Result<(), Fail> {
     scene.ends_with(&rt, alloc, "1|a|n 2|b|n 3|c|n", 4095)
 }
 
-const HELD: [Step; 10] = [
+static HELD: [Step; 10] = [
     Does(700, 700, Set(ACCOUNTS, "1", ("-", "-", "v"))),
     Does(900, 900, Put(ACCOUNTS, ("3", "c", "n"))),
     // It would take the fifth place and its email, and no longer hold the first.
@@ -86,7 +86,7 @@ fn a_change_that_is_held_leaves_nothing(rt: HostRuntime) -> Result<(), Fail> {
     play(&rt, rt.alloc(), &[700, 701, 900], &HELD)
 }
 
-const HELD_FIRST: [Step; 13] = [
+static HELD_FIRST: [Step; 13] = [
     Does(700, 700, Remove(ACCOUNTS, "1")),
     Waits(900, 900, Put(ACCOUNTS, ("1", "f", "n")), 700),
     Waits(900, 900, Put(ACCOUNTS, ("6", "a", "n")), 700),
@@ -133,7 +133,7 @@ const fn clashing(call: Call, clash: Clash) -> [Step; 18] {
     ]
 }
 
-const CLASHES: [(Call, Clash); 11] = [
+static CLASHES: [(Call, Clash); 11] = [
     (Put(ACCOUNTS, (r"\N", "h", "n")), NULL_KEY),
     (Put(ACCOUNTS, (r"\N", "b", "n")), NULL_KEY),
     (Put(ACCOUNTS, ("2", "h", "n")), SAME_ID),
@@ -149,13 +149,13 @@ const CLASHES: [(Call, Clash); 11] = [
 
 #[test]
 fn a_clash_stops_the_store(rt: HostRuntime) -> Result<(), Fail> {
-    for (call, clash) in CLASHES {
+    for &(call, clash) in &CLASHES {
         play(&rt, rt.alloc(), &[700, 900], &clashing(call, clash))?;
     }
     Ok(())
 }
 
-const STOPPED: [Step; 9] = [
+static STOPPED: [Step; 9] = [
     Does(700, 700, Put(ACCOUNTS, ("3", "c", "n"))),
     Does(700, 711, Remove(ACCOUNTS, "1")),
     Does(701, 701, Put(ACCOUNTS, ("4", "d", "n"))),

@@ -1,18 +1,18 @@
 // A store whose transactions come one at a time.
-ghost use Rattle.std.specs.Prelude.{◌≡◌, length, IfOk};
+ghost use Rattle.std.specs.Prelude.{◌≡◌, [], length, IfOk, OnOk};
 ghost use Rattle.engine.specs.Serial.{last_end_in};
 
 use super::scene::{ACCOUNTS, SAME_EMAIL, WORKED};
-use crate::tests::aborts;
+use crate::tests::aborts::assert_same;
 use crate::tests::calls::Call::Put;
 use crate::tests::calls::{Call, are_there, change, empty_tables, rows_of};
 use change::Clash;
 use engine::SerialStore;
+use indexes::Tables;
 use model::{CommitInfo, Item, OutOfMemory};
 use std::alloc::Global;
 use std::process::Abort;
 use std::test::Fail;
-use testing::asserts::assert_same;
 
 const COMMIT: CommitInfo = CommitInfo {
     commit: 16,
@@ -47,6 +47,26 @@ fn take_two(rt: &impl Abort, alloc: Global, serial: &mut SerialStore) -> Result<
     take(rt, alloc, serial, &Put(ACCOUNTS, ("2", "b", "n")))
 }
 
+/// They are committed.
+fn commit_two(rt: &impl Abort, alloc: Global, serial: &mut SerialStore) -> Result<(), Clash>
+    requires count { length serial.old.store.schema ≡ 1 }
+    requires none { last_end_in serial.old.store.world ≡ 0 }
+    ensures schema { serial.new.store.schema ≡ serial.old.store.schema }
+    ensures start { serial.new.store.world.start ≡ serial.old.store.world.start }
+    ensures committed { OnOk result (serial.new.changes ≡ []) }
+{
+    take_two(rt, alloc, serial)?;
+    serial.commit(alloc, 700, COMMIT)?;
+    Ok(())
+}
+
+/// The tables have these two rows.
+fn shows_two(rt: &impl Abort, alloc: Global, tables: &Tables) -> Result<(), OutOfMemory> {
+    let rows = rows_of(rt, alloc, tables, ACCOUNTS)?;
+    assert_same(rt, rows.as_str(), WORKED, "rows");
+    Ok(())
+}
+
 #[test]
 fn a_store_for_several_goes_on_from_it(rt: HostRuntime) -> Result<(), Fail> {
     let alloc = rt.alloc();
@@ -54,13 +74,11 @@ fn a_store_for_several_goes_on_from_it(rt: HostRuntime) -> Result<(), Fail> {
     assert!(rt; start.len() == 1);
     let kept = start.copy()?;
     let mut serial = SerialStore::new(alloc, start).map_err(|_| OutOfMemory)?;
-    take_two(&rt, alloc, &mut serial)?;
-    serial.commit(alloc, 700, COMMIT)?;
+    commit_two(&rt, alloc, &mut serial)?;
     let (store, line) = serial.into_store(kept);
-    assert_same(store.journal().len(), 1, "entries")?;
+    assert_same(&rt, store.journal().len(), 1, "entries");
     let (tables, _) = store.shut(line);
-    let rows = rows_of(&rt, alloc, &tables, ACCOUNTS)?;
-    assert_same(rows.as_str(), WORKED, "rows")?;
+    shows_two(&rt, alloc, &tables)?;
     Ok(())
 }
 
@@ -69,24 +87,14 @@ fn a_store_for_several_goes_on_from_it(rt: HostRuntime) -> Result<(), Fail> {
 fn what_is_not_committed_is_undone(rt: HostRuntime) -> Result<(), Fail> {
     let alloc = rt.alloc();
     let mut serial = accounts(&rt, alloc)?;
-    take_two(&rt, alloc, &mut serial)?;
-    serial.commit(alloc, 700, COMMIT)?;
-    take(&rt, alloc, &mut serial, &Put(ACCOUNTS, ("3", "c", "n")))?;
+    commit_two(&rt, alloc, &mut serial)?;
+    let taken = take(&rt, alloc, &mut serial, &Put(ACCOUNTS, ("3", "c", "n")));
+    assert_same(&rt, taken, Ok(()), "another email");
     let refused = take(&rt, alloc, &mut serial, &Put(ACCOUNTS, ("4", "a", "n")));
-    assert_same(refused, Err(SAME_EMAIL), "the same email")?;
+    assert_same(&rt, refused, Err(SAME_EMAIL), "the same email");
     let (tables, journal) = serial.shut();
-    let rows = rows_of(&rt, alloc, &tables, ACCOUNTS)?;
-    assert_same(rows.as_str(), WORKED, "rows")?;
-    assert_same(journal.len(), 1, "entries")?;
-    Ok(())
-}
-
-fn commit_two(rt: &impl Abort, alloc: Global, serial: &mut SerialStore) -> Result<(), Clash>
-    requires count { length serial.old.store.schema ≡ 1 }
-    requires none { last_end_in serial.old.store.world ≡ 0 }
-{
-    take_two(rt, alloc, serial)?;
-    serial.commit(alloc, 700, COMMIT)?;
+    assert_same(&rt, journal.len(), 1, "entries");
+    shows_two(&rt, alloc, &tables)?;
     Ok(())
 }
 
@@ -103,5 +111,5 @@ fn a_transaction_where_memory_is_refused(rt: HostRuntime) {
         Err(Clash::OutOfMemory) => 0,
         _ => 1,
     };
-    aborts::assert_same(&rt, journal.len(), entries, done);
+    assert_same(&rt, journal.len(), entries, done);
 }

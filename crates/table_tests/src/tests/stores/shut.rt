@@ -2,12 +2,12 @@
 use super::scene::{ACCOUNTS, SAME_EMAIL, Scene};
 use super::script::Step::{Clashes, Commits, Does};
 use super::script::{Step, play_on};
+use crate::tests::aborts::assert_same;
 use crate::tests::calls::Call::{Put, Remove, Set};
 use crate::tests::calls::rows_of;
 use std::test::Fail;
-use testing::asserts::assert_same;
 
-const STEPS: [Step; 6] = [
+static STEPS: [Step; 6] = [
     Does(700, 700, Put(ACCOUNTS, ("3", "c", "n"))),
     Does(701, 701, Set(ACCOUNTS, "1", ("-", "-", "v"))),
     Does(701, 701, Remove(ACCOUNTS, "2")),
@@ -25,7 +25,7 @@ fn what_is_open_is_undone(rt: HostRuntime) -> Result<(), Fail> {
     let shown = play_on(&rt, alloc, &mut scene, &STEPS)?;
     let (tables, journal) = scene.shut();
     let accounts = rows_of(&rt, alloc, &tables, ACCOUNTS)?;
-    assert_same(accounts.as_str(), shown.accounts, "accounts")?;
-    assert_same(journal.len(), 1, "entries")?;
+    assert_same(&rt, accounts.as_str(), shown.accounts, "accounts");
+    assert_same(&rt, journal.len(), 1, "entries");
     Ok(())
 }

@@ -112,7 +112,7 @@ const TOUCHED: [Step; 8] = [
 ];
 
 /// The transactions that are open at first, and the calls.
-const SCRIPTS: [(&[Xid], &[Step]); 9] = [
+static SCRIPTS: [(&[Xid], &[Step]); 9] = [
     (&[700, 900], &REMOVED_AFTER_A_SET),
     (&[700, 900], &LOOKED_UP),
     (&[700, 900], &COMMITTED_BESIDE),

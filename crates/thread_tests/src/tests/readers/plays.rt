@@ -62,6 +62,48 @@ fn rows_at<N: StoreNames, R: Wait>(
     Ok(written(alloc, rows.as_slice())?)
 }
 
+// The rows of the table are these.
+fn rows_are<N: StoreNames, R: Abort + Wait>(
+    rt: &R,
+    alloc: Global,
+    reader: &mut Reader<'_, N>,
+    (rows, case): (&str, &str),
+) -> Result<(), Fail> {
+    let read = rows_of(rt, alloc, reader)?;
+    assert_same(rt, read.as_str(), rows, case);
+    Ok(())
+}
+
+// The row at each of these keys is this one, or none is there.
+fn each_row_is<N: StoreNames, R: Abort + Wait>(
+    rt: &R,
+    alloc: Global,
+    reader: &mut Reader<'_, N>,
+    wanted: &[(i64, &str)],
+) -> Result<(), Fail> {
+    for (id, row) in wanted {
+        let read = row_of(rt, alloc, reader, *id)?;
+        assert_same(rt, read.as_str(), *row, *id);
+    }
+    Ok(())
+}
+
+// A transaction puts two rows, and commits.
+fn reads_the_first<N: StoreNames, R: Abort + Wait>(
+    rt: &R,
+    alloc: Global,
+    scene: &mut Scene<'_, N>,
+    reader: &mut Reader<'_, N>,
+) -> Result<(), Fail> {
+    let (one, two) = (put(alloc, 1, 10)?, put(alloc, 2, 20)?);
+    let mut first = scene.open(rt, alloc, 1)?;
+    scene.act(rt, alloc, &mut first, &one)?;
+    scene.act(rt, alloc, &mut first, &two)?;
+    rows_are(rt, alloc, reader, ("", "while the first is open"))?;
+    scene.commit(rt, first, 16);
+    rows_are(rt, alloc, reader, ("1|10 2|20", "the first"))
+}
+
 // Between the changes and the commits of two transactions.
 fn reads_between<N: StoreNames, R: Abort + Wait>(
     rt: &R,
@@ -69,62 +111,20 @@ fn reads_between<N: StoreNames, R: Abort + Wait>(
     scene: &mut Scene<'_, N>,
     reader: &mut Reader<'_, N>,
 ) -> Result<(), Fail> {
-    let mut first = scene.open(rt, alloc, 1)?;
-    scene.act(rt, alloc, &mut first, &put(alloc, 1, 10)?)?;
-    scene.act(rt, alloc, &mut first, &put(alloc, 2, 20)?)?;
-    assert_same(
-        rt,
-        rows_of(rt, alloc, reader)?.as_str(),
-        "",
-        "while the first is open",
-    );
-    scene.commit(rt, first, 16);
-    assert_same(
-        rt,
-        rows_of(rt, alloc, reader)?.as_str(),
-        "1|10 2|20",
-        "the first",
-    );
+    reads_the_first(rt, alloc, scene, reader)?;
+    let (three, no_one) = (put(alloc, 3, 30)?, remove(alloc, 1)?);
     let mut one = scene.open(rt, alloc, 700)?;
     let mut other = scene.open(rt, alloc, 900)?;
-    scene.act(rt, alloc, &mut one, &put(alloc, 3, 30)?)?;
-    scene.act(rt, alloc, &mut other, &remove(alloc, 1)?)?;
-    assert_same(
-        rt,
-        row_of(rt, alloc, reader, 3)?.as_str(),
-        "",
-        "row 3 while open",
-    );
-    assert_same(
-        rt,
-        row_of(rt, alloc, reader, 1)?.as_str(),
-        "1|10",
-        "row 1 while open",
-    );
-    assert_same(
-        rt,
-        rows_of(rt, alloc, reader)?.as_str(),
-        "1|10 2|20",
-        "while two are open",
-    );
+    scene.act(rt, alloc, &mut one, &three)?;
+    scene.act(rt, alloc, &mut other, &no_one)?;
+    each_row_is(rt, alloc, reader, &[(3, ""), (1, "1|10")])?;
+    rows_are(rt, alloc, reader, ("1|10 2|20", "while two are open"))?;
     scene.commit(rt, other, 32);
-    assert_same(rt, row_of(rt, alloc, reader, 1)?.as_str(), "", "row 1");
-    assert_same(rt, row_of(rt, alloc, reader, 3)?.as_str(), "", "row 3");
-    assert_same(
-        rt,
-        rows_of(rt, alloc, reader)?.as_str(),
-        "2|20",
-        "the other",
-    );
+    each_row_is(rt, alloc, reader, &[(1, ""), (3, "")])?;
+    rows_are(rt, alloc, reader, ("2|20", "the other"))?;
     scene.commit(rt, one, 48);
-    assert_same(
-        rt,
-        row_of(rt, alloc, reader, 3)?.as_str(),
-        "3|30",
-        "row 3 at last",
-    );
-    assert_same(rt, rows_of(rt, alloc, reader)?.as_str(), "2|20 3|30", "all");
-    Ok(())
+    each_row_is(rt, alloc, reader, &[(3, "3|30")])?;
+    rows_are(rt, alloc, reader, ("2|20 3|30", "all"))
 }
 
 // A transaction of one change that ends here.

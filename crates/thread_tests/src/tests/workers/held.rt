@@ -17,7 +17,7 @@ use std::time::Clock;
 use worker::{Ended, Point};
 
 // What 700 does: its first change is held by 701.
-const HELD: [Step; 3] = [
+static HELD: [Step; 3] = [
     Step::Note {
         sub: 700,
         key: 1,
@@ -35,7 +35,7 @@ const HOLDING: Step = Step::Note {
 };
 
 // The same by a worker, which rolls it back.
-const ROLLED_BACK: [Step; 4] = [
+static ROLLED_BACK: [Step; 4] = [
     Step::Touch(701),
     Step::Note {
         sub: 711,
@@ -47,7 +47,7 @@ const ROLLED_BACK: [Step; 4] = [
 ];
 
 // A change that clashes.
-const CLASHING: [Step; 2] = [Step::Put(2), Step::Last];
+static CLASHING: [Step; 2] = [Step::Put(2), Step::Last];
 
 impl<N: StoreNames + Send + Sync, R: Threads + Wait + Abort + Clock + Sync> Hand<'_, N, R> {
     // A transaction that holds the row of key 1.

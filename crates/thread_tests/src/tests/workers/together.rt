@@ -18,7 +18,7 @@ use std::time::Clock;
 use worker::{Ended, Point};
 
 // Rows with these keys.
-const LOW: [Step; 6] = [
+static LOW: [Step; 6] = [
     Step::Put(1),
     Step::Put(2),
     Step::Put(3),
@@ -27,7 +27,7 @@ const LOW: [Step; 6] = [
     Step::Last,
 ];
 
-const HIGH: [Step; 4] = [Step::Put(11), Step::Touch(701), Step::Put(12), Step::Last];
+static HIGH: [Step; 4] = [Step::Put(11), Step::Touch(701), Step::Put(12), Step::Last];
 
 // Whether the items that are left are those behind the first so many of the five.
 fn are_left<N: StoreNames>(came: &Came<N>, done: u64) -> bool {
