@@ -11,6 +11,7 @@ use frames::{
 };
 use std::alloc::{AllocError, Global};
 use std::io::Cursor;
+use std::slice;
 use std::test::Fail;
 use testing::asserts::assert_same;
 use testing::devices::{Kept, Pieces};
@@ -156,6 +157,24 @@ fn item_at(place: Option<&(usize, usize)>) -> CopyItem {
     }
 }
 
+// The items that are kept are the next ones of the stream.
+fn assert_next(
+    frames: &mut Frames,
+    payloads: &mut slice::Iter<'_, (usize, usize)>,
+) -> Result<(), Fail> {
+    while let Some(item) = frames.next() {
+        assert_same(&item, &item_at(payloads.next()), "item")?;
+    }
+    Ok(())
+}
+
+// Memory was refused, which is said again.
+fn assert_refused(frames: &mut Frames, piece: &[u8], fault: FrameFault) -> Result<(), Fail> {
+    assert_same(fault, FrameFault::OutOfMemory, "fault")?;
+    assert_same(frames.feed(piece), Err(FrameFault::OutOfMemory), "feed")?;
+    assert_same(frames.finish(), Err(FrameFault::OutOfMemory), "finish")
+}
+
 // Where memory is refused, the items are a beginning of all, and the refusal comes again. With ample memory it isn't.
 #[test]
 fn items_where_memory_is_refused(rt: HostRuntime) -> Result<(), Fail> {
@@ -163,14 +182,9 @@ fn items_where_memory_is_refused(rt: HostRuntime) -> Result<(), Fail> {
     let mut payloads = PAYLOADS.iter();
     for piece in STREAM.chunks(40) {
         let answer = frames.feed(piece);
-        while let Some(item) = frames.next() {
-            assert_same(&item, &item_at(payloads.next()), "item")?;
-        }
+        assert_next(&mut frames, &mut payloads)?;
         if let Err(fault) = answer {
-            assert_same(fault, FrameFault::OutOfMemory, "fault")?;
-            assert_same(frames.feed(piece), Err(FrameFault::OutOfMemory), "feed")?;
-            assert_same(frames.finish(), Err(FrameFault::OutOfMemory), "finish")?;
-            return Ok(());
+            return assert_refused(&mut frames, piece, fault);
         }
     }
     assert_same(payloads.next(), None, "payload")?;

@@ -364,21 +364,28 @@ fn logical_message(rt: HostRuntime) -> Result<(), Fail> {
     check(rt.alloc(), &message, false, digits)
 }
 
+// A text, a null and an unchanged value.
+fn assert_three(columns: &[Column]) -> Result<(), Fail> {
+    match columns {
+        [Column::Text(text), Column::Null, Column::Unchanged] => {
+            assert_same(text.as_str(), "1", "text")
+        }
+        _ => Err(Fail::from("three columns")),
+    }
+}
+
 // What a caller reads of a message.
 #[test]
 fn fields_are_read(rt: HostRuntime) -> Result<(), Fail> {
     let insert = from_hex(rt.alloc(), "49000002c7000040014e00037400000001316e75")?;
     let insert = Bytes::from_vec(insert)?;
-    let Ok(Message::Insert(insert)) = decode(rt.alloc(), &insert, true) else {
+    let Message::Insert(insert) = decode(rt.alloc(), &insert, true)? else {
         return Err(Fail::from("an insert"));
     };
-    let RowMessage::Insert { new } = insert.into_row() else {
-        return Err(Fail::from("an insert"));
-    };
-    let [Column::Text(text), Column::Null, Column::Unchanged] = new.columns() else {
-        return Err(Fail::from("three columns"));
-    };
-    assert_same(text.as_str(), "1", "text")
+    match insert.into_row() {
+        RowMessage::Insert { new } => assert_three(new.columns()),
+        _ => Err(Fail::from("an insert")),
+    }
 }
 
 // One payload of each message that takes memory, and whether it stands in a block.

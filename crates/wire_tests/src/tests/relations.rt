@@ -4,7 +4,7 @@ use messages::{
     Column, Columns, Name, Oid, OldTuple, Relation, RelationColumn, ReplicaIdentity, RowMessage,
     Text, Tuple,
 };
-use model::{Change, ColumnPatch, KeptText, Key, Value, ValueRef};
+use model::Change;
 use relcache::{Mapping, RelCache, RelFault, plan};
 use std::alloc::Global;
 use std::process::Abort;
@@ -64,8 +64,10 @@ fn relation(
     })
 }
 
-/// A tuple of these columns: a text, `None` for null, `Some("\u{0}")` for an unchanged value.
-fn tuple(rt: &impl Abort, alloc: Global, texts: &[Option<&'static str>]) -> Result<Tuple, Fail> {
+/// The columns of a tuple: a text, `None` for null, `Some("\u{0}")` for an unchanged value.
+type Texts = &'static [Option<&'static str>];
+
+fn tuple(rt: &impl Abort, alloc: Global, texts: Texts) -> Result<Tuple, Fail> {
     let mut columns = Vec::new(alloc);
     for text in texts {
         columns.push(match text {
@@ -99,94 +101,114 @@ fn mapping(
 
 const PUBLIC: (&str, &str) = ("public", "accounts");
 
+const FLAGS: (&str, &str) = ("", "flags");
+
 /// The columns `id`, which is in the key, and `email`.
 static SENT: [(&str, bool); 2] = [("id", true), ("email", false)];
 
-/// What a row message makes of the relation of these columns.
-fn planned(
+/// What a row message has of the old row and of the new one.
+#[derive(Clone, Copy)]
+enum Sent {
+    Insert(Texts),
+    Update(Texts),
+    UpdateWithKey(Texts, Texts),
+    Delete(Texts),
+    DeleteByKey(Texts),
+}
+
+fn message(rt: &impl Abort, alloc: Global, sent: Sent) -> Result<RowMessage, Fail> {
+    match sent {
+        Sent::Insert(new) => Ok(RowMessage::Insert {
+            new: tuple(rt, alloc, new)?,
+        }),
+        Sent::Update(new) => Ok(RowMessage::Update {
+            old: None,
+            new: tuple(rt, alloc, new)?,
+        }),
+        Sent::UpdateWithKey(old, new) => Ok(RowMessage::Update {
+            old: Some(OldTuple::Key(tuple(rt, alloc, old)?)),
+            new: tuple(rt, alloc, new)?,
+        }),
+        Sent::Delete(old) => Ok(RowMessage::Delete {
+            old: OldTuple::Full(tuple(rt, alloc, old)?),
+        }),
+        Sent::DeleteByKey(old) => Ok(RowMessage::Delete {
+            old: OldTuple::Key(tuple(rt, alloc, old)?),
+        }),
+    }
+}
+
+/// What a row message asks for, as it is printed.
+fn answer(rt: &impl Abort, alloc: Global, m: &Mapping, sent: Sent) -> Result<String, Fail> {
+    let message = message(rt, alloc, sent)?;
+    let planned = plan(alloc, m, &message);
+    Ok(format!(in alloc; "{planned:?}")?)
+}
+
+/// A row message, and what it asks for.
+type Case = (Sent, &'static str);
+
+/// Each row message asks for this, where it is of the relation of these columns.
+fn assert_answers(
     rt: &impl Abort,
     alloc: Global,
+    table: (&'static str, &'static str),
     named: &[(&'static str, bool)],
-    message: &RowMessage,
-) -> Result<Change, Fail> {
-    let m = mapping(rt, alloc, PUBLIC, named)??;
-    Ok(plan(alloc, &m, message)?)
+    cases: &[Case],
+) -> Result<(), Fail> {
+    let m = mapping(rt, alloc, table, named)??;
+    for (sent, want) in cases {
+        let answer = answer(rt, alloc, &m, *sent)?;
+        assert_same(answer.as_str(), *want, *want)?;
+    }
+    Ok(())
 }
+
+static INSERTED: [Case; 1] = [(
+    Sent::Insert(&[Some("a"), Some("1")]),
+    "Ok(Put { table: 0, row: [Some(Int(1)), Some(Text(\"a\")), Some(Text(\"x\"))] })",
+)];
 
 #[test]
 fn columns_are_matched_by_name_and_others_have_their_defaults(rt: HostRuntime) -> Result<(), Fail> {
-    let new = tuple(&rt, rt.alloc(), &[Some("a"), Some("1")])?;
     let columns = [("email", false), ("id", true)];
-    let change = planned(&rt, rt.alloc(), &columns, &RowMessage::Insert { new })?;
-    let Change::Put { table: 0, row } = change else {
-        return Err(Fail::from("an insert puts a row"));
-    };
-    let (Some(ValueRef::Int(id)), Some(ValueRef::Text(email)), Some(ValueRef::Text(note))) = (
-        row.get(0),
-        row.get(1),
-        row.get(2),
-    ) else {
-        return Err(Fail::from("three values"));
-    };
-    assert_same(id, 1, "id")?;
-    assert_same(email, "a", "email")?;
-    assert_same(note, "x", "note")
+    assert_answers(&rt, rt.alloc(), PUBLIC, &columns, &INSERTED)
 }
 
-#[test]
-fn an_update_keeps_what_is_not_sent(rt: HostRuntime) -> Result<(), Fail> {
-    let old = Some(OldTuple::Key(tuple(&rt, rt.alloc(), &[Some("1"), None])?));
-    let new = tuple(&rt, rt.alloc(), &[Some("9"), Some(UNCHANGED)])?;
-    let change = planned(&rt, rt.alloc(), &SENT, &RowMessage::Update { old, new })?;
-    let Change::Set {
-        table: 0,
-        key,
-        patch,
-    } = change
-    else {
-        return Err(Fail::from("an update sets columns"));
-    };
-    assert_holds(key == Key::from_value(rt.alloc(), Value::Int(1))?, "key")?;
-    let [ColumnPatch::Value(id), ColumnPatch::Keep, ColumnPatch::Keep] = patch.columns() else {
-        return Err(Fail::from("one value, and two columns that are kept"));
-    };
-    assert_holds(*id == Value::Int(9), "id")
-}
+static UPDATED: [Case; 2] = [
+    (
+        Sent::UpdateWithKey(&[Some("1"), None], &[Some("9"), Some(UNCHANGED)]),
+        "Ok(Set { table: 0, key: Key { values: Int(1) }, patch: Patch { columns: [Value(Int(9)), Keep, Keep] } })",
+    ),
+    (
+        Sent::Update(&[Some("7"), None]),
+        "Ok(Set { table: 0, key: Key { values: Int(7) }, patch: Patch { columns: [Value(Int(7)), Null, Keep] } })",
+    ),
+];
 
 #[test]
-fn an_update_without_an_old_tuple_has_its_key_from_the_new(rt: HostRuntime) -> Result<(), Fail> {
-    let new = tuple(&rt, rt.alloc(), &[Some("7"), None])?;
-    let message = RowMessage::Update { old: None, new };
-    let change = planned(&rt, rt.alloc(), &SENT, &message)?;
-    let Change::Set { key, patch, .. } = change else {
-        return Err(Fail::from("an update sets columns"));
-    };
-    assert_holds(key == Key::from_value(rt.alloc(), Value::Int(7))?, "key")?;
-    assert_holds(
-        matches!(
-            patch.columns(),
-            [ColumnPatch::Value(_), ColumnPatch::Null, ColumnPatch::Keep]
-        ),
-        "matches",
-    )
+fn an_update_keeps_what_is_not_sent_and_has_its_key_from_the_old_or_new_tuple(
+    rt: HostRuntime,
+) -> Result<(), Fail> {
+    assert_answers(&rt, rt.alloc(), PUBLIC, &SENT, &UPDATED)
 }
+
+static DELETED: [Case; 1] = [(
+    Sent::Delete(&[Some("yes"), Some("-3"), Some("n")]),
+    "Ok(Remove { table: 1, key: Key { values: Many([Text(KeptText { text: \"n\" }), Int(-3)]) } })",
+)];
 
 #[test]
 fn a_key_is_in_the_order_of_the_primary_key(rt: HostRuntime) -> Result<(), Fail> {
-    let alloc = rt.alloc();
     let columns = [("set", false), ("id", true), ("name", true)];
-    let m = mapping(&rt, alloc, FLAGS, &columns)??;
-    assert_same(m.table(), 1, "table")?;
-    let old = OldTuple::Full(tuple(&rt, alloc, &[Some("yes"), Some("-3"), Some("n")])?);
-    let Change::Remove { table: 1, key } = plan(alloc, &m, &RowMessage::Delete { old })? else {
-        return Err(Fail::from("a delete removes a row"));
-    };
-    let name = Value::Text(KeptText::from_str(alloc, "n")?);
-    let wanted = Key::from_values(vec![in alloc; name, Value::Int(-3)]?)?;
-    assert_holds(key == wanted, "key")
+    assert_answers(&rt, rt.alloc(), FLAGS, &columns, &DELETED)
 }
 
-const FLAGS: (&str, &str) = ("", "flags");
+#[test]
+fn a_mapping_says_its_table(rt: HostRuntime) -> Result<(), Fail> {
+    let m = mapping(&rt, rt.alloc(), FLAGS, &[("name", true)])??;
+    assert_same(m.table(), 1, "table")
+}
 
 #[test]
 fn what_was_not_learnt_is_unknown(rt: HostRuntime) -> Result<(), Fail> {
@@ -215,158 +237,95 @@ fn a_relation_has_its_first_fault(rt: HostRuntime) -> Result<(), Fail> {
     Ok(())
 }
 
-/// Whether a row message is an insert or an update without an old tuple.
-#[derive(Clone, Copy)]
-enum Kind {
-    Insert,
-    Update,
-}
-
-/// The fault of a row message of these columns.
-fn fault_of(
-    rt: &impl Abort,
-    alloc: Global,
-    m: &Mapping,
-    kind: Kind,
-    texts: &[Option<&'static str>],
-) -> Result<Option<RelFault>, Fail> {
-    let new = tuple(rt, alloc, texts)?;
-    let message = match kind {
-        Kind::Insert => RowMessage::Insert { new },
-        Kind::Update => RowMessage::Update { old: None, new },
-    };
-    Ok(plan(alloc, m, &message).err())
-}
-
-/// A row message, and its fault.
-type Case = (Kind, &'static [Option<&'static str>], Option<RelFault>);
-
-/// Each row message has its fault, where it is of the relation of these columns.
-fn assert_faults(
-    rt: &impl Abort,
-    alloc: Global,
-    table: (&'static str, &'static str),
-    named: &[(&'static str, bool)],
-    cases: &[Case],
-) -> Result<(), Fail> {
-    let m = mapping(rt, alloc, table, named)??;
-    for (number, (kind, texts, fault)) in cases.iter().enumerate() {
-        let answer = fault_of(rt, alloc, &m, *kind, *texts)?;
-        assert_same(answer, *fault, number)?;
-    }
-    Ok(())
-}
-
 /// A bad value in three columns; no int; an unchanged key; a null in the key; none; an unchanged value that
 /// is inserted.
 static WITH_KEY: [Case; 6] = [
+    (Sent::Update(&[Some("q"), None, None]), "Err(ColumnCount)"),
+    (Sent::Update(&[Some("q"), None]), "Err(BadValue)"),
+    (Sent::Update(&[Some(UNCHANGED), None]), "Err(BadValue)"),
+    (Sent::Update(&[None, Some("a")]), "Err(NullKey)"),
     (
-        Kind::Update,
-        &[Some("q"), None, None],
-        Some(RelFault::ColumnCount),
+        Sent::Update(&[Some("1"), Some(UNCHANGED)]),
+        "Ok(Set { table: 0, key: Key { values: Int(1) }, patch: Patch { columns: [Value(Int(1)), Keep, Keep] } })",
     ),
-    (Kind::Update, &[Some("q"), None], Some(RelFault::BadValue)),
-    (
-        Kind::Update,
-        &[Some(UNCHANGED), None],
-        Some(RelFault::BadValue),
-    ),
-    (Kind::Update, &[None, Some("a")], Some(RelFault::NullKey)),
-    (Kind::Update, &[Some("1"), Some(UNCHANGED)], None),
-    (
-        Kind::Insert,
-        &[None, Some(UNCHANGED)],
-        Some(RelFault::BadValue),
-    ),
+    (Sent::Insert(&[None, Some(UNCHANGED)]), "Err(BadValue)"),
 ];
 
 /// Three columns, and no key; an insert needs none.
 static WITHOUT_KEY: [Case; 2] = [
+    (Sent::Update(&[None, None, None]), "Err(KeyNotSent)"),
     (
-        Kind::Update,
-        &[None, None, None],
-        Some(RelFault::KeyNotSent),
+        Sent::Insert(&[None, None]),
+        "Ok(Put { table: 0, row: [None, None, Some(Text(\"x\"))] })",
     ),
-    (Kind::Insert, &[None, None], None),
 ];
 
 #[test]
 fn a_row_message_has_its_first_fault(rt: HostRuntime) -> Result<(), Fail> {
-    assert_faults(&rt, rt.alloc(), PUBLIC, &SENT, &WITH_KEY)?;
+    assert_answers(&rt, rt.alloc(), PUBLIC, &SENT, &WITH_KEY)?;
     let unflagged = [("id", false), ("email", false)];
-    assert_faults(&rt, rt.alloc(), PUBLIC, &unflagged, &WITHOUT_KEY)
+    assert_answers(&rt, rt.alloc(), PUBLIC, &unflagged, &WITHOUT_KEY)
 }
 
 /// A bad value in the key, one behind it, and a null in the key alone.
 static NULL_NAMES: [Case; 3] = [
+    (Sent::Update(&[None, Some("q"), Some("t")]), "Err(BadValue)"),
     (
-        Kind::Update,
-        &[None, Some("q"), Some("t")],
-        Some(RelFault::BadValue),
+        Sent::Update(&[None, Some("1"), Some("yes")]),
+        "Err(BadValue)",
     ),
-    (
-        Kind::Update,
-        &[None, Some("1"), Some("yes")],
-        Some(RelFault::BadValue),
-    ),
-    (
-        Kind::Update,
-        &[None, Some("1"), Some("f")],
-        Some(RelFault::NullKey),
-    ),
+    (Sent::Update(&[None, Some("1"), Some("f")]), "Err(NullKey)"),
 ];
 
 #[test]
 fn a_bad_value_goes_before_a_null_in_the_key(rt: HostRuntime) -> Result<(), Fail> {
     let columns = [("name", true), ("id", true), ("set", false)];
-    assert_faults(&rt, rt.alloc(), FLAGS, &columns, &NULL_NAMES)
+    assert_answers(&rt, rt.alloc(), FLAGS, &columns, &NULL_NAMES)
 }
 
-/// The key of the row that a delete with this text in the old tuple's one column removes, or its fault.
-fn removed(
-    rt: &impl Abort,
-    alloc: Global,
-    m: &Mapping,
-    text: &'static str,
-) -> Result<Result<Key, RelFault>, Fail> {
-    let old = OldTuple::Key(tuple(rt, alloc, &[Some(text)])?);
-    match plan(alloc, m, &RowMessage::Delete { old }) {
-        Ok(Change::Remove { key, .. }) => Ok(Ok(key)),
-        Ok(_) => Err(Fail::from("a delete removes a row")),
-        Err(fault) => Ok(Err(fault)),
-    }
-}
-
-/// Texts, and the ints that they are.
-static INTS: [(&str, Option<i64>); 15] = [
-    ("+07", Some(7)),
-    ("-0", Some(0)),
-    ("0000000000000000000000000001", Some(1)),
-    ("9223372036854775807", Some(i64::MAX)),
-    ("9223372036854775808", None),
-    ("-9223372036854775808", Some(i64::MIN)),
-    ("-9223372036854775809", None),
-    ("", None),
-    ("+", None),
-    ("-", None),
-    ("+-1", None),
-    (" 1", None),
-    ("1.0", None),
-    ("0x1", None),
-    ("\u{663}", None),
+/// Texts of a key, and the keys that they are.
+static INTS: [Case; 15] = [
+    (
+        Sent::DeleteByKey(&[Some("+07")]),
+        "Ok(Remove { table: 0, key: Key { values: Int(7) } })",
+    ),
+    (
+        Sent::DeleteByKey(&[Some("-0")]),
+        "Ok(Remove { table: 0, key: Key { values: Int(0) } })",
+    ),
+    (
+        Sent::DeleteByKey(&[Some("0000000000000000000000000001")]),
+        "Ok(Remove { table: 0, key: Key { values: Int(1) } })",
+    ),
+    (
+        Sent::DeleteByKey(&[Some("9223372036854775807")]),
+        "Ok(Remove { table: 0, key: Key { values: Int(9223372036854775807) } })",
+    ),
+    (
+        Sent::DeleteByKey(&[Some("9223372036854775808")]),
+        "Err(BadValue)",
+    ),
+    (
+        Sent::DeleteByKey(&[Some("-9223372036854775808")]),
+        "Ok(Remove { table: 0, key: Key { values: Int(-9223372036854775808) } })",
+    ),
+    (
+        Sent::DeleteByKey(&[Some("-9223372036854775809")]),
+        "Err(BadValue)",
+    ),
+    (Sent::DeleteByKey(&[Some("")]), "Err(BadValue)"),
+    (Sent::DeleteByKey(&[Some("+")]), "Err(BadValue)"),
+    (Sent::DeleteByKey(&[Some("-")]), "Err(BadValue)"),
+    (Sent::DeleteByKey(&[Some("+-1")]), "Err(BadValue)"),
+    (Sent::DeleteByKey(&[Some(" 1")]), "Err(BadValue)"),
+    (Sent::DeleteByKey(&[Some("1.0")]), "Err(BadValue)"),
+    (Sent::DeleteByKey(&[Some("0x1")]), "Err(BadValue)"),
+    (Sent::DeleteByKey(&[Some("\u{663}")]), "Err(BadValue)"),
 ];
 
 #[test]
 fn ints_are_read_within_64_bits(rt: HostRuntime) -> Result<(), Fail> {
-    let m = mapping(&rt, rt.alloc(), PUBLIC, &[("id", true)])??;
-    for &(text, number) in &INTS {
-        let want = match number {
-            Some(number) => Ok(Key::from_value(rt.alloc(), Value::Int(number))?),
-            None => Err(RelFault::BadValue),
-        };
-        assert_holds(removed(&rt, rt.alloc(), &m, text)? == want, text)?;
-    }
-    Ok(())
+    assert_answers(&rt, rt.alloc(), PUBLIC, &[("id", true)], &INTS)
 }
 
 /// The mapping of a relation that is learnt, if memory isn't refused. Where it is refused to learn it, the
@@ -393,17 +352,22 @@ fn learnt(
     }
 }
 
+/// An update of the relation is planned, or memory is refused.
+fn assert_planned_or_refused(rt: &impl Abort, alloc: Global, m: &Mapping) -> Result<(), Fail> {
+    let message = message(rt, alloc, Sent::Update(&[Some("1"), Some("a")]))?;
+    match plan(alloc, m, &message) {
+        Ok(change) => assert_holds(matches!(change, Change::Set { table: 0, .. }), "matches"),
+        Err(fault) => assert_same(fault, RelFault::OutOfMemory, "fault"),
+    }
+}
+
 /// Where memory is refused it is said by its name, and nothing changes. With ample memory it isn't refused.
 #[test]
 fn answers_where_memory_is_refused(rt: HostRuntime) -> Result<(), Fail> {
     let tables = tables(rt.alloc())?;
     let relation = relation(&rt, rt.alloc(), PUBLIC, &SENT)?;
-    let new = tuple(&rt, rt.alloc(), &[Some("1"), Some("a")])?;
-    let Some(m) = learnt(rt.alloc(), &tables, &relation)? else {
-        return Ok(());
-    };
-    match plan(rt.alloc(), &m, &RowMessage::Update { old: None, new }) {
-        Ok(change) => assert_holds(matches!(change, Change::Set { table: 0, .. }), "matches"),
-        Err(fault) => assert_same(fault, RelFault::OutOfMemory, "fault"),
+    match learnt(rt.alloc(), &tables, &relation)? {
+        Some(m) => assert_planned_or_refused(&rt, rt.alloc(), &m),
+        None => Ok(()),
     }
 }

@@ -45,19 +45,38 @@ const STREAMED: &str = "\
 41000002bc000002bc00000000000000000000000000000000 Ok(Abort(700))\n\
 41000002bc000002bc00000000000000000000000000000000 Ok(Nothing)";
 
-// A session with one worker answers each payload of the stream as it says.
+// What a session answers to a payload in hexadecimal digits.
+fn answer(
+    alloc: Global,
+    session: &mut Session,
+    tables: &Catalog,
+    digits: &str,
+) -> Result<String, Fail> {
+    let payload = Bytes::copy_from_slice(alloc, &from_hex(alloc, digits)?)?;
+    let answer = session.admit(alloc, tables, &payload);
+    Ok(format!(in alloc; "{answer:?}")?)
+}
+
+// A session answers each payload of the stream as it says.
+fn answers_all(
+    alloc: Global,
+    session: &mut Session,
+    tables: &Catalog,
+    stream: &str,
+) -> Result<(), Fail> {
+    for line in stream.lines() {
+        let (digits, want) = line.split_once(' ').unwrap_or((line, ""));
+        let answer = answer(alloc, session, tables, digits)?;
+        assert_same(answer.as_str(), want, digits)?;
+    }
+    Ok(())
+}
+
+// The same of a session with one worker.
 fn answers(alloc: Global, stream: &str) -> Result<(), Fail> {
     let tables = Catalog::read(alloc, ACCOUNTS)?;
     let mut session = Session::new(alloc, 1, 1000);
-    for line in stream.lines() {
-        let Some((digits, want)) = line.split_once(' ') else {
-            return Err(Fail::from("a payload and its answer"));
-        };
-        let payload = Bytes::copy_from_slice(alloc, &from_hex(alloc, digits)?)?;
-        let answer = session.admit(alloc, &tables, &payload);
-        assert_same(format!(in alloc; "{answer:?}")?.as_str(), want, digits)?;
-    }
-    Ok(())
+    answers_all(alloc, &mut session, &tables, stream)
 }
 
 #[test]

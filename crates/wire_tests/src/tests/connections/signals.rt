@@ -50,6 +50,24 @@ impl Write for Shaken<'_> {
     }
 }
 
+// Each byte is read once, up to the end.
+fn assert_read(stream: &mut Retried<Shaken<'_>>) -> Result<(), Fail> {
+    let mut buf = [0u8; 8];
+    for byte in b"stream" {
+        assert_same(stream.read(&mut buf)?, 1, "read")?;
+        assert_same(buf[0], *byte, "byte")?;
+    }
+    assert_same(stream.read(&mut buf)?, 0, "read")
+}
+
+// Each byte is written once.
+fn assert_taken(stream: &mut Retried<Shaken<'_>>) -> Result<(), Fail> {
+    assert_same(stream.write(b"up")?, 1, "write")?;
+    assert_same(stream.write(b"p")?, 1, "write")?;
+    stream.flush()?;
+    Ok(())
+}
+
 #[test]
 fn an_interrupted_call_is_tried_again(rt: HostRuntime) -> Result<(), Fail> {
     let mut taken = Vec::new(rt.alloc());
@@ -58,15 +76,8 @@ fn an_interrupted_call_is_tried_again(rt: HostRuntime) -> Result<(), Fail> {
         taken: &mut taken,
         is_interrupted: false,
     });
-    let mut buf = [0u8; 8];
-    for byte in b"stream" {
-        assert_same(stream.read(&mut buf)?, 1, "read")?;
-        assert_same(buf[0], *byte, "byte")?;
-    }
-    assert_same(stream.read(&mut buf)?, 0, "read")?;
-    assert_same(stream.write(b"up")?, 1, "write")?;
-    assert_same(stream.write(b"p")?, 1, "write")?;
-    stream.flush()?;
+    assert_read(&mut stream)?;
+    assert_taken(&mut stream)?;
     drop(stream);
     assert_same(taken.as_slice(), b"up".as_slice(), "taken")
 }

@@ -1,5 +1,5 @@
 use Rattle.std.proofs.Common.{length}
-use Rattle.wire_tests.proofs.tests.framing.items_where_memory_is_refused.Given as goal
+use Rattle.wire_tests.proofs.tests.framing.assert_next.Given as goal
 
 abbrev pub decreases-loop-item : goal.decreases-loop-item
 decreases-loop-item l = length l.frames.items
