@@ -1,6 +1,6 @@
 // What a command line asks for: the limits of its numbers, and what stands where none was given.
 use command::options;
-use command::options::Input;
+use command::options::{Input, Options};
 use leader::Config;
 use std::alloc::Global;
 use std::fmt::Write;
@@ -61,6 +61,16 @@ fn numbers_within_their_limits(rt: HostRuntime) -> Result<(), Fail> {
     Ok(())
 }
 
+/// What is asked for with no number has the defaults of the program.
+fn assert_defaults(asked: &Options<'_>, spooled: bool) -> Result<(), Fail> {
+    assert_same(asked.spooled, spooled, "spooled")?;
+    assert_same(asked.catalog, "c", "catalog")?;
+    assert_same(asked.config.workers, if spooled { 0 } else { 2 }, "workers")?;
+    assert_same(asked.config.ring, if spooled { 1 } else { 64 }, "ring")?;
+    assert_same(asked.config.spool, 1_073_741_824, "spool")?;
+    assert_holds(!asked.verbose && !asked.progress, "what is said")
+}
+
 #[test]
 fn numbers_that_are_not_given(rt: HostRuntime) -> Result<(), Fail> {
     for (command, spooled, option, input) in [
@@ -75,13 +85,8 @@ fn numbers_that_are_not_given(rt: HostRuntime) -> Result<(), Fail> {
         let asked = options::parse(rt.alloc(), words.as_slice())
             .ok()
             .ok_or("a command line that is refused")?;
-        assert_same(asked.spooled, spooled, "spooled")?;
-        assert_same(asked.catalog, "c", "catalog")?;
+        assert_defaults(&asked, spooled)?;
         assert_holds(asked.input == input, "input")?;
-        assert_same(asked.config.workers, if spooled { 0 } else { 2 }, "workers")?;
-        assert_same(asked.config.ring, if spooled { 1 } else { 64 }, "ring")?;
-        assert_same(asked.config.spool, 1_073_741_824, "spool")?;
-        assert_holds(!asked.verbose && !asked.progress, "what is said")?;
     }
     Ok(())
 }

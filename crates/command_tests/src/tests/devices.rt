@@ -1,9 +1,12 @@
 // How streams come: in pieces, cut short, from a source or to a sink that fails; and catalogs that are refused.
-use crate::tests::runs::{CONFIG, Stopped, framed, printed, printed_from, push_frame};
+use crate::tests::runs::{
+    CONFIG, Stopped, framed, printed, printed_from, push_frame, push_frames, spelled,
+};
 use command::execute::{Ended, execute};
 use leader::Config;
 use std::alloc::Global;
 use std::fmt::Write;
+use std::ops::Range;
 use std::random::RandomSource;
 use std::sync::Wait;
 use std::test::Fail;
@@ -59,18 +62,40 @@ fn pieces_of_each_length(rt: HostRuntime) -> Result<(), Fail> {
     Ok(())
 }
 
+/// The frames of these payloads, and a keepalive that wants a reply between them.
+fn with_keepalive(alloc: Global, before: &[&str], behind: &[&str]) -> Result<Vec<u8>, Fail> {
+    let mut stream = framed(alloc, before)?;
+    let keepalive = hex::decode(alloc, KEEPALIVE)?;
+    stream.extend_from_slice(keepalive.as_slice())?;
+    push_frames(&mut stream, alloc, behind)?;
+    Ok(stream)
+}
+
+/// This is printed of a stream, with this status, and these updates are written back.
+fn assert_printed<R: Threads + Wait + RandomSource + Sync>(
+    rt: &R,
+    alloc: Global,
+    stream: &[u8],
+    (report, status): (&str, u8),
+    updates: &[&str],
+) -> Result<(), Fail> {
+    let updates = spelled(alloc, updates)?;
+    let (ended, out, written) = printed(rt, alloc, stream, usize::MAX, &CONFIG);
+    assert_same(out.as_slice(), report.as_bytes(), "out")?;
+    assert_same(ended.status, status, "status")?;
+    assert_same(written.as_slice(), updates.as_slice(), "written")
+}
+
 #[test]
 fn updates_after_a_commit_and_a_keepalive(rt: HostRuntime) -> Result<(), Fail> {
-    let mut stream = framed(rt.alloc(), &ONE_INSERT)?;
-    let keepalive = hex::decode(rt.alloc(), KEEPALIVE)?;
-    stream.extend_from_slice(keepalive.as_slice())?;
-    let (ended, out, written) = printed(&rt, rt.alloc(), stream.as_slice(), usize::MAX, &CONFIG);
-    assert_same(out.as_slice(), REPORT.as_bytes(), "out")?;
-    assert_same(ended.status, 0, "status")?;
-    let mut updates = hex::decode(rt.alloc(), UPDATE)?;
-    let reply = hex::decode(rt.alloc(), REPLY)?;
-    updates.extend_from_slice(reply.as_slice())?;
-    assert_same(written.as_slice(), updates.as_slice(), "written")
+    let stream = with_keepalive(rt.alloc(), &ONE_INSERT, &[])?;
+    assert_printed(
+        &rt,
+        rt.alloc(),
+        stream.as_slice(),
+        (REPORT, 0),
+        &[UPDATE, REPLY],
+    )
 }
 
 /// The update that answers a keepalive at 0/200 inside of a block, and the one after the commit at 0/220.
@@ -82,32 +107,19 @@ const UPDATE_AT_220: &str =
 
 #[test]
 fn a_keepalive_inside_of_a_block(rt: HostRuntime) -> Result<(), Fail> {
-    let mut stream = framed(rt.alloc(), &STREAMED[..2])?;
-    let keepalive = hex::decode(rt.alloc(), KEEPALIVE)?;
-    stream.extend_from_slice(keepalive.as_slice())?;
-    let rest = framed(rt.alloc(), &STREAMED[2..])?;
-    stream.extend_from_slice(rest.as_slice())?;
-    let (_, out, written) = printed(&rt, rt.alloc(), stream.as_slice(), usize::MAX, &CONFIG);
-    let want = "table public.accounts 1\n1|a|n\nposition 0/220\nend 0 Clean\n";
-    assert_same(out.as_slice(), want.as_bytes(), "out")?;
-    let mut updates = hex::decode(rt.alloc(), REPLY_IN_BLOCK)?;
-    let update = hex::decode(rt.alloc(), UPDATE_AT_220)?;
-    updates.extend_from_slice(update.as_slice())?;
-    assert_same(written.as_slice(), updates.as_slice(), "written")
+    let stream = with_keepalive(rt.alloc(), &STREAMED[..2], &STREAMED[2..])?;
+    let report = "table public.accounts 1\n1|a|n\nposition 0/220\nend 0 Clean\n";
+    let updates = [REPLY_IN_BLOCK, UPDATE_AT_220];
+    assert_printed(&rt, rt.alloc(), stream.as_slice(), (report, 0), &updates)
 }
 
 #[test]
 fn a_keepalive_behind_a_clash_is_not_answered(rt: HostRuntime) -> Result<(), Fail> {
     // The insert comes a second time.
-    let mut stream = framed(rt.alloc(), &ONE_INSERT[..3])?;
-    push_frames(&mut stream, rt.alloc(), &ONE_INSERT[2..3])?;
-    let keepalive = hex::decode(rt.alloc(), KEEPALIVE)?;
-    stream.extend_from_slice(keepalive.as_slice())?;
-    let (ended, out, written) = printed(&rt, rt.alloc(), stream.as_slice(), usize::MAX, &CONFIG);
-    let want = "table public.accounts 0\nposition 0/0\nend 5 Unique public.accounts 0\n";
-    assert_same(out.as_slice(), want.as_bytes(), "out")?;
-    assert_same(ended.status, 3, "status")?;
-    assert_same(written.len(), 0, "written")
+    let payloads = [ONE_INSERT[0], ONE_INSERT[1], ONE_INSERT[2], ONE_INSERT[2]];
+    let stream = with_keepalive(rt.alloc(), &payloads, &[])?;
+    let report = "table public.accounts 0\nposition 0/0\nend 5 Unique public.accounts 0\n";
+    assert_printed(&rt, rt.alloc(), stream.as_slice(), (report, 3), &[])
 }
 
 #[test]
@@ -146,36 +158,49 @@ fn push_insert(stream: &mut Vec<u8>, alloc: Global, xid: u32, key: u32) -> Resul
     push_frame(stream, payload.as_slice())
 }
 
-/// Appends frames with these payloads.
-fn push_frames(stream: &mut Vec<u8>, alloc: Global, payloads: &[&str]) -> Result<(), Fail> {
-    let frames = framed(alloc, payloads)?;
-    stream.extend_from_slice(frames.as_slice())?;
+/// Appends the inserts of rows with these keys.
+fn push_inserts(
+    stream: &mut Vec<u8>,
+    alloc: Global,
+    xid: u32,
+    keys: Range<u32>,
+) -> Result<(), Fail> {
+    for key in keys {
+        push_insert(stream, alloc, xid, key)?;
+    }
     Ok(())
 }
 
-// The second transaction commits first, and the rows stand in key order.
-#[test]
-fn a_thousand_items_of_two_streamed_transactions(rt: HostRuntime) -> Result<(), Fail> {
-    let mut stream = framed(rt.alloc(), &STREAMED[..2])?;
-    for key in 1..501u32 {
-        push_insert(&mut stream, rt.alloc(), 700, key)?;
-    }
-    push_frames(&mut stream, rt.alloc(), &["45", "53000002bd01"])?;
-    for key in 501..1001u32 {
-        push_insert(&mut stream, rt.alloc(), 701, key)?;
-    }
+/// Two streamed transactions of five hundred inserts each, of which the second commits first.
+fn a_thousand_inserts(alloc: Global) -> Result<Vec<u8>, Fail> {
+    let mut stream = framed(alloc, &STREAMED[..2])?;
+    push_inserts(&mut stream, alloc, 700, 1..501)?;
+    push_frames(&mut stream, alloc, &["45", "53000002bd01"])?;
+    push_inserts(&mut stream, alloc, 701, 501..1001)?;
     let commits = [
         "45",
         "63000002bd00000000000000020000000000000002200000000000000000",
         "63000002bc00000000000000030000000000000003200000000000000000",
     ];
-    push_frames(&mut stream, rt.alloc(), &commits)?;
-    let mut want = String::new(rt.alloc());
-    want.push_str("table public.accounts 1000\n")?;
+    push_frames(&mut stream, alloc, &commits)?;
+    Ok(stream)
+}
+
+/// The rows stand in key order.
+fn a_thousand_rows(alloc: Global) -> Result<String, Fail> {
+    let mut report = String::new(alloc);
+    report.push_str("table public.accounts 1000\n")?;
     for key in 1..1001u32 {
-        write!(want, "{key}|\\N|n\n")?;
+        write!(report, "{key}|\\N|n\n")?;
     }
-    want.push_str("position 0/320\nend 0 Clean\n")?;
+    report.push_str("position 0/320\nend 0 Clean\n")?;
+    Ok(report)
+}
+
+#[test]
+fn a_thousand_items_of_two_streamed_transactions(rt: HostRuntime) -> Result<(), Fail> {
+    let stream = a_thousand_inserts(rt.alloc())?;
+    let want = a_thousand_rows(rt.alloc())?;
     let (ended, out, _) = printed(&rt, rt.alloc(), stream.as_slice(), 4096, &CONFIG);
     assert_same(out.as_slice(), want.as_bytes(), "out")?;
     assert_same(ended.status, 0, "status")

@@ -1,7 +1,7 @@
 // A stream that comes over a connection, and the status updates that go back: a sender listens on a
 // socket of this machine, in a thread of its own.
 use crate::tests::devices::{KEEPALIVE, ONE_INSERT};
-use crate::tests::runs::{CONFIG, Stopped, framed};
+use crate::tests::runs::{CONFIG, Stopped, framed, push_frames, spelled};
 use command::execute::{Ended, execute};
 use connection::Connection;
 use leader::Config;
@@ -26,9 +26,11 @@ static TWO_INSERTS: [&str; 5] = [
 ];
 
 /// The status updates after the commit at 0/140 and to a keepalive at 0/200, with the clock at 5.
-const UPDATES: &str =
-    "640000002672000000000000014000000000000001400000000000000140000000000000000500\
-    640000002672000000000000020000000000000001400000000000000140000000000000000500";
+const UPDATE: &str =
+    "640000002672000000000000014000000000000001400000000000000140000000000000000500";
+
+const REPLY: &str =
+    "640000002672000000000000020000000000000001400000000000000140000000000000000500";
 
 /// How a sender sends.
 #[derive(Clone, Copy)]
@@ -110,47 +112,60 @@ fn follow<T: Threads + Wait + RandomSource + Sync>(
     (ended, out)
 }
 
+/// A follower of the stream ends so, with both rows, and its sender hears these updates.
+fn assert_followed<T: Threads + Wait + RandomSource + Sync>(
+    threads: &T,
+    alloc: Global,
+    sides: (Connection, TcpStream),
+    (stream, manner): (&[u8], Manner),
+    (end, status): (&str, u8),
+    updates: &[&str],
+) -> Result<(), Fail> {
+    let report = format!(in alloc;
+        "table public.accounts 2\n1|a|n\n2|b|n\nposition 0/140\nend {end}\n"
+    )?;
+    let updates = spelled(alloc, updates)?;
+    let (ended, out, heard) = followed(threads, alloc, sides, stream, manner);
+    assert_same(out.as_slice(), report.as_bytes(), end)?;
+    assert_same(ended.status, status, "status")?;
+    assert_heard(heard.as_ref(), updates.as_slice())
+}
+
+fn assert_heard(heard: Option<&Vec<u8>>, updates: &[u8]) -> Result<(), Fail> {
+    let heard = heard.ok_or("a sender whose connection broke")?;
+    assert_same(heard.as_slice(), updates, "heard")
+}
+
 #[test]
 fn updates_go_back_over_the_connection(rt: HostRuntime) -> Result<(), Fail> {
     let mut stream = framed(rt.alloc(), &TWO_INSERTS)?;
-    let keepalive = hex::decode(rt.alloc(), KEEPALIVE)?;
-    stream.extend_from_slice(keepalive.as_slice())?;
-    stream.extend_from_slice(b"c\0\0\0\x04")?;
-    let updates = hex::decode(rt.alloc(), UPDATES)?;
+    let end = spelled(rt.alloc(), &[KEEPALIVE, "6300000004"])?;
+    stream.extend_from_slice(end.as_slice())?;
     for manner in [Manner::Whole, Manner::Bytewise] {
-        let (ended, out, heard) = followed(&rt, rt.alloc(), pair(&rt)?, stream.as_slice(), manner);
-        let want = "table public.accounts 2\n1|a|n\n2|b|n\nposition 0/140\nend 0 Clean\n";
-        assert_same(out.as_slice(), want.as_bytes(), "out")?;
-        assert_same(ended.status, 0, "status")?;
-        let heard = heard.ok_or("a sender whose connection broke")?;
-        assert_same(heard.as_slice(), updates.as_slice(), "heard")?;
+        let sent = (stream.as_slice(), manner);
+        let updates = [UPDATE, REPLY];
+        assert_followed(&rt, rt.alloc(), pair(&rt)?, sent, ("0 Clean", 0), &updates)?;
     }
     Ok(())
 }
 
+/// How a follower ends where its sender closes so many bytes before the end of a frame that comes behind
+/// the commit, which has 51.
+static CLOSED: [(usize, (&str, u8)); 3] = [
+    (51, ("0 Clean", 0)),
+    (50, ("1 Frame Truncated", 2)),
+    (1, ("1 Frame Truncated", 2)),
+];
+
 #[test]
 fn a_sender_that_closes_within_a_frame(rt: HostRuntime) -> Result<(), Fail> {
     let mut stream = framed(rt.alloc(), &TWO_INSERTS)?;
-    let edge = stream.len();
-    let rest = framed(rt.alloc(), &ONE_INSERT[..1])?;
-    stream.extend_from_slice(rest.as_slice())?;
-    stream.pop();
-    for (length, end) in [
-        (edge, "0 Clean"),
-        (edge + 1, "1 Frame Truncated"),
-        (stream.len(), "1 Frame Truncated"),
-    ] {
+    push_frames(&mut stream, rt.alloc(), &ONE_INSERT[..1])?;
+    for &(less, end) in &CLOSED {
+        let length = stream.len().saturating_sub(less);
         let sent = stream.as_slice().get(..length).unwrap_or(&[]);
-        let (_, out, heard) = followed(&rt, rt.alloc(), pair(&rt)?, sent, Manner::Whole);
-        let want = format!(in rt.alloc();
-            "table public.accounts 2\n1|a|n\n2|b|n\nposition 0/140\nend {end}\n"
-        )?;
-        assert_same(out.as_slice(), want.as_bytes(), "out")?;
-        assert_same(
-            heard.ok_or("a sender whose connection broke")?.len(),
-            39,
-            "heard",
-        )?;
+        let sent = (sent, Manner::Whole);
+        assert_followed(&rt, rt.alloc(), pair(&rt)?, sent, end, &[UPDATE])?;
     }
     Ok(())
 }
@@ -162,8 +177,7 @@ fn a_connection_that_breaks(rt: HostRuntime) -> Result<(), Fail> {
     let alloc = rt.alloc();
     let (connection, mut peer) = pair(&rt)?;
     let mut stream = framed(alloc, &TWO_INSERTS)?;
-    let rest = framed(alloc, &ONE_INSERT[..1])?;
-    stream.extend_from_slice(rest.as_slice())?;
+    push_frames(&mut stream, alloc, &ONE_INSERT[..1])?;
     let ((ended, out), sent) = thread::join(
         &rt,
         || follow(&rt, alloc, &connection),

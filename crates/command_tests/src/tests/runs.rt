@@ -39,6 +39,23 @@ pub fn framed(alloc: Global, payloads: &[&str]) -> Result<Vec<u8>, Fail> {
     Ok(stream)
 }
 
+/// The bytes that these digits spell, one after another.
+pub fn spelled(alloc: Global, digits: &[&str]) -> Result<Vec<u8>, Fail> {
+    let mut bytes = Vec::new(alloc);
+    for part in digits {
+        let part = hex::decode(alloc, *part)?;
+        bytes.extend_from_slice(part.as_slice())?;
+    }
+    Ok(bytes)
+}
+
+/// Appends frames with these payloads.
+pub fn push_frames(stream: &mut Vec<u8>, alloc: Global, payloads: &[&str]) -> Result<(), Fail> {
+    let frames = framed(alloc, payloads)?;
+    stream.extend_from_slice(frames.as_slice())?;
+    Ok(())
+}
+
 /// Appends an XLogData frame with the payload.
 pub fn push_frame(stream: &mut Vec<u8>, payload: &[u8]) -> Result<(), Fail> {
     let length = u32::try_from(payload.len().saturating_add(29))
