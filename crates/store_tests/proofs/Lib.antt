@@ -1,0 +1,3 @@
+mod Last
+mod Names
+mod Scenes

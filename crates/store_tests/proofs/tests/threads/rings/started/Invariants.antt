@@ -1,0 +1,5 @@
+use Rattle.std.proofs.Common.{◌≡◌}
+use Rattle.store_tests.proofs.tests.threads.rings.started.Given as goal
+
+abbrev pub invariant-loop : goal.invariant-loop
+invariant-loop l = l.sender.ring ≡ l.initial.sender.ring

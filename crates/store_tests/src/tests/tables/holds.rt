@@ -1,0 +1,208 @@
+// That the calls succeed with ample memory, what they then answer, and that a refusal changes nothing.
+use crate::tests::asserts::{assert_holds, assert_same};
+use keyholds::{Cell, Holds, SoughtRow, Xid};
+use model::{Key, OutOfMemory, TableId, Value};
+use std::alloc::Global;
+use std::process::Abort;
+use std::test::Fail;
+
+const ACCOUNTS: TableId = 0;
+
+const BRANCHES: TableId = 1;
+
+fn row(alloc: Global, table: TableId, key: i64) -> Result<Cell, OutOfMemory> {
+    Ok(Cell::Row(table, Key::from_value(alloc, Value::Int(key))?))
+}
+
+/// Takes a cell, or answers the transaction that is in its way.
+fn hold(
+    alloc: Global,
+    holds: &mut Holds<i64>,
+    xid: Xid,
+    cell: Cell,
+    stood: i64,
+) -> Result<Option<Xid>, OutOfMemory> {
+    if let Some(other) = holds.other_holder(xid, &cell) {
+        return Ok(Some(other));
+    }
+    let mut cells = Vec::new(alloc);
+    cells.push((cell, stood))?;
+    holds.take(xid, cells)?;
+    Ok(None)
+}
+
+#[test]
+fn a_release_to_a_mark_leaves_what_was_held_before(rt: HostRuntime) -> Result<(), Fail> {
+    let alloc = rt.alloc();
+    let mut holds = Holds::new(alloc);
+    assert_same(&rt, holds.mark(700), 0, "nothing is held");
+    for (key, stood) in [(1i64, 10i64), (2, 20)] {
+        let cell = row(alloc, ACCOUNTS, key)?;
+        hold(alloc, &mut holds, 700, cell, stood)?;
+    }
+    let mark = holds.mark(700);
+    assert_same(&rt, mark, 2, "two are held");
+    for (key, stood) in [(2i64, 21i64), (3, 30)] {
+        let cell = row(alloc, ACCOUNTS, key)?;
+        hold(alloc, &mut holds, 700, cell, stood)?;
+    }
+    assert_same(&rt, holds.mark(700), 3, "one was held already");
+    holds.release_since(700, mark);
+    assert_same(&rt, holds.mark(700), 2, "as at the mark");
+    for (key, stood) in [(1i64, Some(&10i64)), (2, Some(&20)), (3, None)] {
+        let cell = row(alloc, ACCOUNTS, key)?;
+        assert_same(&rt, holds.stood(&cell), stood, key);
+    }
+    holds.release_all(700);
+    assert_same(&rt, holds.mark(700), 0, "all are let go");
+    Ok(())
+}
+
+// A caller walks the cells past a mark, from the last to the first.
+#[test]
+fn cells_past_a_mark_are_let_go_from_the_last(rt: HostRuntime) -> Result<(), Fail> {
+    let alloc = rt.alloc();
+    let mut holds = Holds::new(alloc);
+    for (key, stood) in [(1i64, 10i64), (2, 20), (3, 30)] {
+        let cell = row(alloc, ACCOUNTS, key)?;
+        hold(alloc, &mut holds, 700, cell, stood)?;
+    }
+    for key in [3i64, 2] {
+        let cell = row(alloc, ACCOUNTS, key)?;
+        let last = holds.release_last(700, 1);
+        assert_same(&rt, last.as_ref(), Some(&cell), key);
+    }
+    assert_same(
+        &rt,
+        holds.release_last(700, 1).as_ref(),
+        None,
+        "at the mark",
+    );
+    for (key, other) in [(1i64, Some(700u32)), (2, None), (3, None)] {
+        let cell = row(alloc, ACCOUNTS, key)?;
+        assert_same(&rt, holds.other_holder(701, &cell), other, key);
+    }
+    Ok(())
+}
+
+// A row is looked for by a key that its owner keeps.
+#[test]
+fn a_row_is_found_by_a_borrowed_key(rt: HostRuntime) -> Result<(), Fail> {
+    let alloc = rt.alloc();
+    let mut holds = Holds::new(alloc);
+    let cell = row(alloc, ACCOUNTS, 1)?;
+    hold(alloc, &mut holds, 700, cell, 10)?;
+    hold(alloc, &mut holds, 701, Cell::Whole(BRANCHES), 20)?;
+    for (table, key, found) in [
+        (ACCOUNTS, 1i64, Some((700u32, &10i64))),
+        (ACCOUNTS, 2, None),
+        (BRANCHES, 1, None),
+    ] {
+        let key = Key::from_value(alloc, Value::Int(key))?;
+        let sought = SoughtRow { table, key: &key };
+        assert_same(&rt, holds.held_at(&sought), found, table);
+    }
+    let key = Key::from_value(alloc, Value::Int(1))?;
+    for (table, holder) in [(ACCOUNTS, 700u32), (BRANCHES, 701)] {
+        let sought = SoughtRow { table, key: &key };
+        assert_same(
+            &rt,
+            holds.other_holder_of(702, &sought),
+            Some(holder),
+            table,
+        );
+        assert_same(&rt, holds.other_holder_of(holder, &sought), None, table);
+        assert_holds(&rt, holds.overlaps_one(holder, &sought), table);
+        assert_holds(&rt, !holds.overlaps_one(702, &sought), table);
+    }
+    Ok(())
+}
+
+/// Takes a cell. A refusal changes nothing, and then memory is there.
+fn take_or_refuse(
+    rt: &impl Abort,
+    alloc: Global,
+    holds: &mut Holds<i64>,
+    (xid, table, key): (Xid, TableId, i64),
+) -> Result<(), OutOfMemory> {
+    let before = holds.mark(xid);
+    let cell = row(alloc, table, key)?;
+    let again = row(alloc, table, key)?;
+    if hold(alloc, holds, xid, cell, key).is_err() {
+        assert_same(rt, holds.mark(xid), before, xid);
+        assert_same(rt, holds.stood(&again), None, xid);
+        assert_same(rt, holds.other_holder(702, &again), None, xid);
+        let held = hold(alloc, holds, xid, again, key);
+        assert_same(rt, held, Ok(None), xid);
+        return Err(OutOfMemory);
+    }
+    assert_holds(rt, holds.mark(xid) > before, xid);
+    assert_same(rt, holds.other_holder(702, &again), Some(xid), xid);
+    Ok(())
+}
+
+/// Two transactions take cells, up to the first refusal.
+fn take_until_refused(rt: &impl Abort, alloc: Global) -> Result<(), OutOfMemory> {
+    let mut holds = Holds::new(alloc);
+    for taken in [
+        (700u32, ACCOUNTS, 1i64),
+        (701, ACCOUNTS, 2),
+        (700, BRANCHES, 1),
+    ] {
+        take_or_refuse(rt, alloc, &mut holds, taken)?;
+    }
+    Ok(())
+}
+
+// Where memory is refused nothing is held, and the same call succeeds later.
+#[test]
+fn cells_where_memory_is_refused(rt: HostRuntime) {
+    if take_until_refused(&rt, rt.alloc()).is_err() {
+        let again = take_until_refused(&rt, rt.alloc());
+        assert_holds(&rt, again.is_ok(), "memory is there again");
+    }
+}
+
+fn take_many(
+    rt: &impl Abort,
+    alloc: Global,
+    holds: &mut Holds<i64>,
+    count: i64,
+) -> Result<(), OutOfMemory> {
+    for key in 0..count {
+        let cell = row(alloc, ACCOUNTS, key)?;
+        assert_same(rt, hold(alloc, holds, 700, cell, key)?, None, key);
+    }
+    Ok(())
+}
+
+/// Looks many rows up for another transaction, and the whole table each time for their holder.
+fn find_many(
+    rt: &impl Abort,
+    alloc: Global,
+    holds: &Holds<i64>,
+    count: i64,
+) -> Result<(), OutOfMemory> {
+    let table = [Cell::Whole(ACCOUNTS)];
+    for key in 0..count {
+        let cell = [row(alloc, ACCOUNTS, key)?];
+        assert_same(rt, holds.free_for(701, &cell), Some(700), key);
+        assert_same(rt, holds.free_for(700, &table), None, key);
+    }
+    Ok(())
+}
+
+#[test]
+fn a_million_cells_are_held_and_let_go(rt: HostRuntime) -> Result<(), Fail> {
+    let alloc = rt.alloc();
+    let mut holds = Holds::new(alloc);
+    take_many(&rt, alloc, &mut holds, 1_000_000)?;
+    find_many(&rt, alloc, &holds, 1_000_000)?;
+    let table = [Cell::Whole(ACCOUNTS)];
+    holds.release_since(700, 2);
+    assert_same(&rt, holds.mark(700), 2, "two are left");
+    assert_same(&rt, holds.free_for(701, &table), Some(700), "two are left");
+    holds.release_all(700);
+    assert_same(&rt, holds.free_for(701, &table), None, "none is left");
+    Ok(())
+}

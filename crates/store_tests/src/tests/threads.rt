@@ -1,0 +1,18 @@
+// The files, and what each tests or gives the others.
+//
+//   desks       `crew`
+//   halves      `tokens`
+//   positions   `origin`
+//   posts       `worker`, what a lane is given
+//   readers     `snapshot`
+//   rings       `ring`
+//   table       the table of the stores, and its rows
+//   workers     `worker`
+mod desks;
+mod halves;
+mod positions;
+mod posts;
+mod readers;
+mod rings;
+mod table;
+mod workers;

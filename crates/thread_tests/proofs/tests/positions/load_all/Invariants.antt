@@ -1,7 +1,0 @@
-use Rattle.std.proofs.Common.{◌≡◌}
-use Rattle.origin.specs.Commits.{Begins}
-use Rattle.thread_tests.proofs.tests.positions.load_all.Given as goal
-
-abbrev pub invariant-loop : goal.invariant-loop
-invariant-loop g l =
-    (l.loader.origin ≡ l.initial.loader.origin) × Begins l.initial.loader.ends l.loader.ends

@@ -1,6 +1,0 @@
-use Rattle.std.proofs.Common.{◌≡◌, length}
-use Rattle.thread_tests.proofs.tests.readers.watchers.commit_all.Given as goal
-
-abbrev pub invariant-loop-commits : goal.invariant-loop-commits
-invariant-loop-commits g l =
-    (l.publisher.origin ≡ l.initial.publisher.origin) × (length l.publisher.ends ≡ l.commits)

@@ -1,5 +1,0 @@
-use Rattle.std.proofs.Common.{◌≡◌}
-use Rattle.thread_tests.proofs.tests.rings.started.Given as goal
-
-abbrev pub invariant-loop : goal.invariant-loop
-invariant-loop l = l.sender.ring ≡ l.initial.sender.ring

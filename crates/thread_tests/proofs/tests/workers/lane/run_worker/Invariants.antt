@@ -1,4 +1,0 @@
-use Rattle.thread_tests.proofs.tests.workers.lane.run_worker.Given as goal
-
-abbrev pub ghosts-run_named : goal.ghosts-run_named
-ghosts-run_named g a = record { ring = λ _. a.taker.ring }

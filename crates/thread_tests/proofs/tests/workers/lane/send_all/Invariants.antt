@@ -1,5 +1,0 @@
-use Rattle.std.proofs.Common.{◌≡◌}
-use Rattle.thread_tests.proofs.tests.workers.lane.send_all.Given as goal
-
-abbrev pub invariant-loop-step : goal.invariant-loop-step
-invariant-loop-step g l = l.sender.ring ≡ l.initial.sender.ring

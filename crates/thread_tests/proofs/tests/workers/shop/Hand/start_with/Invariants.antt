@@ -1,5 +1,0 @@
-use Rattle.std.proofs.Common.{◌≡◌}
-use Rattle.thread_tests.proofs.tests.workers.shop.Hand.start_with.Given as goal
-
-abbrev pub invariant-loop-key : goal.invariant-loop-key
-invariant-loop-key g l = l.ticket.name ≡ g.N.StoreNames.tickets
