@@ -30,7 +30,7 @@ use Rattle.undo.specs.UndoLaws.{schema_undone}
 use Rattle.engine.specs.declared.serial.SerialStore.TheInside.{Inside}
 use Rattle.engine.specs.Clear.{IsClear, ClashesIn}
 use Rattle.engine.specs.ClearLaws.{IsClear-append, ClashesIn-behind, ClashesIn-before}
-use Rattle.engine.specs.Answers.{told_stop}
+use Rattle.live.specs.Answers.{told_stop}
 use Rattle.engine.specs.Engine.{engine_in, world_in, IsStore}
 use Rattle.engine.specs.Serial.{Serial, rows_now, with_changes}
 use Rattle.engine.specs.SerialInside.{base_in, idle_in, serial_in, IsSerial}

@@ -14,12 +14,12 @@ use Rattle.world.specs.World.{Opened, World}
 use Rattle.world.specs.Steps.{done_with}
 use Rattle.engine.specs.declared.events.Event.{Event}
 use Rattle.engine.specs.declared.events.Event.TheVariants.{Done}
-use Rattle.engine.specs.declared.live.Live.{Live}
+use Rattle.live.specs.declared.live_tables.Live.{Live}
 use Rattle.engine.specs.declared.store.Store.TheInside.{Inside}
 use Rattle.engine.specs.Events.{opened_by}
 use Rattle.engine.specs.Engine.{Engine, world_in, engine_in, IsStore}
 use Rattle.engine.specs.StoreLaws.{stands, with_parts, store_done}
-use Rattle.engine.specs.Tied.{IsTied}
+use Rattle.live.specs.Tied.{IsTied}
 
 -- The number is the ticket's, and the store's book has the ticket's list under it.
 pub record IsTicket (s : Inside) (t : OpenList Event) (n : ℕ) : Type 0 where

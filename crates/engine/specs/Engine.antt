@@ -16,9 +16,9 @@ use Rattle.world.specs.World.{World, Entry, journal}
 use Rattle.engine.specs.declared.entry.Entry as entry_type
 use Rattle.engine.specs.declared.events.LineEvent.{LineEvent}
 use Rattle.engine.specs.declared.store.Store.TheInside.{Inside}
-use Rattle.engine.specs.Answers.{told_stop}
+use Rattle.live.specs.Answers.{told_stop}
 use Rattle.engine.specs.Events.{ends_in, is_open_in, world_of}
-use Rattle.engine.specs.Tied.{IsTied}
+use Rattle.live.specs.Tied.{IsTied}
 
 -- a store as its callers see it
 pub record Engine : Type 0 where

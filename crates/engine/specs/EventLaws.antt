@@ -35,7 +35,7 @@ use Rattle.engine.specs.declared.events.Event.{Event}
 use Rattle.engine.specs.declared.events.Event.TheVariants.{Done, Wants}
 use Rattle.engine.specs.declared.events.LineEvent.{LineEvent}
 use Rattle.engine.specs.declared.events.LineEvent.TheVariants.{Opened as WasOpened, Committed as WasCommitted, Aborted as WasAborted}
-use Rattle.engine.specs.Answers.{after_act}
+use Rattle.live.specs.Answers.{after_act}
 use Rattle.engine.specs.Events.{after_event, opened_by, map_values, opened_in, past_of, commits_in, ends_in, last_end, world_of, events_of}
 
 -- ---- a finite map whose values are altered

@@ -8,8 +8,8 @@ use Rattle.model.specs.Rows.{Rows, Schema}
 use Rattle.model.specs.Effect.{serial, effect}
 use Rattle.engine.specs.declared.entry.Entry.{Entry}
 use Rattle.engine.specs.Engine.{entry_in}
-use Rattle.engine.specs.Journal.{rows_after}
-use Rattle.engine.specs.JournalLaws.{entry_comes_next}
+use Rattle.live.specs.Journal.{rows_after}
+use Rattle.live.specs.JournalLaws.{entry_comes_next}
 
 module _ (schema now : Schema) (rows new : Rows) (same : now ≡ schema) where
   pub serial_next : (c : Change) (left rest : List Change) → left ≡ c ∷ rest → new ≡ effect now rows c → (all : Rows) → serial schema rows left ≡ all

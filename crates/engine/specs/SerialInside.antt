@@ -14,7 +14,7 @@ use Rattle.indexes.specs.Content.{Content}
 use Rattle.undo.specs.Undo.{CanUndo}
 use Rattle.engine.specs.declared.serial.SerialStore.TheInside.{Inside}
 use Rattle.engine.specs.declared.store.Store.TheInside as store_inside
-use Rattle.engine.specs.Answers.{told_stop}
+use Rattle.live.specs.Answers.{told_stop}
 use Rattle.engine.specs.Clear.{IsClear}
 use Rattle.engine.specs.Engine.{engine_in, IsStore}
 use Rattle.engine.specs.Serial.{Serial, rows_now}

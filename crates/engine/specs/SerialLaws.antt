@@ -43,19 +43,19 @@ use Rattle.engine.specs.declared.entry.Entry.{Entry}
 use Rattle.engine.specs.declared.events.Event.{Event}
 use Rattle.engine.specs.declared.events.LineEvent.{LineEvent}
 use Rattle.engine.specs.declared.events.LineEvent.TheVariants.{Opened as WasOpened, Committed as WasCommitted}
-use Rattle.engine.specs.declared.live.Live.{Live}
+use Rattle.live.specs.declared.live_tables.Live.{Live}
 use Rattle.engine.specs.declared.store.Store.TheInside.{Inside}
-use Rattle.engine.specs.Answers.{told_stop}
+use Rattle.live.specs.Answers.{told_stop}
 use Rattle.engine.specs.Clear.{IsClear}
 use Rattle.engine.specs.ClearLaws.{serial_last}
 use Rattle.engine.specs.Engine.{entry_in, world_in, IsStore}
 use Rattle.engine.specs.Events.{opened_by, opened_in, commits_in, ends_in, last_end, is_same, is_open_in, open_after, world_of}
 use Rattle.engine.specs.EventLaws.{values_empty, same_commits, more_commits, more_committed, rise_more, ends_same, ends_more}
-use Rattle.engine.specs.Kept.{IsKept}
-use Rattle.engine.specs.NamedLaws.{entries_named}
+use Rattle.live.specs.Kept.{IsKept}
+use Rattle.engine.specs.EntryLaws.{entries_named}
 use Rattle.engine.specs.Serial.{Serial, rows_now, with_changes, having_made, with_work, committed_by}
 use Rattle.engine.specs.StoreLaws.{still_rising}
-use Rattle.engine.specs.Tied.{records_in, IsTied}
+use Rattle.live.specs.Tied.{records_in, IsTied}
 
 -- ---- a transaction that has made changes and nothing else
 

@@ -49,19 +49,20 @@ use Rattle.engine.specs.declared.events.Event.TheVariants.{Done}
 use Rattle.engine.specs.declared.events.LineEvent.{LineEvent}
 use Rattle.engine.specs.declared.events.LineEvent.TheVariants.{Opened as WasOpened, Committed as WasCommitted, Aborted as WasAborted}
 use Rattle.engine.specs.declared.entry.Entry.{Entry}
-use Rattle.engine.specs.declared.live.Live.{Live}
-use Rattle.engine.specs.declared.live.Stopped as stopped_type
-use Rattle.engine.specs.declared.live.Stopped.TheVariants.{Clash as StoppedByClash, Held as StoppedByHold}
+use Rattle.live.specs.declared.live_tables.Live.{Live}
+use Rattle.live.specs.declared.live_tables.Stopped as stopped_type
+use Rattle.live.specs.declared.live_tables.Stopped.TheVariants.{Clash as StoppedByClash, Held as StoppedByHold}
 use Rattle.engine.specs.declared.store.Store.TheInside.{Inside}
-use Rattle.engine.specs.declared.transaction.OpenTransaction.{OpenTransaction}
-use Rattle.engine.specs.Answers.{cause_of, stop_for, told_stop, after_act, stop_of, TellsWhatStopped, HasCause}
+use Rattle.live.specs.declared.transaction.OpenTransaction.{OpenTransaction}
+use Rattle.live.specs.Answers.{cause_of, stop_for, told_stop, after_act, stop_of, TellsWhatStopped, HasCause}
 use Rattle.engine.specs.Events.{opened_by, opened_in, commits_in, ends_in, last_end, is_same, open_after, is_open_in, world_of, events_of}
 use Rattle.engine.specs.EventLaws.{get_values, values_empty, opened_stands, rise_more, ends_same, ends_more, world_done, world_acted, world_opened, world_aborted, world_committed}
-use Rattle.engine.specs.Journal.{rows_after}
-use Rattle.engine.specs.JournalLaws.{entries_are_serial, rows_after_are_read}
+use Rattle.live.specs.Journal.{rows_after}
+use Rattle.live.specs.JournalLaws.{entries_are_serial, rows_after_are_read}
 use Rattle.engine.specs.Engine.{entry_in, world_in, AreNamed, IsStore}
-use Rattle.engine.specs.NamedLaws.{work_named, entries_named}
-use Rattle.engine.specs.Tied.{IsTied}
+use Rattle.live.specs.NamedLaws.{work_named}
+use Rattle.engine.specs.EntryLaws.{entries_named}
+use Rattle.live.specs.Tied.{IsTied}
 
 -- a record that is there is kept of a transaction
 kept_there : (found : Option OpenTransaction) (r : Record) → option_map (λ (k : OpenTransaction). k.record) found ≡ Some r → IsSome found

@@ -13,16 +13,16 @@ ghost use Rattle.world.specs.Steps.{Closes, Reaches};
 ghost use Rattle.engine.specs.declared.events.LineEvent.TheVariants.{Opened as WasOpened, Committed as WasCommitted};
 ghost use Rattle.engine.specs.Clear.{IsClear, ClashesIn};
 ghost use Rattle.engine.specs.Engine.{entry_in, IsOtherwiseSame};
-ghost use Rattle.engine.specs.Journal.{rows_after};
+ghost use Rattle.live.specs.Journal.{rows_after};
 ghost use Rattle.engine.specs.Serial.{rows_now, with_changes, HasBegun, committed_by, last_end_in};
 
 use crate::entry::{Changes, Entry};
 use crate::events::{Event, LineEvent};
-use crate::live::Live;
 use crate::store::{Store, new_tokens};
 use crate::tickets::Line;
 use change::Clash;
 use indexes::Tables;
+use live::Live;
 use model::{Change, CommitInfo, Item, OutOfMemory, Xid};
 use std::alloc::Global;
 use std::marker::{Brand, Model};

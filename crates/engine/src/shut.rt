@@ -3,30 +3,14 @@ ghost use Rattle.std.specs.Prelude.{◌≡◌, map};
 ghost use Rattle.world.specs.World.{World};
 ghost use Rattle.world.specs.Steps.{Closes};
 ghost use Rattle.engine.specs.Engine.{entry_in};
-ghost use Rattle.engine.specs.Journal.{rows_after};
-ghost use Rattle.engine.specs.Shut.{IsShut};
-ghost use Rattle.engine.specs.Tied.{IsTied};
+ghost use Rattle.live.specs.Journal.{rows_after};
+ghost use Rattle.live.specs.Shut.{IsShut};
 
 use crate::entry::Entry;
-use crate::live::Live;
 use crate::store::Store;
 use crate::tickets::Line;
 use indexes::Tables;
 use tokens::meet;
-
-impl Live {
-    /// Each open transaction is gone, its changes undone and its cells let go. It takes no memory.
-    pub(crate) fn abort_all(&mut self)
-        requires { (w : World) × IsTied w self.old }
-        ensures shut { (w : World) → IsTied w self.old → (v : World) × IsShut self.old.tables.schema w v × IsTied v self.new }
-        ensures schema { self.new.tables.schema ≡ self.old.tables.schema }
-    {
-        while let Some((xid, _)) = self.transactions.first_key_value() {
-            let xid = *xid;
-            self.abort(xid);
-        }
-    }
-}
 
 impl Store {
     /// The tables and the journal, once all transactions that are still open were aborted: what they

@@ -15,17 +15,10 @@ use Rattle.engine.specs.declared.events.LineEvent.TheVariants.{Opened as WasOpen
 use Rattle.engine.specs.Events.{is_same, open_after, is_open_in}
 use Rattle.session.specs.Sized.{item_of}
 use Rattle.session.specs.State.{Direct, Worker, Spooled, Open, OpenTransactions}
-use Rattle.leader.specs.Lanes.{Given}
-use Rattle.leader.specs.Standing.{Standing, items_of, items_by, own_of, Turns}
+use Rattle.lanes.specs.Lanes.{Given}
+use Rattle.lanes.proofs.Numbers.{same_self, same_apart}
+use Rattle.lanes.specs.Standing.{Standing, items_of, items_by, own_of, Turns}
 use Rattle.leader.specs.Threads.{IsAgreed, AreAgreed}
-
--- ---- numbers
-
-pub same_self : (x : ℕ) → is_same x x ≡ true
-same_self x = grind (arith, nat_tests)
-
-pub same_apart : (x q : ℕ) → (x ≡ q → ⊥) → is_same q x ≡ false
-same_apart x q ne = grind (arith, nat_tests)
 
 -- ---- the lanes
 

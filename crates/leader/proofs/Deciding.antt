@@ -12,15 +12,15 @@ use Rattle.model.specs.Effect.{ClashCause}
 use Rattle.change.specs.declared.outcome.Clash.{Clash}
 use Rattle.world.specs.World.{Opened, OpenOnes, ByClash, World}
 use Rattle.world.specs.Steps.{Aborts, StopsHeld, IsStuck}
-use Rattle.engine.specs.declared.answers.Stop.{Stop}
-use Rattle.engine.specs.declared.answers.Stop.TheVariants as stops
+use Rattle.live.specs.declared.answers.Stop.{Stop}
+use Rattle.live.specs.declared.answers.Stop.TheVariants as stops
 use Rattle.engine.specs.declared.events.LineEvent.{LineEvent}
 use Rattle.engine.specs.declared.events.LineEvent.TheVariants.{Aborted as WasAborted}
-use Rattle.engine.specs.Answers.{TellsWhatStopped}
+use Rattle.live.specs.Answers.{TellsWhatStopped}
 use Rattle.engine.specs.Events.{past_of, commits_in}
-use Rattle.leader.specs.Standing.{Own}
+use Rattle.lanes.specs.Standing.{Own}
 use Rattle.leader.specs.Ending.{Hand, AreStood, AreGone, IsNoted, TellsNoted, TellsHolder, IsLessOpen}
-use Rattle.leader.proofs.Agreeing.{same_self, same_apart}
+use Rattle.lanes.proofs.Numbers.{same_self, same_apart}
 
 -- ---- one slot
 

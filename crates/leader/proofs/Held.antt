@@ -27,7 +27,7 @@ use Rattle.course.specs.Leading.{Lane, InStep, IsAgreed, AreInStep, AreCounts}
 use Rattle.course.specs.Threads.{work_of, IsWorldOf}
 use Rattle.course.specs.ThreadedRun.{HasConflict, IsStuckBy, Clear, HasWorkedOn, IsThreadedCause, IsCauseOf}
 use Rattle.course.proofs.Books.{is_world, noted_conflict, stuck_by}
-use Rattle.leader.specs.Standing.{Own}
+use Rattle.lanes.specs.Standing.{Own}
 use Rattle.leader.specs.Threads.{KeepsToWork, HasTurn, MayEndBy}
 use Rattle.leader.specs.Ending.{Hand, IsNoted, end_for, EndsAsNoted, IsDecided, HasFinished, AreInHand, AreGiven}
 

@@ -17,10 +17,11 @@ use Rattle.session.specs.Sized.{item_of}
 use Rattle.session.specs.State.{Way, Worker, Spooled, Open, State, Setting}
 use Rattle.course.specs.Runs.{CommitsNext}
 use Rattle.course.specs.Threads.{work_of, done_by_commit}
-use Rattle.leader.specs.Lanes.{Given, Laned, IsDoing, IsHome, IsCounted, AreCounted}
-use Rattle.leader.specs.Standing.{Own, Standing, own_by, goes_by, items_of, items_by, own_of}
+use Rattle.lanes.proofs.Among.{none_among, among_cases, among_map}
+use Rattle.lanes.specs.Lanes.{Given, Laned, IsDoing, IsHome, IsCounted, AreCounted}
+use Rattle.lanes.specs.Standing.{Own, Standing, own_by, goes_by, items_of, items_by, own_of, in_lane, holds_in, KeepsGiven}
 use Rattle.leader.specs.Threads.{KeepsToWork, IsLeft, AreLeft}
-use Rattle.leader.specs.Ending.{in_lane, holds_in, KeepsGiven, Hand, AreInHand, AreGiven}
+use Rattle.leader.specs.Ending.{Hand, AreInHand, AreGiven}
 
 none_is : {X : Type 0} (x : X) → None ≡ Some x → ⊥
 none_is x e = cc
@@ -76,22 +77,6 @@ module _ (g : Setting) (s : State) (rest : List CopyItem) (xid : ℕ) where
   by_state _ _ _ _ is o e not = absurd is
 
 -- ---- among lanes
-
-none_among : {X : Type 0} (x : X) → Contains [] x → ⊥
-none_among x is = omega (arith, is.1)
-
-among_cases : {X : Type 0} (y : X) (xs : List X) (x : X) → Contains (y ∷ xs) x → (y ≡ x) ⊎ Contains xs x
-among_cases y xs x is = elim (Contains-append_cases (y ∷ []) xs x is) [
-  | inl first ↦ elim (Contains-push_cases [] y x first) [ inl earlier ↦ absurd (none_among x earlier) | inr here ↦ inl here ]
-  | inr later ↦ inr later
-]
-
-among_map : {X Y : Type 0} (f : X → Y) (xs : List X) (x : X) → Contains xs x → Contains (map f xs) (f x)
-among_map f [] x is = absurd (none_among x is)
-among_map f (y ∷ xs) x is = elim (among_cases y xs x is) [
-  | inl here ↦ Contains-append_left (f y ∷ []) (map f xs) (f x) (subst (λ z. Contains (f y ∷ []) (f z)) here (Contains-push [] (f y)))
-  | inr later ↦ Contains-append_right (f y ∷ []) (map f xs) (f x) (among_map f xs x later)
-]
 
 map_among : {X Y : Type 0} (f : X → Y) (xs : List X) (z : Y) → Contains (map f xs) z → (x : X) × Contains xs x × (f x ≡ z)
 map_among f [] z is = absurd (none_among z is)
@@ -266,14 +251,3 @@ module _ (g : Setting) (s : State) (rest : List CopyItem) (t : Standing) (held :
   are_given given counted xid count o among short at =
       let one = All-contains (λ (named : ℕ × ℕ). (goes : Option Given) × Contains t.lanes goes × IsCounted goes named) given (xid, count) counted among in
       lane_given xid count o one.0 one.1 one.2 short at
-
--- one count more is told, where there is room for it
-pub counted_one : (lanes : List Laned) (i : ℕ) (lane : Laned) (named : ℕ × ℕ) (given after : List (ℕ × ℕ)) (ok : Bool) → i < length lanes → lane ≡ get_or lanes i lane
-    → after ≡ (if ok then given ++ named ∷ [] else given) → AreCounted (map goes_by lanes) given → IsCounted lane.goes named → AreCounted (map goes_by lanes) after
-counted_one lanes i lane named given after false within is e counted one = subst (AreCounted (map goes_by lanes)) (sym e) counted
-counted_one lanes i lane named given after true within is e counted one =
-    subst (AreCounted (map goes_by lanes)) (sym e)
-    (All-push (λ (n : ℕ × ℕ). (goes : Option Given) × Contains (map goes_by lanes) goes × IsCounted goes n) given named counted (lane.goes, among_map goes_by lanes lane among, one))
-  where
-    among : Contains lanes lane
-    among = subst (Contains lanes) (sym is) (All-contains_itself lanes i lane within)

@@ -44,7 +44,7 @@ use Rattle.spooled.proofs.Taking.{handed_named}
 use Rattle.course.specs.Runs.{IsCommitOf, CommitsNext}
 use Rattle.course.specs.Threads.{done_by_commit}
 use Rattle.leader.specs.declared.lead.Stream.{Stream}
-use Rattle.leader.specs.Standing.{Standing, IsStoreEnd, IsStopEnd, IsBegun, IsHandedOut, IsTaken, IsMet, IsCommitted, HasTried, IsAborted}
+use Rattle.lanes.specs.Standing.{Standing, IsStoreEnd, IsStopEnd, IsBegun, IsHandedOut, IsTaken, IsMet, IsCommitted, HasTried, IsAborted}
 use Rattle.leader.specs.Threads.{Numbered, numbered, numbered_past, Led, led, AreNamed, AreAgreed, HasCommitted, IsLeadAt, HasLedTo, LeadTakes, AreLeft, HasTurn, MayEndBy, HasStopped, Stops}
 use Rattle.leader.proofs.Serving.{Committing, begun_agreed, handed_out_agreed, spooled_agreed, given_agreed, applied_agreed, kept_agreed, aborted_agreed, dropped_agreed, worker_commit, direct_commit, spooled_commit, unopened, all_held, met_held, tried_held}
 

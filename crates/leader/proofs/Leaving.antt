@@ -23,8 +23,8 @@ use Rattle.engine.specs.declared.events.Event.{Event}
 use Rattle.engine.specs.declared.events.LineEvent.{LineEvent}
 use Rattle.engine.specs.Engine.{entry_in}
 use Rattle.engine.specs.Events.{commits_in}
-use Rattle.engine.specs.Journal.{rows_after}
-use Rattle.engine.specs.JournalLaws.{entries_are_serial}
+use Rattle.live.specs.Journal.{rows_after}
+use Rattle.live.specs.JournalLaws.{entries_are_serial}
 use Rattle.session.specs.State.{State, Setting, setting, start}
 use Rattle.spooled.specs.declared.end.End.{End}
 use Rattle.spooled.specs.declared.end.End.TheVariants as ends
@@ -40,10 +40,10 @@ use Rattle.course.specs.Runs.{told_of, end_of}
 use Rattle.course.specs.Threads.{done_by_commit}
 use Rattle.course.specs.ThreadedRun.{IsThreadedCause, IsCauseOf}
 use Rattle.course.proofs.Threading.{entries_done, ends_done, changes_told}
-use Rattle.leader.specs.Lanes.{Laned, IsHome, AreCounted}
-use Rattle.leader.specs.Standing.{own_by, goes_by}
+use Rattle.lanes.specs.Lanes.{Laned, IsHome, AreCounted}
+use Rattle.lanes.specs.Standing.{own_by, goes_by, holds_in, KeepsGiven}
 use Rattle.leader.specs.Threads.{Led, HasCommitted, IsLeadAt, AreLeft, MayEndBy, HasLedTo}
-use Rattle.leader.specs.Ending.{Hand, holds_in, KeepsGiven, IsDecided, HasFinished, AreInHand, AreGiven}
+use Rattle.leader.specs.Ending.{Hand, IsDecided, HasFinished, AreInHand, AreGiven}
 use Rattle.leader.specs.WithWorkers.{WasSent, Leaves, IsShutSo, IsRunByWorkers, RunsBy}
 use Rattle.leader.proofs.Held.{is_world_of, is_cause}
 use Rattle.leader.proofs.InHand.{in_hand, are_given}

@@ -1,11 +1,7 @@
 mod Agreeing
-mod Giving
 mod Leading
 mod Serving
-mod Trying
-mod Turning
 mod Deciding
 mod Held
 mod InHand
 mod Leaving
-mod Making

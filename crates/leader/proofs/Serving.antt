@@ -21,11 +21,11 @@ use Rattle.session.specs.Told.{IsOpening, IsGiving, IsCommitting, IsAborting, it
 use Rattle.spooled.proofs.States.{get-inserted, get-other, get-left, get-gone}
 use Rattle.course.specs.Runs.{CommitsNext}
 use Rattle.course.specs.Threads.{work_of, done_by_commit}
-use Rattle.leader.specs.Lanes.{Given, IsDoing}
-use Rattle.leader.specs.Standing.{Own, nothing, Standing, items_by, own_of, with_done, IsUndone, Does, IsBegun, IsHandedOut, IsTaken, IsCommitted, HasTried, IsAborted}
+use Rattle.lanes.specs.Lanes.{Given, IsDoing}
+use Rattle.lanes.specs.Standing.{Own, nothing, Standing, items_by, own_of, with_done, IsUndone, Does, IsBegun, IsHandedOut, IsTaken, IsCommitted, HasTried, IsAborted}
 use Rattle.leader.specs.Threads.{IsAgreed, AreAgreed, IsLeft, AreLeft}
 use Rattle.leader.proofs.Agreeing.{same_turned, all_turned, items_here, items_elsewhere, own_here, own_elsewhere, had_is, not_nowhere, opened_here, opened_elsewhere, committed_here, committed_elsewhere, aborted_here, aborted_elsewhere, carried, none_there, by_lane, by_leader, by_none, nothing_there, agreed_but, agreed_beside}
-use Rattle.leader.proofs.Trying.{undone_doing}
+use Rattle.lanes.proofs.Trying.{undone_doing}
 
 abbrev line_of : Standing → List LineEvent
 line_of t = t.line

@@ -1,5 +1,4 @@
 -- The end of a run with workers, where all is in one hand: the store, its line, and the ticket of each open transaction.
---     in_lane, holds_in, KeepsGiven      the transaction whose ticket a lane has; what its type keeps of that
 --     Hand, EachHeld      slots in which tickets lie; a fact of each transaction there
 --     AreStood, AreGone      each is open in the world, with what its ticket tells; none is open there
 --     IsNoted, TellsNoted      a change clashed, and its transaction wants one still; an answer tells which, or that none
@@ -20,33 +19,17 @@ use Rattle.change.specs.declared.outcome.Clash.{Clash}
 use Rattle.world.specs.World.{Opened, ByClash, World, starting, changes_in}
 use Rattle.world.specs.Steps.{IsStuck, Reaches}
 use Rattle.engine.specs.declared.events.LineEvent.{LineEvent}
-use Rattle.engine.specs.Answers.{cause_of}
+use Rattle.live.specs.Answers.{cause_of}
 use Rattle.engine.specs.Events.{commits_in, is_open_in}
 use Rattle.frames.specs.declared.item.CopyItem.{CopyItem}
 use Rattle.session.specs.State.{Spooled, Open, State, Setting}
 use Rattle.spooled.specs.declared.end.End.{End}
 use Rattle.spooled.specs.declared.end.End.TheVariants as ends
 use Rattle.course.specs.Threads.{work_of, done_by_commit}
-use Rattle.leader.specs.Lanes.{Given, Laned, IsDoing}
-use Rattle.leader.specs.Standing.{Own}
+use Rattle.lanes.specs.Standing.{Own}
 use Rattle.leader.specs.Threads.{KeepsToWork}
 
 -- ---- what is in hand
-
--- the transaction whose ticket a lane has, by what goes by it and what that has done
-abbrev pub in_lane : Option Given → Option Opened → Option Own
-in_lane (Some given) (Some done) = Some (record { xid = given.xid; done = done })
-in_lane (Some given) None = None
-in_lane None back = None
-
--- that of a lane
-abbrev pub holds_in : Laned → Option Own
-holds_in l = in_lane l.goes l.back
-
--- What a transaction that came back has done is a beginning of what was given to it.
-abbrev pub KeepsGiven : Laned → Type 0
-KeepsGiven l =
-    MatchOption l.goes (Unit {0}) (λ given. MatchOption l.back (Unit {0}) (λ done. IsDoing done given.items))
 
 -- slots in which the tickets of open transactions lie, each as the transaction that it tells
 abbrev pub Hand : Type 0

@@ -37,8 +37,8 @@ use Rattle.spooled.specs.Progress.{Progress, start_progress, commits_from}
 use Rattle.course.specs.Runs.{CommitsNext}
 use Rattle.course.specs.Threads.{work_of, done_by_commit}
 use Rattle.leader.specs.declared.lead.Stream.{Stream}
-use Rattle.leader.specs.Lanes.{IsDoing}
-use Rattle.leader.specs.Standing.{Standing, items_by, own_of}
+use Rattle.lanes.specs.Lanes.{IsDoing}
+use Rattle.lanes.specs.Standing.{Standing, items_by, own_of}
 
 -- a commit, without what it made final: the number of its transaction, and where it stands in the log
 pub record Numbered : Type 0 where

@@ -15,7 +15,7 @@ use Rattle.world.specs.Steps.{Reaches, Closes}
 use Rattle.engine.specs.declared.events.LineEvent.{LineEvent}
 use Rattle.engine.specs.Engine.{entry_in}
 use Rattle.engine.specs.Events.{commits_in}
-use Rattle.engine.specs.Journal.{rows_after}
+use Rattle.live.specs.Journal.{rows_after}
 use Rattle.session.specs.State.{Setting, setting}
 use Rattle.spooled.specs.declared.end.End.{End}
 use Rattle.spooled.specs.declared.end.End.TheVariants.{Clean}

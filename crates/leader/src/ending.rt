@@ -7,33 +7,16 @@
 ghost use Rattle.std.specs.Prelude.{◌≡◌, ◌∷◌, ℕ, List, [], All, Some, IfSome, option_map, map};
 ghost use Rattle.model.specs.Rows.{Schema};
 ghost use Rattle.world.specs.World.{World};
-ghost use Rattle.engine.specs.Answers.{TellsWhatStopped};
+ghost use Rattle.live.specs.Answers.{TellsWhatStopped};
 ghost use Rattle.engine.specs.Events.{commits_in};
-ghost use Rattle.leader.specs.Standing.{own_by};
+ghost use Rattle.lanes.specs.Standing.{own_by};
 ghost use Rattle.leader.specs.Ending.{Hand, AreStood, AreGone, TellsNoted, TellsHeld, EndsAsNoted, IsDecided, IsLessOpen, HasFinished};
 
 use change::Clash;
 use engine::{Line, SharedStore, Stop, StoreNames, Ticket};
+use lanes::Slot;
 use model::Xid;
 use spooled::End;
-
-/// Where the ticket of an open transaction may lie as a run ends.
-pub trait Slot<N: StoreNames> {
-    ghost use Rattle.std.specs.Prelude.{◌≡◌, Option, IfSome, option_map};
-    ghost use Rattle.leader.specs.Standing.{Own, own_by};
-
-    /// The transaction whose ticket lies there.
-    ghost holds: { Self → Option Own };
-
-    /// What its type keeps of that transaction.
-    ghost keeps: { Self → Type 0 };
-
-    /// The ticket, if one lies there.
-    fn into_ticket(self) -> Option<Ticket>
-        ensures belongs { IfSome result (λ t. t.name ≡ N.tickets) }
-        ensures holds { holds self ≡ option_map own_by result }
-        ensures keeps { keeps self };
-}
 
 /// Ends a run for which this end was proposed: what is open is undone. Answers the end. In hand are the
 /// ticket of the transaction that the leader applied itself, if there is one, and those of the lanes.

@@ -6,11 +6,11 @@ ghost use Rattle.session.specs.Answers.{IsOfTables};
 ghost use Rattle.session.specs.State.{Setting, setting};
 ghost use Rattle.spooled.specs.Progress.{Progress, start_progress, seen_with};
 
-use crate::transactions::{Left, Transactions};
 use bytes::Bytes;
 use catalog::Catalog;
 use engine::StoreNames;
 use frames::{CopyItem, Lsn};
+use lanes::{Left, Transactions};
 use model::{CommitInfo, Item, Xid};
 use session::{Session, Step};
 use spooled::{End, Handler, written_with};
@@ -46,8 +46,8 @@ pub struct Lead<'a, N: StoreNames, L: PostNames, R: Wait, G: Gate + Drop> {
 }
 
 impl<'a, N: StoreNames, L: PostNames, R: Wait, G: Gate + Drop> Lead<'a, N, L, R, G> {
-    ghost use Rattle.leader.specs.Lanes.{IsHome, AreCounted};
-    ghost use Rattle.leader.specs.Standing.{own_by, goes_by, IsCommitted, HasTried, IsStoreEnd};
+    ghost use Rattle.lanes.specs.Lanes.{IsHome, AreCounted};
+    ghost use Rattle.lanes.specs.Standing.{own_by, goes_by, IsCommitted, HasTried, IsStoreEnd};
     ghost use Rattle.leader.specs.Threads.{led, after_commit, IsLeadAt, IsLeadAtSome, LeadTakes};
 
     /// Before the first item: no transaction is open, so many may have a worker, each by a lane, and the

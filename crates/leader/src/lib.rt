@@ -27,36 +27,24 @@
 // leader publishes behind each commit. Nobody waits for them but the end of their threads.
 //
 //   lead           what each item of the stream does, with the session
-//   transactions   which are open and where, with the store
-//   lanes          the leader's side of a worker
-//   shop           what leader and workers share
-//   ends           the ends that a store gives
 //   ending         the end of a run, decided, and what is open undone, once all workers have given up
-//   parts          what lanes are made of, before and after they have names
-//   positions      the position that is published behind each commit
 //   watching       those who watch a run
 //   chief          a leader beside its workers and those who watch it, as a value
 //   threads        the run
 //
-// It stands on `spooled` for the loop over a stream and the ends of a run, `course` for what a run with
-// workers is, `session` for what messages ask for, `engine`'s store, `worker`, `crew` and `ring`, and
-// `snapshot` and `origin` for those who watch. All that a caller of a run needs stands here, as in
+// It stands on `lanes` for which transaction is open and where, `spooled` for the loop over a stream and
+// the ends of a run, `course` for what a run with workers is, `session` for what messages ask for,
+// `engine`'s store, `crew` for threads, and `snapshot` and `origin` for those who watch. All that a caller of a run needs stands here, as in
 // `spooled`.
 mod chief;
 mod ending;
-mod ends;
-mod lanes;
 mod lead;
-mod parts;
-mod positions;
-mod shop;
 mod threads;
-mod transactions;
 mod watching;
 
 pub use engine::StoreNames;
+pub use lanes::OpenGate;
 pub use origin::Position;
-pub use shop::OpenGate;
 pub use snapshot::{ReadFault, Reader, Watch};
 pub use spooled::{
     ByteStr, Catalog, CatalogFault, Change, Changes, ChangesIter, Clock, Config, Devices, End,

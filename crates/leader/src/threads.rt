@@ -8,25 +8,21 @@ ghost use Rattle.spooled.specs.Devices.{DeviceState, device_state, health};
 ghost use Rattle.spooled.specs.Handler.{IsRunOver};
 ghost use Rattle.spooled.specs.Run.{IsRun};
 ghost use Rattle.spooled.specs.declared.end.End.TheVariants.{OutOfMemory as NoMemory};
-ghost use Rattle.leader.specs.Lanes.{IsFree};
-ghost use Rattle.leader.specs.Parts.{IsFresh, HasSlots, ring_of, post_of};
+ghost use Rattle.lanes.specs.Lanes.{IsFree};
+ghost use Rattle.lanes.specs.Parts.{IsFresh, HasSlots, ring_of, post_of};
 ghost use Rattle.tokens.specs.Half.{no_name};
 ghost use Rattle.leader.specs.Threads.{led, IsLeadAt, IsLeadAtStart, HasLedTo};
 ghost use Rattle.leader.specs.WithWorkers.{Leaves, IsRunByWorkers, RunsBy, IsShutSo};
 
 use crate::chief::{Leading, beside};
 use crate::ending::finish;
-use crate::lanes::Lane;
 use crate::lead::Lead;
-use crate::parts::{Parts, Places, make_parts};
-use crate::positions::Positions;
-use crate::shop::Shop;
-use crate::transactions::{Left, Transactions};
 use crate::watching::{Audience, Watcher, Watching, make_watchers};
 use catalog::Catalog;
 use crew::{Bell, Desk, make_desks};
 use engine::{Line, SharedStore, Store, StoreNames};
 use frames::{Lsn, Sink, Source};
+use lanes::{Lane, Left, Parts, Places, Positions, Shop, Transactions, make_parts};
 use model::{OutOfMemory, Xid};
 use snapshot::Watch;
 use spooled::{Clock, Config, Devices, End, Outcome, Tables, read_all, run_over};
@@ -360,7 +356,7 @@ where
     ghost use Rattle.std.specs.Prelude.{◌≡◌, [], All, false, length, map};
     ghost use Rattle.model.specs.Rows.{keys_of, IsValid};
     ghost use Rattle.spooled.specs.declared.end.End.TheVariants.{OutOfMemory as NoMemory};
-    ghost use Rattle.leader.specs.Lanes.{IsFree};
+    ghost use Rattle.lanes.specs.Lanes.{IsFree};
     ghost use Rattle.leader.specs.WithWorkers.{Leaves};
     ghost use Rattle.session.specs.State.{setting};
 

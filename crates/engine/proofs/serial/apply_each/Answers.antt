@@ -7,7 +7,7 @@ use Rattle.model.specs.Rows.{Schema}
 use Rattle.model.specs.Survivors.{changes_of}
 use Rattle.model.specs.declared.item.Item.{Item}
 use Rattle.engine.specs.Clear.{IsClear, ClashesIn}
-use Rattle.engine.specs.NamedLaws.{changes_at}
+use Rattle.live.specs.NamedLaws.{changes_at}
 use Rattle.engine.specs.ClearLaws.{list_done, list_clear, list_refused}
 use Rattle.engine.proofs.SerialSteps.{if_err}
 use Rattle.engine.proofs.serial.apply_each.Goals as goal

@@ -1,5 +1,5 @@
 -- What the call appends to its transaction's list, which proofs alone know.
-use Rattle.engine.specs.Answers.{told}
+use Rattle.live.specs.Answers.{told}
 use Rattle.engine.specs.Events.{events_of}
 use Rattle.engine.proofs.store.tell_act.Given as goal
 

@@ -2,9 +2,9 @@ use Rattle.std.proofs.Common.{◌≡◌, refl, sym, subst, ℕ, Result, Ok, Err}
 use Rattle.std.specs.Result.{IsErr}
 use Rattle.std.proofs.lemmas.Bool.{false≢true}
 use Rattle.world.specs.World.{Opened, World}
-use Rattle.engine.specs.declared.answers.EngineFault as fault_type
-use Rattle.engine.specs.Answers.{told_call, after_touch}
-use Rattle.engine.specs.Tied.{IsTied}
+use Rattle.live.specs.declared.answers.EngineFault as fault_type
+use Rattle.live.specs.Answers.{told_call, after_touch}
+use Rattle.live.specs.Tied.{IsTied}
 use Rattle.engine.proofs.store.touch_live.Goals as goal
 
 -- a call that is refused leaves the world

@@ -1,6 +1,6 @@
 use Rattle.std.proofs.Common.{Option, refl, sym, subst, inl, inr}
-use Rattle.engine.specs.declared.answers.Stop.{Stop}
-use Rattle.engine.specs.Answers.{TellsWhatStopped}
+use Rattle.live.specs.declared.answers.Stop.{Stop}
+use Rattle.live.specs.Answers.{TellsWhatStopped}
 use Rattle.spooled.specs.declared.end.End.{End}
 use Rattle.spooled.specs.declared.end.End.TheVariants.{Clean, HeldKey, OutOfMemory}
 use Rattle.leader.specs.Ending.{IsDecided, TellsHolder}

@@ -8,7 +8,7 @@ use Rattle.engine.specs.declared.events.Event.{Event}
 use Rattle.engine.specs.declared.events.LineEvent.{LineEvent}
 use Rattle.engine.specs.Engine.{Engine}
 use Rattle.engine.specs.Events.{opened_by, commits_in}
-use Rattle.leader.specs.Standing.{own_by}
+use Rattle.lanes.specs.Standing.{own_by}
 use Rattle.leader.specs.Ending.{AreStood, AreGone, TellsNoted, IsLessOpen}
 use Rattle.leader.proofs.Deciding.{stood_one, gone_one, open_gone, less_aborted, aborted_line}
 use Rattle.leader.proofs.ending.undo.Goals as goal

@@ -3,7 +3,7 @@ use Rattle.std.specs.Option.{option_or}
 use Rattle.std.specs.Prelude.{map, option_map}
 use Rattle.std.proofs.lemmas.List.{map-append}
 use Rattle.std.proofs.lemmas.List.Elements.{All-push}
-use Rattle.leader.specs.Standing.{Own, own_by}
+use Rattle.lanes.specs.Standing.{Own, own_by}
 use Rattle.leader.specs.Ending.{Hand, AreStood, AreGone, TellsNoted}
 use Rattle.leader.proofs.Deciding.{tells_next, stood_more, stood_before, tells_before, gone_still, gone_more, less_again}
 use Rattle.leader.proofs.ending.undo_all.Given.{Over}

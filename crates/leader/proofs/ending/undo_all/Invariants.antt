@@ -1,7 +1,7 @@
 use Rattle.std.proofs.Common.{◌≡◌, ◌∷◌}
 use Rattle.std.specs.Prelude.{All, map, option_map}
 use Rattle.engine.specs.Events.{commits_in}
-use Rattle.leader.specs.Standing.{own_by}
+use Rattle.lanes.specs.Standing.{own_by}
 use Rattle.leader.specs.Ending.{AreStood, AreGone, TellsNoted, IsLessOpen}
 use Rattle.leader.proofs.ending.undo_all.Given as goal
 

@@ -5,10 +5,10 @@ use Rattle.std.proofs.lemmas.List.Elements.{All-map}
 use Rattle.model.specs.Rows.{Schema, IsValid}
 use Rattle.engine.specs.declared.events.LineEvent.{LineEvent}
 use Rattle.engine.specs.Events.{commits_in}
-use Rattle.leader.specs.Lanes.{AreCounted}
-use Rattle.leader.specs.Standing.{Standing, own_by, goes_by}
+use Rattle.lanes.specs.Lanes.{AreCounted}
+use Rattle.lanes.specs.Standing.{Standing, own_by, goes_by, holds_in}
 use Rattle.leader.specs.Threads.{led}
-use Rattle.leader.specs.Ending.{holds_in, HasFinished}
+use Rattle.leader.specs.Ending.{HasFinished}
 use Rattle.session.specs.State.{setting}
 use Rattle.leader.proofs.Leaving.{has_left, refused_end}
 use Rattle.leader.proofs.threads.lead_all.Goals as goal

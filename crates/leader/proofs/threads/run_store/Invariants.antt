@@ -1,7 +1,7 @@
 -- The names that the parts of the lanes have.
 use Rattle.std.specs.Prelude.{map, slice_index_or}
 use Rattle.tokens.specs.Half.{no_name}
-use Rattle.leader.specs.Parts.{ring_of, post_of}
+use Rattle.lanes.specs.Parts.{ring_of, post_of}
 use Rattle.leader.proofs.threads.run_store.Given as goal
 
 abbrev pub ghosts-run_lanes-L-LaneNames : goal.ghosts-run_lanes-L-LaneNames

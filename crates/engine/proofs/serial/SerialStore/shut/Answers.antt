@@ -2,7 +2,7 @@ use Rattle.std.proofs.Common.{◌≡◌, subst, ◌∙◌}
 use Rattle.std.specs.Prelude.{map}
 use Rattle.world.specs.Steps.{Closes}
 use Rattle.engine.specs.Engine.{entry_in, world_in}
-use Rattle.engine.specs.Journal.{rows_after}
+use Rattle.live.specs.Journal.{rows_after}
 use Rattle.engine.specs.Serial.{Serial}
 use Rattle.engine.specs.SerialInside.{idle_in}
 use Rattle.engine.specs.SerialLaws.{nobody_open}

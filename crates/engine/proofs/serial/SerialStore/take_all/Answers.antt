@@ -5,7 +5,7 @@ use Rattle.model.specs.Named.{NamesTables}
 use Rattle.model.specs.Survivors.{changes_of}
 use Rattle.model.specs.SurvivorLaws.{changes_of_both}
 use Rattle.engine.specs.Clear.{ClashesIn}
-use Rattle.engine.specs.NamedLaws.{changes_at}
+use Rattle.live.specs.NamedLaws.{changes_at}
 use Rattle.engine.specs.Serial.{Serial, rows_now}
 use Rattle.engine.proofs.SerialSteps.{item_applied, item_clear, item_refused, if_err, on_err, taken_front}
 use Rattle.engine.proofs.serial.SerialStore.take_all.Goals as goal

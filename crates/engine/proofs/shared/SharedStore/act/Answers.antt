@@ -1,6 +1,6 @@
 use Rattle.world.specs.Steps.{acts}
 use Rattle.engine.specs.Events.{opened_by}
-use Rattle.engine.specs.Answers.{told}
+use Rattle.live.specs.Answers.{told}
 use Rattle.engine.specs.SharedLaws.{shared_step}
 use Rattle.engine.proofs.shared.SharedStore.act.Goals as goal
 

@@ -1,5 +1,5 @@
 use Rattle.world.specs.Steps.{opens}
-use Rattle.engine.specs.Answers.{told_call}
+use Rattle.live.specs.Answers.{told_call}
 use Rattle.engine.specs.SharedLaws.{shared_step}
 use Rattle.engine.proofs.shared.SharedStore.open.Goals as goal
 

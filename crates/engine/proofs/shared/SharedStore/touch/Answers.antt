@@ -1,6 +1,6 @@
 use Rattle.world.specs.Steps.{touches}
 use Rattle.engine.specs.Events.{opened_by}
-use Rattle.engine.specs.Answers.{told_call}
+use Rattle.live.specs.Answers.{told_call}
 use Rattle.engine.specs.SharedLaws.{shared_step}
 use Rattle.engine.proofs.shared.SharedStore.touch.Goals as goal
 

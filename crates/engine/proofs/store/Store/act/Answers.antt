@@ -2,7 +2,7 @@ use Rattle.std.proofs.Common.{◌≡◌, ◌++◌, ◌∙◌, ℕ}
 use Rattle.tokens.specs.Lists.{with_list}
 use Rattle.world.specs.World.{Opened, World}
 use Rattle.world.specs.Steps.{Acts}
-use Rattle.engine.specs.Answers.{told, after_act}
+use Rattle.live.specs.Answers.{told, after_act}
 use Rattle.engine.specs.Events.{opened_by, events_of}
 use Rattle.engine.specs.Engine.{world_in, IsStore}
 use Rattle.engine.specs.StoreLaws.{with_parts, store_acted}

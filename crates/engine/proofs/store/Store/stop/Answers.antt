@@ -1,6 +1,6 @@
 use Rattle.std.proofs.Common.{sym, subst, Some}
-use Rattle.engine.specs.declared.answers.Stop.{Stop}
-use Rattle.engine.specs.Answers.{stop_of, TellsWhatStopped}
+use Rattle.live.specs.declared.answers.Stop.{Stop}
+use Rattle.live.specs.Answers.{stop_of, TellsWhatStopped}
 use Rattle.engine.specs.Engine.{Engine, world_in}
 use Rattle.engine.specs.StoreLaws.{stop_there}
 use Rattle.engine.proofs.store.Store.stop.Goals as goal

@@ -1,8 +1,8 @@
 use Rattle.std.proofs.Common.{◌≡◌, rules, sym, subst, ◌∙◌, Result, Ok, Err}
 use Rattle.model.specs.declared.item.Item.TheVariants.{Touch}
 use Rattle.world.specs.Steps.{Touches, done_with}
-use Rattle.engine.specs.declared.answers.EngineFault as fault_type
-use Rattle.engine.specs.Answers.{told_call, told_fault}
+use Rattle.live.specs.declared.answers.EngineFault as fault_type
+use Rattle.live.specs.Answers.{told_call, told_fault}
 use Rattle.engine.specs.Events.{opened_by}
 use Rattle.engine.specs.Engine.{world_in, IsStore}
 use Rattle.engine.specs.StoreLaws.{with_parts, store_unmoved}

@@ -1,5 +1,0 @@
-use Rattle.engine.specs.HoldsLaws.{abort_is_held}
-use Rattle.engine.proofs.laws.abort_is_held.Goals as goal
-
-pub returns : goal.returns
-returns c = abort_is_held

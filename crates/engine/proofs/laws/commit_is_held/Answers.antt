@@ -1,5 +1,0 @@
-use Rattle.engine.specs.HoldsLaws.{commit_is_held}
-use Rattle.engine.proofs.laws.commit_is_held.Goals as goal
-
-pub returns : goal.returns
-returns c = commit_is_held

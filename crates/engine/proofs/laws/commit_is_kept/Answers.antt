@@ -1,5 +1,0 @@
-use Rattle.engine.specs.CallLaws.{commit_is_kept}
-use Rattle.engine.proofs.laws.commit_is_kept.Goals as goal
-
-pub returns : goal.returns
-returns c = commit_is_kept

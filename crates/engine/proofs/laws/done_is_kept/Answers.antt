@@ -1,5 +1,0 @@
-use Rattle.engine.specs.CallLaws.{done_is_kept}
-use Rattle.engine.proofs.laws.done_is_kept.Goals as goal
-
-pub returns : goal.returns
-returns c = done_is_kept

@@ -1,5 +1,0 @@
-use Rattle.engine.specs.CallLaws.{held_is_kept}
-use Rattle.engine.proofs.laws.held_is_kept.Goals as goal
-
-pub returns : goal.returns
-returns c = held_is_kept

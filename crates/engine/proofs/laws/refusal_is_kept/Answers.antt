@@ -1,5 +1,0 @@
-use Rattle.engine.specs.CallLaws.{refusal_is_kept}
-use Rattle.engine.proofs.laws.refusal_is_kept.Goals as goal
-
-pub returns : goal.returns
-returns c = refusal_is_kept

@@ -1,5 +1,0 @@
-use Rattle.engine.specs.CallLaws.{start_is_kept}
-use Rattle.engine.proofs.laws.start_is_kept.Goals as goal
-
-pub returns : goal.returns
-returns c = start_is_kept

@@ -1,5 +1,0 @@
-use Rattle.engine.specs.CallLaws.{stop_is_kept}
-use Rattle.engine.proofs.laws.stop_is_kept.Goals as goal
-
-pub returns : goal.returns
-returns c = stop_is_kept

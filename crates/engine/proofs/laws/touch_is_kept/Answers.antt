@@ -1,5 +1,0 @@
-use Rattle.engine.specs.CallLaws.{touch_is_kept}
-use Rattle.engine.proofs.laws.touch_is_kept.Goals as goal
-
-pub returns : goal.returns
-returns c = touch_is_kept

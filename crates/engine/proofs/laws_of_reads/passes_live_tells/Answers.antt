@@ -1,5 +1,0 @@
-use Rattle.engine.specs.WaitLaws.{passes_live_tells}
-use Rattle.engine.proofs.laws_of_reads.passes_live_tells.Goals as goal
-
-pub returns : goal.returns
-returns c = passes_live_tells

@@ -1,5 +1,0 @@
-use Rattle.engine.specs.KeptRowLaws.{row_is_kept}
-use Rattle.engine.proofs.laws_of_reads.row_is_kept.Goals as goal
-
-pub returns : goal.returns
-returns c = row_is_kept

@@ -1,5 +1,0 @@
-use Rattle.engine.specs.StoodCalls.{stop_is_stood}
-use Rattle.engine.proofs.laws_of_reads.stop_is_stood.Goals as goal
-
-pub returns : goal.returns
-returns c = stop_is_stood

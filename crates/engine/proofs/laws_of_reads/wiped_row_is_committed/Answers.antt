@@ -1,5 +1,0 @@
-use Rattle.engine.specs.ReadLaws.{wiped_row_is_committed}
-use Rattle.engine.proofs.laws_of_reads.wiped_row_is_committed.Goals as goal
-
-pub returns : goal.returns
-returns c = wiped_row_is_committed

@@ -1,0 +1,6 @@
+pub mod Among
+pub mod Numbers
+pub mod Trying
+mod Turning
+mod Making
+mod Giving

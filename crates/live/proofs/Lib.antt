@@ -1,0 +1,7 @@
+mod Stands
+mod TableRows
+mod MergedLaws
+mod MergeSteps
+mod Standing
+mod Refusals
+pub mod LettingGo
