@@ -4,14 +4,12 @@
 //   connections   `connection`
 //   framing       `frames`
 //   payloads      `messages`
-//   relations     `relcache`
-//   streams       `session`
+//   streams       `session`, and `relcache` through it
 //   traces        `trace`
 mod catalogs;
 mod connections;
 mod framing;
 mod hex;
 mod payloads;
-mod relations;
 mod streams;
 mod traces;

@@ -3,14 +3,9 @@
 ghost use Rattle.messages.specs.Messages.{HasXid};
 
 use super::hex::from_hex;
-use bytes::{ByteStr, Bytes};
-use messages::{
-    Column, Columns, Content, Insert, LogicalMessage, Message, MsgFault, Name, Oid, Relation,
-    RelationColumn, Relations, ReplicaIdentity, RowMessage, Text, Truncate, TruncateOptions, Tuple,
-    decode, encode,
-};
+use bytes::Bytes;
+use messages::{Message, MsgFault, decode, encode};
 use std::alloc::{AllocError, Global};
-use std::process::Abort;
 use std::test::Fail;
 use testing::asserts::{assert_holds, assert_same};
 
@@ -182,7 +177,27 @@ fn read_text(alloc: Global, payload: &Bytes, in_block: bool) -> Result<String, F
 }
 
 // Payloads, whether they stand in a block, and the message that is read, with each of its fields.
-static PRINTED: [(&str, bool, &str); 12] = [
+static PRINTED: [(&str, bool, &str); 15] = [
+    (
+        "52000040017075626c6963006163636f756e7473006400020169640000000017ffffffff00656d61696c0000000019ffffffff",
+        false,
+        "Relation { xid: None, relation: Relation { oid: 16385, namespace: Name { text: \"public\" }, \
+        name: Name { text: \"accounts\" }, identity: Default, columns: Columns { columns: [\
+        RelationColumn { is_key: true, name: Name { text: \"id\" }, type_oid: 23, type_modifier: -1 }, \
+        RelationColumn { is_key: false, name: Name { text: \"email\" }, type_oid: 25, type_modifier: -1 }] } } }",
+    ),
+    (
+        "49000002c7000040014e00037400000001316e75",
+        true,
+        "Insert(Insert { xid: Some(711), oid: 16385, \
+        new: Tuple { columns: [Text(Text { text: \"1\" }), Null, Unchanged] } })",
+    ),
+    (
+        "4d010000000000000001700000000002ff00",
+        false,
+        "Message(LogicalMessage { xid: None, transactional: true, lsn: 1, \
+        prefix: Name { text: \"p\" }, content: Content { bytes: b\"\\xff\\0\" } })",
+    ),
     (
         "420000000000000100fffffffffffffffe00000384",
         false,
@@ -258,134 +273,6 @@ fn each_field_is_read_and_written(rt: HostRuntime) -> Result<(), Fail> {
         assert_read(rt.alloc(), digits, in_block, want)?;
     }
     Ok(())
-}
-
-fn name(rt: &impl Abort, text: &'static str) -> Name {
-    let has_zero = text.as_bytes().contains(&0);
-    assert!(rt; !has_zero);
-    Name::new(ByteStr::from_static(text))
-}
-
-fn text(rt: &impl Abort, text: &'static str) -> Column {
-    let text = ByteStr::from_static(text);
-    assert!(rt; text.len() < 100);
-    Column::Text(Text::new(text))
-}
-
-fn tuple(rt: &impl Abort, columns: Vec<Column>) -> Tuple {
-    assert!(rt; columns.len() < 100);
-    Tuple::new(columns)
-}
-
-// The message that a caller makes is written as these digits, and is read again from them.
-fn check(alloc: Global, m: &Message, in_block: bool, digits: &str) -> Result<(), Fail>
-    requires { HasXid in_block m.now }
-{
-    let payload = Bytes::from_vec(from_hex(alloc, digits)?)?;
-    assert_written(alloc, m, in_block, payload.as_slice())?;
-    let again = read_text(alloc, &payload, in_block)?;
-    let own = printed(alloc, m)?;
-    assert_same(again.as_str(), own.as_str(), "printed")
-}
-
-fn column(rt: &impl Abort, is_key: bool, named: &'static str, type_oid: Oid) -> RelationColumn {
-    RelationColumn {
-        is_key,
-        name: name(rt, named),
-        type_oid,
-        type_modifier: -1,
-    }
-}
-
-#[test]
-fn relation(rt: HostRuntime) -> Result<(), Fail> {
-    let columns = vec![in rt.alloc();
-        column(&rt, true, "id", 23),
-        column(&rt, false, "email", 25),
-        column(&rt, false, "note", 25),
-    ]?;
-    assert!(rt; columns.len() == 3);
-    let relation = Relation {
-        oid: 16385,
-        namespace: name(&rt, "public"),
-        name: name(&rt, "accounts"),
-        identity: ReplicaIdentity::Default,
-        columns: Columns::new(columns),
-    };
-    let relation = Message::Relation {
-        xid: None,
-        relation,
-    };
-    let digits =
-        "52000040017075626c6963006163636f756e7473006400030169640000000017ffffffff00656d61696c0000000019ffffffff006e6f74650000000019ffffffff";
-    check(rt.alloc(), &relation, false, digits)
-}
-
-#[test]
-fn insert(rt: HostRuntime) -> Result<(), Fail> {
-    let columns = vec![in rt.alloc(); text(&rt, "1"), text(&rt, "a"), text(&rt, "n")]?;
-    let insert = Message::Insert(Insert {
-        xid: Some(711),
-        oid: 16385,
-        new: tuple(&rt, columns),
-    });
-    let digits = "49000002c7000040014e000374000000013174000000016174000000016e";
-    check(rt.alloc(), &insert, true, digits)
-}
-
-#[test]
-fn truncate(rt: HostRuntime) -> Result<(), Fail> {
-    let oids: Vec<Oid> = vec![in rt.alloc(); 16385, 16386]?;
-    assert!(rt; oids.len() == 2);
-    let truncate = Message::Truncate(Truncate {
-        xid: Some(700),
-        options: TruncateOptions {
-            cascade: false,
-            restart_identity: true,
-        },
-        relations: Relations::new(oids),
-    });
-    let digits = "54000002bc00000002020000400100004002";
-    check(rt.alloc(), &truncate, true, digits)
-}
-
-#[test]
-fn logical_message(rt: HostRuntime) -> Result<(), Fail> {
-    let content = Bytes::from_static(b"\xff\0");
-    assert!(rt; content.len() == 2);
-    let message = Message::Message(LogicalMessage {
-        xid: None,
-        transactional: true,
-        lsn: 1,
-        prefix: name(&rt, "p"),
-        content: Content::new(content),
-    });
-    let digits = "4d010000000000000001700000000002ff00";
-    check(rt.alloc(), &message, false, digits)
-}
-
-// A text, a null and an unchanged value.
-fn assert_three(columns: &[Column]) -> Result<(), Fail> {
-    match columns {
-        [Column::Text(text), Column::Null, Column::Unchanged] => {
-            assert_same(text.as_str(), "1", "text")
-        }
-        _ => Err(Fail::from("three columns")),
-    }
-}
-
-// What a caller reads of a message.
-#[test]
-fn fields_are_read(rt: HostRuntime) -> Result<(), Fail> {
-    let insert = from_hex(rt.alloc(), "49000002c7000040014e00037400000001316e75")?;
-    let insert = Bytes::from_vec(insert)?;
-    let Message::Insert(insert) = decode(rt.alloc(), &insert, true)? else {
-        return Err(Fail::from("an insert"));
-    };
-    match insert.into_row() {
-        RowMessage::Insert { new } => assert_three(new.columns()),
-        _ => Err(Fail::from("an insert")),
-    }
 }
 
 // One payload of each message that takes memory, and whether it stands in a block.
