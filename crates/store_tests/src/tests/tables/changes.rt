@@ -5,14 +5,11 @@ ghost use Rattle.change.specs.Inverse.{CanPutBack};
 use self::Answer::{Agrees, Done, NullKey, Skipped};
 use crate::tests::asserts::{assert_holds, assert_same};
 use crate::tests::tables::calls::Call::{Put, Remove, Set, Wipe};
-use crate::tests::tables::calls::{
-    Call, Word, Words, are_there, change, empty_tables, key, rows_of,
-};
-use crate::tests::tables::cells::{Told, cell};
-use crate::tests::tables::shown::{holder, shown};
+use crate::tests::tables::calls::{Call, Words, are_there, change, empty_tables};
+use crate::tests::tables::shown::shown;
 use change::{Applied, Clash, apply, put_back};
 use indexes::Tables;
-use model::{OutOfMemory, TableId};
+use model::TableId;
 use std::alloc::Global;
 use std::process::Abort;
 use std::test::Fail;
@@ -57,24 +54,6 @@ pub(crate) fn filled(rt: &impl Abort, alloc: Global) -> Result<Tables, Clash> {
         }
     }
     Ok(t)
-}
-
-/// The row that has this text in a unique key is the one of this key, or there is none.
-fn is_held_by(
-    rt: &impl Abort,
-    alloc: Global,
-    t: &Tables,
-    place: (TableId, usize),
-    text: Word,
-    id: Option<Word>,
-) -> Result<(), OutOfMemory> {
-    let found = holder(rt, alloc, t, place, text)?;
-    let wanted = match id {
-        None => None,
-        Some(id) => Some(key(alloc, id)?),
-    };
-    assert_same(rt, found.as_ref(), wanted.as_ref(), text);
-    Ok(())
 }
 
 /// What a change comes to. It is taken back where it was done, and until then the tables show it.
@@ -166,86 +145,6 @@ fn changes_have_their_answers(rt: HostRuntime) -> Result<(), Fail> {
     answers(&rt, rt.alloc(), &PUTS)?;
     answers(&rt, rt.alloc(), &SETS)?;
     answers(&rt, rt.alloc(), &REMOVES_AND_WIPES)
-}
-
-/// A table has these rows.
-fn has_rows(
-    rt: &impl Abort,
-    alloc: Global,
-    t: &Tables,
-    table: TableId,
-    rows: &str,
-) -> Result<(), OutOfMemory> {
-    let found = rows_of(rt, alloc, t, table)?;
-    assert_same(rt, found.as_str(), rows, table);
-    Ok(())
-}
-
-#[test]
-fn a_set_that_moves_its_row_leaves_nothing_behind(rt: HostRuntime) -> Result<(), Fail> {
-    let alloc = rt.alloc();
-    let mut t = filled(&rt, alloc)?;
-    run(&rt, alloc, &mut t, &Set(ONE_UNIQUE, "1", ("4", "c", "-")))?;
-    has_rows(&rt, alloc, &t, ONE_UNIQUE, r"2|b|m 3|\N|\N 4|c|n")?;
-    for (text, found) in [("a", None), ("b", Some("2")), ("c", Some("4"))] {
-        is_held_by(&rt, alloc, &t, (ONE_UNIQUE, 1), text, found)?;
-    }
-    run(&rt, alloc, &mut t, &Put(ONE_UNIQUE, ("1", "a", "n")))?;
-    Ok(())
-}
-
-// The cells of the first row of the table with one unique key, and some that no row can fill.
-static GIVEN_UP: [Told; 5] = [
-    Told::Row(ONE_UNIQUE, "1"),
-    Told::Uniq(ONE_UNIQUE, 1, "a"),
-    Told::Uniq(ONE_UNIQUE, 2, "a"),
-    Told::Row(9, "1"),
-    Told::Whole(ONE_UNIQUE),
-];
-
-fn give_up_each(alloc: Global, t: &mut Tables) -> Result<(), OutOfMemory> {
-    for told in &GIVEN_UP {
-        t.give_up(&cell(alloc, told)?);
-    }
-    Ok(())
-}
-
-/// The row stays where its cells are given up, goes, and comes again once they are given up.
-fn go_and_come(rt: &impl Abort, alloc: Global, t: &mut Tables) -> Result<(), Clash> {
-    give_up_each(alloc, t)?;
-    is_held_by(rt, alloc, t, (ONE_UNIQUE, 1), "a", Some("1"))?;
-    run(rt, alloc, t, &Remove(ONE_UNIQUE, "1"))?;
-    give_up_each(alloc, t)?;
-    run(rt, alloc, t, &Put(ONE_UNIQUE, ("1", "a", "n")))?;
-    Ok(())
-}
-
-#[test]
-fn a_row_keeps_its_cells_and_comes_again_once_they_are_given_up(
-    rt: HostRuntime,
-) -> Result<(), Fail> {
-    let alloc = rt.alloc();
-    let mut t = filled(&rt, alloc)?;
-    go_and_come(&rt, alloc, &mut t)?;
-    go_and_come(&rt, alloc, &mut t)?;
-    has_rows(&rt, alloc, &t, ONE_UNIQUE, r"1|a|n 2|b|m 3|\N|\N")?;
-    Ok(())
-}
-
-#[test]
-fn a_wipe_empties_the_tables_that_it_names(rt: HostRuntime) -> Result<(), Fail> {
-    let alloc = rt.alloc();
-    let mut t = filled(&rt, alloc)?;
-    run(&rt, alloc, &mut t, &Wipe(&[ONE_UNIQUE, TWO_UNIQUES]))?;
-    for (table, rows) in [
-        (ONE_UNIQUE, ""),
-        (NO_UNIQUE, r"1|a|n 2|b|m 3|\N|\N"),
-        (TWO_UNIQUES, ""),
-    ] {
-        has_rows(&rt, alloc, &t, table, rows)?;
-    }
-    is_held_by(&rt, alloc, &t, (TWO_UNIQUES, 2), "n", None)?;
-    Ok(())
 }
 
 // Changes of each kind, one after another.

@@ -1,6 +1,6 @@
-// That the calls succeed with ample memory, what they then answer, and that a refusal changes nothing.
+// That cells are held where memory is there, that a refusal changes nothing, and what a million of them cost.
 use crate::tests::asserts::{assert_holds, assert_same};
-use keyholds::{Cell, Holds, SoughtRow, Xid};
+use keyholds::{Cell, Holds, Xid};
 use model::{Key, OutOfMemory, TableId, Value};
 use std::alloc::Global;
 use std::process::Abort;
@@ -29,93 +29,6 @@ fn hold(
     cells.push((cell, stood))?;
     holds.take(xid, cells)?;
     Ok(None)
-}
-
-#[test]
-fn a_release_to_a_mark_leaves_what_was_held_before(rt: HostRuntime) -> Result<(), Fail> {
-    let alloc = rt.alloc();
-    let mut holds = Holds::new(alloc);
-    assert_same(&rt, holds.mark(700), 0, "nothing is held");
-    for (key, stood) in [(1i64, 10i64), (2, 20)] {
-        let cell = row(alloc, ACCOUNTS, key)?;
-        hold(alloc, &mut holds, 700, cell, stood)?;
-    }
-    let mark = holds.mark(700);
-    assert_same(&rt, mark, 2, "two are held");
-    for (key, stood) in [(2i64, 21i64), (3, 30)] {
-        let cell = row(alloc, ACCOUNTS, key)?;
-        hold(alloc, &mut holds, 700, cell, stood)?;
-    }
-    assert_same(&rt, holds.mark(700), 3, "one was held already");
-    holds.release_since(700, mark);
-    assert_same(&rt, holds.mark(700), 2, "as at the mark");
-    for (key, stood) in [(1i64, Some(&10i64)), (2, Some(&20)), (3, None)] {
-        let cell = row(alloc, ACCOUNTS, key)?;
-        assert_same(&rt, holds.stood(&cell), stood, key);
-    }
-    holds.release_all(700);
-    assert_same(&rt, holds.mark(700), 0, "all are let go");
-    Ok(())
-}
-
-// A caller walks the cells past a mark, from the last to the first.
-#[test]
-fn cells_past_a_mark_are_let_go_from_the_last(rt: HostRuntime) -> Result<(), Fail> {
-    let alloc = rt.alloc();
-    let mut holds = Holds::new(alloc);
-    for (key, stood) in [(1i64, 10i64), (2, 20), (3, 30)] {
-        let cell = row(alloc, ACCOUNTS, key)?;
-        hold(alloc, &mut holds, 700, cell, stood)?;
-    }
-    for key in [3i64, 2] {
-        let cell = row(alloc, ACCOUNTS, key)?;
-        let last = holds.release_last(700, 1);
-        assert_same(&rt, last.as_ref(), Some(&cell), key);
-    }
-    assert_same(
-        &rt,
-        holds.release_last(700, 1).as_ref(),
-        None,
-        "at the mark",
-    );
-    for (key, other) in [(1i64, Some(700u32)), (2, None), (3, None)] {
-        let cell = row(alloc, ACCOUNTS, key)?;
-        assert_same(&rt, holds.other_holder(701, &cell), other, key);
-    }
-    Ok(())
-}
-
-// A row is looked for by a key that its owner keeps.
-#[test]
-fn a_row_is_found_by_a_borrowed_key(rt: HostRuntime) -> Result<(), Fail> {
-    let alloc = rt.alloc();
-    let mut holds = Holds::new(alloc);
-    let cell = row(alloc, ACCOUNTS, 1)?;
-    hold(alloc, &mut holds, 700, cell, 10)?;
-    hold(alloc, &mut holds, 701, Cell::Whole(BRANCHES), 20)?;
-    for (table, key, found) in [
-        (ACCOUNTS, 1i64, Some((700u32, &10i64))),
-        (ACCOUNTS, 2, None),
-        (BRANCHES, 1, None),
-    ] {
-        let key = Key::from_value(alloc, Value::Int(key))?;
-        let sought = SoughtRow { table, key: &key };
-        assert_same(&rt, holds.held_at(&sought), found, table);
-    }
-    let key = Key::from_value(alloc, Value::Int(1))?;
-    for (table, holder) in [(ACCOUNTS, 700u32), (BRANCHES, 701)] {
-        let sought = SoughtRow { table, key: &key };
-        assert_same(
-            &rt,
-            holds.other_holder_of(702, &sought),
-            Some(holder),
-            table,
-        );
-        assert_same(&rt, holds.other_holder_of(holder, &sought), None, table);
-        assert_holds(&rt, holds.overlaps_one(holder, &sought), table);
-        assert_holds(&rt, !holds.overlaps_one(702, &sought), table);
-    }
-    Ok(())
 }
 
 /// Takes a cell. A refusal changes nothing, and then memory is there.

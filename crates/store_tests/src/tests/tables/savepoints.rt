@@ -4,28 +4,8 @@ ghost use Rattle.savepoint.specs.Record.{AllAreNamed};
 
 use crate::tests::asserts::assert_same;
 use model::OutOfMemory;
-use savepoint::{Mark, Savepoints, TxRecord, Xid};
+use savepoint::{Mark, TxRecord, Xid};
 use std::test::Fail;
-
-#[test]
-fn a_cut_drops_the_later_savepoints(rt: HostRuntime) -> Result<(), Fail> {
-    let mut savepoints = Savepoints::new(rt.alloc());
-    for (sub, mark) in [(700u32, 0u8), (711, 1), (712, 2), (711, 3), (713, 4)] {
-        savepoints.note(sub, mark)?;
-    }
-    assert_same(&rt, savepoints.mark_of(711), Some(1), "its first mark");
-    assert_same(&rt, savepoints.cut(714), None, "no savepoint");
-    assert_same(&rt, savepoints.cut(712), Some(2), "its own mark");
-    for (sub, mark) in [
-        (700u32, Some(0u8)),
-        (711, Some(1)),
-        (712, None),
-        (713, None),
-    ] {
-        assert_same(&rt, savepoints.mark_of(sub), mark, sub);
-    }
-    Ok(())
-}
 
 // An item of a subtransaction, with its savepoint if it is the first.
 fn touch(transaction: &mut TxRecord, sub: Xid, held: usize) -> Result<(), OutOfMemory>

@@ -7,7 +7,7 @@ use std::fmt::Write;
 use std::process::Abort;
 
 /// The key of the row that has this text in a unique key, by its number.
-pub(crate) fn holder(
+fn holder(
     rt: &impl Abort,
     alloc: Global,
     t: &Tables,

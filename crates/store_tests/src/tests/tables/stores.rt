@@ -8,5 +8,4 @@ mod refusals;
 mod scene;
 mod script;
 mod serial;
-mod shut;
 mod worked;

@@ -1,11 +1,11 @@
 // That an undo gives the rows and look-ups at its mark, wherever memory is refused before it.
-ghost use Rattle.std.specs.Prelude.{length, ◌≤◌, IfOk};
+ghost use Rattle.std.specs.Prelude.{length, ◌≤◌};
 ghost use Rattle.model.specs.Named.{NamesTables};
 ghost use Rattle.undo.specs.Undo.{CanUndo};
 
 use crate::tests::asserts::{assert_holds, assert_same};
 use crate::tests::tables::calls::Call::{Put, Remove, Set, Wipe};
-use crate::tests::tables::calls::{Call, Word, are_there, change, empty_tables, key};
+use crate::tests::tables::calls::{Call, are_there, change, empty_tables, key};
 use crate::tests::tables::shown::shown;
 use change::Clash;
 use indexes::Tables;
@@ -54,12 +54,6 @@ fn undo_to(log: &mut UndoLog, t: &mut Tables, mark: usize)
     requires can { CanUndo t.old log.old.inverses }
 {
     log.undo_to(t, mark);
-}
-
-fn settle(log: &UndoLog, t: &mut Tables)
-    requires { CanUndo t.old log.now.inverses }
-{
-    log.settle(t);
 }
 
 /// The table with the rows `1|a|n` and `2|b|n`.
@@ -152,67 +146,6 @@ fn an_undo_gives_the_first_rows(rt: HostRuntime) -> Result<(), Fail> {
         key: 1,
     };
     assert_same(&rt, answer, Err(clash), "the same email");
-    Ok(())
-}
-
-/// The table with its rows after these changes, and their log.
-fn logged(rt: &impl Abort, alloc: Global, calls: &[Call]) -> Result<(Tables, UndoLog), Clash>
-    ensures { IfOk result (λ made. CanUndo made.0 made.1.inverses) }
-{
-    let mut t = filled(rt, alloc)?;
-    let mut log = UndoLog::new(alloc);
-    run_all(rt, alloc, &mut log, &mut t, calls)?;
-    Ok((t, log))
-}
-
-#[test]
-fn an_undo_to_a_mark_keeps_what_came_before_it(rt: HostRuntime) -> Result<(), Fail> {
-    let alloc = rt.alloc();
-    let (mut t, mut log) = logged(&rt, alloc, &CHANGES[..3])?;
-    assert_same(&rt, log.mark(), 3, "at the mark");
-    let at_mark = shown(&rt, alloc, &t)?;
-    run_all(&rt, alloc, &mut log, &mut t, &CHANGES[3..])?;
-    assert_same(&rt, log.mark(), 7, "after all");
-    undo_to(&mut log, &mut t, 3);
-    assert_same(&rt, log.mark(), 3, "at the mark again");
-    shows(&rt, alloc, &t, at_mark.as_str())?;
-    Ok(())
-}
-
-#[test]
-fn a_log_that_is_settled_leaves_the_rows(rt: HostRuntime) -> Result<(), Fail> {
-    let alloc = rt.alloc();
-    let (mut t, log) = logged(&rt, alloc, &CHANGES)?;
-    let committed = shown(&rt, alloc, &t)?;
-    settle(&log, &mut t);
-    shows(&rt, alloc, &t, committed.as_str())?;
-    Ok(())
-}
-
-// Whether the inverse with this number keeps a row at a key.
-fn keeps_row(alloc: Global, log: &UndoLog, number: usize, id: Word) -> Result<bool, OutOfMemory> {
-    let key = key(alloc, id)?;
-    match log.get(number) {
-        Some(inverse) => Ok(inverse.row_at(ACCOUNTS, &key).is_some()),
-        None => Ok(false),
-    }
-}
-
-#[test]
-fn a_log_lends_the_rows_that_went(rt: HostRuntime) -> Result<(), Fail> {
-    let (_, log) = logged(&rt, rt.alloc(), &CHANGES)?;
-    for (number, id, wanted) in [
-        (0, "1", true),
-        (1, "3", false),
-        (2, "2", true),
-        (2, "4", false),
-        (5, "4", true),
-        (5, "1", false),
-        (7, "4", false),
-    ] {
-        let keeps = keeps_row(rt.alloc(), &log, number, id)?;
-        assert_same(&rt, keeps, wanted, number);
-    }
     Ok(())
 }
 

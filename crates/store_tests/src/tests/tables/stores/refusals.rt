@@ -16,7 +16,8 @@ use testing::asserts::assert_same;
 
 const NULL_KEY: Clash = Clash::NullKey { table: ACCOUNTS };
 
-static OPENED_AGAIN: [Step; 7] = [
+// A number that is open does not open again.
+const OPENED_AGAIN: [Step; 7] = [
     Does(700, 700, Put(ACCOUNTS, ("3", "c", "n"))),
     OpensNot(700, EngineFault::AlreadyOpen),
     Does(700, 700, Put(ACCOUNTS, ("4", "d", "n"))),
@@ -25,11 +26,6 @@ static OPENED_AGAIN: [Step; 7] = [
     Does(700, 700, Remove(ACCOUNTS, "3")),
     Commits(700, "1|a|n 2|b|n 4|d|n"),
 ];
-
-#[test]
-fn a_number_that_is_open_does_not_open_again(rt: HostRuntime) -> Result<(), Fail> {
-    play(&rt, rt.alloc(), &[700], &OPENED_AGAIN)
-}
 
 // With the numbers below 4096 open.
 static FULL: [Step; 7] = [
@@ -66,7 +62,8 @@ fn no_more_than_4096_are_open(rt: HostRuntime) -> Result<(), Fail> {
     scene.ends_with(&rt, alloc, "1|a|n 2|b|n 3|c|n", 4095)
 }
 
-static HELD: [Step; 10] = [
+// A change that is held leaves nothing.
+const HELD: [Step; 10] = [
     Does(700, 700, Set(ACCOUNTS, "1", ("-", "-", "v"))),
     Does(900, 900, Put(ACCOUNTS, ("3", "c", "n"))),
     // It would take the fifth place and its email, and no longer hold the first.
@@ -81,12 +78,8 @@ static HELD: [Step; 10] = [
     Commits(701, "1|a|n 2|b|n 3|c|n 4|d|n 5|e|n"),
 ];
 
-#[test]
-fn a_change_that_is_held_leaves_nothing(rt: HostRuntime) -> Result<(), Fail> {
-    play(&rt, rt.alloc(), &[700, 701, 900], &HELD)
-}
-
-static HELD_FIRST: [Step; 13] = [
+// Held goes before a clash and a skip.
+const HELD_FIRST: [Step; 13] = [
     Does(700, 700, Remove(ACCOUNTS, "1")),
     Waits(900, 900, Put(ACCOUNTS, ("1", "f", "n")), 700),
     Waits(900, 900, Put(ACCOUNTS, ("6", "a", "n")), 700),
@@ -101,11 +94,6 @@ static HELD_FIRST: [Step; 13] = [
     Skips(900, 900, Remove(ACCOUNTS, "1")),
     Commits(900, "2|b|n"),
 ];
-
-#[test]
-fn held_goes_before_a_clash_and_a_skip(rt: HostRuntime) -> Result<(), Fail> {
-    play(&rt, rt.alloc(), &[700, 900], &HELD_FIRST)
-}
 
 /// A change clashes and stops the store, after others of the same transaction. The store opens nothing
 /// and does nothing then, and stopped goes before any other fault. What is open goes on to end. The
@@ -155,7 +143,8 @@ fn a_clash_stops_the_store(rt: HostRuntime) -> Result<(), Fail> {
     Ok(())
 }
 
-static STOPPED: [Step; 9] = [
+// A stopped store rolls back, and ends what is open.
+const STOPPED: [Step; 9] = [
     Does(700, 700, Put(ACCOUNTS, ("3", "c", "n"))),
     Does(700, 711, Remove(ACCOUNTS, "1")),
     Does(701, 701, Put(ACCOUNTS, ("4", "d", "n"))),
@@ -167,9 +156,20 @@ static STOPPED: [Step; 9] = [
     Aborts(701),
 ];
 
+/// The transactions that are open at first, and the calls.
+static SCRIPTS: [(&[Xid], &[Step]); 4] = [
+    (&[700], &OPENED_AGAIN),
+    (&[700, 701, 900], &HELD),
+    (&[700, 900], &HELD_FIRST),
+    (&[700, 701, 900], &STOPPED),
+];
+
 #[test]
-fn a_stopped_store_rolls_back_and_ends_what_is_open(rt: HostRuntime) -> Result<(), Fail> {
-    play(&rt, rt.alloc(), &[700, 701, 900], &STOPPED)
+fn a_refusal_leaves_nothing(rt: HostRuntime) -> Result<(), Fail> {
+    for (open, steps) in &SCRIPTS {
+        play(&rt, rt.alloc(), *open, *steps)?;
+    }
+    Ok(())
 }
 
 #[test]

@@ -304,12 +304,6 @@ impl Scene {
         store.close(line)
     }
 
-    /// The tables and the journal, whatever is open.
-    pub(super) fn shut(self) -> (Tables, Vec<Entry>) {
-        let Scene { store, line, .. } = self;
-        store.shut(line)
-    }
-
     /// The accounts and how many entries the journal has. None may be open.
     pub(super) fn ends_with(
         self,

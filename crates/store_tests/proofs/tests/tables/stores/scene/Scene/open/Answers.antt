@@ -4,7 +4,7 @@ use Rattle.std.specs.FinMap as finite
 use Rattle.tokens.specs.Half.{Half}
 use Rattle.tokens.specs.Lists.{OpenList}
 use Rattle.world.specs.World.{World}
-use Rattle.engine.specs.Answers.{told_call}
+use Rattle.live.specs.Answers.{told_call}
 use Rattle.engine.specs.declared.events.Event.{Event}
 use Rattle.engine.specs.declared.events.LineEvent.{LineEvent}
 use Rattle.engine.specs.declared.events.LineEvent.TheVariants.{Opened as WasOpened, Aborted as WasAborted}
