@@ -17,7 +17,7 @@ use worker::{Collected, Job, Post, PostEvent, PostNames, WorkItem, lock_post};
 /// What a leader keeps of a lane: its token of what was given, and the worker's end of its ring while
 /// no worker has it. A clause sees its number, the transaction that goes by it with the items that were
 /// given to it, and what that has done, once its worker gave it back.
-#[derive(Drop)]
+#[derive(Debug, Drop)]
 pub struct Lane<N: StoreNames, L: PostNames> {
     number: usize,
     token: Token<PostEvent>,

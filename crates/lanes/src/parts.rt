@@ -16,7 +16,7 @@ use tokens::{Kept, Token, pair};
 use worker::{Gate, Post, PostEvent, PostNames, WorkItem};
 
 /// Both ends of a lane's ring, and both halves of the list of what is given to it.
-#[derive(Drop)]
+#[derive(Debug, Drop)]
 pub struct Parts<N: StoreNames> {
     sender: Sender<WorkItem<N>>,
     taker: Taker<WorkItem<N>>,
@@ -67,7 +67,7 @@ fn new_parts<N: StoreNames>(alloc: Global, slots: usize) -> Result<Parts<N>, Out
 }
 
 /// The seats and the lanes of a run's workers, and a count of what was given to each.
-#[derive(Drop)]
+#[derive(Debug, Drop)]
 pub struct Places<N: StoreNames, L: PostNames, G: Drop> {
     pub seats: Vec<Seat<N, L, G>>,
     pub lanes: Vec<Lane<N, L>>,

@@ -11,7 +11,7 @@ use std::sync::Wait;
 
 /// What a leader publishes: the position behind each commit. A clause sees where each commit that was
 /// published ends in the publisher's log, oldest first.
-#[derive(Drop)]
+#[derive(Debug, Drop)]
 pub struct Positions<'a> {
     origin: &'a Origin,
     publisher: Publisher,

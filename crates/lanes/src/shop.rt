@@ -10,7 +10,7 @@ use std::sync::{Condvar, Mutex, Wait};
 use worker::{Ended, Gate, Job, Point, Post, PostNames, work_on};
 
 /// What a leader and its workers share: the store, and a seat for each lane.
-#[derive(Drop)]
+#[derive(Debug, Drop)]
 pub struct Shop<N: StoreNames, L: PostNames, G: Drop> {
     pub alloc: Global,
     pub store: Mutex<SharedStore<N>>,
@@ -33,7 +33,7 @@ impl<N: StoreNames, L: PostNames, G: Drop> Shop<N, L, G> {
 }
 
 /// Where the worker of a lane gets its items, and whom it tells how far it came.
-#[derive(Drop)]
+#[derive(Debug, Drop)]
 pub struct Seat<N: StoreNames, L: PostNames, G: Drop> {
     pub post: Mutex<Post<N, L>>,
     pub gate: Mutex<G>,

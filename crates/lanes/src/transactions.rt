@@ -31,7 +31,7 @@ use worker::{Collected, Gate, Job, PostNames, WorkItem};
 /// such as an item of a transaction that isn't open, ends a run as memory that was refused.
 ///
 /// The position behind each commit is published, once that stands and the store's lock was let go.
-#[derive(Drop)]
+#[derive(Debug, Drop)]
 pub struct Transactions<'a, N: StoreNames, L: PostNames, R: Wait, G: Gate + Drop> {
     rt: &'a R,
     alloc: Global,
@@ -63,7 +63,7 @@ impl<'a, N: StoreNames, L: PostNames, R: Wait, G: Gate + Drop> Model
 /// What a run leaves of its open transactions, once all workers have given up: the store's line, the
 /// ticket of the leader's own, the lanes with the tickets of the others, and of each lane how many items
 /// were given to its transaction.
-#[derive(Drop)]
+#[derive(Debug, Drop)]
 pub struct Left<N: StoreNames, L: PostNames> {
     pub line: Line,
     pub begun: Option<Ticket>,
