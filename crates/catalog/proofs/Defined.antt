@@ -15,7 +15,7 @@ use Rattle.catalog.specs.declared.fault.CatalogFault.TheVariants.{KeyColumnUnkno
 use Rattle.catalog.specs.declared.draft.TableDraft.{TableDraft}
 use Rattle.catalog.specs.Faults.{has_column}
 use Rattle.catalog.specs.Definitions.{column_from, value_given, default_from, column_number, key_from, definition_from}
-use Rattle.catalog.specs.Laws.{IsUnknownKey, IsTablesFault, IsEach, NamesKey, HasDefault, Defines, DefinesAll}
+use Rattle.catalog.specs.Statements.{IsUnknownKey, IsTablesFault, IsEach, NamesKey, HasDefault, Defines, DefinesAll}
 use Rattle.catalog.proofs.Distinct.{position_or_len-within}
 use Rattle.catalog.proofs.Places.{list_any_finds}
 use Rattle.catalog.proofs.Wrong.{column_named}

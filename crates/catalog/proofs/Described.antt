@@ -8,7 +8,7 @@ use Rattle.catalog.specs.declared.draft.DefaultDraft.TheVariants.{Missing}
 use Rattle.catalog.specs.declared.draft.ColumnDraft.{ColumnDraft}
 use Rattle.catalog.specs.declared.draft.TableDraft.{TableDraft}
 use Rattle.catalog.specs.Document.{◌>>=◌, provided, array_of, required, optional, has_only, name_of, type_of, default_of, given, column_in, column_keys, column_of, fields_of, key_of, table_in, table_keys, table_of, tables_of}
-use Rattle.catalog.specs.Laws.{HasField, IsName, IsString, Defaults, IsColumn, IsKey, IsTable, Describes}
+use Rattle.catalog.specs.Statements.{HasField, IsName, IsString, Defaults, IsColumn, IsKey, IsTable, Describes}
 use Rattle.catalog.proofs.Named.{provided_some}
 use Rattle.catalog.proofs.Fields.{only_from_test, test_from_only, string_read, string_from, fields_read, fields_from, name_read, name_from, type_read, type_from, given_defaults, defaults_given, array_read, array_from, field_read, field_from, missing_read, present_read, optional_from}
 

@@ -18,7 +18,7 @@ use Rattle.model.specs.declared.table_def.ColumnType.{ColumnType}
 use Rattle.model.specs.declared.table_def.ColumnType.TheVariants.{Int, Text, Bool as Truth}
 use Rattle.catalog.specs.declared.draft.DefaultDraft.{DefaultDraft}
 use Rattle.catalog.specs.Document.{◌>>=◌, provided, each, array_of, required, optional, has_only, fields_of, is_name, name_of, type_named, type_of, given}
-use Rattle.catalog.specs.Laws.{HasOnly, HasFields, IsArrayOf, IsName, IsString, word_of, Defaults}
+use Rattle.catalog.specs.Statements.{HasOnly, HasFields, IsArrayOf, IsName, IsString, word_of, Defaults}
 use Rattle.catalog.proofs.Places.{list_any_finds}
 
 -- ---- names of fields

@@ -12,7 +12,7 @@ use Rattle.catalog.specs.Definitions.{definition_from}
 use Rattle.catalog.specs.Faults.{first_fault}
 use Rattle.catalog.specs.Catalog.{catalog_from, catalog_of_tables, catalog_of_document, catalog_of}
 use Rattle.catalog.specs.First.{IsFirst, IsRefusedFirst}
-use Rattle.catalog.specs.Laws.{Describes, DefinesAll, IsTablesFault, IsTextFault, order}
+use Rattle.catalog.specs.Statements.{Describes, DefinesAll, IsTablesFault, IsTextFault, order}
 use Rattle.catalog.proofs.Defined.{defines_all}
 use Rattle.catalog.proofs.Described.{document_read, document_from}
 use Rattle.catalog.proofs.Firsts.{first_at, first_by, refused_first}

@@ -21,7 +21,7 @@ use Rattle.catalog.specs.declared.draft.TableDraft.{TableDraft}
 use Rattle.catalog.specs.First.{IsFirst}
 use Rattle.catalog.proofs.Firsts.{first_at}
 use Rattle.catalog.specs.Faults.{repeats, is_empty, same_table, same_column, repeats_column, lacks_primary, has_column, names_columns, is_unknown_unique, has_unknown_key, is_of_type, is_bad_default, has_bad_default, is_over_limit, first_fault}
-use Rattle.catalog.specs.Laws.{SomeTwo, SomeOne, IsUnknownKey, IsOfType, IsWrongDefault, IsTablesFault, order}
+use Rattle.catalog.specs.Statements.{SomeTwo, SomeOne, IsUnknownKey, IsOfType, IsWrongDefault, IsTablesFault, order}
 use Rattle.catalog.proofs.Places.{list_any_finds, list_any_lacks, list_all_passes, list_all_fails}
 
 -- ---- one element, and two

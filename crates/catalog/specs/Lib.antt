@@ -4,7 +4,7 @@ pub mod Faults
 pub mod Definitions
 pub mod Valid
 pub mod First
-pub mod Laws
+pub mod Statements
 pub use Rattle.toml.specs.Data
 pub use Rattle.toml.specs.Parse
 pub use Rattle.model.specs.Definition

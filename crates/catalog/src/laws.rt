@@ -1,6 +1,6 @@
 // The rules of a catalog's document, each the contract of a function that does nothing: the definitions of `specs`
 // keep them.
-ghost use Rattle.catalog.specs.Laws.{DocumentsAreReadAsDescribed, TextsAreRefusedFirst, CatalogsHaveWhatIsDescribed};
+ghost use Rattle.catalog.specs.Statements.{DocumentsAreReadAsDescribed, TextsAreRefusedFirst, CatalogsHaveWhatIsDescribed};
 
 /// A document is read as the tables that it describes, and as none if it describes none.
 pub fn documents_are_read_as_described()

@@ -9,23 +9,23 @@ use Rattle.model.specs.declared.cell.Cell.{Cell}
 use Rattle.model.specs.declared.cell.Cell.TheVariants.{Row, Whole}
 use Rattle.model.specs.declared.change.Change.TheVariants.{Put, Set, Remove, Wipe}
 use Rattle.model.specs.declared.change.ColumnPatch.{ColumnPatch}
-use Rattle.model.specs.Exact.{key_cmp_exact}
+use Rattle.model.specs.ExactLemmas.{key_cmp_exact}
 use Rattle.std.proofs.lemmas.Map.Views.{tells_apart}
 use Rattle.model.specs.Rows.{Rows, Schema, keys_at, key_of, is_key}
 use Rattle.model.specs.Effect.{patch_row}
 use Rattle.model.specs.Cells.{row_cell, unique_cells}
 use Rattle.model.specs.Footprint.{footprint, moved_cells, new_place, replaced_cells, removed_cells}
 use Rattle.std.specs.List.{Contains}
-use Rattle.indexes.specs.Content.{Keeps}
+use Rattle.indexes.specs.Content.{KeepsCells}
 use Rattle.change.specs.declared.inverse.Wiped.{Wiped}
-use Rattle.change.specs.InverseLaws.{contains_first, contains_here, contains_later, contains_one}
+use Rattle.change.specs.InverseLemmas.{contains_first, contains_here, contains_later, contains_one}
 
 -- a list of one cell is in any that has it
-one_kept : (cell : Cell) (cells : List Cell) → Contains cells cell → Keeps (cell ∷ []) cells
+one_kept : (cell : Cell) (cells : List Cell) → Contains cells cell → KeepsCells (cell ∷ []) cells
 one_kept cell cells has other is = subst (λ (c : Cell). Contains cells c) (contains_one cell other is) has
 
 pub put_alters : (schema : Schema) (rows : Rows) (table : ℕ) (key stands_at : Key) (row : Record) → stands_at ≡ key
-    → key_of schema table row ≡ Some key → Keeps (Row table stands_at ∷ []) (footprint schema rows (Put table row))
+    → key_of schema table row ≡ Some key → KeepsCells (Row table stands_at ∷ []) (footprint schema rows (Put table row))
 unfolding footprint
 put_alters schema rows table key stands_at row same own =
     one_kept (Row table stands_at) _
@@ -34,7 +34,7 @@ put_alters schema rows table key stands_at row same own =
     (contains_here (Row table key) (unique_cells table row 1 (keys_at schema table).uniques))))
 
 pub remove_alters : (schema : Schema) (rows : Rows) (table : ℕ) (key stood_at : Key) → stood_at ≡ key
-    → Keeps (Row table stood_at ∷ []) (footprint schema rows (Remove table key))
+    → KeepsCells (Row table stood_at ∷ []) (footprint schema rows (Remove table key))
 unfolding footprint
 remove_alters schema rows table key stood_at same =
     one_kept (Row table stood_at) (footprint schema rows (Remove table key))
@@ -48,7 +48,7 @@ new_is_there table key new rest false is = contains_later (Row table key) (Row t
 
 pub set_alters : (schema : Schema) (rows : Rows) (table : ℕ) (key stood_at new stands_at : Key) (patch : List ColumnPatch) (old : Record)
     → stood_at ≡ key → stands_at ≡ new → get rows (table, key) ≡ Some old → key_of schema table (patch_row patch old) ≡ Some new
-    → Keeps (Row table stood_at ∷ Row table stands_at ∷ []) (footprint schema rows (Set table key patch))
+    → KeepsCells (Row table stood_at ∷ Row table stands_at ∷ []) (footprint schema rows (Set table key patch))
 unfolding footprint
 set_alters schema rows table key stood_at new stands_at patch old same same_new there own cell is =
     elim (contains_first (Row table stood_at) (Row table stands_at ∷ []) cell is) [
@@ -68,7 +68,7 @@ wholes [] = refl
 wholes (w ∷ ws) = ap (λ (cells : List Cell). Whole w.table ∷ cells) (wholes ws)
 
 pub wipe_alters : (schema : Schema) (rows : Rows) (tables : List ℕ) (ws : List Wiped) → map (λ (w : Wiped). w.table) ws ≡ tables
-    → Keeps (map (λ (w : Wiped). Whole w.table) ws) (footprint schema rows (Wipe tables))
+    → KeepsCells (map (λ (w : Wiped). Whole w.table) ws) (footprint schema rows (Wipe tables))
 unfolding footprint
 wipe_alters schema rows tables ws same cell is =
     subst (λ (cells : List Cell). Contains cells cell) (wholes ws ∙ ap (map Whole) same) is

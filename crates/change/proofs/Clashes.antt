@@ -9,18 +9,18 @@ use Rattle.std.proofs.lemmas.Option.{unwrap_or-slice_get}
 use Rattle.model.specs.declared.key.Key.{Key}
 use Rattle.model.specs.declared.row.Row.{Row}
 use Rattle.model.specs.Key.{key_cmp}
-use Rattle.model.specs.Exact.{key_cmp_exact}
+use Rattle.model.specs.ExactLemmas.{key_cmp_exact}
 use Rattle.model.specs.Footprint.{both_have}
 use Rattle.model.specs.Rows.{Place, Rows, Schema, keys_at, values_in, are_taken, IsValid}
 use Rattle.model.specs.Effect.{are_taken_unless_null, first_taken}
-use Rattle.model.specs.EditLaws.{is_place, place_is, place_cases, same_place, get_remove_same, get_remove_other}
-use Rattle.model.specs.TakenLaws.{taken_by_row, row_of_taken}
-use Rattle.model.specs.ValidLaws.{part_remove}
-use Rattle.rows.specs.KeyLaws.{same_key}
+use Rattle.model.specs.EditLemmas.{is_place, place_is, place_cases, same_place, get_remove_same, get_remove_other}
+use Rattle.model.specs.TakenLemmas.{taken_by_row, row_of_taken}
+use Rattle.model.specs.ValidLemmas.{part_remove}
+use Rattle.rows.specs.KeyLemmas.{same_key}
 use Rattle.indexes.specs.Content.{unique_columns}
 use Rattle.change.specs.declared.outcome.OldRow.{OldRow}
 use Rattle.change.specs.Clashing.{without, KeepsValues}
-use Rattle.change.specs.EditsLaws.{place_in_table}
+use Rattle.change.specs.EditsLemmas.{place_in_table}
 
 -- ---- all rows but one
 
@@ -45,9 +45,9 @@ module _ (schema : Schema) (rows : Rows) (valid : IsValid schema rows) (table nu
   holders_own is =
       elim (cases_Bool (are_taken rest table columns values)) [
         | inl found ↦
-            let twin = row_of_taken rest table columns values found in
-            let same : holder ≡ twin.key = valid.unique table (number - 1) columns holder twin.key row twin.row values is_unique at (part_remove rows (table, key) (table, twin.key) twin.row twin.at) has twin.has in
-            let there : get rest (table, key) ≡ Some twin.row = ap (get rest) (sym is) ∙ ap (λ (k : Key). get rest (table, k)) same ∙ twin.at in
+            let duplicate = row_of_taken rest table columns values found in
+            let same : holder ≡ duplicate.key = valid.unique table (number - 1) columns holder duplicate.key row duplicate.row values is_unique at (part_remove rows (table, key) (table, duplicate.key) duplicate.row duplicate.at) has duplicate.has in
+            let there : get rest (table, key) ≡ Some duplicate.row = ap (get rest) (sym is) ∙ ap (λ (k : Key). get rest (table, k)) same ∙ duplicate.at in
             let gone : get rest (table, key) ≡ None = get_remove_same rows (table, key) in
             cc
         | inr none ↦ none
@@ -71,8 +71,8 @@ pub free_in_rest : (rows : Rows) (table : ℕ) (columns : List ℕ) (values key 
 free_in_rest rows table columns values key free =
     elim (cases_Bool (are_taken (remove rows (table, key)) table columns values)) [
       | inl found ↦
-          let twin = row_of_taken (remove rows (table, key)) table columns values found in
-          absurd (true≢false (sym (taken_by_row rows table columns values twin.key twin.row (part_remove rows (table, key) (table, twin.key) twin.row twin.at) twin.has) ∙ free))
+          let duplicate = row_of_taken (remove rows (table, key)) table columns values found in
+          absurd (true≢false (sym (taken_by_row rows table columns values duplicate.key duplicate.row (part_remove rows (table, key) (table, duplicate.key) duplicate.row duplicate.at) duplicate.has) ∙ free))
       | inr none ↦ none
     ]
 

@@ -10,11 +10,11 @@ use Rattle.model.specs.declared.change.Change.TheVariants.{Put as PutRow, Set, R
 use Rattle.model.specs.declared.change.ColumnPatch.{ColumnPatch}
 use Rattle.model.specs.Rows.{Place, Rows, Schema, keys_at, key_of, IsValid}
 use Rattle.model.specs.Effect.{Edits, one_edit, Done, Skip, Clashes, Unique, row_outcome, row_outcome_at, unless_taken, patch_row, set_outcome, remove_outcome, outcome, effect, inverse, back, first_taken}
-use Rattle.model.specs.EditLaws.{same_edits, is_place, same_place, place_is, place_cases, get_insert_same, get_insert_other, get_remove_same, get_remove_other, get_edit, get_one_edit, overlay_one, overlay_two, rows_under_one, rows_under_two}
-use Rattle.model.specs.EffectLaws.{row_outcome_free, effect_skipped, effect_of, inverse_of, back_of_inverse}
+use Rattle.model.specs.EditLemmas.{same_edits, is_place, same_place, place_is, place_cases, get_insert_same, get_insert_other, get_remove_same, get_remove_other, get_edit, get_one_edit, overlay_one, overlay_two, rows_under_one, rows_under_two}
+use Rattle.model.specs.EffectLemmas.{row_outcome_free, effect_skipped, effect_of, inverse_of, back_of_inverse}
 use Rattle.model.specs.Footprint.{footprint}
-use Rattle.indexes.specs.Content.{Content, Keeps}
-use Rattle.change.specs.Applied.{IsSound, IsDone, Answers}
+use Rattle.indexes.specs.Content.{Content, KeepsCells}
+use Rattle.change.specs.Applied.{IsSound, IsDone, AnswersOutcome}
 use Rattle.change.specs.Leaving.{Leaves}
 use Rattle.change.specs.declared.outcome.Applied.TheVariants.{Done as DoneWith, Skipped}
 use Rattle.change.specs.declared.outcome.Clash.{Clash}
@@ -44,8 +44,8 @@ skipped_leaves t c skipped = record {
 }
 
 -- one that is refused leaves the rows, and perhaps more room
-pub refused_leaves : (old new : Content) (c : Change) (e : Clash) → Answers (outcome old.schema old.rows c) (Err e) → new.rows ≡ old.rows
-    → Keeps old.room new.room → new.schema ≡ old.schema → Leaves old new c (Err e)
+pub refused_leaves : (old new : Content) (c : Change) (e : Clash) → AnswersOutcome (outcome old.schema old.rows c) (Err e) → new.rows ≡ old.rows
+    → KeepsCells old.room new.room → new.schema ≡ old.schema → Leaves old new c (Err e)
 refused_leaves old new c e answer rows room schema = record {
   answer = answer;
   ok = tt;
@@ -60,8 +60,8 @@ refused_leaves old new c e answer rows room schema = record {
 -- one that is done leaves its effect, with an inverse that is known, as left and with its room
 pub leaves : (old new : Content) (c : Change) (i : Inverse) → IsValid old.schema old.rows → IsDone (outcome old.schema old.rows c)
     → new.schema ≡ old.schema → new.rows ≡ effect old.schema old.rows c → edits_of i ≡ inverse old.schema old.rows c
-    → Keeps (cells_altered i) (footprint old.schema old.rows c) → IsKnown old.schema i → AsLeft new.rows i → HasItsRoom old.schema new.room i
-    → Keeps old.room (room_back new.room i) → Leaves old new c (Ok (DoneWith i))
+    → KeepsCells (cells_altered i) (footprint old.schema old.rows c) → IsKnown old.schema i → AsLeft new.rows i → HasItsRoom old.schema new.room i
+    → KeepsCells old.room (room_back new.room i) → Leaves old new c (Ok (DoneWith i))
 leaves old new c i valid answer schema rows edits altered known left its_room room = record {
   answer = answer;
   ok = rows;
@@ -83,7 +83,7 @@ leaves old new c i valid answer schema rows edits altered known left its_room ro
 
 module _ (old new : Content) (table : ℕ) (key copy : Key) (row : Row) (same : copy ≡ key) (sound : IsSound old) (known : table < length old.schema)
     (at_copy : get old.rows (table, copy) ≡ Some row) (schema : new.schema ≡ old.schema) (rows : new.rows ≡ remove old.rows (table, copy))
-    (kept : Keeps old.room new.room) where
+    (kept : KeepsCells old.room new.room) where
   abbrev asked : Change
   asked = Remove table key
 
@@ -114,7 +114,7 @@ module _ (old new : Content) (table : ℕ) (key copy : Key) (row : Row) (same : 
 module _ (old new : Content) (table : ℕ) (row : Row) (key copy : Key) (same : copy ≡ key) (valid : IsValid old.schema old.rows) (known : table < length old.schema)
     (own : key_of old.schema table row ≡ Some key) (free : get old.rows (table, key) ≡ None)
     (none : first_taken old.rows table row 1 (keys_at old.schema table).uniques ≡ None)
-    (schema : new.schema ≡ old.schema) (rows : new.rows ≡ insert old.rows (table, key) row) (kept : Keeps old.room new.room) where
+    (schema : new.schema ≡ old.schema) (rows : new.rows ≡ insert old.rows (table, key) row) (kept : KeepsCells old.room new.room) where
   abbrev asked_put : Change
   asked_put = PutRow table row
 
@@ -192,7 +192,7 @@ module _ (old new : Content) (table : ℕ) (key stood_at : Key) (new_key stands_
     (own : key_of old.schema table row ≡ Some new_key) (free : get (remove old.rows (table, key)) (table, new_key) ≡ None)
     (none : first_taken (remove old.rows (table, key)) table row 1 (keys_at old.schema table).uniques ≡ None)
     (schema : new.schema ≡ old.schema) (rows : new.rows ≡ insert (remove old.rows (table, key)) (table, new_key) row)
-    (kept : Keeps old.room new.room) where
+    (kept : KeepsCells old.room new.room) where
   abbrev asked_set : Change
   asked_set = Set table key patch
 

@@ -8,16 +8,16 @@ use Rattle.model.specs.declared.row.Row.{Row}
 use Rattle.model.specs.declared.cell.Cell.{Cell}
 use Rattle.model.specs.Rows.{Rows, Schema, IsValid, keys_at, key_of}
 use Rattle.model.specs.Effect.{first_taken, back, all_back}
-use Rattle.model.specs.EditLaws.{overlay_one, overlay_two}
-use Rattle.model.specs.ValidLaws.{own_key_of_valid, free_of_valid}
+use Rattle.model.specs.EditLemmas.{overlay_one, overlay_two}
+use Rattle.model.specs.ValidLemmas.{own_key_of_valid, free_of_valid}
 use Rattle.model.specs.Cells.{table_of}
-use Rattle.indexes.specs.Content.{Content, Keeps, IsTable, SameElsewhere, SameRoomElsewhere}
+use Rattle.indexes.specs.Content.{Content, KeepsCells, IsTable, SameElsewhere, SameRoomElsewhere}
 use Rattle.indexes.specs.Table.{cells_in}
 use Rattle.change.specs.declared.inverse.Wiped.{Wiped}
 use Rattle.change.specs.declared.inverse.Inverse.TheVariants.{Put, Replace}
 use Rattle.change.specs.Inverse.{rows_held, HasNoRows, is_elsewhere, room_with, room_unwiped, AreEmpty, AreKnown, CanUnwipe, CanPutBack}
-use Rattle.change.specs.EditsLaws.{back_rows_held, number_is_not}
-use Rattle.change.specs.InverseLaws.{filter_contains, unwiped_last, known_last, empty_last, room_unwiped_last, room_unwiped_keeps}
+use Rattle.change.specs.EditsLemmas.{back_rows_held, number_is_not}
+use Rattle.change.specs.InverseLemmas.{filter_contains, unwiped_last, known_last, empty_last, room_unwiped_last, room_unwiped_keeps}
 
 module _ (t : Content) (table : ℕ) (key : Key) (row : Row) (can : CanPutBack t (Put table key row)) where
   put_valid : IsValid t.schema (insert t.rows (table, key) row)
@@ -51,7 +51,7 @@ not_false false e = refl
 
 module _ (t new : Content) (all ws : List Wiped) (w : Wiped) (split : all ≡ ws ++ w ∷ []) (can : CanUnwipe t all)
     (schema : new.schema ≡ t.schema) (held : IsTable new.rows w.table w.contents.rows) (elsewhere : SameElsewhere t.rows new.rows w.table)
-    (room : Keeps (cells_in w.table w.contents) new.room) (room_elsewhere : SameRoomElsewhere t.room new.room w.table) where
+    (room : KeepsCells (cells_in w.table w.contents) new.room) (room_elsewhere : SameRoomElsewhere t.room new.room w.table) where
   parted_empty : AreEmpty (back t.rows (rows_held w)) ws × HasNoRows t.rows w.table
   parted_empty = empty_last t.rows ws w (subst (AreEmpty t.rows) split can.empty)
 
@@ -70,7 +70,7 @@ module _ (t new : Content) (all ws : List Wiped) (w : Wiped) (split : all ≡ ws
     empty = subst (λ (r : Rows). AreEmpty r ws) (sym given_back) parted_empty.0;
   }
 
-  room_given : Keeps (room_with t.room w) new.room
+  room_given : KeepsCells (room_with t.room w) new.room
   room_given cell is =
       elim (Contains-append_cases (cells_in w.table w.contents) (filter (is_elsewhere w.table) t.room) cell is) [
         | inl of_table ↦ room cell of_table
@@ -79,8 +79,8 @@ module _ (t new : Content) (all ws : List Wiped) (w : Wiped) (split : all ≡ ws
             room_elsewhere cell (number_is_not (table_of cell) w.table (not_false (table_of cell == w.table) parts.1)) parts.0
       ]
 
-  pub unwiped_room : Keeps (room_unwiped t.room all) (room_unwiped new.room ws)
+  pub unwiped_room : KeepsCells (room_unwiped t.room all) (room_unwiped new.room ws)
   unwiped_room =
-      subst (λ (r : List Cell). Keeps r (room_unwiped new.room ws))
+      subst (λ (r : List Cell). KeepsCells r (room_unwiped new.room ws))
       (sym (ap (room_unwiped t.room) split ∙ room_unwiped_last t.room ws w))
       (room_unwiped_keeps (room_with t.room w) new.room ws room_given)

@@ -11,17 +11,17 @@ use Rattle.model.specs.declared.cell.Cell.{Cell}
 use Rattle.model.specs.declared.change.Change.TheVariants.{Wipe}
 use Rattle.model.specs.Rows.{Place, Rows, Schema, keys_at}
 use Rattle.model.specs.Effect.{Edits, effect, inverse, back, all_back}
-use Rattle.model.specs.EditLaws.{same_rows, same_edits}
-use Rattle.model.specs.EffectLaws.{is_named, row_before_wipe, get_effect_wipe, get_inverse_wipe}
+use Rattle.model.specs.EditLemmas.{same_rows, same_edits}
+use Rattle.model.specs.EffectLemmas.{is_named, row_before_wipe, get_effect_wipe, get_inverse_wipe}
 use Rattle.model.specs.Cells.{table_of}
-use Rattle.indexes.specs.Content.{Content, Keeps, IsTable, SameElsewhere, SameRoomElsewhere}
+use Rattle.indexes.specs.Content.{Content, KeepsCells, IsTable, SameElsewhere, SameRoomElsewhere}
 use Rattle.indexes.specs.Table.{cells_in}
 use Rattle.change.specs.declared.inverse.Wiped.{Wiped}
 use Rattle.change.specs.declared.inverse.Inverse.TheVariants.{Unwipe}
 use Rattle.change.specs.Edits.{laid_together}
-use Rattle.change.specs.EditsLaws.{or_else, get_over, as_edit, get_rows_held_at, get_rows_held_other, back_rows_held, number_is, number_is_not}
+use Rattle.change.specs.EditsLemmas.{or_else, get_over, as_edit, get_rows_held_at, get_rows_held_other, back_rows_held, number_is, number_is_not}
 use Rattle.change.specs.Inverse.{rows_held, HasNoRows, is_elsewhere, room_with, room_unwiped, AreKnown, AreEmpty, CanUnwipe}
-use Rattle.change.specs.InverseLaws.{rows_held_last, unwiped_last, room_unwiped_last, known_more, empty_more, contains_filter, room_unwiped_keeps}
+use Rattle.change.specs.InverseLemmas.{rows_held_last, unwiped_last, room_unwiped_last, known_more, empty_more, contains_filter, room_unwiped_keeps}
 use Rattle.change.specs.Applied.{IsSound}
 use Rattle.change.specs.declared.outcome.Applied.TheVariants.{Done as DoneWith}
 use Rattle.change.specs.Leaving.{Leaves}
@@ -96,7 +96,7 @@ pub record IsWiped (start t : Content) (named : List ℕ) (ws : List Wiped) : Ty
   pub edits : (p : Place) → get (laid_together (map rows_held ws)) p ≡ row_before_wipe (is_named named p.0) (get start.rows p)
   pub can : CanUnwipe t ws
   pub undone : all_back t.rows (map rows_held ws) ≡ start.rows
-  pub room : Keeps start.room (room_unwiped t.room ws)
+  pub room : KeepsCells start.room (room_unwiped t.room ws)
   pub tables : map (λ (w : Wiped). w.table) ws ≡ named
 
 pub nothing_wiped : (start : Content) → IsWiped start start [] []
@@ -144,7 +144,7 @@ module _ (start t new : Content) (tables : List ℕ) (i : ℕ) (ws : List Wiped)
   was : t.rows ≡ back new.rows (rows_held w)
   was = back_rows_held new.rows t.rows w empty out (λ other key apart. sym (elsewhere other key apart))
 
-  kept : Keeps t.room (room_with new.room w)
+  kept : KeepsCells t.room (room_with new.room w)
   kept cell is = by (table_of cell == w.table) refl
     where
       by : (b : Bool) → (table_of cell == w.table) ≡ b → Contains (room_with new.room w) cell

@@ -1,6 +1,6 @@
 -- How a change came out, as its answer says.
 --     IsSound      what the tables keep
---     Answers      an answer tells the outcome
+--     AnswersOutcome      an answer tells the outcome
 --     IfDone, room_after      what holds of the inverse, if the change was done; the room that is there once it is put back
 use Rattle.std.specs.Prelude.{◌≡◌, ℕ, List, Some, Result, Ok, Err}
 use Rattle.std.specs.FinMap.{get}
@@ -29,12 +29,12 @@ IsDone Skip = ⊥
 IsDone (Clashes cause) = ⊥
 
 -- the answer tells the outcome; want of memory may stand in place of any
-abbrev pub Answers : Outcome → Result Applied Clash → Type 0
-Answers o (Ok (DoneWith inverse)) = IsDone o
-Answers o (Ok Skipped) = o ≡ Skip
-Answers o (Err (UniqueClash table key)) = o ≡ Clashes (Unique table key)
-Answers o (Err (NullKeyClash table)) = o ≡ Clashes (NullKey table)
-Answers o (Err OutOfMemory) = Unit {0}
+abbrev pub AnswersOutcome : Outcome → Result Applied Clash → Type 0
+AnswersOutcome o (Ok (DoneWith inverse)) = IsDone o
+AnswersOutcome o (Ok Skipped) = o ≡ Skip
+AnswersOutcome o (Err (UniqueClash table key)) = o ≡ Clashes (Unique table key)
+AnswersOutcome o (Err (NullKeyClash table)) = o ≡ Clashes (NullKey table)
+AnswersOutcome o (Err OutOfMemory) = Unit {0}
 
 -- of the inverse, if the change was done
 abbrev pub IfDone : Result Applied Clash → (Inverse → Type 0) → Type 0

@@ -5,11 +5,11 @@ use Rattle.std.specs.Prelude.{ℕ, List, [], ◌∷◌, Option, Some, None, ◌=
 use Rattle.std.specs.FinMap.{get}
 use Rattle.model.specs.declared.key.Key.{Key}
 use Rattle.model.specs.declared.row.Row.{Row}
-use Rattle.model.specs.EditLaws.{is_place}
+use Rattle.model.specs.EditLemmas.{is_place}
 use Rattle.change.specs.declared.inverse.Inverse.{Inverse}
 use Rattle.change.specs.declared.inverse.Inverse.TheVariants.{Take, Put, Replace, Unwipe}
 use Rattle.change.specs.declared.inverse.Wiped.{Wiped}
-use Rattle.change.specs.EditsLaws.{or_else}
+use Rattle.change.specs.EditsLemmas.{or_else}
 
 -- the row at the key of the first emptied table of this number that held one there, or none
 abbrev pub first_emptied : List Wiped → ℕ → Key → Option Row

@@ -1,7 +1,7 @@
 pub mod Edits
 pub mod Inverse
-pub mod EditsLaws
-pub mod InverseLaws
+pub mod EditsLemmas
+pub mod InverseLemmas
 pub mod Applied
 pub mod Leaving
 pub mod Clashing

@@ -2,8 +2,8 @@
 ghost use Rattle.std.specs.Prelude.{◌≡◌, ◌++◌, [], ◌∷◌, Some, None, if◌then◌else◌, length, map};
 ghost use Rattle.std.specs.FinMap.{get, insert, remove};
 ghost use Rattle.model.specs.Effect.{back, all_back};
-ghost use Rattle.indexes.specs.Content.{Keeps};
-ghost use Rattle.model.specs.EditLaws.{is_place};
+ghost use Rattle.indexes.specs.Content.{KeepsCells};
+ghost use Rattle.model.specs.EditLemmas.{is_place};
 ghost use Rattle.change.specs.KeptRow.{row_kept, first_emptied};
 ghost use Rattle.change.specs.Inverse.{edits_of, room_back, CanPutBack, CanUnwipe, rows_held, room_unwiped};
 
@@ -105,7 +105,7 @@ pub fn put_back(t: &mut Tables, inverse: Inverse)
     requires { CanPutBack t.old inverse }
     ensures schema { t.new.schema ≡ t.old.schema }
     ensures rows { t.new.rows ≡ back t.old.rows (edits_of inverse) }
-    ensures room { Keeps (room_back t.old.room inverse) t.new.room }
+    ensures room { KeepsCells (room_back t.old.room inverse) t.new.room }
 {
     match inverse {
         Inverse::Take { table, key } => t.take_back(table, &key),
@@ -125,7 +125,7 @@ pub(crate) fn unwipe_all(t: &mut Tables, wiped: Vec<Wiped>)
     requires { CanUnwipe t.old wiped.items }
     ensures schema { t.new.schema ≡ t.old.schema }
     ensures rows { t.new.rows ≡ all_back t.old.rows (map rows_held wiped.items) }
-    ensures room { Keeps (room_unwiped t.old.room wiped.items) t.new.room }
+    ensures room { KeepsCells (room_unwiped t.old.room wiped.items) t.new.room }
 {
     let mut wiped = wiped;
     while let Some(last) = wiped.pop() {

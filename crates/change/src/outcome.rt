@@ -4,12 +4,12 @@ ghost use Rattle.std.specs.FinMap.{get, remove};
 ghost use Rattle.model.specs.declared.change.Change.TheVariants.{Put, Set, Remove, Wipe};
 ghost use Rattle.model.specs.Rows.{IsValid, keys_at, values_in};
 ghost use Rattle.model.specs.Effect.{first_taken, are_taken_unless_null, patch_row, outcome, effect, inverse};
-ghost use Rattle.indexes.specs.Content.{Keeps, unique_columns};
+ghost use Rattle.indexes.specs.Content.{KeepsCells, unique_columns};
 ghost use Rattle.model.specs.Footprint.{footprint};
 ghost use Rattle.change.specs.Altered.{cells_altered};
 ghost use Rattle.change.specs.Inverse.{edits_of, CanPutBack};
 ghost use Rattle.model.specs.Named.{NamesTables};
-ghost use Rattle.change.specs.Applied.{Answers, IsSound, IfDone, room_after};
+ghost use Rattle.change.specs.Applied.{AnswersOutcome, IsSound, IfDone, room_after};
 ghost use Rattle.change.specs.Leaving.{Leaves};
 ghost use Rattle.change.specs.Clashing.{without, KeepsValues};
 
@@ -68,13 +68,13 @@ impl From<AllocError> for Clash {
 /// Applies a change to the tables. What its inverse alters is in the change's footprint.
 pub fn apply(alloc: Global, t: &mut Tables, c: &Change) -> Result<Applied, Clash>
     requires { NamesTables (length t.old.schema) c.now }
-    ensures answer { Answers (outcome t.old.schema t.old.rows c.now) result }
+    ensures answer { AnswersOutcome (outcome t.old.schema t.old.rows c.now) result }
     ensures ok { OnOk result (t.new.rows ≡ effect t.old.schema t.old.rows c.now) }
     ensures err { OnErr result (t.new.rows ≡ t.old.rows) }
     ensures inverse { IfDone result (λ i. edits_of i ≡ inverse t.old.schema t.old.rows c.now) }
-    ensures altered { IfDone result (λ i. Keeps (cells_altered i) (footprint t.old.schema t.old.rows c.now)) }
+    ensures altered { IfDone result (λ i. KeepsCells (cells_altered i) (footprint t.old.schema t.old.rows c.now)) }
     ensures can_put_back { IfDone result (λ i. CanPutBack t.new i) }
-    ensures room { Keeps t.old.room (room_after t.new.room result) }
+    ensures room { KeepsCells t.old.room (room_after t.new.room result) }
     ensures schema { t.new.schema ≡ t.old.schema }
 {
     // What is known of the tables is told here: they are valid, and have room for their rows.
@@ -205,7 +205,7 @@ fn first_clash(t: &Tables, table: TableId, row: &Row, stood: Option<OldRow<'_>>)
 {
     for index in 0..t.unique_count(table) {
         let number = index + 1;
-        if has_twin(t, table, number, row, stood) {
+        if has_duplicate(t, table, number, row, stood) {
             return Some(number);
         }
     }
@@ -222,7 +222,13 @@ fn is_key_held(t: &Tables, table: TableId, key: &Key, except: &Key) -> bool
 
 /// Whether the row agrees in a unique key with another than the one that it takes the place of.
 /// Values that it keeps of that nobody else has, and they aren't looked up.
-fn has_twin(t: &Tables, table: TableId, number: usize, row: &Row, stood: Option<OldRow<'_>>) -> bool
+fn has_duplicate(
+    t: &Tables,
+    table: TableId,
+    number: usize,
+    row: &Row,
+    stood: Option<OldRow<'_>>,
+) -> bool
     requires known { table < length t.now.schema }
     requires sound { IsSound t.now }
     requires number { (1 ≤ number) × (number ≤ length (keys_at t.now.schema table).uniques) }
@@ -232,7 +238,7 @@ fn has_twin(t: &Tables, table: TableId, number: usize, row: &Row, stood: Option<
     if keeps_values(t.unique_columns(table, number), stood, row) {
         return false;
     }
-    match t.find_twin(table, number, row) {
+    match t.find_duplicate(table, number, row) {
         None => false,
         Some(holder) => match stood {
             None => true,

@@ -20,21 +20,21 @@ use Rattle.model.specs.Named.{NamesTables}
 use Rattle.model.specs.Rows.{Rows, Schema}
 use Rattle.model.specs.Effect.{all_back, serial}
 use Rattle.model.specs.Survivors.{changes_of}
-use Rattle.model.specs.SurvivorLaws.{changes_of_both}
+use Rattle.model.specs.SurvivorLemmas.{changes_of_both}
 use Rattle.indexes.specs.Content.{Content}
 use Rattle.change.specs.declared.inverse.Inverse.{Inverse}
 use Rattle.change.specs.Inverse.{edits_of, IsKnown}
 use Rattle.change.specs.declared.outcome.Clash.{Clash}
 use Rattle.undo.specs.Undo.{Log, CanUndo, AreKnownAll}
-use Rattle.undo.specs.UndoLaws.{schema_undone}
+use Rattle.undo.specs.UndoLemmas.{schema_undone}
 use Rattle.engine.specs.declared.serial.SerialStore.TheInside.{Inside}
-use Rattle.engine.specs.Clear.{IsClear, ClashesIn}
-use Rattle.engine.specs.ClearLaws.{IsClear-append, ClashesIn-behind, ClashesIn-before}
-use Rattle.live.specs.Answers.{told_stop}
-use Rattle.engine.specs.Engine.{engine_in, world_in, IsStore}
+use Rattle.engine.specs.FirstClash.{IsClear, ClashesIn}
+use Rattle.engine.specs.FirstClashLemmas.{IsClear-append, ClashesIn-behind, ClashesIn-before}
+use Rattle.live_tables.specs.Answers.{told_stop}
+use Rattle.engine.specs.Engine.{engine_in, world_in, StoreRepresents}
 use Rattle.engine.specs.Serial.{Serial, rows_now, with_changes}
-use Rattle.engine.specs.SerialInside.{base_in, idle_in, serial_in, IsSerial}
-use Rattle.engine.specs.SerialLaws.{idle_rows, rows_with}
+use Rattle.engine.specs.SerialInside.{base_in, idle_in, serial_in, Represents}
+use Rattle.engine.specs.SerialLemmas.{idle_rows, rows_with}
 
 -- what can be undone is of tables that are there
 pub known_all : (t : Content) (is : List Inverse) → CanUndo t is → AreKnownAll t.schema is
@@ -61,8 +61,8 @@ pub change_kept : (old room new : List Item) (sub : ℕ) (c : Change) → room �
 change_kept old room new sub c made pushed = ap changes_of (pushed ∙ ap (λ (items : List Item). items ++ ChangeItem sub c ∷ []) made) ∙ changes_of_both old (ChangeItem sub c ∷ [])
 
 -- where no work is open, it is a store of which the type keeps all
-pub serially_idle : (s : Inside) → IsStore (idle_in s) → s.book.lists ≡ finite.empty → told_stop s.live.stopped ≡ None → s.token ≡ s.line
-    → s.undo.inverses ≡ [] → changes_of s.items.items ≡ [] → IsSerial s
+pub serially_idle : (s : Inside) → StoreRepresents (idle_in s) → s.book.lists ≡ finite.empty → told_stop s.live.stopped ≡ None → s.token ≡ s.line
+    → s.undo.inverses ≡ [] → changes_of s.items.items ≡ [] → Represents s
 serially_idle s idle none runs line undone unchanged = record {
   idle = idle;
   none = none;
@@ -76,7 +76,7 @@ serially_idle s idle none runs line undone unchanged = record {
   clear = subst (IsClear s.live.tables.schema (base_in s)) (sym unchanged) tt;
 }
 
-module _ (s : Inside) (is : IsSerial s) where
+module _ (s : Inside) (is : Represents s) where
   -- the rows without the open work are the committed ones
   pub rows_based : base_in s ≡ (world_in (idle_in s)).committed
   rows_based = idle_rows (idle_in s) is.idle is.none
@@ -98,9 +98,9 @@ module _ (s : Inside) (is : IsSerial s) where
     pub worked_view : serial_in worked ≡ with_changes (serial_in s) cs
     worked_view = λ i. record { store = engine_in (same_idle i); changes = more i }
 
-    pub worked_kept : CanUndo t u.inverses → All (NamesTables (length s.live.tables.schema)) cs → IsClear s.live.tables.schema s.live.tables.rows cs → IsSerial worked
+    pub worked_kept : CanUndo t u.inverses → All (NamesTables (length s.live.tables.schema)) cs → IsClear s.live.tables.schema s.live.tables.rows cs → Represents worked
     worked_kept can named clear = record {
-      idle = subst IsStore (sym same_idle) is.idle;
+      idle = subst StoreRepresents (sym same_idle) is.idle;
       none = is.none;
       runs = is.runs;
       line = is.line;

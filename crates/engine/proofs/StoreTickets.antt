@@ -14,12 +14,12 @@ use Rattle.world.specs.World.{Opened, World}
 use Rattle.world.specs.Steps.{done_with}
 use Rattle.engine.specs.declared.events.Event.{Event}
 use Rattle.engine.specs.declared.events.Event.TheVariants.{Done}
-use Rattle.live.specs.declared.live_tables.Live.{Live}
+use Rattle.live_tables.specs.declared.live_tables.Live.{Live}
 use Rattle.engine.specs.declared.store.Store.TheInside.{Inside}
 use Rattle.engine.specs.Events.{opened_by}
-use Rattle.engine.specs.Engine.{Engine, world_in, engine_in, IsStore}
-use Rattle.engine.specs.StoreLaws.{stands, with_parts, store_done}
-use Rattle.live.specs.Tied.{IsTied}
+use Rattle.engine.specs.Engine.{Engine, world_in, engine_in, Represents}
+use Rattle.engine.specs.StoreLemmas.{stands, with_parts, store_done}
+use Rattle.live_tables.specs.Represents.{LiveRepresents}
 
 -- The number is the ticket's, and the store's book has the ticket's list under it.
 pub record IsTicket (s : Inside) (t : OpenList Event) (n : ℕ) : Type 0 where
@@ -33,7 +33,7 @@ its_ticket {s} shown number same listed = record {
   listed = subst (λ (u : OpenList Event). get s.book.lists u.number ≡ Some u.list) same listed;
 }
 
-module _ {s : Inside} {t : OpenList Event} {n : ℕ} (is : IsStore s) (its : IsTicket s t n) where
+module _ {s : Inside} {t : OpenList Event} {n : ℕ} (is : Represents s) (its : IsTicket s t n) where
   -- the ticket's transaction is open in the world
   pub is_open : get (world_in s).opened t.number ≡ Some (opened_by t.list)
   is_open = stands s is t.number t.list its.listed
@@ -43,7 +43,7 @@ module _ {s : Inside} {t : OpenList Event} {n : ℕ} (is : IsStore s) (its : IsT
   open_under = subst (λ (k : ℕ). get (world_in s).opened k ≡ Some (opened_by t.list)) (sym its.number) is_open
 
   -- the live part may be called with that number
-  pub may_call : (w : World) × (o : Opened) × IsTied w s.live × (get w.opened n ≡ Some o)
+  pub may_call : (w : World) × (o : Opened) × LiveRepresents w s.live × (get w.opened n ≡ Some o)
   may_call = (world_in s, opened_by t.list, is.tied, open_under)
 
   -- callers see it open
@@ -51,15 +51,15 @@ module _ {s : Inside} {t : OpenList Event} {n : ℕ} (is : IsStore s) (its : IsT
   seen_open e seen = subst (λ (f : Engine). get f.world.opened t.number ≡ Some (opened_by t.list)) seen is_open
 
   -- the live part is tied to the world that its call leads to
-  pub tied_after : (later : World → ℕ → Opened → World) (m : Live) → ((w : World) (o : Opened) → IsTied w s.live → get w.opened n ≡ Some o → IsTied (later w n o) m)
-      → IsTied (later (world_in s) t.number (opened_by t.list)) m
+  pub tied_after : (later : World → ℕ → Opened → World) (m : Live) → ((w : World) (o : Opened) → LiveRepresents w s.live → get w.opened n ≡ Some o → LiveRepresents (later w n o) m)
+      → LiveRepresents (later (world_in s) t.number (opened_by t.list)) m
   tied_after later m tied =
-      subst (λ (k : ℕ). IsTied (later (world_in s) k (opened_by t.list)) m) its.number (tied (world_in s) (opened_by t.list) is.tied open_under)
+      subst (λ (k : ℕ). LiveRepresents (later (world_in s) k (opened_by t.list)) m) its.number (tied (world_in s) (opened_by t.list) is.tied open_under)
 
   -- what the live part's call is to its world, the store's call is to the world that callers see
   pub seen_step : (e : Engine) → engine_in s ≡ e → (Steps : Schema → World → ℕ → Opened → World → Type 0) (later : World → ℕ → Opened → World) (next : World)
       → next ≡ later (world_in s) t.number (opened_by t.list)
-      → ((w : World) (o : Opened) → IsTied w s.live → get w.opened n ≡ Some o → Steps s.live.tables.schema w n o (later w n o))
+      → ((w : World) (o : Opened) → LiveRepresents w s.live → get w.opened n ≡ Some o → Steps s.live.tables.schema w n o (later w n o))
       → Steps e.schema e.world t.number (opened_by t.list) next
   seen_step e seen Steps later next leads steps =
       subst (λ (f : Engine). Steps f.schema f.world t.number (opened_by t.list) next) seen
@@ -69,12 +69,12 @@ module _ {s : Inside} {t : OpenList Event} {n : ℕ} (is : IsStore s) (its : IsT
 
 -- the store's world has an item more of the ticket's transaction, and nothing else
 abbrev pub HasDone : Inside → OpenList Event → Item → Inside → Type 0
-HasDone s t item next = (world_in next ≡ done_with (world_in s) t.number (opened_by t.list) item) × IsStore next
+HasDone s t item next = (world_in next ≡ done_with (world_in s) t.number (opened_by t.list) item) × Represents next
 
 -- the live part did an item, and a book that has met the ticket's slip lists it
-pub item_done : {s : Inside} {t slip : OpenList Event} {n : ℕ} {met grown : OpenLists Event} (m : Live) (item : Item) → IsStore s → IsTicket s t n
+pub item_done : {s : Inside} {t slip : OpenList Event} {n : ℕ} {met grown : OpenLists Event} (m : Live) (item : Item) → Represents s → IsTicket s t n
     → slip ≡ t → met ≡ s.book → grown ≡ with_list met slip.number (slip.list ++ Done item ∷ []) → m.tables.schema ≡ s.live.tables.schema
-    → ((w : World) (o : Opened) → IsTied w s.live → get w.opened n ≡ Some o → IsTied (done_with w n o item) m)
+    → ((w : World) (o : Opened) → LiveRepresents w s.live → get w.opened n ≡ Some o → LiveRepresents (done_with w n o item) m)
     → HasDone s t item (with_parts s m grown)
 item_done {s} {t} {grown = grown} m item is its same met listed schema tied =
     store_done s is t.number t.list its.listed m grown item schema
@@ -82,7 +82,7 @@ item_done {s} {t} {grown = grown} m item is its same met listed schema tied =
     (tied_after is its (λ w k o. done_with w k o item) m tied)
 
 -- a book that has met a ticket's slip shows callers that the ticket's transaction is open
-pub met_open : {s : Inside} {slip t : OpenList Event} → IsStore s → slip ≡ t → get s.book.lists slip.number ≡ Some slip.list
+pub met_open : {s : Inside} {slip t : OpenList Event} → Represents s → slip ≡ t → get s.book.lists slip.number ≡ Some slip.list
     → (e : Engine) → engine_in s ≡ e → get e.world.opened t.number ≡ Some (opened_by t.list)
 met_open {s} {t = t} is same listed e seen = seen_open {t = t} is record {
   number = refl;
@@ -90,6 +90,6 @@ met_open {s} {t = t} is same listed e seen = seen_open {t = t} is record {
 } e seen
 
 -- and the live part may be called with its number
-pub met_call : {s : Inside} {n : ℕ} (slip : OpenList Event) → IsStore s → n ≡ slip.number → get s.book.lists slip.number ≡ Some slip.list
-    → (w : World) × (o : Opened) × IsTied w s.live × (get w.opened n ≡ Some o)
+pub met_call : {s : Inside} {n : ℕ} (slip : OpenList Event) → Represents s → n ≡ slip.number → get s.book.lists slip.number ≡ Some slip.list
+    → (w : World) × (o : Opened) × LiveRepresents w s.live × (get w.opened n ≡ Some o)
 met_call slip is number listed = may_call {t = slip} is record { number = number; listed = listed }

@@ -3,7 +3,7 @@
 --     world_in, engine_in      the world of a store's parts, and what callers see of them
 --     entry_in      an entry of the journal, as the world tells it
 --     AreNamed      the changes of entries name tables that are there
---     IsStore      what the type of a store keeps
+--     Represents      what the type of a store keeps
 --     IsOtherwiseSame      another world, with the same keys and names
 use Rattle.std.specs.Prelude.{◌≡◌, ℕ, ◌+◌, ◌≤◌, ◌∷◌, List, All, length, map, is_some, vec_len, vec_capacity}
 use Rattle.std.specs.List.Sorted.{IsStrictlyIncreasing}
@@ -16,9 +16,9 @@ use Rattle.world.specs.World.{World, Entry, journal}
 use Rattle.engine.specs.declared.entry.Entry as entry_type
 use Rattle.engine.specs.declared.events.LineEvent.{LineEvent}
 use Rattle.engine.specs.declared.store.Store.TheInside.{Inside}
-use Rattle.live.specs.Answers.{told_stop}
+use Rattle.live_tables.specs.Answers.{told_stop}
 use Rattle.engine.specs.Events.{ends_in, is_open_in, world_of}
-use Rattle.live.specs.Tied.{IsTied}
+use Rattle.live_tables.specs.Represents.{LiveRepresents}
 
 -- a store as its callers see it
 pub record Engine : Type 0 where
@@ -48,8 +48,8 @@ AreNamed schema entries = All (λ (e : entry_type.Entry). All (NamesTables (leng
 -- What the type of a store keeps: its live part is tied to its world, the journal is that of the world, with room for
 -- an entry of each open transaction, the ends of its commits rise, its changes name tables that are there, and the line
 -- tells which transactions are open.
-pub record IsStore (s : Inside) : Type 0 where
-  pub tied : IsTied (world_in s) s.live
+pub record Represents (s : Inside) : Type 0 where
+  pub tied : LiveRepresents (world_in s) s.live
   pub schema : s.start.schema ≡ s.live.tables.schema
   pub told : map entry_in s.journal.items ≡ journal (world_in s)
   pub room : vec_len s.journal + btree_map_len s.live.transactions ≤ vec_capacity s.journal

@@ -2,7 +2,7 @@
 --     base_in      the rows without the open work: those that are left once all of it is undone
 --     told_start      the tables at the start, as they were told
 --     idle_in, serial_in      the store's parts without open work, and what callers see of them
---     IsSerial      what its type keeps
+--     Represents      what its type keeps
 use Rattle.std.specs.Prelude.{◌≡◌, List, [], ◌∷◌, None, All, length, map}
 use Rattle.std.specs.FinMap as finite
 use Rattle.model.specs.Named.{NamesTables}
@@ -14,9 +14,9 @@ use Rattle.indexes.specs.Content.{Content}
 use Rattle.undo.specs.Undo.{CanUndo}
 use Rattle.engine.specs.declared.serial.SerialStore.TheInside.{Inside}
 use Rattle.engine.specs.declared.store.Store.TheInside as store_inside
-use Rattle.live.specs.Answers.{told_stop}
-use Rattle.engine.specs.Clear.{IsClear}
-use Rattle.engine.specs.Engine.{engine_in, IsStore}
+use Rattle.live_tables.specs.Answers.{told_stop}
+use Rattle.engine.specs.FirstClash.{IsClear}
+use Rattle.engine.specs.Engine.{engine_in, StoreRepresents}
 use Rattle.engine.specs.Serial.{Serial, rows_now}
 
 -- the rows without the open work are those that are left once all of it is undone
@@ -44,8 +44,8 @@ serial_in s = record { store = engine_in (idle_in s); changes = changes_of s.ite
 
 -- What the type keeps: without the open work it is a store in which no transaction is open and that is not stopped, whose line is
 -- at hand; the tables have the open changes in them, of which none clashed, and all of them can be undone.
-pub record IsSerial (s : Inside) : Type 0 where
-  pub idle : IsStore (idle_in s)
+pub record Represents (s : Inside) : Type 0 where
+  pub idle : StoreRepresents (idle_in s)
   pub none : s.book.lists ≡ finite.empty
   pub runs : told_stop s.live.stopped ≡ None
   pub line : s.token ≡ s.line

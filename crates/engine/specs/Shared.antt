@@ -1,5 +1,5 @@
 -- A store under a lock.
---     IsShared      what the type of a store under a lock keeps
+--     Represents      what the type of a store under a lock keeps
 use Rattle.std.specs.Prelude.{◌≡◌}
 use Rattle.model.specs.Rows.{Rows, Schema}
 use Rattle.tokens.specs.Half.{Name}
@@ -9,7 +9,7 @@ use Rattle.engine.specs.Engine.{Engine}
 
 -- Its tickets and its line have these names, its tables these keys, it started from these rows, and calls lead from there
 -- to its world.
-pub record IsShared (its_tickets its_line : Name) (keys : Schema) (first : Rows) (s : Engine) : Type 0 where
+pub record Represents (its_tickets its_line : Name) (keys : Schema) (first : Rows) (s : Engine) : Type 0 where
   pub tickets : s.tickets ≡ its_tickets
   pub line : s.line.name ≡ its_line
   pub schema : s.schema ≡ keys

@@ -3,7 +3,7 @@
 // A store: several open transactions on one live set of tables, and the journal of those that were
 // committed.
 //
-// A `Store` has the live tables with the work of all open transactions (`live`), the tables at the
+// A `Store` has the live tables with the work of all open transactions (`live_tables`), the tables at the
 // start, and the journal. A clause sees the world that it stands for (`world`), and each call is a step
 // of that world. Who opens a transaction gets its `Ticket`, and who opens and ends them has the
 // `Line`: what they list is known by proofs alone, and a call that has one of them shows that it is
@@ -23,15 +23,15 @@
 //
 //   specs/Engine, EngineCode      a store as its callers see it; what its type keeps
 //   specs/Shared, SharedLaws      what the type of a store under a lock keeps
-//   specs/ShutLaws                a store that is given up while transactions are open
+//   specs/ShutLemmas                a store that is given up while transactions are open
 //   specs/Serial, SerialInside, SerialLaws    a store whose transactions come one at a time
-//   specs/Clear, ClearLaws        changes one after another, and the first that clashes
+//   specs/FirstClash, ClearLaws        changes one after another, and the first that clashes
 //   specs/Events, EventLaws       the world that tickets and line tell
-//   specs/StoreLaws               what the type keeps, once a call has altered the parts
-//   specs/EntryLaws               the tables that the journal's entries name
-//   specs/RowsAfterLaws           the steps of the loops that make their changes
+//   specs/StoreLemmas               what the type keeps, once a call has altered the parts
+//   specs/EntryLemmas               the tables that the journal's entries name
+//   specs/RowsAfterLemmas           the steps of the loops that make their changes
 //
-// It stands on `live` for the tables and the open transactions, on `world` for the definitions, on
+// It stands on `live_tables` for the tables and the open transactions, on `world` for the definitions, on
 // `change`, `undo` and `indexes` for a store of one transaction at a time, and on `tokens`.
 mod entry;
 mod events;
@@ -44,7 +44,7 @@ mod tickets;
 
 pub use entry::{Changes, ChangesIter, Entry};
 pub use events::{Event, LineEvent};
-pub use live::{Acted, EngineFault, NotSettled, Stop};
+pub use live_tables::{Acted, EngineFault, NotSettled, Stop};
 pub use serial::SerialStore;
 pub use shared::{SharedStore, StoreNames};
 pub use store::Store;

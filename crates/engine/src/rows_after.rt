@@ -4,7 +4,7 @@ ghost use Rattle.model.specs.Named.{NamesTables};
 ghost use Rattle.model.specs.Effect.{effect, serial};
 ghost use Rattle.model.specs.TableRows.{rows_of_table};
 ghost use Rattle.engine.specs.Engine.{entry_in, AreNamed};
-ghost use Rattle.live.specs.Journal.{rows_after as rows_behind};
+ghost use Rattle.live_tables.specs.Journal.{rows_after as rows_behind};
 
 use crate::entry::{Changes, Entry};
 use change::{Clash, apply};

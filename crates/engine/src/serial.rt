@@ -6,14 +6,14 @@ ghost use Rattle.model.specs.Named.{NamesTables};
 ghost use Rattle.model.specs.Survivors.{changes_of};
 ghost use Rattle.change.specs.Inverse.{edits_of};
 ghost use Rattle.change.specs.Refusal.{HasNoClash, ClashesAs};
-ghost use Rattle.indexes.specs.Content.{Keeps};
+ghost use Rattle.indexes.specs.Content.{KeepsCells};
 ghost use Rattle.undo.specs.Undo.{CanUndo};
 ghost use Rattle.world.specs.World.{starting};
 ghost use Rattle.world.specs.Steps.{Closes, Reaches};
 ghost use Rattle.engine.specs.declared.events.LineEvent.TheVariants.{Opened as WasOpened, Committed as WasCommitted};
-ghost use Rattle.engine.specs.Clear.{IsClear, ClashesIn};
+ghost use Rattle.engine.specs.FirstClash.{IsClear, ClashesIn};
 ghost use Rattle.engine.specs.Engine.{entry_in, IsOtherwiseSame};
-ghost use Rattle.live.specs.Journal.{rows_after};
+ghost use Rattle.live_tables.specs.Journal.{rows_after};
 ghost use Rattle.engine.specs.Serial.{rows_now, with_changes, HasBegun, committed_by, last_end_in};
 
 use crate::entry::{Changes, Entry};
@@ -22,7 +22,7 @@ use crate::store::{Store, new_tokens};
 use crate::tickets::Line;
 use change::Clash;
 use indexes::Tables;
-use live::Live;
+use live_tables::Live;
 use model::{Change, CommitInfo, Item, OutOfMemory, Xid};
 use std::alloc::Global;
 use std::marker::{Brand, Model};
@@ -56,11 +56,11 @@ impl Model for SerialStore {
 
     ghost coded = { serial_code };
 
-    ghost use Rattle.engine.specs.SerialInside.{serial_in, IsSerial};
+    ghost use Rattle.engine.specs.SerialInside.{serial_in, Represents};
 
     ghost view = { serial_in };
 
-    ghost invariant = { IsSerial };
+    ghost invariant = { Represents };
 }
 
 impl SerialStore {
@@ -73,7 +73,7 @@ impl SerialStore {
         ensures none { IfOk result (λ made. made.changes ≡ []) }
         ensures err { IfErr result (λ tables. tables ≡ start) }
     {
-        let Ok(told) = tell_start(alloc, &start) else {
+        let Ok(told) = record_start(alloc, &start) else {
             return Err(start);
         };
         let Ok((book, line, token)) = new_tokens(alloc) else {
@@ -199,7 +199,7 @@ impl SerialStore {
     {
         self.journal.reserve(1)?;
         grow(&mut self.line, &mut self.token, &LineEvent::Opened(xid));
-        tell_changes(&mut self.line, &mut self.token, xid, &self.items, info);
+        record_changes(&mut self.line, &mut self.token, xid, &self.items, info);
         self.undo.settle(&mut self.live.tables);
         self.undo = UndoLog::new(alloc);
         let items = mem::replace(&mut self.items, Vec::new(alloc));
@@ -235,7 +235,7 @@ impl SerialStore {
 }
 
 // The tables as they are now, for proofs alone.
-fn tell_start(alloc: Global, tables: &Tables) -> Result<Kept<Tables>, OutOfMemory>
+fn record_start(alloc: Global, tables: &Tables) -> Result<Kept<Tables>, OutOfMemory>
     ensures { IfOk result (λ told. told.list ≡ tables.now ∷ []) }
 {
     let (mut kept, mut token) = pair(alloc)?;
@@ -244,7 +244,7 @@ fn tell_start(alloc: Global, tables: &Tables) -> Result<Kept<Tables>, OutOfMemor
 }
 
 // Appends a commit to the line, of a transaction that has made the changes among items and nothing else.
-fn tell_changes(
+fn record_changes(
     kept: &mut Kept<LineEvent>,
     token: &mut Token<LineEvent>,
     xid: Xid,
@@ -281,7 +281,7 @@ fn grow_changes<N: Items<LineEvent>>(
 fn make_room(alloc: Global, tables: &mut Tables, items: &[Item])
     ensures schema { tables.new.schema ≡ tables.old.schema }
     ensures rows { tables.new.rows ≡ tables.old.rows }
-    ensures room { Keeps tables.old.room tables.new.room }
+    ensures room { KeepsCells tables.old.room tables.new.room }
 {
     let Ok(counts) = count_rows(alloc, tables.len(), items) else {
         return;

@@ -11,22 +11,22 @@ ghost use Rattle.model.specs.Effect.{serial};
 ghost use Rattle.model.specs.TableRows.{rows_of_table};
 ghost use Rattle.world.specs.World.{World, starting, entry_of, journal, changes_in};
 ghost use Rattle.world.specs.Steps.{Opens, Acts, Touches, GoesBack, Commits, Aborts, StopsHeld, ReadsLive, ReadsCommitted, ReadsAfter, TellsJournal, Closes, Watches, Looks, Reaches, Fault};
-ghost use Rattle.live.specs.declared.answers.EngineFault.TheVariants.{OutOfMemory as NoMemory};
+ghost use Rattle.live_tables.specs.declared.answers.EngineFault.TheVariants.{OutOfMemory as NoMemory};
 ghost use Rattle.engine.specs.declared.events.Event.TheVariants.{Done};
 ghost use Rattle.engine.specs.declared.events.LineEvent.TheVariants.{Opened as WasOpened, Committed as WasCommitted, Aborted as WasAborted};
-ghost use Rattle.live.specs.Answers.{told, told_call, TellsWhatStopped, TellsCause, IsNoClash};
+ghost use Rattle.live_tables.specs.Answers.{told, told_call, TellsWhatStopped, TellsCause, IsNoClash};
 ghost use Rattle.engine.specs.Events.{opened_by, commits_in, ends_in, last_end, is_open_in, events_of};
 ghost use Rattle.engine.specs.declared.entry.Entry.{Entry as AnyEntry};
 ghost use Rattle.engine.specs.Engine.{entry_in, IsOtherwiseSame};
-ghost use Rattle.live.specs.Journal.{rows_after};
-ghost use Rattle.engine.specs.Shared.{IsShared};
-ghost use Rattle.live.specs.Shut.{IsShut};
+ghost use Rattle.live_tables.specs.Journal.{rows_after};
+ghost use Rattle.engine.specs.Shared.{Represents};
+ghost use Rattle.live_tables.specs.Shut.{IsShut};
 
 use crate::entry::Entry;
 use crate::store::Store;
 use crate::tickets::{Line, Seen, Ticket};
 use indexes::Tables;
-use live::{Acted, EngineFault, NotSettled, Stop};
+use live_tables::{Acted, EngineFault, NotSettled, Stop};
 use model::{Change, CommitInfo, Key, Row, TableId, Xid};
 use std::alloc::Global;
 use std::marker::{Brand, Model, PhantomData};
@@ -62,7 +62,7 @@ impl StoreNames for Brand {
 
 /// A store under a lock. Who takes the lock knows of it what its type keeps: which tickets and which
 /// line are its own, its tables' keys and start rows, and that calls lead from these to its world
-/// (`IsShared`). So each call asks of its arguments alone what `Store` asks of both.
+/// (`Represents`). So each call asks of its arguments alone what `Store` asks of both.
 #[derive(Debug, Drop)]
 pub struct SharedStore<N: StoreNames> {
     store: Store,
@@ -78,11 +78,11 @@ impl<N: StoreNames> Model for SharedStore<N> {
 
     ghost coded = { engine_code };
 
-    ghost use Rattle.engine.specs.Shared.{IsShared};
+    ghost use Rattle.engine.specs.Shared.{Represents};
 
     ghost view = { λ s. s.store };
 
-    ghost invariant = { λ s. IsShared N.tickets N.line N.schema N.start s.store };
+    ghost invariant = { λ s. Represents N.tickets N.line N.schema N.start s.store };
 }
 
 impl<N: StoreNames> SharedStore<N> {
@@ -103,7 +103,7 @@ impl<N: StoreNames> SharedStore<N> {
     /// The store, with what its type kept.
     pub fn into_store(self) -> Store
         ensures same { result ≡ self }
-        ensures kept { IsShared N.tickets N.line N.schema N.start result }
+        ensures kept { Represents N.tickets N.line N.schema N.start result }
     {
         let SharedStore { store, of: _ } = self;
         store

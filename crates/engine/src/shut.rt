@@ -3,8 +3,8 @@ ghost use Rattle.std.specs.Prelude.{◌≡◌, map};
 ghost use Rattle.world.specs.World.{World};
 ghost use Rattle.world.specs.Steps.{Closes};
 ghost use Rattle.engine.specs.Engine.{entry_in};
-ghost use Rattle.live.specs.Journal.{rows_after};
-ghost use Rattle.live.specs.Shut.{IsShut};
+ghost use Rattle.live_tables.specs.Journal.{rows_after};
+ghost use Rattle.live_tables.specs.Shut.{IsShut};
 
 use crate::entry::Entry;
 use crate::store::Store;

@@ -12,23 +12,23 @@ ghost use Rattle.model.specs.TableRows.{rows_of_table};
 ghost use Rattle.world.specs.World.{Opened, World, starting, entry_of, journal, work, changes_in};
 ghost use Rattle.world.specs.Steps.{Opens, Acts, Touches, GoesBack, Commits, Aborts, StopsHeld, ReadsLive, ReadsCommitted, ReadsAfter, TellsJournal, Closes, Watches, Looks, Fault};
 ghost use Rattle.model.specs.declared.item.Item.TheVariants.{Touch, BackTo};
-ghost use Rattle.live.specs.declared.answers.EngineFault.TheVariants.{OutOfMemory as NoMemory};
+ghost use Rattle.live_tables.specs.declared.answers.EngineFault.TheVariants.{OutOfMemory as NoMemory};
 ghost use Rattle.engine.specs.declared.events.Event.TheVariants.{Done};
 ghost use Rattle.engine.specs.declared.events.LineEvent.TheVariants.{Opened as WasOpened, Committed as WasCommitted, Aborted as WasAborted};
 ghost use Rattle.std.specs.Result.{result_ok};
-ghost use Rattle.live.specs.Answers.{told, told_call, after_open, after_touch, stop_of, TellsWhatStopped, TellsCause, IsNoClash};
+ghost use Rattle.live_tables.specs.Answers.{told, told_call, after_open, after_touch, stop_of, TellsWhatStopped, TellsCause, IsNoClash};
 ghost use Rattle.engine.specs.Events.{opened_by, commits_in, ends_in, last_end, is_open_in, events_of};
-ghost use Rattle.live.specs.Journal.{rows_after as rows_behind};
+ghost use Rattle.live_tables.specs.Journal.{rows_after as rows_behind};
 ghost use Rattle.engine.specs.declared.entry.Entry.{Entry as AnyEntry};
 ghost use Rattle.engine.specs.Engine.{entry_in, IsOtherwiseSame};
-ghost use Rattle.live.specs.Tied.{IsTied};
+ghost use Rattle.live_tables.specs.Represents.{LiveRepresents};
 
 use crate::entry::{Changes, Entry};
 use crate::events::{Event, LineEvent};
 use crate::rows_after::rows_after;
 use crate::tickets::{Line, Seen, Ticket};
 use indexes::Tables;
-use live::{Acted, EngineFault, Live, NotSettled, Stop, Stopped};
+use live_tables::{Acted, EngineFault, Live, NotSettled, Stop, Stopped};
 use model::{Change, CommitInfo, Item, Key, OutOfMemory, Row, TableId, Xid};
 use std::alloc::Global;
 use std::marker::{Brand, Model};
@@ -52,7 +52,7 @@ pub struct Store {
 }
 
 impl Model for Store {
-    ghost use Rattle.engine.specs.Engine.{Engine, engine_in, IsStore};
+    ghost use Rattle.engine.specs.Engine.{Engine, engine_in, Represents};
 
     ghost Value = { Engine };
 
@@ -62,7 +62,7 @@ impl Model for Store {
 
     ghost view = { engine_in };
 
-    ghost invariant = { IsStore };
+    ghost invariant = { Represents };
 }
 
 impl Store {
@@ -130,7 +130,7 @@ impl Store {
         let xid = t.slip.number();
         self.book.meet(&mut t.slip);
         let answer = self.live.act(alloc, xid, sub, c);
-        tell_act(&mut self.book, &mut t.slip, sub, c, &answer);
+        record_act(&mut self.book, &mut t.slip, sub, c, &answer);
         answer
     }
 
@@ -207,7 +207,7 @@ impl Store {
         ensures same { IsOtherwiseSame self.old self.new }
     {
         let xid = t.slip.number();
-        tell_commit(&mut self.line, &mut line.token, &t, info);
+        record_commit(&mut self.line, &mut line.token, &t, info);
         let Ticket { slip } = t;
         self.book.close(slip);
         let items = self.live.commit(xid);
@@ -423,8 +423,8 @@ fn open_live(
     journal: &mut Vec<Entry>,
     xid: Xid,
 ) -> Result<(), EngineFault>
-    ensures opens { (w : World) → IsTied w live.old → Opens w xid (told_call result) (after_open w xid (told_call result)) }
-    ensures tied { (w : World) → IsTied w live.old → IsTied (after_open w xid (told_call result)) live.new }
+    ensures opens { (w : World) → LiveRepresents w live.old → Opens w xid (told_call result) (after_open w xid (told_call result)) }
+    ensures tied { (w : World) → LiveRepresents w live.old → LiveRepresents (after_open w xid (told_call result)) live.new }
     ensures fault { IfErr result IsNoClash }
     ensures schema { live.new.tables.schema ≡ live.old.tables.schema }
     ensures items { journal.new.items ≡ journal.old.items }
@@ -449,11 +449,11 @@ fn open_live(
 
 // A subtransaction of an open transaction is named in the live part, unless that is stopped.
 fn touch_live(live: &mut Live, xid: Xid, sub: Xid) -> Result<(), EngineFault>
-    requires { (w : World) × (o : Opened) × IsTied w live.old × (finite.get w.opened xid ≡ Some o) }
-    ensures touches { (w : World) (o : Opened) → IsTied w live.old → finite.get w.opened xid ≡ Some o
+    requires { (w : World) × (o : Opened) × LiveRepresents w live.old × (finite.get w.opened xid ≡ Some o) }
+    ensures touches { (w : World) (o : Opened) → LiveRepresents w live.old → finite.get w.opened xid ≡ Some o
         → Touches w xid o sub (told_call result) (after_touch w xid o sub (told_call result)) }
-    ensures tied { (w : World) (o : Opened) → IsTied w live.old → finite.get w.opened xid ≡ Some o
-        → IsTied (after_touch w xid o sub (told_call result)) live.new }
+    ensures tied { (w : World) (o : Opened) → LiveRepresents w live.old → finite.get w.opened xid ≡ Some o
+        → LiveRepresents (after_touch w xid o sub (told_call result)) live.new }
     ensures fault { IfErr result IsNoClash }
     ensures schema { live.new.tables.schema ≡ live.old.tables.schema }
 {
@@ -465,7 +465,7 @@ fn touch_live(live: &mut Live, xid: Xid, sub: Xid) -> Result<(), EngineFault>
 }
 
 // Appends what a call that tried a change tells of its transaction.
-fn tell_act(
+fn record_act(
     book: &mut Book<Event>,
     slip: &mut Slip<Event>,
     sub: Xid,
@@ -500,7 +500,7 @@ fn grow_act<N: Items<Event>>(
 }
 
 // Appends a commit to the line, with the items that its transaction had done.
-fn tell_commit(
+fn record_commit(
     kept: &mut Kept<LineEvent>,
     token: &mut Token<LineEvent>,
     t: &Ticket,

@@ -33,8 +33,8 @@ fault_at_end Closed = None
 fault_at_end (Broken fault) = Some fault
 
 -- the answer is this fault, or Ok for none
-abbrev pub Answers : {T : Type 0} → Result T FrameFault → Option FrameFault → Type 0
-Answers result fault = MatchResult result (λ _. fault ≡ None) (λ f. fault ≡ Some f)
+abbrev pub AnswersFault : {T : Type 0} → Result T FrameFault → Option FrameFault → Type 0
+AnswersFault result fault = MatchResult result (λ _. fault ≡ None) (λ f. fault ≡ Some f)
 
 -- What is known of all that was handed out, once nothing is kept and the input has ended, by the answer at its end: the
 -- items are the copy items of the bytes, and the fault is that of their end. Want of memory may have cut the items

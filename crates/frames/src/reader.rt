@@ -4,7 +4,7 @@ ghost use Rattle.std.specs.Io.KnownBytes.{Consumes};
 ghost use Rattle.frames.specs.declared.item.CopyItem.{CopyItem};
 ghost use Rattle.frames.specs.declared.fault.FrameFault.{FrameFault};
 ghost use Rattle.frames.specs.Stream.{Waits, Closed, Broken, ending_of};
-ghost use Rattle.frames.specs.Reads.{Reads, HasRead, Answers, fault_of, fault_at_end, HasEnded, AtEndOf, IsStreamFault};
+ghost use Rattle.frames.specs.Reads.{Reads, HasRead, AnswersFault, fault_of, fault_at_end, HasEnded, AtEndOf, IsStreamFault};
 ghost use Rattle.frames.specs.Steps.{ending_after, ending_in, IsStreamState};
 ghost use Rattle.frames.specs.Device.{HasFailed};
 
@@ -98,7 +98,7 @@ impl Frames {
     /// of the first faulty frame, or `OutOfMemory`; the items before it stand, and every later `feed`, `pull` and
     /// `finish` answers it again.
     pub fn feed(&mut self, piece: &[u8]) -> Result<(), FrameFault>
-        ensures fault { Answers result (fault_of self.new.ending) }
+        ensures fault { AnswersFault result (fault_of self.new.ending) }
 
         // What was known of all bytes before is known of them with the piece.
         ensures read { (fault_of self.old.ending ≡ None) → (fed : List ℕ) (out : List CopyItem) →
@@ -125,7 +125,7 @@ impl Frames {
     /// Reads once from the source, and takes what it gives as `feed` does. It answers false at the end of the input,
     /// and after CopyDone, where nothing is read; and the fault `Device` where the source failed in this call.
     pub fn pull<R: Source>(&mut self, r: &mut R) -> Result<bool, FrameFault>
-        ensures fault { Answers result (fault_of self.new.ending) }
+        ensures fault { AnswersFault result (fault_of self.new.ending) }
 
         // The source gave a piece, and the reader took it.
         ensures read { (piece : List ℕ) × Consumes (R.remaining r.old) (R.remaining r.new) piece
@@ -183,7 +183,7 @@ impl Frames {
     /// Says whether the input may end here: at a frame's edge or after CopyDone. Inside a frame the fault is
     /// `Truncated`, and after a refusal the same fault again.
     pub fn finish(&self) -> Result<(), FrameFault>
-        ensures fault { Answers result (fault_at_end self.now.ending) }
+        ensures fault { AnswersFault result (fault_at_end self.now.ending) }
 
         // Once nothing is kept, what was handed out is all of the bytes fed.
         ensures read { self.now.items ≡ [] → (fed : List ℕ) (out : List CopyItem) →

@@ -8,7 +8,7 @@ use Rattle.model.specs.declared.cell.Cell.{Cell}
 use Rattle.model.specs.Rows.{TableKeys, Schema, values_in, keys_at}
 use Rattle.model.specs.Cells.{row_cell, unique_cell, unique_cells, cells_of, table_of}
 use Rattle.indexes.specs.Table.{Spot, TableContent, spot, unique_spots, spots_of, cell_of_key, cell_at, cells_in, KeepsSpots}
-use Rattle.indexes.specs.Content.{Keeps, HasRoom, SameRoomElsewhere}
+use Rattle.indexes.specs.Content.{KeepsCells, HasRoom, SameRoomElsewhere}
 use Rattle.indexes.specs.Gathered.{cells_from, schema_of}
 use Rattle.indexes.proofs.Elements.{Elem, contains_elem, elem_contains, elem_left, elem_right, elem_either, elem_map, elem_of_map}
 use Rattle.indexes.proofs.Gather.{set_there, set_elsewhere, keys_is}
@@ -155,7 +155,7 @@ cell_stays ts i t new at c keeps h =
           (cell_in (slice_set ts i new) r.i r.t r.spot (set_elsewhere ts i r.i new differs ∙ r.at) (contains_elem _ _ r.there))
     ]
 
-pub room_after : (ts : List TableContent) (i : ℕ) (t new : TableContent) → slice_get ts i ≡ Some t → KeepsSpots t.room new.room → Keeps (cells_from 0 ts) (cells_from 0 (slice_set ts i new))
+pub room_after : (ts : List TableContent) (i : ℕ) (t new : TableContent) → slice_get ts i ≡ Some t → KeepsSpots t.room new.room → KeepsCells (cells_from 0 ts) (cells_from 0 (slice_set ts i new))
 room_after ts i t new at keeps c = cell_stays ts i t new at c (λ s is. keeps s)
 
 set_back : (ts : List TableContent) (i : ℕ) (t new : TableContent) → slice_get ts i ≡ Some t → slice_set (slice_set ts i new) i t ≡ ts
@@ -164,9 +164,9 @@ set_back (u ∷ ts) zero t new at = let same : t ≡ u = cc in ap (λ (w : Table
 set_back (u ∷ ts) (suc i) t new at = ap (λ us. u ∷ us) (set_back ts i t new at)
 
 -- where a table has fewer spots, all have fewer cells: the old ones are the new ones with the old table set back
-pub room_fewer : (ts : List TableContent) (i : ℕ) (t new : TableContent) → slice_get ts i ≡ Some t → KeepsSpots new.room t.room → Keeps (cells_from 0 (slice_set ts i new)) (cells_from 0 ts)
+pub room_fewer : (ts : List TableContent) (i : ℕ) (t new : TableContent) → slice_get ts i ≡ Some t → KeepsSpots new.room t.room → KeepsCells (cells_from 0 (slice_set ts i new)) (cells_from 0 ts)
 room_fewer ts i t new at fewer =
-    subst (λ (us : List TableContent). Keeps (cells_from 0 (slice_set ts i new)) (cells_from 0 us)) (set_back ts i t new at)
+    subst (λ (us : List TableContent). KeepsCells (cells_from 0 (slice_set ts i new)) (cells_from 0 us)) (set_back ts i t new at)
     (room_after (slice_set ts i new) i new t (set_there ts i t new at) fewer)
 
 pub room_elsewhere : (ts : List TableContent) (i : ℕ) (new : TableContent) → SameRoomElsewhere (cells_from 0 ts) (cells_from 0 (slice_set ts i new)) i
@@ -190,7 +190,7 @@ room_of_table ts i t at c table_is h =
     contains_elem _ _ (subst (Elem (cells_in i t)) (ap (λ (m : ℕ). cell_at m r.spot) (sym same) ∙ c_is)
     (elem_map (cell_at i) t.room r.spot (subst (λ (w : TableContent). Elem w.room r.spot) t_is r.there)))
 
-pub room_of_new : (ts : List TableContent) (i : ℕ) (t new : TableContent) → slice_get ts i ≡ Some t → Keeps (cells_in i new) (cells_from 0 (slice_set ts i new))
+pub room_of_new : (ts : List TableContent) (i : ℕ) (t new : TableContent) → slice_get ts i ≡ Some t → KeepsCells (cells_in i new) (cells_from 0 (slice_set ts i new))
 room_of_new ts i t new at c h =
     let p = elem_of_map (cell_at i) new.room c (elem_contains _ _ h) in
     subst (Contains (cells_from 0 (slice_set ts i new))) p.2 (cell_in (slice_set ts i new) i new p.0 (set_there ts i t new at) (contains_elem _ _ p.1))

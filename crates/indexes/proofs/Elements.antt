@@ -9,7 +9,7 @@ use Rattle.std.specs.FinMap.{FinMap, find, get, keys, entries, get-entries}
 use Rattle.std.proofs.lemmas.Map.Views.{tells_apart}
 use Rattle.model.specs.declared.key.Key.{Key}
 use Rattle.model.specs.Key.{key_cmp, key_cmp_total}
-use Rattle.model.specs.Exact.{key_cmp_exact}
+use Rattle.model.specs.ExactLemmas.{key_cmp_exact}
 
 abbrev pub Elem : {X : Type 0} → List X → X → Type 0
 Elem [] x = ⊥

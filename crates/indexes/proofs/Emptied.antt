@@ -9,9 +9,9 @@ use Rattle.model.specs.declared.cell.Cell.{Cell}
 use Rattle.model.specs.declared.cell.Cell.TheVariants.{Row, Uniq}
 use Rattle.model.specs.Rows.{values_in, keys_at, are_taken, TableKeys}
 use Rattle.model.specs.Cells.{cells_of}
-use Rattle.model.specs.TakenLaws.{taken_by_row}
+use Rattle.model.specs.TakenLemmas.{taken_by_row}
 use Rattle.indexes.specs.Table.{Spot, TableContent, KeepsSpots, spots_of, unique_spots, IsOfSettled, IsFilled, cell_of_key, cell_at, cells_in}
-use Rattle.indexes.specs.Content.{Content, Keeps}
+use Rattle.indexes.specs.Content.{Content, KeepsCells}
 use Rattle.indexes.specs.Gathered.{schema_of, rows_of, cells_from, gathered, AllSound}
 use Rattle.indexes.proofs.Elements.{contains_elem, elem_contains, elem_of_map}
 use Rattle.indexes.proofs.Room.{spot_of, unique_values_spot}
@@ -86,7 +86,7 @@ module _ (ts : List TableContent) (seen : Content) (v : gathered ts ≡ seen) (i
         slot : get seen.rows (i, key) ≡ None → ¬ Contains (cells_from 0 (slice_set ts i new)) (Row i key);
         values : (j : ℕ) (columns : List ℕ) (values : Key) → slice_get (keys_at seen.schema i).uniques j ≡ Some columns → values_in columns row ≡ Some values
             → are_taken seen.rows i columns values ≡ false → ¬ Contains (cells_from 0 (slice_set ts i new)) (Uniq i (j + 1) values);
-        fewer : Keeps (cells_from 0 (slice_set ts i new)) seen.room;
+        fewer : KeepsCells (cells_from 0 (slice_set ts i new)) seen.room;
         others : (c : Cell) → ¬ Contains (cells_of seen.schema i row) c → c ≢ Row i key → Contains seen.room c → Contains (cells_from 0 (slice_set ts i new)) c;
       }
   left_settled keys rows room others = record {

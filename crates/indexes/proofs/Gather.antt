@@ -8,11 +8,11 @@ use Rattle.std.proofs.lemmas.Map.Views.{tells_apart}
 use Rattle.model.specs.declared.key.Key.{Key}
 use Rattle.model.specs.declared.row.Row.{Row}
 use Rattle.model.specs.Key.{key_cmp, key_cmp_total}
-use Rattle.model.specs.Exact.{place_cmp_exact}
+use Rattle.model.specs.ExactLemmas.{place_cmp_exact}
 use Rattle.model.specs.Rows.{Place, Rows, Schema, TableKeys, place_cmp, place_cmp_total, values_in, keys_at, IsValid}
 use Rattle.model.specs.Effect.{first_taken, are_taken_unless_null}
-use Rattle.model.specs.TakenLaws.{taken_by_row, first_taken_none}
-use Rattle.rows.specs.KeyLaws.{one_or_apart, same_key}
+use Rattle.model.specs.TakenLemmas.{taken_by_row, first_taken_none}
+use Rattle.rows.specs.KeyLemmas.{one_or_apart, same_key}
 use Rattle.indexes.specs.Table.{TableContent, NoClash, IsSound}
 use Rattle.indexes.specs.Gathered.{placed, rows_of, schema_of, AllSound}
 
@@ -172,9 +172,9 @@ module _ (ts : List TableContent) (i : ℕ) (t : TableContent) (at : slice_get t
 -- where no row of a table agrees with this one in a unique key, none of the table by itself does
 pub no_clash : (keys : TableKeys) (rows : Rows) (own : FinMap key_cmp Row) (table : ℕ) (row : Row) → ((key : Key) → get rows (table, key) ≡ get own key)
     → first_taken rows table row 1 keys.uniques ≡ None → NoClash keys own row
-no_clash keys rows own table row is none i columns key values twin at there has mine =
+no_clash keys rows own table row is none i columns key values duplicate at there has mine =
     let free = first_taken_none rows table row 1 keys.uniques none i columns at in
-    let taken = taken_by_row rows table columns values key twin (is key ∙ there) has in
+    let taken = taken_by_row rows table columns values key duplicate (is key ∙ there) has in
     true≢false (sym taken ∙ sym (ap (are_taken_unless_null rows table columns) mine) ∙ free)
 
 pub sound_after : (ts : List TableContent) (i : ℕ) (t new : TableContent) → slice_get ts i ≡ Some t → AllSound ts → IsSound new → AllSound (slice_set ts i new)
@@ -207,8 +207,8 @@ valid ts all = record {
   own_key = λ table key row e.
       let a = table_at ts table key row e in
       ap (λ (k : TableKeys). values_in k.primary row) (keys_is ts table a.0 a.1) ∙ (all table a.0 a.1).own_key key row a.2;
-  unique = λ table i columns key other row twin values at e f has too.
+  unique = λ table i columns key other row duplicate values at e f has too.
       let a = table_at ts table key row e in
       let b = sym (get_is ts table a.0 a.1 other) ∙ f in
-      (all table a.0 a.1).unique i columns key other row twin values (ap (λ (k : TableKeys). slice_get k.uniques i) (sym (keys_is ts table a.0 a.1)) ∙ at) a.2 b has too;
+      (all table a.0 a.1).unique i columns key other row duplicate values (ap (λ (k : TableKeys). slice_get k.uniques i) (sym (keys_is ts table a.0 a.1)) ∙ at) a.2 b has too;
 }

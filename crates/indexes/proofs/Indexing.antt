@@ -8,7 +8,7 @@ use Rattle.model.specs.declared.row.Row.{Row}
 use Rattle.model.specs.Key.{key_cmp}
 use Rattle.model.specs.Rows.{values_in}
 use Rattle.rows.specs.Kept.{Kept, KeepsSlots, IsNumbered, IsSlotted}
-use Rattle.rows.specs.KeyLaws.{one_or_apart, same_key, get_inserted, get_beside_insert, get_removed, get_beside_remove}
+use Rattle.rows.specs.KeyLemmas.{one_or_apart, same_key, get_inserted, get_beside_insert, get_removed, get_beside_remove}
 use Rattle.indexes.specs.Unique.{Entries, entry_at, held, number_in, with_number, SetsEntry, PutsEntry}
 use Rattle.indexes.specs.Indexed.{IsIndex}
 
@@ -99,11 +99,11 @@ module _ (columns : List ℕ) (kept : Kept) (before after : Entries) (was : IsIn
       → IsIndex columns (record { rows = remove kept.rows key; slots = kept.slots }) after
   index_cleared numbered slotted there sets =
       record {
-        holds = λ other twin values n at at_slot has. elim (one_or_apart key other) [
+        holds = λ other duplicate values n at at_slot has. elim (one_or_apart key other) [
           | inl same ↦ absurd (let gone : get (remove kept.rows key) other ≡ None = subst (λ (k : Key). get (remove kept.rows key) k ≡ None) same (get_removed kept.rows key) in cc)
           | inr apart ↦
               let old_at = sym (get_beside_remove kept.rows key other apart) ∙ at in
-              let old = was.holds other twin values n old_at at_slot has in
+              let old = was.holds other duplicate values n old_at at_slot has in
               ap number_in (sets.beside values (λ mine.
               let place = slotted key row there in
               let held_mine = was.holds key row values place.0 there place.1 mine in

@@ -11,4 +11,4 @@ pub mod Cells
 pub mod Walking
 pub mod Seen
 pub mod Emptied
-pub mod GivenUp
+pub mod Released

@@ -15,9 +15,9 @@ use Rattle.model.specs.Rows.{Rows, TableKeys, place_cmp, values_in, key_of, keys
 use Rattle.model.specs.Cells.{cells_of, table_of}
 use Rattle.model.specs.Effect.{first_taken, are_taken_unless_null}
 use Rattle.model.specs.TableRows.{rows_of_table}
-use Rattle.model.specs.TakenLaws.{taken_by_row, row_of_taken}
-use Rattle.indexes.specs.Table.{Spot, TableContent, spots_of, KeepsSpots, NoClash, HasValues, IsTwin, IsSound, unique_at, cell_at, cells_in}
-use Rattle.indexes.specs.Content.{Content, Keeps, HasRoom, unique_columns, IsTable, SameElsewhere, SameRoomElsewhere}
+use Rattle.model.specs.TakenLemmas.{taken_by_row, row_of_taken}
+use Rattle.indexes.specs.Table.{Spot, TableContent, spots_of, KeepsSpots, NoClash, HasValues, IsDuplicate, IsSound, unique_at, cell_at, cells_in}
+use Rattle.indexes.specs.Content.{Content, KeepsCells, HasRoom, unique_columns, IsTable, SameElsewhere, SameRoomElsewhere}
 use Rattle.indexes.specs.Gathered.{placed, rows_of, cells_from, schema_of, gathered, AllSound, IsNew}
 use Rattle.indexes.proofs.Elements.{contains_elem, elem_contains, elem_map}
 use Rattle.indexes.proofs.Gather.{sound_after, get_is, keys_is, get_without, set_there, rows_inserted, rows_removed, rows_replaced, rows_same, get_there, get_elsewhere, no_clash, schema_after, table_at, valid, TableAt}
@@ -115,23 +115,23 @@ module _ (ts : List TableContent) (seen : Content) (v : gathered ts ≡ seen) (i
   key_found number values (Some key) found = (found.0, seen_get key.now ∙ found.1, ap (λ cs. values_in cs found.0) (sym (unique_is number)) ∙ found.2)
 
   -- a row's values, of a row that has them or not
-  taken_twin : (number : ℕ) (row : Record) (r : Option (Bor Key)) → IfSome r (λ key. IsTwin t.rows (unique_at t.keys number) key.now row)
-      → IfNone r ((key : Key) → ¬ IsTwin t.rows (unique_at t.keys number) key row)
+  taken_duplicate : (number : ℕ) (row : Record) (r : Option (Bor Key)) → IfSome r (λ key. IsDuplicate t.rows (unique_at t.keys number) key.now row)
+      → IfNone r ((key : Key) → ¬ IsDuplicate t.rows (unique_at t.keys number) key row)
       → is_some r ≡ are_taken_unless_null seen.rows i (unique_columns seen.schema i number) (values_in (unique_columns seen.schema i number) row)
-  taken_twin number row None found missed =
+  taken_duplicate number row None found missed =
       elim (values_in (unique_columns seen.schema i number) row) as (λ o. values_in (unique_columns seen.schema i number) row ≡ o → false ≡ are_taken_unless_null seen.rows i (unique_columns seen.schema i number) o) [
         | None ↦ λ e. refl
         | Some values ↦ λ e. taken_found number values None tt (λ key has. missed key (values, ap (λ cs. values_in cs row) (unique_is number) ∙ e, has))
       ] refl
-  taken_twin number row (Some key) found missed =
+  taken_duplicate number row (Some key) found missed =
       let has : values_in (unique_columns seen.schema i number) row ≡ Some found.0 = ap (λ cs. values_in cs row) (sym (unique_is number)) ∙ found.1 in
       taken_found number found.0 (Some key) found.2 tt ∙ ap (are_taken_unless_null seen.rows i (unique_columns seen.schema i number)) (sym has)
 
-  twin_found : (number : ℕ) (row : Record) (r : Option (Bor Key)) → IfSome r (λ key. IsTwin t.rows (unique_at t.keys number) key.now row)
+  duplicate_found : (number : ℕ) (row : Record) (r : Option (Bor Key)) → IfSome r (λ key. IsDuplicate t.rows (unique_at t.keys number) key.now row)
       → IfSome r (λ key. (values : Key) × (values_in (unique_columns seen.schema i number) row ≡ Some values)
-      × (twin : Record) × (get seen.rows (i, key.now) ≡ Some twin) × (values_in (unique_columns seen.schema i number) twin ≡ Some values))
-  twin_found number row None found = tt
-  twin_found number row (Some key) found =
+      × (duplicate : Record) × (get seen.rows (i, key.now) ≡ Some duplicate) × (values_in (unique_columns seen.schema i number) duplicate ≡ Some values))
+  duplicate_found number row None found = tt
+  duplicate_found number row (Some key) found =
       let own = key_found number found.0 (Some key) found.2 in
       (found.0, ap (λ cs. values_in cs row) (sym (unique_is number)) ∙ found.1, own.0, own.1, own.2)
 
@@ -144,14 +144,14 @@ module _ (ts : List TableContent) (seen : Content) (v : gathered ts ≡ seen) (i
       }
   sought_values number values r told = record { taken = taken_found number values r told.found told.missed; key = key_found number values r told.found }
 
-  pub sought_twin : (number : ℕ) (row : Record) (r : Option (Bor Key))
-      → Finds (λ key. IsTwin t.rows (unique_at t.keys number) key row) r
+  pub sought_duplicate : (number : ℕ) (row : Record) (r : Option (Bor Key))
+      → Finds (λ key. IsDuplicate t.rows (unique_at t.keys number) key row) r
       → record {
         taken : is_some r ≡ are_taken_unless_null seen.rows i (unique_columns seen.schema i number) (values_in (unique_columns seen.schema i number) row);
         key : IfSome r (λ key. (values : Key) × (values_in (unique_columns seen.schema i number) row ≡ Some values)
-            × (twin : Record) × (get seen.rows (i, key.now) ≡ Some twin) × (values_in (unique_columns seen.schema i number) twin ≡ Some values));
+            × (duplicate : Record) × (get seen.rows (i, key.now) ≡ Some duplicate) × (values_in (unique_columns seen.schema i number) duplicate ≡ Some values));
       }
-  sought_twin number row r told = record { taken = taken_twin number row r told.found told.missed; key = twin_found number row r told.found }
+  sought_duplicate number row r told = record { taken = taken_duplicate number row r told.found told.missed; key = duplicate_found number row r told.found }
 
   pub is_table : IsTable seen.rows i t.rows
   is_table key = seen_get key
@@ -178,11 +178,11 @@ module _ (ts : List TableContent) (seen : Content) (v : gathered ts ≡ seen) (i
     pub unchanged : new.rows ≡ t.rows → rows_of (slice_set ts i new) ≡ seen.rows
     unchanged e = rows_same ts i t at new e ∙ ap (λ (s : Content). s.rows) v
 
-    pub kept : KeepsSpots t.room new.room → Keeps seen.room (cells_from 0 (slice_set ts i new))
+    pub kept : KeepsSpots t.room new.room → KeepsCells seen.room (cells_from 0 (slice_set ts i new))
     kept e c h = room_after ts i t new at e c (subst (λ (s : Content). Contains s.room c) (sym v) h)
 
-    pub fewer : KeepsSpots new.room t.room → Keeps (cells_from 0 (slice_set ts i new)) seen.room
-    fewer e = subst (λ (s : Content). Keeps (cells_from 0 (slice_set ts i new)) s.room) v (room_fewer ts i t new at e)
+    pub fewer : KeepsSpots new.room t.room → KeepsCells (cells_from 0 (slice_set ts i new)) seen.room
+    fewer e = subst (λ (s : Content). KeepsCells (cells_from 0 (slice_set ts i new)) s.room) v (room_fewer ts i t new at e)
 
     pub made : (row : Record) → KeepsSpots (spots_of new.keys row) new.room → HasRoom (cells_from 0 (slice_set ts i new)) (schema_of (slice_set ts i new)) i row
     made row e = room_has (slice_set ts i new) i new row (set_there ts i t new at) e
@@ -192,7 +192,7 @@ module _ (ts : List TableContent) (seen : Content) (v : gathered ts ≡ seen) (i
 
     -- what a call leaves that takes no memory: these are the rows now, and no room goes
     abbrev Left : Rows → Type 0
-    Left rows = record { schema : after.schema ≡ seen.schema; rows : after.rows ≡ rows; kept : Keeps seen.room after.room }
+    Left rows = record { schema : after.schema ≡ seen.schema; rows : after.rows ≡ rows; kept : KeepsCells seen.room after.room }
 
     pub left_same : new.keys ≡ t.keys → new.rows ≡ t.rows → KeepsSpots t.room new.room → Left seen.rows
     left_same keys rows room = record { schema = schema_stays keys; rows = unchanged rows; kept = kept room }
@@ -213,7 +213,7 @@ module _ (ts : List TableContent) (seen : Content) (v : gathered ts ≡ seen) (i
       schema : after.schema ≡ seen.schema;
       ok : OnOk r (after.rows ≡ rows);
       err : OnErr r (after.rows ≡ seen.rows);
-      kept : Keeps seen.room after.room;
+      kept : KeepsCells seen.room after.room;
       room : OnOk r (HasRoom after.room after.schema i row);
     }
 
@@ -248,7 +248,7 @@ module _ (ts : List TableContent) (seen : Content) (v : gathered ts ≡ seen) (i
     pub same_room_elsewhere : SameRoomElsewhere seen.room (cells_from 0 (slice_set ts i new)) i
     same_room_elsewhere c differs h = room_elsewhere ts i new c differs (subst (λ (s : Content). Contains s.room c) (sym v) h)
 
-    pub new_room : Keeps (cells_in i new) (cells_from 0 (slice_set ts i new))
+    pub new_room : KeepsCells (cells_in i new) (cells_from 0 (slice_set ts i new))
     new_room = room_of_new ts i t new at
 
     pub settled : (row : Record) (key : Key) → ((s : Spot) → ¬ Contains (spots_of t.keys row) s → s ≢ (0, key) → Contains t.room s → Contains new.room s)

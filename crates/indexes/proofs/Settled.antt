@@ -8,7 +8,7 @@ use Rattle.model.specs.declared.key.Key.{Key}
 use Rattle.model.specs.declared.row.Row.{Row}
 use Rattle.model.specs.Rows.{TableKeys, values_in}
 use Rattle.rows.specs.Kept.{Kept}
-use Rattle.rows.specs.KeyLaws.{get_removed}
+use Rattle.rows.specs.KeyLemmas.{get_removed}
 use Rattle.indexes.specs.declared.unique.Unique.{Unique}
 use Rattle.indexes.specs.Unique.{Entries, entry_at, held, Settles, EachStep}
 use Rattle.indexes.specs.Table.{Spot, IsOfSettled, IsFilled}

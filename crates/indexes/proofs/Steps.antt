@@ -9,7 +9,7 @@ use Rattle.indexes.specs.declared.unique.Unique.{Unique}
 use Rattle.model.specs.declared.key.Key.{Key}
 use Rattle.model.specs.declared.row.Row.{Row}
 use Rattle.model.specs.Rows.{values_in}
-use Rattle.indexes.specs.Unique.{entry_at, number_in, with_number, KeepsSlots, Sets, Puts, MayPut, IsFree, EachIsFree, EachStep}
+use Rattle.indexes.specs.Unique.{entry_at, number_in, with_number, KeepsSlots, Sets, Puts, MayPut, IsUnused, EachIsFree, EachStep}
 use Rattle.indexes.proofs.Entries.{sets_keep}
 use Rattle.indexes.proofs.Indexing.{has_or_not}
 
@@ -96,7 +96,7 @@ emptied : (o : Option (Option ℕ)) → number_in (with_number None o) ≡ None
 emptied None = refl
 emptied (Some number) = refl
 
-taken_away : (row : Row) (u v w : Unique) → IsFree row u → MayPut row u v → Sets row None v w → KeepsSlots u w
+taken_away : (row : Row) (u v w : Unique) → IsUnused row u → MayPut row u v → Sets row None v w → KeepsSlots u w
 taken_away row u v w free may sets =
     let columns_is : v.columns ≡ u.columns = may.columns in
     let here : (values : Key) → values_in u.columns row ≡ Some values → entry_at w.entries values ≡ with_number None (entry_at v.entries values) =

@@ -11,11 +11,11 @@ use Rattle.model.specs.declared.key.Key.{Key}
 use Rattle.model.specs.declared.row.Row.{Row}
 use Rattle.model.specs.Rows.{TableKeys, values_in}
 use Rattle.rows.specs.Kept.{Kept, KeepsSlots, IsNumbered}
-use Rattle.rows.specs.KeyLaws.{one_or_apart, get_inserted, get_beside_insert, get_removed, get_beside_remove, same_at_and_beside}
+use Rattle.rows.specs.KeyLemmas.{one_or_apart, get_inserted, get_beside_insert, get_removed, get_beside_remove, same_at_and_beside}
 use Rattle.indexes.specs.declared.unique.Unique.{Unique}
 use Rattle.indexes.specs.Unique as step
 use Rattle.indexes.specs.Unique.{Entries, entry_at, held, held_by, with_number, number_in, HasEntry, SetsEntry, Sets, Puts, EachStep, EachHasSlot, EachAgrees}
-use Rattle.indexes.specs.Table.{Spot, spots_of, KeepsSpots, TableContent, NoClash, HasValues, IsTwin, IsSound, unique_at}
+use Rattle.indexes.specs.Table.{Spot, spots_of, KeepsSpots, TableContent, NoClash, HasValues, IsDuplicate, IsSound, unique_at}
 use Rattle.indexes.specs.Indexed.{IsIndex, IsIndexed, room_of, columns_of}
 use Rattle.indexes.proofs.Entries.{sets_keep}
 use Rattle.indexes.proofs.Indexing.{index_kept, index_filled, index_swapped, index_cleared}
@@ -194,19 +194,19 @@ indexed_filled primary kept us vs key row number was own slot absent free steps 
 pub indexed_cleared : (primary : List ℕ) (kept : Kept) (us vs : List Unique) (key : Key) (row : Row) → IsIndexed primary kept us
     → get kept.rows key ≡ Some row → EachStep (Sets row None) us vs → IsIndexed primary (record { rows = remove kept.rows key; slots = kept.slots }) vs
 indexed_cleared primary kept us vs key row was there steps =
-    let before : (other : Key) (twin : Row) → get (remove kept.rows key) other ≡ Some twin → get kept.rows other ≡ Some twin = λ other twin at. elim (one_or_apart key other) [
+    let before : (other : Key) (duplicate : Row) → get (remove kept.rows key) other ≡ Some duplicate → get kept.rows other ≡ Some duplicate = λ other duplicate at. elim (one_or_apart key other) [
       | inl same ↦ absurd (let gone : get (remove kept.rows key) other ≡ None = subst (λ (k : Key). get (remove kept.rows key) k ≡ None) same (get_removed kept.rows key) in cc)
       | inr apart ↦ sym (get_beside_remove kept.rows key other apart) ∙ at
     ] in
     record {
-      own_key = λ other twin at. was.own_key other twin (before other twin at);
+      own_key = λ other duplicate at. was.own_key other duplicate (before other duplicate at);
       each = λ k d l.
           let within : k < length us = let e = steps.long in omega arith in
           let s = steps.each k d within in
           subst (λ (cs : List ℕ). IsIndex cs (record { rows = remove kept.rows key; slots = kept.slots }) (slice_index_or vs k d).entries) (sym s.columns)
           (index_cleared _ kept _ _ (was.each k d within) key row was.numbered was.slotted there s.entries);
       numbered = was.numbered;
-      slotted = λ other twin at. was.slotted other twin (before other twin at);
+      slotted = λ other duplicate at. was.slotted other duplicate (before other duplicate at);
     }
 
 pub indexed_swapped : (primary : List ℕ) (kept : Kept) (us : List Unique) (key : Key) (row stood : Row) → IsIndexed primary kept us
@@ -242,13 +242,13 @@ pub sound : (keys : TableKeys) (kept : Kept) (us : List Unique) → keys.uniques
     → IsSound (record { keys = keys; rows = kept.rows; room = room_of kept us })
 sound keys kept us is was = record {
   own_key = was.own_key;
-  unique = λ i columns key other row twin values at here there has too.
+  unique = λ i columns key other row duplicate values at here there has too.
       let within = column_within us i columns (ap (λ cs. slice_get cs i) (sym is) ∙ at) in
       let index = was.each i within.1 within.0 in
       let mine = was.slotted key row here in
-      let yours = was.slotted other twin there in
+      let yours = was.slotted other duplicate there in
       let one = index.holds key row values mine.0 here mine.1 (ap (λ cs. values_in cs row) within.2 ∙ has) in
-      let two = index.holds other twin values yours.0 there yours.1 (ap (λ cs. values_in cs twin) within.2 ∙ too) in
+      let two = index.holds other duplicate values yours.0 there yours.1 (ap (λ cs. values_in cs duplicate) within.2 ∙ too) in
       let same : yours.0 ≡ mine.0 = cc in
       was.numbered key other mine.0 mine.1 (yours.1 ∙ ap Some same);
   room = λ key row at.
@@ -361,37 +361,37 @@ missed_values primary kept us was k d l columns is values e key has =
 
 -- ---- look-ups by a row
 
-values_of_twin : (entries : Entries) (o : Option Key) (number : ℕ) → Some number ≡ held_by entries o → (values : Key) × (o ≡ Some values) × (Some number ≡ held entries values)
-values_of_twin entries None number e = absurd cc
-values_of_twin entries (Some values) number e = (values, refl, e)
+values_of_duplicate : (entries : Entries) (o : Option Key) (number : ℕ) → Some number ≡ held_by entries o → (values : Key) × (o ≡ Some values) × (Some number ≡ held entries values)
+values_of_duplicate entries None number e = absurd cc
+values_of_duplicate entries (Some values) number e = (values, refl, e)
 
-no_twin_held : (entries : Entries) (o : Option Key) (values : Key) → o ≡ Some values → None ≡ held_by entries o → None ≡ held entries values
-no_twin_held entries o values is e = e ∙ ap (held_by entries) is
+no_duplicate_held : (entries : Entries) (o : Option Key) (values : Key) → o ≡ Some values → None ≡ held_by entries o → None ≡ held entries values
+no_duplicate_held entries o values is e = e ∙ ap (held_by entries) is
 
 module _ (primary : List ℕ) (kept : Kept) (us : List Unique) (was : IsIndexed primary kept us) (k : ℕ) (d : Unique) (below : k < length us)
     (columns : List ℕ) (is : columns ≡ (slice_index_or us k d).columns) (row : Row) where
   own_values : (values : Key) → values_in (slice_index_or us k d).columns row ≡ Some values → values_in columns row ≡ Some values
   own_values values has = ap (λ cs. values_in cs row) is ∙ has
 
-  has_twin : (values : Key) → values_in columns row ≡ Some values → (r : Option (Bor Key)) → IfSome r (λ key. HasValues kept.rows columns key.now values) → IfSome r (λ key. IsTwin kept.rows columns key.now row)
-  has_twin values has None at = tt
-  has_twin values has (Some key) at = (values, has, at)
+  has_duplicate : (values : Key) → values_in columns row ≡ Some values → (r : Option (Bor Key)) → IfSome r (λ key. HasValues kept.rows columns key.now values) → IfSome r (λ key. IsDuplicate kept.rows columns key.now row)
+  has_duplicate values has None at = tt
+  has_duplicate values has (Some key) at = (values, has, at)
 
   module _ (number : ℕ) (e : Some number ≡ held_by (slice_index_or us k d).entries (values_in (slice_index_or us k d).columns row)) (r : Option (Bor Key)) where
-    found_twin : IfSome r (λ key. get kept.slots key.now ≡ Some number) → IfSome r (λ key. IsTwin kept.rows columns key.now row)
-    found_twin at =
-        let v = values_of_twin (slice_index_or us k d).entries (values_in (slice_index_or us k d).columns row) number e in
-        has_twin v.0 (own_values v.0 v.1) r (found_values primary kept us was k d below columns is v.0 number v.2 r at)
+    found_duplicate : IfSome r (λ key. get kept.slots key.now ≡ Some number) → IfSome r (λ key. IsDuplicate kept.rows columns key.now row)
+    found_duplicate at =
+        let v = values_of_duplicate (slice_index_or us k d).entries (values_in (slice_index_or us k d).columns row) number e in
+        has_duplicate v.0 (own_values v.0 v.1) r (found_values primary kept us was k d below columns is v.0 number v.2 r at)
 
-    missed_twin : (P : Type 0) → IfNone r ((key : Key) → get kept.slots key ≢ Some number) → IfNone r P
-    missed_twin P none =
-        let v = values_of_twin (slice_index_or us k d).entries (values_in (slice_index_or us k d).columns row) number e in
+    missed_duplicate : (P : Type 0) → IfNone r ((key : Key) → get kept.slots key ≢ Some number) → IfNone r P
+    missed_duplicate P none =
+        let v = values_of_duplicate (slice_index_or us k d).entries (values_in (slice_index_or us k d).columns row) number e in
         missed_slot primary kept us was k d below v.0 number v.2 P r none
 
-  no_twin : None ≡ held_by (slice_index_or us k d).entries (values_in (slice_index_or us k d).columns row) → (key : Key) → ¬ IsTwin kept.rows columns key row
-  no_twin e key twin =
-      let has : values_in (slice_index_or us k d).columns row ≡ Some twin.0 = ap (λ cs. values_in cs row) (sym is) ∙ twin.1 in
-      missed_values primary kept us was k d below columns is twin.0 (no_twin_held (slice_index_or us k d).entries (values_in (slice_index_or us k d).columns row) twin.0 has e) key twin.2
+  no_duplicate : None ≡ held_by (slice_index_or us k d).entries (values_in (slice_index_or us k d).columns row) → (key : Key) → ¬ IsDuplicate kept.rows columns key row
+  no_duplicate e key duplicate =
+      let has : values_in (slice_index_or us k d).columns row ≡ Some duplicate.0 = ap (λ cs. values_in cs row) (sym is) ∙ duplicate.1 in
+      missed_values primary kept us was k d below columns is duplicate.0 (no_duplicate_held (slice_index_or us k d).entries (values_in (slice_index_or us k d).columns row) duplicate.0 has e) key duplicate.2
 
 columns_is : (us : List Unique) (number : ℕ) (d : Unique) → 1 ≤ number → number ≤ length us → unwrap_or (slice_get (columns_of us) (number - 1)) [] ≡ (slice_index_or us (number - 1) d).columns
 columns_is us number d low high = ap (λ o. unwrap_or o []) (columns_at us (number - 1) d (omega arith))
@@ -441,19 +441,19 @@ module _ (primary : List ℕ) (kept : Kept) (us : List Unique) (was : IsIndexed 
         → o ≡ held_by (slice_index_or us (number - 1) u).entries (values_in (slice_index_or us (number - 1) u).columns row)
     held_of_row o e = e ∙ ap (λ (w : Unique). held_by w.entries (values_in w.columns row)) is
 
-    pub slot_has_twin : (slot : ℕ) → Some slot ≡ held_by u.entries (values_in u.columns row) → (r : Option (Bor Key))
-        → Finds (λ key. get kept.slots key ≡ Some slot) r → Finds (λ key. IsTwin t.rows (unique_at t.keys number) key row) r
-    slot_has_twin slot e r told = record {
+    pub slot_has_duplicate : (slot : ℕ) → Some slot ≡ held_by u.entries (values_in u.columns row) → (r : Option (Bor Key))
+        → Finds (λ key. get kept.slots key ≡ Some slot) r → Finds (λ key. IsDuplicate t.rows (unique_at t.keys number) key row) r
+    slot_has_duplicate slot e r told = record {
       found =
-          subst (λ (t : TableContent). IfSome r (λ (key : Bor Key). IsTwin t.rows (unique_at t.keys number) key.now row)) v
-          (found_twin primary kept us was (number - 1) u below _ own_columns row slot (held_of_row (Some slot) e) r told.found);
-      missed = missed_twin primary kept us was (number - 1) u below _ own_columns row slot (held_of_row (Some slot) e) r _ told.missed;
+          subst (λ (t : TableContent). IfSome r (λ (key : Bor Key). IsDuplicate t.rows (unique_at t.keys number) key.now row)) v
+          (found_duplicate primary kept us was (number - 1) u below _ own_columns row slot (held_of_row (Some slot) e) r told.found);
+      missed = missed_duplicate primary kept us was (number - 1) u below _ own_columns row slot (held_of_row (Some slot) e) r _ told.missed;
     }
 
-    pub none_is_twin : None ≡ held_by u.entries (values_in u.columns row) → (key : Key) → ¬ IsTwin t.rows (unique_at t.keys number) key row
-    none_is_twin e key twin =
-        no_twin primary kept us was (number - 1) u below _ own_columns row (held_of_row None e) key
-        (subst (λ (t : TableContent). IsTwin t.rows (unique_at t.keys number) key row) (sym v) twin)
+    pub none_is_duplicate : None ≡ held_by u.entries (values_in u.columns row) → (key : Key) → ¬ IsDuplicate t.rows (unique_at t.keys number) key row
+    none_is_duplicate e key duplicate =
+        no_duplicate primary kept us was (number - 1) u below _ own_columns row (held_of_row None e) key
+        (subst (λ (t : TableContent). IsDuplicate t.rows (unique_at t.keys number) key row) (sym v) duplicate)
 
 -- ---- an empty table
 

@@ -12,9 +12,9 @@ use Rattle.std.proofs.lemmas.List.Elements.{filter-append}
 use Rattle.model.specs.declared.key.Key.{Key}
 use Rattle.model.specs.declared.row.Row.{Row}
 use Rattle.model.specs.Key.{key_cmp}
-use Rattle.model.specs.Exact.{place_cmp_exact}
+use Rattle.model.specs.ExactLemmas.{place_cmp_exact}
 use Rattle.model.specs.Rows.{Place, place_cmp, place_cmp_total}
-use Rattle.model.specs.SortedEntries.{entries-from_entries}
+use Rattle.model.specs.SortedEntriesLemmas.{entries-from_entries}
 use Rattle.model.specs.TableRows.{is_in_table, rows_of_table}
 use Rattle.indexes.specs.Table.{TableContent}
 use Rattle.indexes.specs.Gathered.{placed, rows_of}

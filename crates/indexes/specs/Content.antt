@@ -1,8 +1,8 @@
 -- All tables as their callers see them: the keys' columns, the rows, and the room.
---     Keeps, HasRoom      no cell goes; there is room for a row
+--     KeepsCells, HasRoom      no cell goes; there is room for a row
 --     unique_columns      the columns of a unique key, by its number from 1
 --     IsTable, SameElsewhere, SameRoomElsewhere      a table's rows by themselves; the other tables stay as they were
---     IsEmptyCell, GivesUpCell      no row fills a cell; such a cell goes from the room
+--     IsEmptyCell, ReleasesCell      no row fills a cell; such a cell goes from the room
 use Rattle.std.specs.Prelude.{◌≡◌, ◌≢◌, ℕ, ◌-◌, List, [], Some, unwrap_or, slice_get}
 use Rattle.std.specs.List.{Contains}
 use Rattle.std.specs.FinMap.{FinMap, get}
@@ -20,12 +20,12 @@ pub record Content : Type 0 where
   pub room : List Cell  -- the cells that can be filled again without memory
 
 -- each cell of the one is in the other
-abbrev pub Keeps : List Cell → List Cell → Type 0
-Keeps old new = (c : Cell) → Contains old c → Contains new c
+abbrev pub KeepsCells : List Cell → List Cell → Type 0
+KeepsCells old new = (c : Cell) → Contains old c → Contains new c
 
 -- each cell that the row fills is in the room
 abbrev pub HasRoom : List Cell → Schema → ℕ → Record → Type 0
-HasRoom room schema table row = Keeps (cells_of schema table row) room
+HasRoom room schema table row = KeepsCells (cells_of schema table row) room
 
 -- the columns of a table's unique key, by its number from 1
 abbrev pub unique_columns : Schema → ℕ → ℕ → List ℕ
@@ -48,9 +48,9 @@ abbrev pub IsEmptyCell : Schema → Rows → Cell → Type 0
 IsEmptyCell schema rows cell = (key : Key) (row : Record) → get rows (table_of cell, key) ≡ Some row → ¬ Contains (cells_of schema (table_of cell) row) cell
 
 -- A cell that no row fills goes from the room. No other cell goes, none comes, and no row changes.
-pub record GivesUpCell (old new : Content) (cell : Cell) : Type 0 where
+pub record ReleasesCell (old new : Content) (cell : Cell) : Type 0 where
   pub schema : new.schema ≡ old.schema
   pub rows : new.rows ≡ old.rows
   pub gone : IsEmptyCell old.schema old.rows cell → ¬ Contains new.room cell
-  pub fewer : Keeps new.room old.room
+  pub fewer : KeepsCells new.room old.room
   pub others : (c : Cell) → c ≢ cell → Contains old.room c → Contains new.room c

@@ -2,7 +2,7 @@
 --     Spot      a key's number, 0 for the primary key, and values of it.        spots_of      those that a row fills
 --     cell_at, cells_in      a spot as a cell of a table with a number; all of a table's
 --     IsOfSettled, IsFilled      what settling may give up; a row is there
---     GivesUpSpot      a spot that no row fills goes from the room
+--     ReleasesSpot      a spot that no row fills goes from the room
 --     IsSound      rows stand at their own keys, no two agree in a unique key, and the room has what they fill
 use Rattle.std.specs.Prelude.{◌≡◌, ◌≢◌, ◌⊎◌, ℕ, suc, List, [], ◌∷◌, ◌++◌, ◌-◌, Option, Some, None, map, slice_get, unwrap_or}
 use Rattle.std.specs.List.{Contains}
@@ -66,8 +66,8 @@ abbrev pub HasValues : FinMap key_cmp Record → List ℕ → Key → Key → Ty
 HasValues rows columns key values = (row : Record) × (finite.get rows key ≡ Some row) × (values_in columns row ≡ Some values)
 
 -- the row at a key agrees with this one in these columns
-abbrev pub IsTwin : FinMap key_cmp Record → List ℕ → Key → Record → Type 0
-IsTwin rows columns key row = (values : Key) × (values_in columns row ≡ Some values) × HasValues rows columns key values
+abbrev pub IsDuplicate : FinMap key_cmp Record → List ℕ → Key → Record → Type 0
+IsDuplicate rows columns key row = (values : Key) × (values_in columns row ≡ Some values) × HasValues rows columns key values
 
 -- a row has the values of the one at a key in each unique key
 abbrev pub KeepsValues : TableContent → Key → Record → Type 0
@@ -82,7 +82,7 @@ abbrev pub IsFilled : TableKeys → FinMap key_cmp Record → Spot → Type 0
 IsFilled keys rows s = (key : Key) × (row : Record) × (finite.get rows key ≡ Some row) × Contains (spots_of keys row) s
 
 -- A spot that no row fills goes from the room. No other spot goes, none comes, and no row changes.
-pub record GivesUpSpot (old new : TableContent) (s : Spot) : Type 0 where
+pub record ReleasesSpot (old new : TableContent) (s : Spot) : Type 0 where
   pub keys : new.keys ≡ old.keys
   pub rows : new.rows ≡ old.rows
   pub gone : ¬ IsFilled old.keys old.rows s → ¬ Contains new.room s
@@ -92,16 +92,16 @@ pub record GivesUpSpot (old new : TableContent) (s : Spot) : Type 0 where
 -- no row has the values that this one has in some unique key
 abbrev pub NoClash : TableKeys → FinMap key_cmp Record → Record → Type 0
 NoClash keys rows row =
-    (i : ℕ) (columns : List ℕ) (key values : Key) (twin : Record)
-    → slice_get keys.uniques i ≡ Some columns → finite.get rows key ≡ Some twin
-    → values_in columns twin ≡ Some values → values_in columns row ≢ Some values
+    (i : ℕ) (columns : List ℕ) (key values : Key) (duplicate : Record)
+    → slice_get keys.uniques i ≡ Some columns → finite.get rows key ≡ Some duplicate
+    → values_in columns duplicate ≡ Some values → values_in columns row ≢ Some values
 
 -- the table is sound: rows at their own keys, no two agree in a unique key, and each has its room
 pub record IsSound (t : TableContent) : Type 0 where
   pub own_key : (key : Key) (row : Record) → finite.get t.rows key ≡ Some row → values_in t.keys.primary row ≡ Some key
-  pub unique : (i : ℕ) (columns : List ℕ) (key other : Key) (row twin : Record) (values : Key)
+  pub unique : (i : ℕ) (columns : List ℕ) (key other : Key) (row duplicate : Record) (values : Key)
       → slice_get t.keys.uniques i ≡ Some columns
-      → finite.get t.rows key ≡ Some row → finite.get t.rows other ≡ Some twin
-      → values_in columns row ≡ Some values → values_in columns twin ≡ Some values
+      → finite.get t.rows key ≡ Some row → finite.get t.rows other ≡ Some duplicate
+      → values_in columns row ≡ Some values → values_in columns duplicate ≡ Some values
       → key ≡ other
   pub room : (key : Key) (row : Record) → finite.get t.rows key ≡ Some row → KeepsSpots (spots_of t.keys row) t.room

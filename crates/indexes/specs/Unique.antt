@@ -2,7 +2,7 @@
 --     held, held_by      the number at some values, if there is an entry with one; at those of a row
 --     KeepsSlots, HasSlot      no number changes and no entry goes; there is an entry for the row's values
 --     Sets, Puts, Settles      the number at the row's values is set; it comes there; their entry is dropped if it has none
---     DropsEntry, GivesUpValues      the entry for some values is dropped if it has no number
+--     DropsEntry, ReleasesValues      the entry for some values is dropped if it has no number
 use Rattle.std.specs.Prelude.{◌≡◌, ◌≢◌, ℕ, ◌<◌, false, List, [], length, Option, Some, None, IsSome, slice_index_or, map}
 use Rattle.std.specs.Ordering.{eq_by_cmp}
 use Rattle.std.specs.HashMap as hash
@@ -111,8 +111,8 @@ pub record MayPut (row : Row) (old new : Unique) : Type 0 where
   pub entries : MayPutEntry old.columns row old.entries new.entries
 
 -- no number stands at the row's values
-abbrev pub IsFree : Row → Unique → Type 0
-IsFree row unique = (values : Key) → values_in unique.columns row ≡ Some values → held unique.entries values ≡ None
+abbrev pub IsUnused : Row → Unique → Type 0
+IsUnused row unique = (values : Key) → values_in unique.columns row ≡ Some values → held unique.entries values ≡ None
 
 -- the index's entry for the row's values goes if it has no number; nothing else changes
 pub record Settles (row : Row) (old new : Unique) : Type 0 where
@@ -120,7 +120,7 @@ pub record Settles (row : Row) (old new : Unique) : Type 0 where
   pub entries : SettlesEntry old.columns row old.entries new.entries
 
 -- the index's entry for these values goes if it has no number; nothing else changes
-pub record GivesUpValues (values : Key) (old new : Unique) : Type 0 where
+pub record ReleasesValues (values : Key) (old new : Unique) : Type 0 where
   pub columns : new.columns ≡ old.columns
   pub entries : DropsEntry values old.entries new.entries
 
@@ -141,7 +141,7 @@ EachAgrees row other uniques = (k : ℕ) (d : Unique) → k < length uniques →
 
 -- no number stands at the row's values in any index
 abbrev pub EachIsFree : Row → List Unique → Type 0
-EachIsFree row uniques = (k : ℕ) (d : Unique) → k < length uniques → IsFree row (slice_index_or uniques k d)
+EachIsFree row uniques = (k : ℕ) (d : Unique) → k < length uniques → IsUnused row (slice_index_or uniques k d)
 
 -- no values have an entry
 abbrev pub HasNone : Unique → Type 0

@@ -9,7 +9,7 @@
 // Inside, each table is a store of rows and one map of hashes for each unique key, from its values
 // to the number of the row's slot. So a unique value is looked up, and never searched for, and an
 // entry is written without memory. What the hashes begin with is a seed that a caller may choose. A
-// slot and an entry outlive their row, empty, until `settle` gives up a row's, or `give_up` that of
+// slot and an entry outlive their row, empty, until `settle` gives up a row's, or `release` that of
 // one cell: the tables have `room` for what was there, and each change has a restoring form that needs
 // room alone, takes no memory and succeeds. `wipe` moves a table's whole content out, and `unwipe`
 // moves it back; no row is copied.

@@ -5,7 +5,7 @@ ghost use Rattle.std.specs.List.{AllByRecursion, Contains};
 ghost use Rattle.model.specs.Rows.{values_in, keys_of};
 ghost use Rattle.indexes.specs.Unique.{HasNone, columns_of};
 ghost use Rattle.model.specs.declared.key.Key.{Key as AnyKey};
-ghost use Rattle.indexes.specs.Table.{Spot, IsSound, IsOfSettled, IsFilled, GivesUpSpot, HasValues, IsTwin, KeepsValues, NoClash, KeepsSpots, spots_of, unique_at};
+ghost use Rattle.indexes.specs.Table.{Spot, IsSound, IsOfSettled, IsFilled, ReleasesSpot, HasValues, IsDuplicate, KeepsValues, NoClash, KeepsSpots, spots_of, unique_at};
 
 use crate::columns::key_of;
 use crate::seed::Seed;
@@ -206,12 +206,12 @@ impl Table {
 
     /// The key of the row that agrees with this one in a unique key, by the key's number from 1. It
     /// takes no memory.
-    pub fn find_twin(&self, number: usize, row: &Row) -> Option<&Key>
+    pub fn find_duplicate(&self, number: usize, row: &Row) -> Option<&Key>
         requires { (1 ≤ number) × (number ≤ length self.now.keys.uniques) }
-        ensures found { IfSome result (λ key. IsTwin self.now.rows (unique_at self.now.keys number) key.now row.now) }
-        ensures missed { IfNone result ((key : AnyKey) → ¬ IsTwin self.now.rows (unique_at self.now.keys number) key row.now) }
+        ensures found { IfSome result (λ key. IsDuplicate self.now.rows (unique_at self.now.keys number) key.now row.now) }
+        ensures missed { IfNone result ((key : AnyKey) → ¬ IsDuplicate self.now.rows (unique_at self.now.keys number) key row.now) }
     {
-        match self.uniques[number - 1].find_twin(row) {
+        match self.uniques[number - 1].find_duplicate(row) {
             Some(slot) => self.rows.key_at(slot),
             None => None,
         }
@@ -422,8 +422,8 @@ impl Table {
     }
 
     /// Drops the slot of a key where no row is in it. It takes no memory.
-    pub fn give_up_key(&mut self, key: &Key)
-        ensures given_up { GivesUpSpot self.old self.new (0, key.now) }
+    pub fn release_key(&mut self, key: &Key)
+        ensures released { ReleasesSpot self.old self.new (0, key.now) }
         ensures sound { IsSound self.new }
     {
         self.rows.settle(key);
@@ -431,13 +431,13 @@ impl Table {
 
     /// Drops the entry of values in a unique key, by the key's number from 1, where no row has them.
     /// For a number that is no unique key's it does nothing. It takes no memory.
-    pub fn give_up_values(&mut self, number: usize, values: &Key)
-        ensures given_up { 1 ≤ number → GivesUpSpot self.old self.new (number, values.now) }
+    pub fn release_values(&mut self, number: usize, values: &Key)
+        ensures released { 1 ≤ number → ReleasesSpot self.old self.new (number, values.now) }
         ensures no_key { ¬ ((1 ≤ number) × (number ≤ length self.old.keys.uniques)) → self.new ≡ self.old }
         ensures sound { IsSound self.new }
     {
         if 1 <= number && number <= self.uniques.len() {
-            self.uniques[number - 1].give_up(values);
+            self.uniques[number - 1].release(values);
         }
     }
 }

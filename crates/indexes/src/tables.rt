@@ -11,7 +11,7 @@ ghost use Rattle.model.specs.Rows.{IsValid, keys_at, keys_of, key_of, values_in,
 ghost use Rattle.model.specs.TableRows.{rows_of_table};
 ghost use Rattle.model.specs.Effect.{first_taken, are_taken_unless_null};
 ghost use Rattle.indexes.specs.Table.{cells_in};
-ghost use Rattle.indexes.specs.Content.{Keeps, HasRoom, unique_columns, IsTable, SameElsewhere, SameRoomElsewhere, GivesUpCell};
+ghost use Rattle.indexes.specs.Content.{KeepsCells, HasRoom, unique_columns, IsTable, SameElsewhere, SameRoomElsewhere, ReleasesCell};
 
 use crate::seed::Seed;
 use crate::table::{Contents, Table};
@@ -179,14 +179,14 @@ impl Tables {
 
     /// The key of the row that agrees with this one in a unique key, by the key's number from 1: what
     /// a search of all rows finds. It takes no memory.
-    pub fn find_twin(&self, table: usize, number: usize, row: &Row) -> Option<&Key>
+    pub fn find_duplicate(&self, table: usize, number: usize, row: &Row) -> Option<&Key>
         requires known { table < length self.now.schema }
         requires number { (1 ≤ number) × (number ≤ length (keys_at self.now.schema table).uniques) }
         ensures taken { is_some result ≡ are_taken_unless_null self.now.rows table (unique_columns self.now.schema table number) (values_in (unique_columns self.now.schema table number) row.now) }
         ensures key { IfSome result (λ key. (values : AnyKey) × (values_in (unique_columns self.now.schema table number) row.now ≡ Some values)
-            × (twin : AnyRow) × (finite.get self.now.rows (table, key.now) ≡ Some twin) × (values_in (unique_columns self.now.schema table number) twin ≡ Some values)) }
+            × (duplicate : AnyRow) × (finite.get self.now.rows (table, key.now) ≡ Some duplicate) × (values_in (unique_columns self.now.schema table number) duplicate ≡ Some values)) }
     {
-        self.tables[table].find_twin(number, row)
+        self.tables[table].find_duplicate(number, row)
     }
 
     /// Makes room for so many more rows of a table: putting them moves none that is there. A refusal
@@ -195,7 +195,7 @@ impl Tables {
         requires { table < length self.old.schema }
         ensures schema { self.new.schema ≡ self.old.schema }
         ensures rows { self.new.rows ≡ self.old.rows }
-        ensures kept { Keeps self.old.room self.new.room }
+        ensures kept { KeepsCells self.old.room self.new.room }
     {
         let table = &mut self.tables[table];
         table.make_room(additional)
@@ -212,7 +212,7 @@ impl Tables {
         ensures err { OnErr result (self.new.rows ≡ self.old.rows) }
 
         // No cell goes from the room, and those of the row are in it.
-        ensures kept { Keeps self.old.room self.new.room }
+        ensures kept { KeepsCells self.old.room self.new.room }
         ensures room { OnOk result (HasRoom self.new.room self.new.schema table row) }
     {
         let table = &mut self.tables[table];
@@ -239,7 +239,7 @@ impl Tables {
         ensures err { OnErr result (self.new.rows ≡ self.old.rows) }
 
         // No cell goes from the room, and those of the row are in it.
-        ensures kept { Keeps self.old.room self.new.room }
+        ensures kept { KeepsCells self.old.room self.new.room }
         ensures room { OnOk result (HasRoom self.new.room self.new.schema table row) }
     {
         let table = &mut self.tables[table];
@@ -253,7 +253,7 @@ impl Tables {
         ensures schema { self.new.schema ≡ self.old.schema }
         ensures rows { self.new.rows ≡ finite.remove self.old.rows (table, key.now) }
         ensures stood { finite.get self.old.rows (table, key.now) ≡ Some result }
-        ensures kept { Keeps self.old.room self.new.room }
+        ensures kept { KeepsCells self.old.room self.new.room }
     {
         let table = &mut self.tables[table];
         table.remove(key)
@@ -283,7 +283,7 @@ impl Tables {
         requires there { IsSome (finite.get self.old.rows (table, key.now)) }
         ensures schema { self.new.schema ≡ self.old.schema }
         ensures rows { self.new.rows ≡ finite.remove self.old.rows (table, key.now) }
-        ensures kept { Keeps self.old.room self.new.room }
+        ensures kept { KeepsCells self.old.room self.new.room }
     {
         self.remove(table, key);
     }
@@ -297,7 +297,7 @@ impl Tables {
         requires room { HasRoom self.old.room self.old.schema table row }
         ensures schema { self.new.schema ≡ self.old.schema }
         ensures rows { self.new.rows ≡ finite.insert self.old.rows (table, key) row }
-        ensures kept { Keeps self.old.room self.new.room }
+        ensures kept { KeepsCells self.old.room self.new.room }
     {
         let table = &mut self.tables[table];
         table.put_back(&key, row);
@@ -314,7 +314,7 @@ impl Tables {
         requires room { HasRoom self.old.room self.old.schema table row }
         ensures schema { self.new.schema ≡ self.old.schema }
         ensures rows { self.new.rows ≡ finite.insert (finite.remove self.old.rows (table, new_key.now)) (table, key) row }
-        ensures kept { Keeps self.old.room self.new.room }
+        ensures kept { KeepsCells self.old.room self.new.room }
     {
         let table = &mut self.tables[table];
         table.replace_back(new_key, &key, row);
@@ -328,7 +328,7 @@ impl Tables {
         ensures schema { self.new.schema ≡ self.old.schema }
         ensures rows { IsTable self.new.rows table contents.rows }
         ensures elsewhere { SameElsewhere self.old.rows self.new.rows table }
-        ensures room { Keeps (cells_in table contents) self.new.room }
+        ensures room { KeepsCells (cells_in table contents) self.new.room }
         ensures room_elsewhere { SameRoomElsewhere self.old.room self.new.room table }
     {
         let table = &mut self.tables[table];
@@ -349,7 +349,7 @@ impl Tables {
             → values_in columns row.now ≡ Some values → are_taken self.old.rows table columns values ≡ false → ¬ Contains self.new.room (Uniq table (i + 1) values) }
 
         // No other cell goes from the room, and none comes.
-        ensures fewer { Keeps self.new.room self.old.room }
+        ensures fewer { KeepsCells self.new.room self.old.room }
         ensures others { (c : AnyCell) → ¬ Contains (cells_of self.old.schema table row.now) c → c ≢ RowCell table key.now → Contains self.old.room c → Contains self.new.room c }
     {
         let table = &mut self.tables[table];
@@ -358,18 +358,18 @@ impl Tables {
 
     /// Gives up a cell that no row fills: the slot of a key, or the entry of values in a unique key. A
     /// cell that a row fills stays, and so does a whole table's. It takes no memory.
-    pub fn give_up(&mut self, cell: &Cell)
-        ensures { GivesUpCell self.old self.new cell.now }
+    pub fn release(&mut self, cell: &Cell)
+        ensures { ReleasesCell self.old self.new cell.now }
     {
         match cell {
             Cell::Row(table, key) => {
                 if let Some(table) = self.tables.get_mut(*table) {
-                    table.give_up_key(key);
+                    table.release_key(key);
                 }
             }
             Cell::Uniq(table, number, values) => {
                 if let Some(table) = self.tables.get_mut(*table) {
-                    table.give_up_values(*number, values);
+                    table.release_values(*number, values);
                 }
             }
             Cell::Whole(_) => {}

@@ -4,7 +4,7 @@ ghost use Rattle.std.specs.Ordering.{eq_by_cmp};
 ghost use Rattle.model.specs.Rows.{values_in};
 ghost use Rattle.indexes.specs.Columns.{present};
 ghost use Rattle.model.specs.Key.{key_cmp};
-ghost use Rattle.indexes.specs.Unique.{plain, HasNone, held, held_by, entry_at, with_number, SameApart, KeepsEntries, HasEntry, SetsEntry, PutsEntry, DropsEntry, SettlesEntry, KeepsSlots, HasSlot, Sets, Puts, MayPut, Settles, GivesUpValues, EachStep, EachHasSlot, EachAgrees, EachIsFree};
+ghost use Rattle.indexes.specs.Unique.{plain, HasNone, held, held_by, entry_at, with_number, SameApart, KeepsEntries, HasEntry, SetsEntry, PutsEntry, DropsEntry, SettlesEntry, KeepsSlots, HasSlot, Sets, Puts, MayPut, Settles, ReleasesValues, EachStep, EachHasSlot, EachAgrees, EachIsFree};
 
 use crate::columns::{agree, has_values};
 use crate::kept_values::{KeptValues, SharedColumns};
@@ -56,7 +56,7 @@ impl Unique {
     }
 
     // The number of the slot that a row with the same values as this one lies in.
-    pub(crate) fn find_twin(&self, row: &Row) -> Option<SlotNumber>
+    pub(crate) fn find_duplicate(&self, row: &Row) -> Option<SlotNumber>
         ensures { result ≡ held_by self.now.entries (values_in self.now.columns row.now) }
     {
         find_row(self.columns.as_slice(), &self.entries, row)
@@ -100,10 +100,10 @@ impl Unique {
     }
 
     // Drops the entry for these values if it has no number.
-    pub(crate) fn give_up(&mut self, values: &Key)
-        ensures { GivesUpValues values.now self.old self.new }
+    pub(crate) fn release(&mut self, values: &Key)
+        ensures { ReleasesValues values.now self.old self.new }
     {
-        give_up_entry(&mut self.entries, values);
+        release_entry(&mut self.entries, values);
     }
 }
 
@@ -365,7 +365,7 @@ fn drop_entry(entries: &mut HashMap<KeptValues, Option<SlotNumber>, Seed>, value
 }
 
 // The same, for values that lie in a key.
-fn give_up_entry(entries: &mut HashMap<KeptValues, Option<SlotNumber>, Seed>, key: &Key)
+fn release_entry(entries: &mut HashMap<KeptValues, Option<SlotNumber>, Seed>, key: &Key)
     ensures { DropsEntry key.now entries.old entries.new }
 {
     if let Some(None) = entries.get(key) {

@@ -14,35 +14,35 @@ use Rattle.model.specs.CellOrder.{cell_cmp, cell_cmp_total, cell_cmp_exact}
 use Rattle.keyholds.specs.declared.addresses.Address.{Address}
 use Rattle.keyholds.specs.declared.addresses.Addresses.{Addresses}
 use Rattle.keyholds.specs.Counts.{count_in, SetsCount}
-use Rattle.keyholds.specs.Holds.{IsFree, IsHeldBy}
+use Rattle.keyholds.specs.Holds.{IsFreeCell, IsCellHeldBy}
 use Rattle.keyholds.specs.Addresses.{address_at, AreAddresses, IsAlone, IsHeldAt, TellsAt, AddsAddress, RemovesAddress}
 use Rattle.keyholds.proofs.Ties.{tied_self, updated_here, updated_beside, same_value}
 use Rattle.keyholds.proofs.Overlaps.{contains_at, at_contains, some_counted, none_counted_at, overlaps_itself, overlaps_whole, overlaps_above, overlap_cases}
 
 module _ (held : ℕ → List Cell) (addresses : Addresses) (kept : AreAddresses held addresses) (xid : ℕ) where
   -- a table that no other has a cell in
-  whole_free : (table : ℕ) → ((other : ℕ) → other ≢ xid → count_in addresses.counts.counts table other ≡ 0) → IsFree held xid (Whole table)
+  whole_free : (table : ℕ) → ((other : ℕ) → other ≢ xid → count_in addresses.counts.counts table other ≡ 0) → IsFreeCell held xid (Whole table)
   whole_free table none other d apart has =
       none_counted_at (overlaps (Whole table)) (held other) (sym (kept.counted table other) ∙ none other apart) has.0 d (at_contains (held other) d has)
 
   -- a cell in such a table
-  pub cell_free : (cell : Cell) → ((other : ℕ) → other ≢ xid → count_in addresses.counts.counts (table_of cell) other ≡ 0) → IsFree held xid cell
+  pub cell_free : (cell : Cell) → ((other : ℕ) → other ≢ xid → count_in addresses.counts.counts (table_of cell) other ≡ 0) → IsFreeCell held xid cell
   cell_free cell none other d apart has = elim (overlaps cell d) as (λ b. overlaps cell d ≡ b → b ≡ false) [
     | true ↦ λ e. absurd (true≢false (sym (overlaps_above cell d e) ∙ whole_free (table_of cell) none other d apart has))
     | false ↦ λ e. refl
   ] refl
 
-  whole_held : (table other : ℕ) → other ≢ xid → 0 < count_in addresses.counts.counts table other → IsHeldBy held xid (Whole table) other
+  whole_held : (table other : ℕ) → other ≢ xid → 0 < count_in addresses.counts.counts table other → IsCellHeldBy held xid (Whole table) other
   whole_held table other apart some =
       let found = some_counted (overlaps (Whole table)) (held other) (subst (λ n. 0 < n) (kept.counted table other) some) in
       record { another = apart; its = found.0; holds = found.1; overlap = found.2 }
 
   -- a look-up for a whole table
-  pub answered_whole : (table : ℕ) (cell : Cell) → cell ≡ Whole table → (other : ℕ) → other ≢ xid → 0 < count_in addresses.counts.counts table other → IsHeldBy held xid cell other
-  answered_whole table cell is other apart some = subst (λ (c : Cell). IsHeldBy held xid c other) (sym is) (whole_held table other apart some)
+  pub answered_whole : (table : ℕ) (cell : Cell) → cell ≡ Whole table → (other : ℕ) → other ≢ xid → 0 < count_in addresses.counts.counts table other → IsCellHeldBy held xid cell other
+  answered_whole table cell is other apart some = subst (λ (c : Cell). IsCellHeldBy held xid c other) (sym is) (whole_held table other apart some)
 
   -- another has a cell that overlaps it
-  pub held_there : (cell its : Cell) (other : ℕ) → overlaps cell its ≡ true → IsHeldAt xid its addresses other → IsHeldBy held xid cell other
+  pub held_there : (cell its : Cell) (other : ℕ) → overlaps cell its ≡ true → IsHeldAt xid its addresses other → IsCellHeldBy held xid cell other
   held_there cell its other over there = record {
     another = there.another;
     its = its;
@@ -55,7 +55,7 @@ module _ (held : ℕ → List Cell) (addresses : Addresses) (kept : AreAddresses
   not_anothers cell alone other apart has = apart (alone (record { xid = other; index = has.0 }) (kept.at other has.0 cell (at_contains (held other) cell has)))
 
   -- a cell that no other has, in a table that no other has as a whole
-  pub alone_free : (cell : Cell) → ((table : ℕ) → cell ≢ Whole table) → IsAlone xid cell addresses → IsAlone xid (Whole (table_of cell)) addresses → IsFree held xid cell
+  pub alone_free : (cell : Cell) → ((table : ℕ) → cell ≢ Whole table) → IsAlone xid cell addresses → IsAlone xid (Whole (table_of cell)) addresses → IsFreeCell held xid cell
   alone_free cell partial alone above other d apart has =
       elim (overlaps cell d) as (λ b. overlaps cell d ≡ b → b ≡ false) [
         | true ↦ λ e. absurd (elim (overlap_cases cell d partial e) [
@@ -66,11 +66,11 @@ module _ (held : ℕ → List Cell) (addresses : Addresses) (kept : AreAddresses
       ] refl
 
   pub answered_above : (cell : Cell) → ((table : ℕ) → cell ≢ Whole table) → IsAlone xid cell addresses → (r : Option ℕ) → MatchOption r (IsAlone xid (Whole (table_of cell)) addresses) (IsHeldAt xid (Whole (table_of cell)) addresses)
-      → MatchOption r (IsFree held xid cell) (IsHeldBy held xid cell)
+      → MatchOption r (IsFreeCell held xid cell) (IsCellHeldBy held xid cell)
   answered_above cell partial alone None above = alone_free cell partial alone above
   answered_above cell partial alone (Some other) there = held_there cell (Whole (table_of cell)) other (overlaps_whole cell) there
 
-  pub answered_here : (cell : Cell) (other : ℕ) → IsHeldAt xid cell addresses other → IsHeldBy held xid cell other
+  pub answered_here : (cell : Cell) (other : ℕ) → IsHeldAt xid cell addresses other → IsCellHeldBy held xid cell other
   answered_here cell other there = held_there cell cell other (overlaps_itself cell) there
 
 -- a cell that ties with its table as a whole is that, and one that doesn't is not

@@ -13,29 +13,29 @@ use Rattle.std.proofs.lemmas.Option.{slice_get_read, slice_get_within, slice_get
 use Rattle.std.proofs.lemmas.List.Elements.{All-more, All-contains}
 use Rattle.std.proofs.lemmas.Map.Entries.{length-keys_of}
 use Rattle.model.specs.declared.cell.Cell.{Cell}
-use Rattle.keyholds.specs.Holds.{holds_of, IsFree, IsHeldBy, IsFirstHeldBy}
+use Rattle.keyholds.specs.Holds.{holds_of, IsFreeCell, IsCellHeldBy, IsFirstHeldBy}
 use Rattle.keyholds.specs.Lists.{listed, items_in, HasRoom}
 use Rattle.keyholds.proofs.Ties.{updated_here, same_value}
 use Rattle.keyholds.proofs.Overlaps.{contains_at}
 
 module _ (held : ℕ → List Cell) (xid : ℕ) (cells : List Cell) where
   -- the cell at an address, which no other has, after those before it
-  pub free_so_far : (i : ℕ) (cell : Cell) → i < length cells → cell ≡ get_or cells i cell → All (IsFree held xid) (take i cells) → IsFree held xid cell → All (IsFree held xid) (take (i + 1) cells)
-  free_so_far i cell within is before here = All-more (IsFree held xid) cells i cell within before (subst (λ c. IsFree held xid c) is here)
+  pub free_so_far : (i : ℕ) (cell : Cell) → i < length cells → cell ≡ get_or cells i cell → All (IsFreeCell held xid) (take i cells) → IsFreeCell held xid cell → All (IsFreeCell held xid) (take (i + 1) cells)
+  free_so_far i cell within is before here = All-more (IsFreeCell held xid) cells i cell within before (subst (λ c. IsFreeCell held xid c) is here)
 
-  pub all_free : (i : ℕ) → i ≤ length cells → length cells ≤ i → All (IsFree held xid) (take i cells) → All (IsFree held xid) cells
-  all_free i least most so_far = let end : i ≡ length cells = omega (arith, least, most) in subst (λ l. All (IsFree held xid) l) (ap (λ n. take n cells) end ∙ take-length cells) so_far
+  pub all_free : (i : ℕ) → i ≤ length cells → length cells ≤ i → All (IsFreeCell held xid) (take i cells) → All (IsFreeCell held xid) cells
+  all_free i least most so_far = let end : i ≡ length cells = omega (arith, least, most) in subst (λ l. All (IsFreeCell held xid) l) (ap (λ n. take n cells) end ∙ take-length cells) so_far
 
-  module _ (i : ℕ) (cell : Cell) (within : i < length cells) (is : cell ≡ get_or cells i cell) (other : ℕ) (here : IsHeldBy held xid cell other) where
+  module _ (i : ℕ) (cell : Cell) (within : i < length cells) (is : cell ≡ get_or cells i cell) (other : ℕ) (here : IsCellHeldBy held xid cell other) where
     at : slice_get cells i ≡ Some cell
     at = slice_get_read cells (length cells) i cell refl within is
 
-    pub first_held : All (IsFree held xid) (take i cells) → IsFirstHeldBy held xid cells other
+    pub first_held : All (IsFreeCell held xid) (take i cells) → IsFirstHeldBy held xid cells other
     first_held before = record { address = i; cell = cell; at = at; before = before; here = here }
 
-    pub not_all_free : All (IsFree held xid) cells → ⊥
+    pub not_all_free : All (IsFreeCell held xid) cells → ⊥
     not_all_free free =
-        let apart = All-contains (IsFree held xid) cells cell free (contains_at cells i cell at) other here.its here.another here.holds in
+        let apart = All-contains (IsFreeCell held xid) cells cell free (contains_at cells i cell at) other here.its here.another here.holds in
         true≢false (sym here.overlap ∙ apart)
 
 -- ---- a cell's address in a list

@@ -15,7 +15,7 @@ use Rattle.model.specs.declared.cell.Cell.TheVariants.{Row}
 use Rattle.keyholds.specs.Holds.{cells_held}
 use Rattle.keyholds.specs.Lists.{lists_seen, items_in, AddsKeys}
 use Rattle.keyholds.proofs.Seen.{holds_listed}
-use Rattle.keyholds.proofs.HoldsLaws.{head_or_rest}
+use Rattle.keyholds.proofs.HoldsLemmas.{head_or_rest}
 
 -- ---- cell by cell
 

@@ -8,5 +8,5 @@ mod Longer
 mod Seen
 mod Answering
 mod Taking
-pub mod HoldsLaws
+pub mod HoldsLemmas
 mod Keys

@@ -15,7 +15,7 @@ use Rattle.model.specs.CellOrder.{cell_cmp_total, cell_cmp_exact}
 use Rattle.keyholds.specs.declared.addresses.Address.{Address}
 use Rattle.keyholds.specs.declared.addresses.Addresses.{Addresses}
 use Rattle.keyholds.specs.Counts.{count_in}
-use Rattle.keyholds.specs.Holds.{IsFree, AreApart, ReleasesLast}
+use Rattle.keyholds.specs.Holds.{IsFreeCell, AreDisjoint, ReleasesLast}
 use Rattle.keyholds.specs.Addresses.{address_at, AreAddresses, AddsAddress, RemovesAddress, SameAddresses, HasNoAddresses, count_of_table, with_cells}
 use Rattle.keyholds.proofs.Ties.{same_or_apart, same_value}
 use Rattle.keyholds.proofs.Overlaps.{contains_at, at_contains, overlaps_symm}
@@ -113,10 +113,10 @@ module _ (held more : ℕ → List Cell) (xid : ℕ) (cell : Cell) (longer : IsL
 
   -- ---- the cell comes
 
-  module _ (old new : Addresses) (kept : AreAddresses held old) (absent : address_at old cell ≡ None) (free : IsFree held xid cell) (adds : AddsAddress cell (record { xid = xid; index = length (held xid) }) old new) where
+  module _ (old new : Addresses) (kept : AreAddresses held old) (absent : address_at old cell ≡ None) (free : IsFreeCell held xid cell) (adds : AddsAddress cell (record { xid = xid; index = length (held xid) }) old new) where
     added_at : (x i : ℕ) (c : Cell) → slice_get (more x) i ≡ Some c → address_at new c ≡ Some (record { xid = x; index = i })
     added_at x i c e = elim (at_cases x i c e) [
-      | inl at ↦ let stood = kept.at x i c at in adds.beside c (λ is. absurd (let none : address_at old c ≡ None = ap (address_at old) is ∙ absent in cc)) ∙ stood
+      | inl at ↦ let before_image = kept.at x i c at in adds.beside c (λ is. absurd (let none : address_at old c ≡ None = ap (address_at old) is ∙ absent in cc)) ∙ before_image
       | inr last ↦ ap (address_at new) last.2 ∙ adds.here ∙ (λ j. Some (record { xid = sym last.0 j; index = sym last.1 j }))
     ]
 
@@ -138,7 +138,7 @@ module _ (held more : ℕ → List Cell) (xid : ℕ) (cell : Cell) (longer : IsL
       | inr apart ↦ adds.count.others table x apart ∙ kept.counted table x ∙ sym (count_of_others table x apart)
     ]
 
-    added_apart : AreApart more
+    added_apart : AreDisjoint more
     added_apart x y c d differs has_c has_d = elim (has_cases x c has_c) [
       | inl in_x ↦ elim (has_cases y d has_d) [
         | inl in_y ↦ kept.apart x y c d differs in_x in_y
@@ -158,18 +158,18 @@ module _ (held more : ℕ → List Cell) (xid : ℕ) (cell : Cell) (longer : IsL
   module _ (old new : Addresses) (kept : AreAddresses more old) (removes : RemovesAddress cell xid old new) where
     removed_at : (x i : ℕ) (c : Cell) → slice_get (held x) i ≡ Some c → address_at new c ≡ Some (record { xid = x; index = i })
     removed_at x i c e =
-        let stood = kept.at x i c (at_old x i c e) in
+        let before_image = kept.at x i c (at_old x i c e) in
         removes.beside c (λ is.
         let last = kept.at xid (length (held xid)) cell at_new in
         let address : Address = record { xid = x; index = i } in
         let end : Address = record { xid = xid; index = length (held xid) } in
-        let same : address ≡ end = same_value address end (sym stood ∙ ap (address_at old) is ∙ last) in
+        let same : address ≡ end = same_value address end (sym before_image ∙ ap (address_at old) is ∙ last) in
         let within = slice_get_within (held x) i c e in
         let whose : x ≡ xid = ap (λ (q : Address). q.xid) same in
         let where_at : i ≡ length (held xid) = ap (λ (q : Address). q.index) same in
         let long : length (held x) ≡ length (held xid) = ap (λ y. length (held y)) whose in
         omega (arith, within, where_at, long))
-        ∙ stood
+        ∙ before_image
 
     removed_found : (c : Cell) (p : Address) → address_at new c ≡ Some p → slice_get (held p.xid) p.index ≡ Some c
     removed_found c p e =

@@ -10,7 +10,7 @@ use Rattle.model.specs.declared.key.Key.{Key}
 use Rattle.model.specs.declared.cell.Cell.{Cell}
 use Rattle.model.specs.declared.cell.Cell.TheVariants.{Row, Uniq, Whole}
 use Rattle.model.specs.Key.{key_cmp_total}
-use Rattle.model.specs.Exact.{key_cmp_exact}
+use Rattle.model.specs.ExactLemmas.{key_cmp_exact}
 use Rattle.model.specs.Cells.{table_of, overlaps, same_key}
 use Rattle.keyholds.proofs.Ties.{tied_self}
 

@@ -8,7 +8,7 @@ use Rattle.std.specs.BTreeMap as tree
 use Rattle.std.specs.BTreeMap.{BTreeMap}
 use Rattle.model.specs.declared.cell.Cell.{Cell}
 use Rattle.keyholds.specs.declared.addresses.Addresses.{Addresses}
-use Rattle.keyholds.specs.Holds.{holds_of, cells_held, AreApart, HasNoEmptyList, ReleasesLast}
+use Rattle.keyholds.specs.Holds.{holds_of, cells_held, AreDisjoint, HasNoEmptyList, ReleasesLast}
 use Rattle.keyholds.specs.Lists.{lists_seen, listed, items_in, SetsList, SameLists}
 use Rattle.keyholds.specs.Addresses.{AreAddresses, with_cells}
 use Rattle.keyholds.proofs.Listing.{get-lists_seen, lists_seen_filled}
@@ -23,8 +23,8 @@ module _ {S Z : Type 0} (old : BTreeMap ℕ (Vec (Cell × S) Z)) (holds : FinMap
   pub seen_filled : HasNoEmptyList holds
   seen_filled xid = subst (λ h. HasNoEmptyList h) seen (lists_seen_filled old) xid
 
-  pub seen_apart : (addresses : Addresses) → AreAddresses (cells_held (lists_seen old)) addresses → AreApart (cells_held holds)
-  seen_apart addresses kept = subst (λ h. AreApart (cells_held h)) seen kept.apart
+  pub seen_apart : (addresses : Addresses) → AreAddresses (cells_held (lists_seen old)) addresses → AreDisjoint (cells_held holds)
+  seen_apart addresses kept = subst (λ h. AreDisjoint (cells_held h)) seen kept.apart
 
   pub seen_placed : (addresses : Addresses) → AreAddresses (cells_held (lists_seen old)) addresses → AreAddresses (cells_held holds) addresses
   seen_placed addresses kept = subst (λ h. AreAddresses (cells_held h) addresses) seen kept

@@ -23,7 +23,7 @@ use Rattle.model.specs.CellOrder.{cell_cmp_total, cell_cmp_exact}
 use Rattle.keyholds.specs.declared.addresses.Address.{Address}
 use Rattle.keyholds.specs.declared.addresses.Addresses.{Addresses}
 use Rattle.keyholds.specs.Counts.{count_in}
-use Rattle.keyholds.specs.Holds.{holds_of, cells_held, has_cell, with_hold, with_holds, IsFree}
+use Rattle.keyholds.specs.Holds.{holds_of, cells_held, has_cell, with_hold, with_holds, IsFreeCell}
 use Rattle.keyholds.specs.Lists.{lists_seen, listed, SetsList}
 use Rattle.keyholds.specs.Addresses.{address_at, AreAddresses, AddsAddress, count_of_table}
 use Rattle.keyholds.proofs.Overlaps.{contains_at, at_contains, overlaps_itself}
@@ -32,22 +32,22 @@ use Rattle.keyholds.proofs.Longer.{IsLonger, addresses_added, keys_of-push}
 
 -- ---- one hold more
 
-module _ {S : Type 0} (held : List (Cell × S)) (cell : Cell) (stood : S) where
-  pub held_already : has_cell cell held ≡ true → with_hold held (cell, stood) ≡ held
-  held_already e = ap (λ b. if b then held else held ++ (cell, stood) ∷ []) e
+module _ {S : Type 0} (held : List (Cell × S)) (cell : Cell) (before_image : S) where
+  pub held_already : has_cell cell held ≡ true → with_hold held (cell, before_image) ≡ held
+  held_already e = ap (λ b. if b then held else held ++ (cell, before_image) ∷ []) e
 
-  pub held_newly : has_cell cell held ≡ false → with_hold held (cell, stood) ≡ held ++ (cell, stood) ∷ []
-  held_newly e = ap (λ b. if b then held else held ++ (cell, stood) ∷ []) e
+  pub held_newly : has_cell cell held ≡ false → with_hold held (cell, before_image) ≡ held ++ (cell, before_image) ∷ []
+  held_newly e = ap (λ b. if b then held else held ++ (cell, before_image) ∷ []) e
 
 module _ {S : Type 0} (holds : FinMap nat_cmp (List (Cell × S))) (addresses : Addresses) (kept : AreAddresses (cells_held holds) addresses) (xid : ℕ) (cell : Cell) where
   -- a cell at an address that no other transaction has is one of its own
-  pub own_cell : IsFree (cells_held holds) xid cell → (address : Address) → address_at addresses cell ≡ Some address → has_cell cell (holds_of holds xid) ≡ true
+  pub own_cell : IsFreeCell (cells_held holds) xid cell → (address : Address) → address_at addresses cell ≡ Some address → has_cell cell (holds_of holds xid) ≡ true
   own_cell free address e = elim (cases_eq address.xid xid) [
     | inl is ↦ IsSome-lookup_from_Contains (eq_by_cmp_equiv cell_cmp_total) cell (holds_of holds xid) (subst (λ x. Contains (cells_held holds x) cell) is (contains_at (cells_held holds address.xid) address.index cell (kept.found cell address e)))
     | inr apart ↦ absurd (true≢false (sym (overlaps_itself cell) ∙ free address.xid cell apart (contains_at (cells_held holds address.xid) address.index cell (kept.found cell address e))))
   ]
 
-  pub own_cell_some : IsFree (cells_held holds) xid cell → (o : Option Address) → o ≡ address_at addresses cell → is_some o ≡ true → has_cell cell (holds_of holds xid) ≡ true
+  pub own_cell_some : IsFreeCell (cells_held holds) xid cell → (o : Option Address) → o ≡ address_at addresses cell → is_some o ≡ true → has_cell cell (holds_of holds xid) ≡ true
   own_cell_some free None e some = absurd cc
   own_cell_some free (Some address) e some = own_cell free address (sym e)
 
@@ -64,7 +64,7 @@ module _ {S : Type 0} (holds : FinMap nat_cmp (List (Cell × S))) (addresses : A
   counts_within long = subst (λ n. n ≤ length (holds_of holds xid)) (sym (kept.counted (table_of cell) xid)) (subst (λ n. count_of_table (table_of cell) (cells_held holds xid) ≤ n) long (count_by-le-length (λ c. table_of cell == table_of c) (cells_held holds xid)))
 
 -- everything has its address once the cell was added
-pub taken_placed : {S Z : Type 0} (old new : BTreeMap ℕ (Vec (Cell × S) Z)) (addresses after : Addresses) (xid : ℕ) (hold : Cell × S) → AreAddresses (cells_held (lists_seen old)) addresses → IsFree (cells_held (lists_seen old)) xid hold.0 → address_at addresses hold.0 ≡ None
+pub taken_placed : {S Z : Type 0} (old new : BTreeMap ℕ (Vec (Cell × S) Z)) (addresses after : Addresses) (xid : ℕ) (hold : Cell × S) → AreAddresses (cells_held (lists_seen old)) addresses → IsFreeCell (cells_held (lists_seen old)) xid hold.0 → address_at addresses hold.0 ≡ None
     → SetsList xid (listed old xid ++ hold ∷ []) old new → AddsAddress hold.0 (record { xid = xid; index = length (listed old xid) }) addresses after → AreAddresses (cells_held (lists_seen new)) after
 taken_placed old new addresses after xid hold kept free absent sets adds =
     addresses_added (cells_held (lists_seen old)) (cells_held (lists_seen new)) xid hold.0 longer addresses after kept absent free
@@ -101,13 +101,13 @@ module _ {S : Type 0} where
   held_first held more = front_of_holds held more (length held) (omega arith) ∙ take-length held
 
   -- those who hold the same of others leave the same free
-  pub free_still : (old new : FinMap nat_cmp (List (Cell × S))) (xid : ℕ) (cell : Cell) → ((other : ℕ) → other ≢ xid → holds_of new other ≡ holds_of old other) → IsFree (cells_held old) xid cell → IsFree (cells_held new) xid cell
+  pub free_still : (old new : FinMap nat_cmp (List (Cell × S))) (xid : ℕ) (cell : Cell) → ((other : ℕ) → other ≢ xid → holds_of new other ≡ holds_of old other) → IsFreeCell (cells_held old) xid cell → IsFreeCell (cells_held new) xid cell
   free_still old new xid cell same free other d apart has = free other d apart (subst (λ l. Contains (keys_of l) d) (same other apart) has)
 
-  pub free_among : (held : ℕ → List Cell) (xid : ℕ) (holds before after : List (Cell × S)) (hold : Cell × S) → holds ≡ before ++ hold ∷ after → All (IsFree held xid) (keys_of holds) → IsFree held xid hold.0
+  pub free_among : (held : ℕ → List Cell) (xid : ℕ) (holds before after : List (Cell × S)) (hold : Cell × S) → holds ≡ before ++ hold ∷ after → All (IsFreeCell held xid) (keys_of holds) → IsFreeCell held xid hold.0
   free_among held xid holds before after hold is free =
       let split : keys_of holds ≡ keys_of before ++ hold.0 ∷ keys_of after = ap keys_of is ∙ map-append (λ e. e.0) before (hold ∷ after) in
-      All-contains (IsFree held xid) (keys_of holds) hold.0 free (subst (λ l. Contains l hold.0) (sym split) (Contains-append_right (keys_of before) (hold.0 ∷ keys_of after) hold.0 (contains_at (hold.0 ∷ keys_of after) 0 hold.0 refl)))
+      All-contains (IsFreeCell held xid) (keys_of holds) hold.0 free (subst (λ l. Contains l hold.0) (sym split) (Contains-append_right (keys_of before) (hold.0 ∷ keys_of after) hold.0 (contains_at (hold.0 ∷ keys_of after) 0 hold.0 refl)))
 
 -- what the iterator of a vector has given is a front of its items
 pub taken_front : {X A : Type 0} (s : IntoIter X A) (xs : List X) (t : IntoIter X A) → Yields into_iter_steps s xs t → into_iter_items s ≡ xs ++ into_iter_items t

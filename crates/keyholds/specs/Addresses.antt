@@ -11,7 +11,7 @@ use Rattle.model.specs.CellOrder.{cell_cmp}
 use Rattle.keyholds.specs.declared.addresses.Address.{Address}
 use Rattle.keyholds.specs.declared.addresses.Addresses.{Addresses}
 use Rattle.keyholds.specs.Counts.{count_in, SetsCount, SameCounts}
-use Rattle.keyholds.specs.Holds.{AreApart}
+use Rattle.keyholds.specs.Holds.{AreDisjoint}
 
 -- where a cell stands, if it is held
 abbrev pub address_at : Addresses → Cell → Option Address
@@ -26,7 +26,7 @@ pub record AreAddresses (held : ℕ → List Cell) (addresses : Addresses) : Typ
   pub at : (xid index : ℕ) (cell : Cell) → slice_get (held xid) index ≡ Some cell → address_at addresses cell ≡ Some (record { xid = xid; index = index })
   pub found : (cell : Cell) (address : Address) → address_at addresses cell ≡ Some address → slice_get (held address.xid) address.index ≡ Some cell
   pub counted : (table xid : ℕ) → count_in addresses.counts.counts table xid ≡ count_of_table table (held xid)
-  pub apart : AreApart held
+  pub apart : AreDisjoint held
 
 -- the lists, with another one for a transaction
 abbrev pub with_cells : (ℕ → List Cell) → ℕ → List Cell → ℕ → List Cell

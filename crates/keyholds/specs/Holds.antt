@@ -2,9 +2,9 @@
 --     holds_of, cells_held      what a transaction holds; its cells alone
 --     with_hold, with_holds      what is held once a cell is taken; once cells are taken in turn
 --     ReleasesLast      the cell held last goes, if more than so many are held
---     IsFree, IsHeldBy      no other transaction holds a cell that overlaps; this one does
+--     IsFreeCell, IsCellHeldBy      no other transaction holds a cell that overlaps; this one does
 --     IsFirstHeldBy      it does so for the first cell of a list that another has
---     AreApart      no two transactions hold cells that overlap
+--     AreDisjoint      no two transactions hold cells that overlap
 use Rattle.std.specs.Prelude.{◌≡◌, ◌≢◌, ℕ, ◌≤◌, Bool, false, List, [], ◌∷◌, ◌++◌, length, Option, Some, None, IsTrue, is_some, if◌then◌else◌, unwrap_or, fold, take, slice_get, All, Contains}
 use Rattle.std.specs.Ordering.{nat_cmp, eq_by_cmp}
 use Rattle.std.specs.FinMap.{FinMap, get}
@@ -41,16 +41,16 @@ module _ {S : Type 0} where
   -- the cell held last goes, if more than so many are held; without one, nothing changes
   abbrev pub ReleasesLast : ℕ → List (Cell × S) → List (Cell × S) → Option Cell → Type 0
   ReleasesLast mark old new None = (length old ≤ mark) × (new ≡ old)
-  ReleasesLast mark old new (Some cell) = (stood : S) × (old ≡ new ++ (cell, stood) ∷ []) × (mark ≤ length new)
+  ReleasesLast mark old new (Some cell) = (before_image : S) × (old ≡ new ++ (cell, before_image) ∷ []) × (mark ≤ length new)
 
 -- ---- by the cells that each transaction holds
 
 -- no other transaction holds a cell that overlaps it
-abbrev pub IsFree : (ℕ → List Cell) → ℕ → Cell → Type 0
-IsFree held xid cell = (other : ℕ) (d : Cell) → other ≢ xid → Contains (held other) d → overlaps cell d ≡ false
+abbrev pub IsFreeCell : (ℕ → List Cell) → ℕ → Cell → Type 0
+IsFreeCell held xid cell = (other : ℕ) (d : Cell) → other ≢ xid → Contains (held other) d → overlaps cell d ≡ false
 
 -- another transaction, the holder, holds a cell that overlaps it
-pub record IsHeldBy (held : ℕ → List Cell) (xid : ℕ) (cell : Cell) (holder : ℕ) : Type 0 where
+pub record IsCellHeldBy (held : ℕ → List Cell) (xid : ℕ) (cell : Cell) (holder : ℕ) : Type 0 where
   pub another : holder ≢ xid
   pub its : Cell
   pub holds : Contains (held holder) its
@@ -61,14 +61,14 @@ pub record IsFirstHeldBy (held : ℕ → List Cell) (xid : ℕ) (cells : List Ce
   pub address : ℕ
   pub cell : Cell
   pub at : slice_get cells address ≡ Some cell
-  pub before : All (IsFree held xid) (take address cells)
-  pub here : IsHeldBy held xid cell holder
+  pub before : All (IsFreeCell held xid) (take address cells)
+  pub here : IsCellHeldBy held xid cell holder
 
 -- no two transactions hold cells that overlap
-abbrev pub AreApart : (ℕ → List Cell) → Type 0
-AreApart held = (xid other : ℕ) (c d : Cell) → other ≢ xid → Contains (held xid) c → Contains (held other) d → overlaps c d ≡ false
+abbrev pub AreDisjoint : (ℕ → List Cell) → Type 0
+AreDisjoint held = (xid other : ℕ) (c d : Cell) → other ≢ xid → Contains (held xid) c → Contains (held other) d → overlaps c d ≡ false
 
 -- a transaction holds the cell, and this stood there when it was first held
-pub record StoodAt {S : Type 0} (holds : FinMap nat_cmp (List (Cell × S))) (cell : Cell) (stood : S) : Type 0 where
+pub record BeforeImageAt {S : Type 0} (holds : FinMap nat_cmp (List (Cell × S))) (cell : Cell) (before_image : S) : Type 0 where
   pub holder : ℕ
-  pub among : Contains (holds_of holds holder) (cell, stood)
+  pub among : Contains (holds_of holds holder) (cell, before_image)

@@ -2,5 +2,5 @@ pub mod Holds
 pub mod Counts
 pub mod Addresses
 pub mod Lists
-pub mod Laws
+pub mod Statements
 pub mod Hashed

@@ -7,7 +7,7 @@ ghost use Rattle.model.specs.CellOrder.{cell_cmp};
 ghost use Rattle.model.specs.Cells.{table_of, overlaps};
 ghost use Rattle.std.specs.List.{list_any};
 ghost use Rattle.keyholds.specs.Counts.{count_in};
-ghost use Rattle.keyholds.specs.Holds.{IsFree, IsHeldBy};
+ghost use Rattle.keyholds.specs.Holds.{IsFreeCell, IsCellHeldBy};
 ghost use Rattle.keyholds.specs.Addresses.{address_at, AreAddresses, IsAlone, IsHeldAt, TellsAt, AddsAddress, RemovesAddress, SameAddresses, HasNoAddresses};
 
 use crate::Xid;
@@ -78,7 +78,7 @@ impl Addresses {
     /// Another transaction that holds a cell which overlaps this one, if there is one.
     pub(crate) fn other_holder<C: SoughtCell>(&self, xid: Xid, cell: &C) -> Option<Xid>
         ensures { (held : ℕ → List AnyCell) → AreAddresses held self.now
-            → MatchOption result (IsFree held xid (C.cell cell.now)) (IsHeldBy held xid (C.cell cell.now)) }
+            → MatchOption result (IsFreeCell held xid (C.cell cell.now)) (IsCellHeldBy held xid (C.cell cell.now)) }
     {
         let table = cell.table();
         let Some(other) = self.counts.other(table, xid) else {

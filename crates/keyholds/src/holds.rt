@@ -4,7 +4,7 @@ ghost use Rattle.std.specs.Map.{keys_of};
 ghost use Rattle.model.specs.declared.cell.Cell.{Cell as AnyCell};
 ghost use Rattle.model.specs.declared.cell.Cell.TheVariants.{Row};
 ghost use Rattle.model.specs.declared.key.Key.{Key as AnyKey};
-ghost use Rattle.keyholds.specs.Holds.{holds_of, cells_held, with_hold, with_holds, HasNoEmptyList, IsFree, IsHeldBy, IsFirstHeldBy, AreApart, StoodAt, ReleasesLast};
+ghost use Rattle.keyholds.specs.Holds.{holds_of, cells_held, with_hold, with_holds, HasNoEmptyList, IsFreeCell, IsCellHeldBy, IsFirstHeldBy, AreDisjoint, BeforeImageAt, ReleasesLast};
 ghost use Rattle.model.specs.Cells.{table_of, overlaps};
 ghost use Rattle.std.specs.List.{list_any};
 ghost use Rattle.keyholds.specs.Counts.{count_in};
@@ -67,11 +67,11 @@ impl<S: Drop> Holds<S> {
     /// Another transaction that holds a cell which overlaps one of these. It is one that has the
     /// first of them that another has. It takes no memory.
     pub fn free_for(&self, xid: Xid, cells: &[Cell]) -> Option<Xid>
-        ensures free { IsNone result ↔ All (IsFree (cells_held self.now) xid) cells.now }
+        ensures free { IsNone result ↔ All (IsFreeCell (cells_held self.now) xid) cells.now }
         ensures first { IfSome result (IsFirstHeldBy (cells_held self.now) xid cells.now) }
 
         // No two transactions hold cells that overlap.
-        ensures apart { AreApart (cells_held self.now) }
+        ensures apart { AreDisjoint (cells_held self.now) }
     {
         let addresses = &self.addresses;
         for cell in cells {
@@ -84,18 +84,18 @@ impl<S: Drop> Holds<S> {
 
     /// Another transaction that holds a cell which overlaps this one. It takes no memory.
     pub fn other_holder(&self, xid: Xid, cell: &Cell) -> Option<Xid>
-        ensures free { IfNone result (IsFree (cells_held self.now) xid cell.now) }
-        ensures held { IfSome result (IsHeldBy (cells_held self.now) xid cell.now) }
-        ensures apart { AreApart (cells_held self.now) }
+        ensures free { IfNone result (IsFreeCell (cells_held self.now) xid cell.now) }
+        ensures held { IfSome result (IsCellHeldBy (cells_held self.now) xid cell.now) }
+        ensures apart { AreDisjoint (cells_held self.now) }
     {
         self.other_holder_of(xid, cell)
     }
 
     /// The same for a cell that nobody has made: what stands for it is compared in place.
     pub fn other_holder_of<C: SoughtCell>(&self, xid: Xid, sought: &C) -> Option<Xid>
-        ensures free { IfNone result (IsFree (cells_held self.now) xid (C.cell sought.now)) }
-        ensures held { IfSome result (IsHeldBy (cells_held self.now) xid (C.cell sought.now)) }
-        ensures apart { AreApart (cells_held self.now) }
+        ensures free { IfNone result (IsFreeCell (cells_held self.now) xid (C.cell sought.now)) }
+        ensures held { IfSome result (IsCellHeldBy (cells_held self.now) xid (C.cell sought.now)) }
+        ensures apart { AreDisjoint (cells_held self.now) }
     {
         self.addresses.other_holder(xid, sought)
     }
@@ -116,17 +116,17 @@ impl<S: Drop> Holds<S> {
     {
         let address = self.addresses.find(sought)?;
         let list = self.lists.get(&address.xid)?;
-        let (_, stood) = &list[address.index];
-        Some((address.xid, stood))
+        let (_, before_image) = &list[address.index];
+        Some((address.xid, before_image))
     }
 
     /// What stood at a cell when it was first held, if it is held. It takes no memory.
-    pub fn stood(&self, cell: &Cell) -> Option<&S>
-        ensures held { IfSome result (λ stood. StoodAt self.now cell.now stood.now) }
+    pub fn before_image(&self, cell: &Cell) -> Option<&S>
+        ensures held { IfSome result (λ before_image. BeforeImageAt self.now cell.now before_image.now) }
         ensures free { IfNone result ((xid : ℕ) → Contains (cells_held self.now xid) cell.now → ⊥) }
     {
-        let (_, stood) = self.held_at(cell)?;
-        Some(stood)
+        let (_, before_image) = self.held_at(cell)?;
+        Some(before_image)
     }
 
     /// The keys of the places of a table that are held, whoever holds them: one walk of all that is
@@ -147,7 +147,7 @@ impl<S: Drop> Holds<S> {
     ///
     /// What the caller owes is that no other transaction holds a cell that overlaps one of them.
     pub fn take(&mut self, xid: Xid, cells: Vec<(Cell, S)>) -> Result<(), OutOfMemory>
-        requires { All (IsFree (cells_held self.old) xid) (keys_of cells.items) }
+        requires { All (IsFreeCell (cells_held self.old) xid) (keys_of cells.items) }
         ensures ok { OnOk result (holds_of self.new xid ≡ with_holds (holds_of self.old xid) cells.items) }
         ensures others { (other : ℕ) → other ≢ xid → holds_of self.new other ≡ holds_of self.old other }
         ensures err { OnErr result (self.new ≡ self.old) }
@@ -162,21 +162,21 @@ impl<S: Drop> Holds<S> {
 
     // The same; refused for memory, the cells that it took are held.
     fn take_each(&mut self, xid: Xid, cells: Vec<(Cell, S)>) -> Result<(), OutOfMemory>
-        requires { All (IsFree (cells_held self.old) xid) (keys_of cells.items) }
+        requires { All (IsFreeCell (cells_held self.old) xid) (keys_of cells.items) }
         ensures ok { OnOk result (holds_of self.new xid ≡ with_holds (holds_of self.old xid) cells.items) }
         ensures first { take (length (holds_of self.old xid)) (holds_of self.new xid) ≡ holds_of self.old xid }
         ensures others { (other : ℕ) → other ≢ xid → holds_of self.new other ≡ holds_of self.old other }
     {
-        for (cell, stood) in cells {
-            self.take_one(xid, cell, stood)?;
+        for (cell, before_image) in cells {
+            self.take_one(xid, cell, before_image)?;
         }
         Ok(())
     }
 
     // One cell more, unless the transaction holds it already. Refused for memory, nothing changes.
-    fn take_one(&mut self, xid: Xid, cell: Cell, stood: S) -> Result<(), OutOfMemory>
-        requires { IsFree (cells_held self.old) xid cell }
-        ensures ok { OnOk result (holds_of self.new xid ≡ with_hold (holds_of self.old xid) (cell, stood)) }
+    fn take_one(&mut self, xid: Xid, cell: Cell, before_image: S) -> Result<(), OutOfMemory>
+        requires { IsFreeCell (cells_held self.old) xid cell }
+        ensures ok { OnOk result (holds_of self.new xid ≡ with_hold (holds_of self.old xid) (cell, before_image)) }
         ensures others { (other : ℕ) → other ≢ xid → holds_of self.new other ≡ holds_of self.old other }
         ensures err { OnErr result (holds_of self.new xid ≡ holds_of self.old xid) }
     {
@@ -188,7 +188,7 @@ impl<S: Drop> Holds<S> {
             &mut self.addresses,
             self.alloc,
             xid,
-            (cell, stood),
+            (cell, before_image),
         )
     }
 
@@ -221,7 +221,7 @@ impl<S: Drop> Holds<S> {
         ensures own { ReleasesLast mark (holds_of self.old xid) (holds_of self.new xid) result }
         ensures others { (other : ℕ) → other ≢ xid → holds_of self.new other ≡ holds_of self.old other }
         ensures filled { HasNoEmptyList self.new }
-        ensures apart { AreApart (cells_held self.new) }
+        ensures apart { AreDisjoint (cells_held self.new) }
     {
         let list = self.lists.get_mut(&xid)?;
         pop_past(list, &mut self.addresses, xid, mark)

@@ -1,6 +1,6 @@
 // The laws of what is held once cells are taken. Each function does nothing: its contract is a law,
 // and the check of this crate proves it.
-ghost use Rattle.keyholds.specs.Laws.{TakingAddsCells, TakingKeepsHeld, TakingAddsEach, TakingKeepsApart};
+ghost use Rattle.keyholds.specs.Statements.{TakingAddsCells, TakingKeepsHeld, TakingAddsEach, TakingKeepsApart};
 
 /// Once cells were taken, a cell is held exactly where it was held before or is among them.
 pub fn taking_adds_the_cells<S>()

@@ -15,10 +15,10 @@ use Rattle.engine.specs.declared.events.LineEvent.TheVariants.{Opened as WasOpen
 use Rattle.engine.specs.Events.{is_same, open_after, is_open_in}
 use Rattle.session.specs.Sized.{item_of}
 use Rattle.session.specs.State.{Direct, Worker, Spooled, Open, OpenTransactions}
-use Rattle.lanes.specs.Lanes.{Given}
-use Rattle.lanes.proofs.Numbers.{same_self, same_apart}
-use Rattle.lanes.specs.Standing.{Standing, items_of, items_by, own_of, Turns}
-use Rattle.leader.specs.Threads.{IsAgreed, AreAgreed}
+use Rattle.dispatch.specs.Lanes.{Given}
+use Rattle.dispatch.proofs.Numbers.{same_self, same_apart}
+use Rattle.dispatch.specs.Standing.{Standing, items_of, items_by, own_of, Replaces}
+use Rattle.leader.specs.Threads.{IsAssigned, AreAssigned}
 
 -- ---- the lanes
 
@@ -29,7 +29,7 @@ pub record Parted (xid : ℕ) (old new : List (Option Given)) (was is : Option G
   pub old_is : items_by xid old ≡ front ++ (items_of xid was ++ back)
   pub new_is : items_by xid new ≡ front ++ (items_of xid is ++ back)
 
-pub parted : (xid : ℕ) (old new : List (Option Given)) (was is : Option Given) → Turns old new was is → Parted xid old new was is
+pub parted : (xid : ℕ) (old new : List (Option Given)) (was is : Option Given) → Replaces old new was is → Parted xid old new was is
 parted xid old new was is t = record {
   front = items_by xid t.before;
   back = items_by xid t.behind;
@@ -38,7 +38,7 @@ parted xid old new was is t = record {
 }
 
 -- a lane that turns into one with the same of a transaction
-pub same_turned : (xid : ℕ) (old new : List (Option Given)) (was is : Option Given) → Turns old new was is → items_of xid was ≡ items_of xid is → items_by xid new ≡ items_by xid old
+pub same_turned : (xid : ℕ) (old new : List (Option Given)) (was is : Option Given) → Replaces old new was is → items_of xid was ≡ items_of xid is → items_by xid new ≡ items_by xid old
 same_turned xid old new was is t e =
     let p = parted xid old new was is t in
     p.new_is ∙ ap (λ (mid : List (List Item)). p.front ++ (mid ++ p.back)) (sym e) ∙ sym p.old_is
@@ -55,7 +55,7 @@ alone front mid back e =
     in
     (empty_by_length front (omega (arith, counts)), empty_by_length back (omega (arith, counts)))
 
-pub all_turned : (xid : ℕ) (old new : List (Option Given)) (was is : Option Given) → Turns old new was is → items_by xid old ≡ items_of xid was → items_by xid new ≡ items_of xid is
+pub all_turned : (xid : ℕ) (old new : List (Option Given)) (was is : Option Given) → Replaces old new was is → items_by xid old ≡ items_of xid was → items_by xid new ≡ items_of xid is
 all_turned xid old new was is t e =
     let p = parted xid old new was is t in
     let none = alone p.front (items_of xid was) p.back (sym p.old_is ∙ e) in
@@ -84,13 +84,13 @@ one_of (f ∷ front) back x y e =
     absurd (omega (arith, counts))
 
 -- where a transaction goes by a lane and by one alone, it has these items
-pub had_is : (xid : ℕ) (old new : List (Option Given)) (had items : List Item) (is : Option Given) → Turns old new (Some (record { xid = xid; items = had })) is → items_by xid old ≡ items ∷ [] → had ≡ items
+pub had_is : (xid : ℕ) (old new : List (Option Given)) (had items : List Item) (is : Option Given) → Replaces old new (Some (record { xid = xid; items = had })) is → items_by xid old ≡ items ∷ [] → had ≡ items
 had_is xid old new had items is t e =
     let p = parted xid old new (Some (record { xid = xid; items = had })) is t in
     one_of p.front p.back had items (ap (λ (m : List (List Item)). p.front ++ (m ++ p.back)) (sym (items_here xid had)) ∙ sym p.old_is ∙ e)
 
 -- it goes by some lane
-pub not_nowhere : (xid : ℕ) (old new : List (Option Given)) (had : List Item) (is : Option Given) → Turns old new (Some (record { xid = xid; items = had })) is → items_by xid old ≡ [] → ⊥
+pub not_nowhere : (xid : ℕ) (old new : List (Option Given)) (had : List Item) (is : Option Given) → Replaces old new (Some (record { xid = xid; items = had })) is → items_by xid old ≡ [] → ⊥
 not_nowhere xid old new had is t e =
     let p = parted xid old new (Some (record { xid = xid; items = had })) is t in
     let none : p.front ++ ((had ∷ []) ++ p.back) ≡ [] = ap (λ (m : List (List Item)). p.front ++ (m ++ p.back)) (sym (items_here xid had)) ∙ sym p.old_is ∙ e in
@@ -125,12 +125,12 @@ aborted_elsewhere line xid q ne = opens_more line (WasAborted xid) q ∙ ap (λ 
 -- ---- what is there of one transaction
 
 -- the same of it
-pub carried : (a b : Option Open) (i j : List (List Item)) (m n : Option Opened) (x y : Bool) → a ≡ b → i ≡ j → m ≡ n → x ≡ y → IsAgreed a i m x → IsAgreed b j n y
+pub carried : (a b : Option Open) (i j : List (List Item)) (m n : Option Opened) (x y : Bool) → a ≡ b → i ≡ j → m ≡ n → x ≡ y → IsAssigned a i m x → IsAssigned b j n y
 carried a b i j m n x y e1 e2 e3 e4 h =
-    subst (λ z. IsAgreed b j n z) e4 (subst (λ z. IsAgreed b j z x) e3 (subst (λ z. IsAgreed b z m x) e2 (subst (λ z. IsAgreed z i m x) e1 h)))
+    subst (λ z. IsAssigned b j n z) e4 (subst (λ z. IsAssigned b j z x) e3 (subst (λ z. IsAssigned b z m x) e2 (subst (λ z. IsAssigned z i m x) e1 h)))
 
 -- of one that isn't open there is nothing
-pub none_there : (i : List (List Item)) (m : Option Opened) (b : Bool) → IsAgreed None i m b → (i ≡ []) × (m ≡ None) × (b ≡ false)
+pub none_there : (i : List (List Item)) (m : Option Opened) (b : Bool) → IsAssigned None i m b → (i ≡ []) × (m ≡ None) × (b ≡ false)
 none_there [] None false h = (refl, refl, refl)
 none_there [] None true h = absurd h
 none_there [] (Some d) false h = absurd h
@@ -150,28 +150,28 @@ direct≢spooled : Direct ≡ Spooled → ⊥
 direct≢spooled e = absurd cc
 
 -- one with a worker goes by one lane
-pub by_lane : (o : Open) (i : List (List Item)) (m : Option Opened) (b : Bool) → o.way ≡ Worker → IsAgreed (Some o) i m b → (i ≡ map item_of o.items ∷ []) × (m ≡ None) × (b ≡ true)
+pub by_lane : (o : Open) (i : List (List Item)) (m : Option Opened) (b : Bool) → o.way ≡ Worker → IsAssigned (Some o) i m b → (i ≡ map item_of o.items ∷ []) × (m ≡ None) × (b ≡ true)
 by_lane o [] None false w h = absurd (worker≢spooled (sym w ∙ h))
 by_lane o [] (Some d) true w h = absurd (worker≢direct (sym w ∙ h.0))
 by_lane o (x ∷ []) None true w h = (ap (λ (y : List Item). y ∷ []) h.1, refl, refl)
 by_lane o i m b w h = absurd h
 
 -- one that goes directly is the leader's own
-pub by_leader : (o : Open) (i : List (List Item)) (m : Option Opened) (b : Bool) → o.way ≡ Direct → IsAgreed (Some o) i m b → (i ≡ []) × (m ≡ Some (record { items = map item_of o.items; wants = None })) × (b ≡ true)
+pub by_leader : (o : Open) (i : List (List Item)) (m : Option Opened) (b : Bool) → o.way ≡ Direct → IsAssigned (Some o) i m b → (i ≡ []) × (m ≡ Some (record { items = map item_of o.items; wants = None })) × (b ≡ true)
 by_leader o [] None false w h = absurd (direct≢spooled (sym w ∙ h))
 by_leader o [] (Some d) true w h = (refl, ap (λ (x : Opened). Some x) h.1, refl)
 by_leader o (x ∷ []) None true w h = absurd (worker≢direct (sym h.0 ∙ w))
 by_leader o i m b w h = absurd h
 
 -- of a spooled one there is nothing
-pub by_none : (o : Open) (i : List (List Item)) (m : Option Opened) (b : Bool) → o.way ≡ Spooled → IsAgreed (Some o) i m b → (i ≡ []) × (m ≡ None) × (b ≡ false)
+pub by_none : (o : Open) (i : List (List Item)) (m : Option Opened) (b : Bool) → o.way ≡ Spooled → IsAssigned (Some o) i m b → (i ≡ []) × (m ≡ None) × (b ≡ false)
 by_none o [] None false w h = (refl, refl, refl)
 by_none o [] (Some d) true w h = absurd (direct≢spooled (sym h.0 ∙ w))
 by_none o (x ∷ []) None true w h = absurd (worker≢spooled (sym h.0 ∙ w))
 by_none o i m b w h = absurd h
 
 -- an open one of which there is nothing is spooled
-pub nothing_there : (o : Open) (i : List (List Item)) (m : Option Opened) (b : Bool) → i ≡ [] → m ≡ None → IsAgreed (Some o) i m b → (o.way ≡ Spooled) × (b ≡ false)
+pub nothing_there : (o : Open) (i : List (List Item)) (m : Option Opened) (b : Bool) → i ≡ [] → m ≡ None → IsAssigned (Some o) i m b → (o.way ≡ Spooled) × (b ≡ false)
 nothing_there o [] None false e1 e2 h = (h, refl)
 nothing_there o [] None true e1 e2 h = absurd h
 nothing_there o [] (Some d) b e1 e2 h = absurd cc
@@ -180,13 +180,13 @@ nothing_there o (x ∷ i) m b e1 e2 h = absurd cc
 -- ---- a step
 
 -- so it is of all, where the map of the open ones and the standing are the same but for one transaction
-pub agreed_but : (xid : ℕ) (s t : OpenTransactions) (old new : Standing) → AreAgreed s old
-    → IsAgreed (finite.get t xid) (items_by xid new.lanes) (own_of xid new.begun) (is_open_in new.line xid)
+pub agreed_but : (xid : ℕ) (s t : OpenTransactions) (old new : Standing) → AreAssigned s old
+    → IsAssigned (finite.get t xid) (items_by xid new.lanes) (own_of xid new.begun) (is_open_in new.line xid)
     → ((q : ℕ) → (xid ≡ q → ⊥) → (finite.get t q ≡ finite.get s q) × (items_by q new.lanes ≡ items_by q old.lanes) × (own_of q new.begun ≡ own_of q old.begun) × (is_open_in new.line q ≡ is_open_in old.line q))
-    → AreAgreed t new
+    → AreAssigned t new
 agreed_but xid s t old new agreed here elsewhere q =
     elim (cases_eq xid q) [
-      | inl e ↦ subst (λ x. IsAgreed (finite.get t x) (items_by x new.lanes) (own_of x new.begun) (is_open_in new.line x)) e here
+      | inl e ↦ subst (λ x. IsAssigned (finite.get t x) (items_by x new.lanes) (own_of x new.begun) (is_open_in new.line x)) e here
       | inr ne ↦
           let same = elsewhere q ne in
           carried (finite.get s q) (finite.get t q) (items_by q old.lanes) (items_by q new.lanes) (own_of q old.begun) (own_of q new.begun) (is_open_in old.line q) (is_open_in new.line q)
@@ -194,8 +194,8 @@ agreed_but xid s t old new agreed here elsewhere q =
     ]
 
 -- only what the state has of one changed, and nothing is there of it
-pub agreed_beside : (xid : ℕ) (s t : OpenTransactions) (st : Standing) → AreAgreed s st → (items_by xid st.lanes ≡ []) × (own_of xid st.begun ≡ None) × (is_open_in st.line xid ≡ false)
-    → IsAgreed (finite.get t xid) [] None false → ((q : ℕ) → (xid ≡ q → ⊥) → finite.get t q ≡ finite.get s q) → AreAgreed t st
+pub agreed_beside : (xid : ℕ) (s t : OpenTransactions) (st : Standing) → AreAssigned s st → (items_by xid st.lanes ≡ []) × (own_of xid st.begun ≡ None) × (is_open_in st.line xid ≡ false)
+    → IsAssigned (finite.get t xid) [] None false → ((q : ℕ) → (xid ≡ q → ⊥) → finite.get t q ≡ finite.get s q) → AreAssigned t st
 agreed_beside xid s t st agreed none here elsewhere =
     agreed_but xid s t st st agreed
     (carried (finite.get t xid) (finite.get t xid) [] (items_by xid st.lanes) None (own_of xid st.begun) false (is_open_in st.line xid) refl (sym none.0) (sym none.1) (sym none.2) here)
@@ -210,7 +210,7 @@ free_lanes xid (goes ∷ lanes) all =
     ap (λ (g : Option Given). items_of xid g ++ items_by xid lanes) (All-head P goes lanes all) ∙ free_lanes xid lanes (All-tail P goes lanes all)
 
 -- before the first item nothing is there of any transaction
-pub start_agreed : (st : Standing) → st.line ≡ [] → All (λ goes. goes ≡ None) st.lanes → st.begun ≡ None → AreAgreed finite.empty st
+pub start_agreed : (st : Standing) → st.line ≡ [] → All (λ goes. goes ≡ None) st.lanes → st.begun ≡ None → AreAssigned finite.empty st
 start_agreed st line lanes begun xid =
     carried None (finite.get finite.empty xid) [] (items_by xid st.lanes) None (own_of xid st.begun) false (is_open_in st.line xid)
     (sym (finite.get-empty nat_cmp xid)) (sym (free_lanes xid st.lanes lanes)) (sym (ap (own_of xid) begun)) (sym (ap (λ l. is_open_in l xid) line)) tt

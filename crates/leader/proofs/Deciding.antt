@@ -12,15 +12,15 @@ use Rattle.model.specs.Effect.{ClashCause}
 use Rattle.change.specs.declared.outcome.Clash.{Clash}
 use Rattle.world.specs.World.{Opened, OpenOnes, ByClash, World}
 use Rattle.world.specs.Steps.{Aborts, StopsHeld, IsStuck}
-use Rattle.live.specs.declared.answers.Stop.{Stop}
-use Rattle.live.specs.declared.answers.Stop.TheVariants as stops
+use Rattle.live_tables.specs.declared.answers.Stop.{Stop}
+use Rattle.live_tables.specs.declared.answers.Stop.TheVariants as stops
 use Rattle.engine.specs.declared.events.LineEvent.{LineEvent}
 use Rattle.engine.specs.declared.events.LineEvent.TheVariants.{Aborted as WasAborted}
-use Rattle.live.specs.Answers.{TellsWhatStopped}
+use Rattle.live_tables.specs.Answers.{TellsWhatStopped}
 use Rattle.engine.specs.Events.{past_of, commits_in}
-use Rattle.lanes.specs.Standing.{Own}
-use Rattle.leader.specs.Ending.{Hand, AreStood, AreGone, IsNoted, TellsNoted, TellsHolder, IsLessOpen}
-use Rattle.lanes.proofs.Numbers.{same_self, same_apart}
+use Rattle.dispatch.specs.Standing.{Own}
+use Rattle.leader.specs.Ending.{Hand, AreOpenIn, AreGone, IsNoted, TellsNoted, TellsHolder, IsLessOpen}
+use Rattle.dispatch.proofs.Numbers.{same_self, same_apart}
 
 -- ---- one slot
 
@@ -46,13 +46,13 @@ module _ (w : World) where
         | inr here ↦ none cause (noted.0, noted.1, here, noted.3, noted.4)
       ]
 
-  pub stood_one : (h : Own) → get w.opened h.xid ≡ Some h.done → AreStood w (Some h ∷ [])
+  pub stood_one : (h : Own) → get w.opened h.xid ≡ Some h.done → AreOpenIn w (Some h ∷ [])
   stood_one h is = All-cons (λ o. IfSome o (λ (k : Own). get w.opened k.xid ≡ Some k.done)) (Some h) [] is (All-nil (λ o. IfSome o (λ (k : Own). get w.opened k.xid ≡ Some k.done)))
 
   pub gone_one : (h : Own) → get w.opened h.xid ≡ None → AreGone w (Some h ∷ [])
   gone_one h is = All-cons (λ o. IfSome o (λ (k : Own). get w.opened k.xid ≡ None)) (Some h) [] is (All-nil (λ o. IfSome o (λ (k : Own). get w.opened k.xid ≡ None)))
 
-  pub stood_more : (hand : Hand) (slot : Option Own) → AreStood w hand → AreStood w (slot ∷ []) → AreStood w (hand ++ slot ∷ [])
+  pub stood_more : (hand : Hand) (slot : Option Own) → AreOpenIn w hand → AreOpenIn w (slot ∷ []) → AreOpenIn w (hand ++ slot ∷ [])
   stood_more hand slot = All-append (λ o. IfSome o (λ (h : Own). get w.opened h.xid ≡ Some h.done)) hand (slot ∷ [])
 
 -- ---- the end
@@ -79,7 +79,7 @@ pub open_gone : (m : OpenOnes) (xid : ℕ) → get (remove m xid) xid ≡ None
 open_gone m xid = get-remove nat_cmp_total m xid xid ∙ rw (same_self xid)
 
 module _ (old new : World) (less : IsLessOpen old new) where
-  pub stood_before : (hand : Hand) → AreStood new hand → AreStood old hand
+  pub stood_before : (hand : Hand) → AreOpenIn new hand → AreOpenIn old hand
   stood_before hand stood =
       λ k d short. earlier (slice_index_or hand k d) (stood k d short)
     where

@@ -16,18 +16,18 @@ use Rattle.frames.specs.declared.fault.FrameFault.{FrameFault}
 use Rattle.frames.specs.declared.fault.FrameFault.TheVariants as frames
 use Rattle.frames.specs.declared.item.CopyItem.{CopyItem}
 use Rattle.session.specs.State.{Way, Direct, Worker, Spooled, Open, State, Setting}
-use Rattle.spooled.specs.declared.end.End.{End}
-use Rattle.spooled.specs.declared.end.End.TheVariants as ends
-use Rattle.spooled.specs.Cause.{schema_of, HasGoneWell, IsOver, IsSendCause, IsInputCause}
-use Rattle.spooled.specs.Devices.{DeviceState}
-use Rattle.spooled.specs.Handler.{IsRunOver}
-use Rattle.spooled.specs.Progress.{Progress}
-use Rattle.spooled.proofs.Running.{clear_at_send, clear_at_input}
-use Rattle.course.specs.Leading.{Lane, InStep, IsAgreed, AreInStep, AreCounts}
-use Rattle.course.specs.Threads.{work_of, IsWorldOf}
-use Rattle.course.specs.ThreadedRun.{HasConflict, IsStuckBy, Clear, HasWorkedOn, IsThreadedCause, IsCauseOf}
-use Rattle.course.proofs.Books.{is_world, noted_conflict, stuck_by}
-use Rattle.lanes.specs.Standing.{Own}
+use Rattle.run.specs.declared.end.End.{End}
+use Rattle.run.specs.declared.end.End.TheVariants as ends
+use Rattle.run.specs.Cause.{schema_of, HasGoneWell, IsOver, IsSendCause, IsInputCause}
+use Rattle.run.specs.Devices.{DeviceState}
+use Rattle.run.specs.Handler.{IsRunOver}
+use Rattle.run.specs.Progress.{Progress}
+use Rattle.run.proofs.Running.{clear_at_send, clear_at_input}
+use Rattle.run_laws.specs.Leading.{Lane, InStep, IsAgreed, AreInStep, AreCounts}
+use Rattle.run_laws.specs.Threads.{work_of, IsWorldOf}
+use Rattle.run_laws.specs.ThreadedRun.{HasConflict, IsStuckBy, Clear, HasWorkedOn, IsThreadedCause, IsCauseOf}
+use Rattle.run_laws.proofs.Books.{is_world, noted_conflict, stuck_by}
+use Rattle.dispatch.specs.Standing.{Own}
 use Rattle.leader.specs.Threads.{KeepsToWork, HasTurn, MayEndBy}
 use Rattle.leader.specs.Ending.{Hand, IsNoted, end_for, EndsAsNoted, IsDecided, HasFinished, AreInHand, AreGiven}
 
@@ -35,7 +35,7 @@ use Rattle.leader.specs.Ending.{Hand, IsNoted, end_for, EndsAsNoted, IsDecided, 
 
 -- a lane to which all work of a transaction was sent
 abbrev pub whole_lane : ℕ → Open → Lane
-whole_lane xid o = record { sent = work_of xid o.way o.items; late = [] }
+whole_lane xid o = record { sent = work_of xid o.way o.items; queued = [] }
 
 abbrev pub lane_at : ℕ → Option Open → Option Opened → Option Lane
 lane_at xid (Some o) (Some done) = Some (whole_lane xid o)
@@ -135,7 +135,7 @@ module _ (g : Setting) (rows : Rows) (s : State) (rest : List CopyItem) (line : 
   are_counts counts xid count lane named short at =
       let is = lane_is g s rest xid (get s.transactions xid) (get f.world.opened xid) lane at in
       counts xid count is.0 named short is.1
-      ∙ ap length (sym (append-nil (work_of xid is.0.way is.0.items)) ∙ ap (λ (l : Lane). l.sent ++ l.late) is.2)
+      ∙ ap length (sym (append-nil (work_of xid is.0.way is.0.items)) ∙ ap (λ (l : Lane). l.sent ++ l.queued) is.2)
 
   -- ---- why it ended
 

@@ -15,12 +15,12 @@ use Rattle.engine.specs.Events.{commits_in, is_open_in, is_same}
 use Rattle.frames.specs.declared.item.CopyItem.{CopyItem}
 use Rattle.session.specs.Sized.{item_of}
 use Rattle.session.specs.State.{Way, Worker, Spooled, Open, State, Setting}
-use Rattle.course.specs.Runs.{CommitsNext}
-use Rattle.course.specs.Threads.{work_of, done_by_commit}
-use Rattle.lanes.proofs.Among.{none_among, among_cases, among_map}
-use Rattle.lanes.specs.Lanes.{Given, Laned, IsDoing, IsHome, IsCounted, AreCounted}
-use Rattle.lanes.specs.Standing.{Own, Standing, own_by, goes_by, items_of, items_by, own_of, in_lane, holds_in, KeepsGiven}
-use Rattle.leader.specs.Threads.{KeepsToWork, IsLeft, AreLeft}
+use Rattle.run_laws.specs.Runs.{CommitsNext}
+use Rattle.run_laws.specs.Threads.{work_of, done_by_commit}
+use Rattle.dispatch.proofs.Among.{none_among, among_cases, among_map}
+use Rattle.dispatch.specs.Lanes.{Given, Laned, IsDoing, IsHome, IsCounted, AreCounted}
+use Rattle.dispatch.specs.Standing.{Own, Standing, own_by, goes_by, items_of, items_by, own_of, in_lane, holds_in, KeepsGiven}
+use Rattle.leader.specs.Threads.{KeepsToWork, IsOpenAtEnd, AreOpenAtEnd}
 use Rattle.leader.specs.Ending.{Hand, AreInHand, AreGiven}
 
 none_is : {X : Type 0} (x : X) → None ≡ Some x → ⊥
@@ -30,7 +30,7 @@ none_is x e = cc
 
 module _ (g : Setting) (s : State) (rest : List CopyItem) (xid : ℕ) where
   -- it is open in the state where something of it is there
-  by_lane : (found : Option Open) (list : List (List Item)) (own : Option Opened) (b : Bool) → IsLeft g s rest xid found list own b
+  by_lane : (found : Option Open) (list : List (List Item)) (own : Option Opened) (b : Bool) → IsOpenAtEnd g s rest xid found list own b
       → (items : List Item) → Contains list items → (o : Open) × (found ≡ Some o) × (o.way ≡ Worker) × (items ≡ map item_of o.items)
   by_lane (Some o) (first ∷ []) None true is items among =
       (o, refl, is.0, elim (Contains-push_cases [] first items among) [ inl earlier ↦ absurd (nowhere items earlier) | inr here ↦ sym here ∙ is.1 ])
@@ -42,7 +42,7 @@ module _ (g : Setting) (s : State) (rest : List CopyItem) (xid : ℕ) where
   by_lane (Some o) [] None false is items among = let no : ⊥ = omega (arith, among.1) in absurd no
   by_lane _ _ _ _ is items among = absurd is
 
-  by_own : (found : Option Open) (list : List (List Item)) (own : Option Opened) (b : Bool) → IsLeft g s rest xid found list own b
+  by_own : (found : Option Open) (list : List (List Item)) (own : Option Opened) (b : Bool) → IsOpenAtEnd g s rest xid found list own b
       → (done : Opened) → own ≡ Some done
       → (o : Open) × (found ≡ Some o) × IsDoing done (work_of xid o.way o.items) × (o.way ≡ Spooled → CommitsNext g s rest xid)
   by_own (Some o) [] (Some mine) true is done e =
@@ -56,7 +56,7 @@ module _ (g : Setting) (s : State) (rest : List CopyItem) (xid : ℕ) where
   by_own _ _ _ _ is done e = absurd is
 
   -- what is open by the line goes by a lane, or is the leader's own
-  by_line : (found : Option Open) (list : List (List Item)) (own : Option Opened) (b : Bool) → IsLeft g s rest xid found list own b
+  by_line : (found : Option Open) (list : List (List Item)) (own : Option Opened) (b : Bool) → IsOpenAtEnd g s rest xid found list own b
       → b ≡ true → ((items : List Item) × Contains list items) ⊎ ((done : Opened) × (own ≡ Some done))
   by_line (Some o) (first ∷ []) None true is e = inl (first, Contains-push [] first)
   by_line (Some o) [] (Some done) true is e = inr (done, refl)
@@ -65,7 +65,7 @@ module _ (g : Setting) (s : State) (rest : List CopyItem) (xid : ℕ) where
   by_line _ _ _ _ is e = absurd is
 
   -- and so is each that isn't spooled
-  by_state : (found : Option Open) (list : List (List Item)) (own : Option Opened) (b : Bool) → IsLeft g s rest xid found list own b
+  by_state : (found : Option Open) (list : List (List Item)) (own : Option Opened) (b : Bool) → IsOpenAtEnd g s rest xid found list own b
       → (o : Open) → found ≡ Some o → o.way ≢ Spooled → b ≡ true
   by_state (Some p) (first ∷ []) None true is o e not = refl
   by_state (Some p) [] (Some done) true is o e not = refl
@@ -129,7 +129,7 @@ is_itself xid = unsigned_tied xid xid ∙ eq-eqb xid xid refl
 
 -- ---- all that is in hand
 
-module _ (g : Setting) (s : State) (rest : List CopyItem) (t : Standing) (begun : Option (OpenList Event)) (lanes : List Laned) (held : AreLeft g s rest t)
+module _ (g : Setting) (s : State) (rest : List CopyItem) (t : Standing) (begun : Option (OpenList Event)) (lanes : List Laned) (held : AreOpenAtEnd g s rest t)
     (commits : commits_in t.line ≡ map done_by_commit s.past) (begun_is : option_map own_by begun ≡ t.begun) (lanes_are : map goes_by lanes ≡ t.lanes)
     (home : All IsHome lanes) (keeps : All KeepsGiven lanes) where
   abbrev hand : Hand
@@ -228,7 +228,7 @@ module _ (g : Setting) (s : State) (rest : List CopyItem) (t : Standing) (begun 
 
 -- ---- how many items were given
 
-module _ (g : Setting) (s : State) (rest : List CopyItem) (t : Standing) (held : AreLeft g s rest t) where
+module _ (g : Setting) (s : State) (rest : List CopyItem) (t : Standing) (held : AreOpenAtEnd g s rest t) where
   -- to the transaction of a lane, by what the lane counts
   pub lane_given : (xid count : ℕ) (o : Open) (goes : Option Given) → Contains t.lanes goes → IsCounted goes (xid, count) → count < 2 ^ 64 - 1
       → get s.transactions xid ≡ Some o → count ≡ length (work_of xid o.way o.items)

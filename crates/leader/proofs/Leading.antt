@@ -28,24 +28,24 @@ use Rattle.session.specs.Sized.{item_of}
 use Rattle.session.specs.State.{Way, Direct, Worker, Spooled, Open, OpenTransactions, Committed, State, Setting, GoesAlone}
 use Rattle.session.specs.Lawful.{Admits, Refuses}
 use Rattle.session.specs.Table.{new_open}
-use Rattle.session.specs.Told.{Told, Nothing, Opens, Gives, Commits, Aborts, Tells, IsGiving, IsCommitting, items_handed_out}
-use Rattle.session.specs.Represents.{Represents}
+use Rattle.session.specs.StreamEvents.{StreamEvent, NoEvent, TransactionOpens, ItemComes, TransactionCommits, TransactionAborts, Tells, IsGiving, IsCommitting, items_handed_out}
+use Rattle.session.specs.Represents.{SessionRepresents}
 use Rattle.session.specs.Answers.{IsOfTables, Says, IsWithin, AdmitsPayload}
-use Rattle.spooled.specs.declared.end.End.{End}
-use Rattle.spooled.specs.declared.end.End.TheVariants as ends
-use Rattle.spooled.specs.Commits.{last_end}
-use Rattle.spooled.specs.Ends.{end_of_refusal}
-use Rattle.spooled.specs.Handler.{HasTaken, HandlesItem, HasHandled}
-use Rattle.spooled.specs.Progress.{Progress, seen_with, due_updates}
-use Rattle.spooled.proofs.Admitted.{with_seen, not_committed, one_committed, later_max, by_commit, taken_on, taken_commit, message_handled, ended_behind}
-use Rattle.spooled.proofs.States.{get-inserted, get-other, get-left, get-gone, last_end-push}
-use Rattle.spooled.proofs.Handling.{seen_item}
-use Rattle.spooled.proofs.Taking.{handed_named}
-use Rattle.course.specs.Runs.{IsCommitOf, CommitsNext}
-use Rattle.course.specs.Threads.{done_by_commit}
+use Rattle.run.specs.declared.end.End.{End}
+use Rattle.run.specs.declared.end.End.TheVariants as ends
+use Rattle.run.specs.Commits.{last_end}
+use Rattle.run.specs.Ends.{end_of_refusal}
+use Rattle.run.specs.Handler.{HasTaken, HandlesItem, HasHandled}
+use Rattle.run.specs.Progress.{Progress, seen_with, due_updates}
+use Rattle.run.proofs.Admitted.{with_seen, not_committed, one_committed, later_max, by_commit, taken_on, taken_commit, message_handled, ended_behind}
+use Rattle.run.proofs.States.{get-inserted, get-other, get-left, get-gone, last_end-push}
+use Rattle.run.proofs.Handling.{seen_item}
+use Rattle.run.proofs.Taking.{handed_named}
+use Rattle.run_laws.specs.Runs.{IsCommitOf, CommitsNext}
+use Rattle.run_laws.specs.Threads.{done_by_commit}
 use Rattle.leader.specs.declared.lead.Stream.{Stream}
-use Rattle.lanes.specs.Standing.{Standing, IsStoreEnd, IsStopEnd, IsBegun, IsHandedOut, IsTaken, IsMet, IsCommitted, HasTried, IsAborted}
-use Rattle.leader.specs.Threads.{Numbered, numbered, numbered_past, Led, led, AreNamed, AreAgreed, HasCommitted, IsLeadAt, HasLedTo, LeadTakes, AreLeft, HasTurn, MayEndBy, HasStopped, Stops}
+use Rattle.dispatch.specs.Standing.{Standing, IsStoreEnd, IsStopEnd, IsBegun, IsHandedOut, IsTaken, IsMet, IsCommitted, HasTried, IsAborted}
+use Rattle.leader.specs.Threads.{Numbered, numbered, numbered_past, Led, led, AreNamed, AreAssigned, HasCommitted, Represents, HasLedTo, LeadTakes, AreOpenAtEnd, HasTurn, MayEndBy, HasStopped, Stops}
 use Rattle.leader.proofs.Serving.{Committing, begun_agreed, handed_out_agreed, spooled_agreed, given_agreed, applied_agreed, kept_agreed, aborted_agreed, dropped_agreed, worker_commit, direct_commit, spooled_commit, unopened, all_held, met_held, tried_held}
 
 -- ---- names
@@ -71,7 +71,7 @@ module _ (count : ℕ) (m : OpenTransactions) (xid : ℕ) (named : AreNamed coun
 
 -- no commit is asked for
 abbrev pub IsNoCommit : Step → Type 0
-IsNoCommit steps.Nothing = Unit {0}
+IsNoCommit steps.NoEvent = Unit {0}
 IsNoCommit (steps.Begin xid) = Unit {0}
 IsNoCommit (steps.Open xid) = Unit {0}
 IsNoCommit (steps.Item xid item) = Unit {0}
@@ -98,50 +98,50 @@ given_on g s t xid o item size named there is e =
 dropped_on : (g : Setting) (s t : State) (xid : ℕ) → AreNamed (length g.catalog) s.transactions → t.transactions ≡ finite.remove s.transactions xid → AreNamed (length g.catalog) t.transactions
 dropped_on g s t xid named e = subst (AreNamed (length g.catalog)) (sym e) (named_remove (length g.catalog) s.transactions xid named)
 
-pub keeps_on : (g : Setting) (s t : State) (told : Told) (step : Step) → AreNamed (length g.catalog) s.transactions → Tells s t told → IsWithin g told → Says told step → IsNoCommit step → KeepsOn g s t
-keeps_on g s t Nothing step named tells within says is = record { past = tells.past; position = tells.position; named = subst (AreNamed (length g.catalog)) (sym tells.transactions) named }
-keeps_on g s t (Opens xid way) step named tells within says is = record { past = tells.past; position = tells.position; named = opened_on g s t xid way named tells.transactions }
-keeps_on g s t (Gives xid Direct item size) step named tells within says is = record { past = tells.2.past; position = tells.2.position; named = given_on g s t xid tells.0 item size named tells.2.present within.0 tells.2.transactions }
-keeps_on g s t (Gives xid Worker item size) step named tells within says is = record { past = tells.2.past; position = tells.2.position; named = given_on g s t xid tells.0 item size named tells.2.present within tells.2.transactions }
-keeps_on g s t (Gives xid Spooled item size) step named tells within says is = record { past = tells.2.past; position = tells.2.position; named = given_on g s t xid tells.0 item size named tells.2.present within tells.2.transactions }
-keeps_on g s t (Commits c) step named tells within says is = absurd (by_commit IsNoCommit (λ xid info items is. is) c step says is)
-keeps_on g s t (Aborts xid way) step named tells within says is = record { past = tells.2.past; position = tells.2.position; named = dropped_on g s t xid named tells.2.transactions }
+pub keeps_on : (g : Setting) (s t : State) (told : StreamEvent) (step : Step) → AreNamed (length g.catalog) s.transactions → Tells s t told → IsWithin g told → Says told step → IsNoCommit step → KeepsOn g s t
+keeps_on g s t NoEvent step named tells within says is = record { past = tells.past; position = tells.position; named = subst (AreNamed (length g.catalog)) (sym tells.transactions) named }
+keeps_on g s t (TransactionOpens xid way) step named tells within says is = record { past = tells.past; position = tells.position; named = opened_on g s t xid way named tells.transactions }
+keeps_on g s t (ItemComes xid Direct item size) step named tells within says is = record { past = tells.2.past; position = tells.2.position; named = given_on g s t xid tells.0 item size named tells.2.present within.0 tells.2.transactions }
+keeps_on g s t (ItemComes xid Worker item size) step named tells within says is = record { past = tells.2.past; position = tells.2.position; named = given_on g s t xid tells.0 item size named tells.2.present within tells.2.transactions }
+keeps_on g s t (ItemComes xid Spooled item size) step named tells within says is = record { past = tells.2.past; position = tells.2.position; named = given_on g s t xid tells.0 item size named tells.2.present within tells.2.transactions }
+keeps_on g s t (TransactionCommits c) step named tells within says is = absurd (by_commit IsNoCommit (λ xid info items is. is) c step says is)
+keeps_on g s t (TransactionAborts xid way) step named tells within says is = record { past = tells.2.past; position = tells.2.position; named = dropped_on g s t xid named tells.2.transactions }
 
 -- an item that is handed on names tables
-pub item_named : (g : Setting) (told : Told) (x : ℕ) (i : Item) → IsWithin g told → Says told (steps.Item x i) → IsOfTables (length g.catalog) i
-item_named g (Gives xid Direct item size) x i within says = let same : item ≡ i = cc in subst (IsOfTables (length g.catalog)) same within.0
-item_named g (Gives xid Worker item size) x i within says = let same : item ≡ i = cc in subst (IsOfTables (length g.catalog)) same within
-item_named g (Commits c) x i within says = absurd says
-item_named g (Opens xid Direct) x i within says = absurd cc
-item_named g (Aborts xid Direct) x i within says = absurd cc
+pub item_named : (g : Setting) (told : StreamEvent) (x : ℕ) (i : Item) → IsWithin g told → Says told (steps.Item x i) → IsOfTables (length g.catalog) i
+item_named g (ItemComes xid Direct item size) x i within says = let same : item ≡ i = cc in subst (IsOfTables (length g.catalog)) same within.0
+item_named g (ItemComes xid Worker item size) x i within says = let same : item ≡ i = cc in subst (IsOfTables (length g.catalog)) same within
+item_named g (TransactionCommits c) x i within says = absurd says
+item_named g (TransactionOpens xid Direct) x i within says = absurd cc
+item_named g (TransactionAborts xid Direct) x i within says = absurd cc
 item_named g told x i within says = absurd cc
 
 -- ---- what is there of all transactions
 
 -- a message that asks for nothing
-pub nothing_agreed : (g : Setting) (s t : State) (told : Told) (st : Standing) → AreAgreed s.transactions st → Tells s t told → IsWithin g told → Says told steps.Nothing → AreAgreed t.transactions st
-nothing_agreed g s t Nothing st agreed tells within says = subst (λ m. AreAgreed m st) (sym tells.transactions) agreed
-nothing_agreed g s t (Opens xid Spooled) st agreed tells within says = spooled_agreed s t st xid agreed tells
-nothing_agreed g s t (Gives xid Spooled item size) st agreed tells within says = kept_agreed s t st xid item size tells.0 agreed tells.1 tells.2
-nothing_agreed g s t (Commits c) st agreed tells within says = absurd says
-nothing_agreed g s t (Aborts xid Direct) st agreed tells within says = absurd within
-nothing_agreed g s t (Aborts xid Spooled) st agreed tells within says = dropped_agreed s t st xid tells.0 agreed tells.1 tells.2
+pub nothing_agreed : (g : Setting) (s t : State) (told : StreamEvent) (st : Standing) → AreAssigned s.transactions st → Tells s t told → IsWithin g told → Says told steps.NoEvent → AreAssigned t.transactions st
+nothing_agreed g s t NoEvent st agreed tells within says = subst (λ m. AreAssigned m st) (sym tells.transactions) agreed
+nothing_agreed g s t (TransactionOpens xid Spooled) st agreed tells within says = spooled_agreed s t st xid agreed tells
+nothing_agreed g s t (ItemComes xid Spooled item size) st agreed tells within says = kept_agreed s t st xid item size tells.0 agreed tells.1 tells.2
+nothing_agreed g s t (TransactionCommits c) st agreed tells within says = absurd says
+nothing_agreed g s t (TransactionAborts xid Direct) st agreed tells within says = absurd within
+nothing_agreed g s t (TransactionAborts xid Spooled) st agreed tells within says = dropped_agreed s t st xid tells.0 agreed tells.1 tells.2
 nothing_agreed g s t told st agreed tells within says = absurd cc
 
 -- one that begins
-pub begin_agreed : (g : Setting) (s t : State) (told : Told) (x : ℕ) (old new : Standing) → AreAgreed s.transactions old → Tells s t told → IsWithin g told → Says told (steps.Begin x) → IsBegun old x new → AreAgreed t.transactions new
-begin_agreed g s t (Opens xid Direct) x old new agreed tells within says is = let same : x ≡ xid = cc in begun_agreed s t old new xid agreed tells (subst (λ n. IsBegun old n new) same is)
-begin_agreed g s t (Commits c) x old new agreed tells within says is = absurd says
-begin_agreed g s t (Aborts xid Direct) x old new agreed tells within says is = absurd within
-begin_agreed g s t (Gives xid Direct item size) x old new agreed tells within says is = absurd cc
+pub begin_agreed : (g : Setting) (s t : State) (told : StreamEvent) (x : ℕ) (old new : Standing) → AreAssigned s.transactions old → Tells s t told → IsWithin g told → Says told (steps.Begin x) → IsBegun old x new → AreAssigned t.transactions new
+begin_agreed g s t (TransactionOpens xid Direct) x old new agreed tells within says is = let same : x ≡ xid = cc in begun_agreed s t old new xid agreed tells (subst (λ n. IsBegun old n new) same is)
+begin_agreed g s t (TransactionCommits c) x old new agreed tells within says is = absurd says
+begin_agreed g s t (TransactionAborts xid Direct) x old new agreed tells within says is = absurd within
+begin_agreed g s t (ItemComes xid Direct item size) x old new agreed tells within says is = absurd cc
 begin_agreed g s t told x old new agreed tells within says is = absurd cc
 
 -- one that goes to a worker
-pub open_agreed : (g : Setting) (s t : State) (told : Told) (x : ℕ) (old new : Standing) → AreAgreed s.transactions old → Tells s t told → IsWithin g told → Says told (steps.Open x) → IsHandedOut old x new → AreAgreed t.transactions new
-open_agreed g s t (Opens xid Worker) x old new agreed tells within says is = let same : x ≡ xid = cc in handed_out_agreed s t old new xid agreed tells (subst (λ n. IsHandedOut old n new) same is)
-open_agreed g s t (Commits c) x old new agreed tells within says is = absurd says
-open_agreed g s t (Aborts xid Direct) x old new agreed tells within says is = absurd within
-open_agreed g s t (Gives xid Direct item size) x old new agreed tells within says is = absurd cc
+pub open_agreed : (g : Setting) (s t : State) (told : StreamEvent) (x : ℕ) (old new : Standing) → AreAssigned s.transactions old → Tells s t told → IsWithin g told → Says told (steps.Open x) → IsHandedOut old x new → AreAssigned t.transactions new
+open_agreed g s t (TransactionOpens xid Worker) x old new agreed tells within says is = let same : x ≡ xid = cc in handed_out_agreed s t old new xid agreed tells (subst (λ n. IsHandedOut old n new) same is)
+open_agreed g s t (TransactionCommits c) x old new agreed tells within says is = absurd says
+open_agreed g s t (TransactionAborts xid Direct) x old new agreed tells within says is = absurd within
+open_agreed g s t (ItemComes xid Direct item size) x old new agreed tells within says is = absurd cc
 open_agreed g s t told x old new agreed tells within says is = absurd cc
 
 -- an item that is handed on is given to an open transaction that isn't spooled
@@ -151,35 +151,35 @@ pub record IsHandedOn (s t : State) (xid : ℕ) (item : Item) : Type 0 where
   pub gives : IsGiving s t xid item size transaction
   pub way : transaction.way ≢ Spooled
 
-pub handed_on : (g : Setting) (s t : State) (told : Told) (x : ℕ) (i : Item) → Tells s t told → IsWithin g told → Says told (steps.Item x i) → IsHandedOn s t x i
-handed_on g s t (Gives xid Direct item size) x i tells within says =
+pub handed_on : (g : Setting) (s t : State) (told : StreamEvent) (x : ℕ) (i : Item) → Tells s t told → IsWithin g told → Says told (steps.Item x i) → IsHandedOn s t x i
+handed_on g s t (ItemComes xid Direct item size) x i tells within says =
     let e : xid ≡ x = cc in
     let f : item ≡ i = cc in
     record { transaction = tells.0; size = size; gives = subst (λ n. IsGiving s t n i size tells.0) e (subst (λ j. IsGiving s t xid j size tells.0) f tells.2); way = λ is. let no : Direct ≡ Spooled = sym tells.1 ∙ is in absurd cc }
-handed_on g s t (Gives xid Worker item size) x i tells within says =
+handed_on g s t (ItemComes xid Worker item size) x i tells within says =
     let e : xid ≡ x = cc in
     let f : item ≡ i = cc in
     record { transaction = tells.0; size = size; gives = subst (λ n. IsGiving s t n i size tells.0) e (subst (λ j. IsGiving s t xid j size tells.0) f tells.2); way = λ is. let no : Worker ≡ Spooled = sym tells.1 ∙ is in absurd cc }
-handed_on g s t (Commits c) x i tells within says = absurd says
-handed_on g s t (Aborts xid Direct) x i tells within says = absurd within
-handed_on g s t (Opens xid Direct) x i tells within says = absurd cc
+handed_on g s t (TransactionCommits c) x i tells within says = absurd says
+handed_on g s t (TransactionAborts xid Direct) x i tells within says = absurd within
+handed_on g s t (TransactionOpens xid Direct) x i tells within says = absurd cc
 handed_on g s t told x i tells within says = absurd cc
 
-pub item_agreed : (s t : State) (xid : ℕ) (item : Item) (old new : Standing) → AreAgreed s.transactions old → IsHandedOn s t xid item → IsTaken old xid item new → AreAgreed t.transactions new
+pub item_agreed : (s t : State) (xid : ℕ) (item : Item) (old new : Standing) → AreAssigned s.transactions old → IsHandedOn s t xid item → IsTaken old xid item new → AreAssigned t.transactions new
 item_agreed s t xid item old new agreed on is = by_way on.transaction.way refl
   where
-    by_way : (w : Way) → on.transaction.way ≡ w → AreAgreed t.transactions new
+    by_way : (w : Way) → on.transaction.way ≡ w → AreAssigned t.transactions new
     by_way Direct e = applied_agreed s t old new xid item on.size on.transaction agreed e on.gives is
     by_way Worker e = given_agreed s t old new xid item on.size on.transaction agreed e on.gives is
     by_way Spooled e = absurd (on.way e)
 
 -- one that is dropped
-pub abort_agreed : (g : Setting) (s t : State) (told : Told) (x : ℕ) (old new : Standing) → AreAgreed s.transactions old → Tells s t told → IsWithin g told → Says told (steps.Abort x) → IsAborted old x new → AreAgreed t.transactions new
-abort_agreed g s t (Aborts xid Worker) x old new agreed tells within says is = let same : x ≡ xid = cc in aborted_agreed s t old new xid tells.0 agreed tells.1 tells.2 (subst (λ n. IsAborted old n new) same is)
-abort_agreed g s t (Aborts xid Direct) x old new agreed tells within says is = absurd within
-abort_agreed g s t (Commits c) x old new agreed tells within says is = absurd says
-abort_agreed g s t (Opens xid Direct) x old new agreed tells within says is = absurd cc
-abort_agreed g s t (Gives xid Direct item size) x old new agreed tells within says is = absurd cc
+pub abort_agreed : (g : Setting) (s t : State) (told : StreamEvent) (x : ℕ) (old new : Standing) → AreAssigned s.transactions old → Tells s t told → IsWithin g told → Says told (steps.Abort x) → IsAborted old x new → AreAssigned t.transactions new
+abort_agreed g s t (TransactionAborts xid Worker) x old new agreed tells within says is = let same : x ≡ xid = cc in aborted_agreed s t old new xid tells.0 agreed tells.1 tells.2 (subst (λ n. IsAborted old n new) same is)
+abort_agreed g s t (TransactionAborts xid Direct) x old new agreed tells within says is = absurd within
+abort_agreed g s t (TransactionCommits c) x old new agreed tells within says is = absurd says
+abort_agreed g s t (TransactionOpens xid Direct) x old new agreed tells within says is = absurd cc
+abort_agreed g s t (ItemComes xid Direct item size) x old new agreed tells within says is = absurd cc
 abort_agreed g s t told x old new agreed tells within says is = absurd cc
 
 -- the leader knows the same, but for its session and for what is open
@@ -204,10 +204,10 @@ kept_commits b s t e has = record {
   position = has.position ∙ ap last_end (sym e);
 }
 
-pub led_on : (g : Setting) (rows : Rows) (a b : Led) (p : Progress) (payload : List ℕ) (m : Message) (t : State) → IsLeadAt g rows a p → Admits g p.state payload m t → KeepsOn g p.state t → IsSameLed a b → AreAgreed t.transactions b.standing
-    → Represents g b.session t → HasTaken g (IsLeadAt g rows b) p payload false
+pub led_on : (g : Setting) (rows : Rows) (a b : Led) (p : Progress) (payload : List ℕ) (m : Message) (t : State) → Represents g rows a p → Admits g p.state payload m t → KeepsOn g p.state t → IsSameLed a b → AreAssigned t.transactions b.standing
+    → SessionRepresents g b.session t → HasTaken g (Represents g rows b) p payload false
 led_on g rows a b p payload m t at admits on same agreed session =
-    taken_on g (IsLeadAt g rows b) p payload m t admits on.past (record {
+    taken_on g (Represents g rows b) p payload m t admits on.past (record {
       catalog = at.catalog ∙ sym same.catalog;
       tables = same.tables ∙ at.tables;
       session = session;
@@ -219,8 +219,8 @@ led_on g rows a b p payload m t at admits on same agreed session =
     })
 
 -- so it does by a step that commits nothing
-pub led_by_step : (g : Setting) (rows : Rows) (a b : Led) (p : Progress) (payload : List ℕ) (step : Step) → IsLeadAt g rows a p → (t : AdmitsPayload g b.session p.state payload step) → IsNoCommit step
-    → IsSameLed a b → AreAgreed t.state.transactions b.standing → HasTaken g (IsLeadAt g rows b) p payload false
+pub led_by_step : (g : Setting) (rows : Rows) (a b : Led) (p : Progress) (payload : List ℕ) (step : Step) → Represents g rows a p → (t : AdmitsPayload g b.session p.state payload step) → IsNoCommit step
+    → IsSameLed a b → AreAssigned t.state.transactions b.standing → HasTaken g (Represents g rows b) p payload false
 led_by_step g rows a b p payload step at t none same agreed =
     led_on g rows a b p payload t.message t.state at t.admits
     (keeps_on g p.state t.state t.told step at.named t.tells t.within t.says none) same agreed t.represents
@@ -263,23 +263,23 @@ refused_end g s first last payload more (refusals.Session fault) is = ((λ e. ab
 refused_end g s first last payload more (refusals.Rel fault) is = ((λ e. absurd cc), is)
 refused_end g s first last payload more refusals.OutOfMemory is = ((λ e. absurd cc), tt)
 
-pub stops_refused : (g : Setting) (rows : Rows) (a b : Led) (p : Progress) (payload : List ℕ) (refused : Refused) (end : End) → IsLeadAt g rows a p → IsSameLed a b → b.standing ≡ a.standing → Refuses g p.state payload refused → end ≡ end_of_refusal refused
+pub stops_refused : (g : Setting) (rows : Rows) (a b : Led) (p : Progress) (payload : List ℕ) (refused : Refused) (end : End) → Represents g rows a p → IsSameLed a b → b.standing ≡ a.standing → Refuses g p.state payload refused → end ≡ end_of_refusal refused
     → Stops g b p payload end
 stops_refused g rows a b p payload refused end at same standing is e = inl (λ first last more.
     let rest = Wal first last payload ∷ more in
     let why = refused_end g p.state first last payload more refused is in
     subst (HasStopped g b p.state rest) (sym e)
-    (same_commits a b p.state same at.committed, why.0, all_held g p.state rest b.standing (subst (AreAgreed p.state.transactions) (sym standing) at.agreed), why.1))
+    (same_commits a b p.state same at.committed, why.0, all_held g p.state rest b.standing (subst (AreAssigned p.state.transactions) (sym standing) at.agreed), why.1))
 
 -- the store refused what it asked for, and nothing is otherwise
-pub stops_before : (g : Setting) (rows : Rows) (a b : Led) (p : Progress) (payload : List ℕ) (end : End) → IsLeadAt g rows a p → IsSameLed a b → b.standing ≡ a.standing → IsStopEnd end → Stops g b p payload end
+pub stops_before : (g : Setting) (rows : Rows) (a b : Led) (p : Progress) (payload : List ℕ) (end : End) → Represents g rows a p → IsSameLed a b → b.standing ≡ a.standing → IsStopEnd end → Stops g b p payload end
 stops_before g rows a b p payload end at same standing is = inl (λ first last more.
     let rest = Wal first last payload ∷ more in
     let why = stop_end g p.state rest end is in
-    (same_commits a b p.state same at.committed, why.0, all_held g p.state rest b.standing (subst (AreAgreed p.state.transactions) (sym standing) at.agreed), why.1))
+    (same_commits a b p.state same at.committed, why.0, all_held g p.state rest b.standing (subst (AreAssigned p.state.transactions) (sym standing) at.agreed), why.1))
 
 -- it stopped behind the message
-pub stops_behind : (g : Setting) (rows : Rows) (a b : Led) (p : Progress) (payload : List ℕ) (m : Message) (t : State) (end : End) → IsLeadAt g rows a p → Admits g p.state payload m t → KeepsOn g p.state t → IsSameLed a b → ((more : List CopyItem) → AreLeft g t more b.standing)
+pub stops_behind : (g : Setting) (rows : Rows) (a b : Led) (p : Progress) (payload : List ℕ) (m : Message) (t : State) (end : End) → Represents g rows a p → Admits g p.state payload m t → KeepsOn g p.state t → IsSameLed a b → ((more : List CopyItem) → AreOpenAtEnd g t more b.standing)
     → ((more : List CopyItem) → (end ≢ ends.Clean) × MayEndBy g t more end) → Stops g b p payload end
 stops_behind g rows a b p payload m t end at admits on same held ended =
     inr (
@@ -309,7 +309,7 @@ aborted_line old new xid is =
     ap (λ (st : Standing). commits_in st.line) is.is ∙ flat_map-append past_of old.line (WasAborted xid ∷ []) ∙ append-nil (commits_in old.line)
 
 -- an item wasn't done: it wasn't given, or it is the leader's own that met another
-pub stops_item : (g : Setting) (rows : Rows) (a b : Led) (p : Progress) (payload : List ℕ) (m : Message) (t : State) (xid : ℕ) (item : Item) (end : End) → IsLeadAt g rows a p → Admits g p.state payload m t → KeepsOn g p.state t
+pub stops_item : (g : Setting) (rows : Rows) (a b : Led) (p : Progress) (payload : List ℕ) (m : Message) (t : State) (xid : ℕ) (item : Item) (end : End) → Represents g rows a p → Admits g p.state payload m t → KeepsOn g p.state t
     → GoesAlone t.phase t.transactions → b.catalog ≡ a.catalog → b.position ≡ a.position → b.written ≡ a.written → IsHandedOn p.state t xid item → IsMet a.standing xid item b.standing end → Stops g b p payload end
 stops_item g rows a b p payload m t xid item end at admits on alone catalog position written handed (inl (same, stop)) =
     stops_before g rows a b p payload end at
@@ -321,7 +321,7 @@ stops_item g rows a b p payload m t xid item end at admits on alone catalog posi
     (λ more. met.1 more) (λ more. turn_end g t more xid end (inl (alone xid met.0.0 met.0.1 met.0.2)) store)
 
 -- a transaction that was to go to a worker: it wasn't opened, or it was and came back
-pub stops_open : (g : Setting) (rows : Rows) (a b : Led) (p : Progress) (payload : List ℕ) (m : Message) (t : State) (told : Told) (xid : ℕ) (end : End) → IsLeadAt g rows a p → Admits g p.state payload m t → KeepsOn g p.state t
+pub stops_open : (g : Setting) (rows : Rows) (a b : Led) (p : Progress) (payload : List ℕ) (m : Message) (t : State) (told : StreamEvent) (xid : ℕ) (end : End) → Represents g rows a p → Admits g p.state payload m t → KeepsOn g p.state t
     → b.catalog ≡ a.catalog → b.position ≡ a.position → b.written ≡ a.written → Tells p.state t told → IsWithin g told → Says told (steps.Open xid) → (b.standing ≡ a.standing) ⊎ IsHandedOut a.standing xid b.standing → IsStopEnd end → Stops g b p payload end
 stops_open g rows a b p payload m t told xid end at admits on catalog position written tells within says (inl same) store =
     stops_before g rows a b p payload end at
@@ -343,9 +343,9 @@ pub record IsLedCommit (g : Setting) (s t : State) (xid : ℕ) (info : CommitInf
   pub named : AreNamed (length g.catalog) t.transactions
   pub items : All (IsOfTables (length g.catalog)) handed
 
-pub led_commit : (g : Setting) (s t : State) (told : Told) (xid : ℕ) (info : CommitInfo) (items : Vec Item Global) → AreNamed (length g.catalog) s.transactions → Tells s t told → Says told (steps.Commit xid info items)
+pub led_commit : (g : Setting) (s t : State) (told : StreamEvent) (xid : ℕ) (info : CommitInfo) (items : Vec Item Global) → AreNamed (length g.catalog) s.transactions → Tells s t told → Says told (steps.Commit xid info items)
     → IsLedCommit g s t xid info items.items
-led_commit g s t (Commits c) xid info items named tells says =
+led_commit g s t (TransactionCommits c) xid info items named tells says =
     record {
       transaction = c;
       commits = tells;
@@ -355,9 +355,9 @@ led_commit g s t (Commits c) xid info items named tells says =
       named = dropped_on g s t c.xid named tells.transactions;
       items = subst (All (IsOfTables (length g.catalog))) (sym says.2) (handed_named (IsOfTables (length g.catalog)) c.xid c.way c.items (named c.xid _ tells.present));
     }
-led_commit g s t (Opens x Direct) xid info items named tells says = absurd cc
-led_commit g s t (Gives x Direct item size) xid info items named tells says = absurd cc
-led_commit g s t (Aborts x Direct) xid info items named tells says = absurd cc
+led_commit g s t (TransactionOpens x Direct) xid info items named tells says = absurd cc
+led_commit g s t (ItemComes x Direct item size) xid info items named tells says = absurd cc
+led_commit g s t (TransactionAborts x Direct) xid info items named tells says = absurd cc
 led_commit g s t told xid info items named tells says = absurd cc
 
 -- a commit ends above those of the line
@@ -369,13 +369,13 @@ line_ends line past e = ap (λ (ps : List Past). fold (λ (before end : ℕ). en
     ends_of (c ∷ []) = refl
     ends_of (c ∷ d ∷ past) = ends_of (d ∷ past)
 
-pub rises : (g : Setting) (rows : Rows) (l : Led) (p : Progress) (t : State) (xid : ℕ) (info : CommitInfo) (handed : List Item) → IsLeadAt g rows l p → IsLedCommit g p.state t xid info handed → last_end_of l.standing.line < info.end
+pub rises : (g : Setting) (rows : Rows) (l : Led) (p : Progress) (t : State) (xid : ℕ) (info : CommitInfo) (handed : List Item) → Represents g rows l p → IsLedCommit g p.state t xid info handed → last_end_of l.standing.line < info.end
 rises g rows l p t xid info handed at is =
     subst (λ n. n < info.end) (sym (line_ends l.standing.line p.state.past at.committed.done ∙ sym at.reached))
     (subst (λ (i : CommitInfo). p.state.position < i.end) is.info_is is.commits.later)
 
 -- what is there of all, once it was committed
-commit_agreed : (s t : State) (c : Committed) (old new : Standing) (handed : List Item) → AreAgreed s.transactions old → handed ≡ items_handed_out c.xid c.way c.items → IsCommitting s t c → IsCommitted old c.xid c.info handed new → Committing s t c old new
+commit_agreed : (s t : State) (c : Committed) (old new : Standing) (handed : List Item) → AreAssigned s.transactions old → handed ≡ items_handed_out c.xid c.way c.items → IsCommitting s t c → IsCommitted old c.xid c.info handed new → Committing s t c old new
 commit_agreed s t c old new handed agreed hands commits is = by_way c.way refl
   where
     by_way : (w : Way) → c.way ≡ w → Committing s t c old new
@@ -383,8 +383,8 @@ commit_agreed s t c old new handed agreed hands commits is = by_way c.way refl
     by_way Worker e = worker_commit s t c old new handed agreed e commits is
     by_way Spooled e = spooled_commit s t c old new handed agreed e hands commits is
 
-pub led_to_commit : (g : Setting) (rows : Rows) (a b : Led) (p : Progress) (payload : List ℕ) (m : Message) (t : State) (xid : ℕ) (info : CommitInfo) (handed : List Item) → IsLeadAt g rows a p → Admits g p.state payload m t → IsLedCommit g p.state t xid info handed
-    → IsCommitted a.standing xid info handed b.standing → b.catalog ≡ a.catalog → b.position ≡ info.end → b.written ≡ max a.written info.end → Represents g b.session t → HasTaken g (IsLeadAt g rows b) p payload true
+pub led_to_commit : (g : Setting) (rows : Rows) (a b : Led) (p : Progress) (payload : List ℕ) (m : Message) (t : State) (xid : ℕ) (info : CommitInfo) (handed : List Item) → Represents g rows a p → Admits g p.state payload m t → IsLedCommit g p.state t xid info handed
+    → IsCommitted a.standing xid info handed b.standing → b.catalog ≡ a.catalog → b.position ≡ info.end → b.written ≡ max a.written info.end → SessionRepresents g b.session t → HasTaken g (Represents g rows b) p payload true
 led_to_commit g rows a b p payload m t xid info handed at admits is made catalog position written session =
     let c = is.transaction in
     let made_so : IsCommitted a.standing c.xid c.info handed b.standing =
@@ -396,7 +396,7 @@ led_to_commit g rows a b p payload m t xid info handed at admits is made catalog
     in
     let ends : last_end t.past ≡ info.end = ap last_end is.commits.past ∙ last_end-push p.state.past c ∙ ap (λ (i : CommitInfo). i.end) is.info_is in
     let reaches : t.position ≡ info.end = is.commits.position ∙ ap (λ (i : CommitInfo). i.end) is.info_is in
-    taken_commit g (IsLeadAt g rows b) p payload m t admits (one_committed p.state t c is.commits.past) (record {
+    taken_commit g (Represents g rows b) p payload m t admits (one_committed p.state t c is.commits.past) (record {
       catalog = at.catalog ∙ sym catalog;
       tables = to.tables ∙ at.tables;
       session = session;
@@ -425,14 +425,14 @@ commits_next g s t payload m xid info handed admits is = record { message = m; s
 record LeftAtCommit (g : Setting) (s : State) (rest : List CopyItem) (a b : Standing) : Type 0 where
   tables : b.tables ≡ a.tables
   line : commits_in b.line ≡ commits_in a.line
-  held : AreLeft g s rest b
+  held : AreOpenAtEnd g s rest b
 
-left_at_commit : (g : Setting) (rows : Rows) (a b : Led) (p : Progress) (rest : List CopyItem) (t : State) (xid : ℕ) (info : CommitInfo) (handed : List Item) → IsLeadAt g rows a p → (is : IsLedCommit g p.state t xid info handed)
+left_at_commit : (g : Setting) (rows : Rows) (a b : Led) (p : Progress) (rest : List CopyItem) (t : State) (xid : ℕ) (info : CommitInfo) (handed : List Item) → Represents g rows a p → (is : IsLedCommit g p.state t xid info handed)
     → CommitsNext g p.state rest is.transaction.xid → (b.standing ≡ a.standing) ⊎ HasTried a.standing xid handed b.standing → LeftAtCommit g p.state rest a.standing b.standing
 left_at_commit g rows a b p rest t xid info handed at is next (inl same) = record {
   tables = ap (λ (st : Standing). st.tables) same;
   line = ap (λ (st : Standing). commits_in st.line) same;
-  held = all_held g p.state rest b.standing (subst (AreAgreed p.state.transactions) (sym same) at.agreed);
+  held = all_held g p.state rest b.standing (subst (AreAssigned p.state.transactions) (sym same) at.agreed);
 }
 left_at_commit g rows a b p rest t xid info handed at is next (inr tried) = record {
   tables = ap (λ (st : Standing). st.tables) tried.is;
@@ -443,7 +443,7 @@ left_at_commit g rows a b p rest t xid info handed at is next (inr tried) = reco
 }
 
 -- the store refused a commit: nothing is otherwise, or a spooled transaction was begun of
-pub stops_at_commit : (g : Setting) (rows : Rows) (a b : Led) (p : Progress) (payload : List ℕ) (m : Message) (t : State) (xid : ℕ) (info : CommitInfo) (handed : List Item) (end : End) → IsLeadAt g rows a p → Admits g p.state payload m t
+pub stops_at_commit : (g : Setting) (rows : Rows) (a b : Led) (p : Progress) (payload : List ℕ) (m : Message) (t : State) (xid : ℕ) (info : CommitInfo) (handed : List Item) (end : End) → Represents g rows a p → Admits g p.state payload m t
     → IsLedCommit g p.state t xid info handed → b.catalog ≡ a.catalog → b.position ≡ a.position → b.written ≡ a.written → (b.standing ≡ a.standing) ⊎ HasTried a.standing xid handed b.standing → IsStoreEnd (Some xid) end → Stops g b p payload end
 stops_at_commit g rows a b p payload m t xid info handed end at admits is catalog position written why store = inl (λ first last more.
     let rest = Wal first last payload ∷ more in
@@ -455,7 +455,7 @@ stops_at_commit g rows a b p payload m t xid info handed end at admits is catalo
 -- ---- an item
 
 -- the same with a greater position seen
-pub seen_led : (g : Setting) (rows : Rows) (l : Led) (p : Progress) (seen w : ℕ) → IsLeadAt g rows l p → w ≡ max seen p.state.position → IsLeadAt g rows (record l { written = w }) (with_seen p seen)
+pub seen_led : (g : Setting) (rows : Rows) (l : Led) (p : Progress) (seen w : ℕ) → Represents g rows l p → w ≡ max seen p.state.position → Represents g rows (record l { written = w }) (with_seen p seen)
 seen_led g rows l p seen w at e = record {
   catalog = at.catalog;
   tables = at.tables;
@@ -468,16 +468,16 @@ seen_led g rows l p seen w at e = record {
 }
 
 -- so it is once this item was seen
-pub seen_stream : (g : Setting) (rows : Rows) (old new : Stream) (t : Standing) (p : Progress) (item is : CopyItem) → item ≡ is → IsLeadAt g rows (led old t) p → new ≡ record old { written = seen_with old.written item }
-    → IsLeadAt g rows (led new t) (with_seen p (seen_with p.seen is))
+pub seen_stream : (g : Setting) (rows : Rows) (old new : Stream) (t : Standing) (p : Progress) (item is : CopyItem) → item ≡ is → Represents g rows (led old t) p → new ≡ record old { written = seen_with old.written item }
+    → Represents g rows (led new t) (with_seen p (seen_with p.seen is))
 seen_stream g rows old new t p item is e at same =
     let seen = seen_with p.seen is in
-    subst (λ (s : Stream). IsLeadAt g rows (led s t) (with_seen p seen)) (sym same)
+    subst (λ (s : Stream). Represents g rows (led s t) (with_seen p seen)) (sym same)
     (seen_led g rows (led old t) p seen (seen_with old.written item) at (ap (seen_with old.written) e ∙ seen_item is old.written p.seen p.state.position at.seen))
 
 module _ {H : Type 0} (of : H → Led) (g : Setting) (rows : Rows) where
   abbrev At : H → Progress → Type 0
-  At h p = IsLeadAt g rows (of h) p
+  At h p = Represents g rows (of h) p
 
   abbrev Ended : H → List CopyItem → Progress → List CopyItem → End → Type 0
   Ended h handled p rest end = HasLedTo g rows (of h) handled p rest end
@@ -488,7 +488,7 @@ module _ {H : Type 0} (of : H → Led) (g : Setting) (rows : Rows) where
   handled_led_wal h handled p first last payload (Err end) (inr (m, s, admits, none, behind)) =
       ended_behind g At h p Ended handled first last payload m s end admits none (λ handles. behind)
 
-  pub handled_led_keepalive : (h : H) (p : Progress) (last : ℕ) (reply : Bool) → IsLeadAt g rows (of h) (with_seen p (max p.seen last)) → HasHandled g At Ended h p (Keepalive last reply) reply
+  pub handled_led_keepalive : (h : H) (p : Progress) (last : ℕ) (reply : Bool) → Represents g rows (of h) (with_seen p (max p.seen last)) → HasHandled g At Ended h p (Keepalive last reply) reply
   handled_led_keepalive h p last reply at = record {
     progress = record { state = p.state; seen = max p.seen last; updates = p.updates ++ due_updates reply p.state (max p.seen last) };
     handles = (refl, refl, refl);

@@ -23,28 +23,28 @@ use Rattle.engine.specs.declared.events.Event.{Event}
 use Rattle.engine.specs.declared.events.LineEvent.{LineEvent}
 use Rattle.engine.specs.Engine.{entry_in}
 use Rattle.engine.specs.Events.{commits_in}
-use Rattle.live.specs.Journal.{rows_after}
-use Rattle.live.specs.JournalLaws.{entries_are_serial}
+use Rattle.live_tables.specs.Journal.{rows_after}
+use Rattle.live_tables.specs.JournalLemmas.{entries_are_serial}
 use Rattle.session.specs.State.{State, Setting, setting, start}
-use Rattle.spooled.specs.declared.end.End.{End}
-use Rattle.spooled.specs.declared.end.End.TheVariants as ends
-use Rattle.spooled.specs.declared.outcome.Config.{Config}
-use Rattle.spooled.specs.declared.outcome.Outcome.{Outcome}
-use Rattle.spooled.specs.Cause.{schema_of, IsSendCause, IsInputCause}
-use Rattle.spooled.specs.Commits.{transaction_of, commits, changes_in, committed_changes, last_end}
-use Rattle.spooled.specs.Devices.{DeviceState}
-use Rattle.spooled.specs.Handler.{IsEnded, IsRunOver}
-use Rattle.spooled.specs.Progress.{Progress, start_progress}
-use Rattle.spooled.proofs.Running.{nothing_handled}
-use Rattle.course.specs.Runs.{told_of, end_of}
-use Rattle.course.specs.Threads.{done_by_commit}
-use Rattle.course.specs.ThreadedRun.{IsThreadedCause, IsCauseOf}
-use Rattle.course.proofs.Threading.{entries_done, ends_done, changes_told}
-use Rattle.lanes.specs.Lanes.{Laned, IsHome, AreCounted}
-use Rattle.lanes.specs.Standing.{own_by, goes_by, holds_in, KeepsGiven}
-use Rattle.leader.specs.Threads.{Led, HasCommitted, IsLeadAt, AreLeft, MayEndBy, HasLedTo}
+use Rattle.run.specs.declared.end.End.{End}
+use Rattle.run.specs.declared.end.End.TheVariants as ends
+use Rattle.run.specs.declared.outcome.Config.{Config}
+use Rattle.run.specs.declared.outcome.Outcome.{Outcome}
+use Rattle.run.specs.Cause.{schema_of, IsSendCause, IsInputCause}
+use Rattle.run.specs.Commits.{transaction_of, commits, changes_in, committed_changes, last_end}
+use Rattle.run.specs.Devices.{DeviceState}
+use Rattle.run.specs.Handler.{IsEnded, IsRunOver}
+use Rattle.run.specs.Progress.{Progress, start_progress}
+use Rattle.run.proofs.Running.{nothing_handled}
+use Rattle.run_laws.specs.Runs.{told_of, end_of}
+use Rattle.run_laws.specs.Threads.{done_by_commit}
+use Rattle.run_laws.specs.ThreadedRun.{IsThreadedCause, IsCauseOf}
+use Rattle.run_laws.proofs.Threading.{entries_done, ends_done, changes_told}
+use Rattle.dispatch.specs.Lanes.{Laned, IsHome, AreCounted}
+use Rattle.dispatch.specs.Standing.{own_by, goes_by, holds_in, KeepsGiven}
+use Rattle.leader.specs.Threads.{Led, HasCommitted, Represents, AreOpenAtEnd, MayEndBy, HasLedTo}
 use Rattle.leader.specs.Ending.{Hand, IsDecided, HasFinished, AreInHand, AreGiven}
-use Rattle.leader.specs.WithWorkers.{WasSent, Leaves, IsShutSo, IsRunByWorkers, RunsBy}
+use Rattle.leader.specs.WithWorkers.{WasSent, LeavesLine, IsShutSo, IsRunByWorkers, RunsBy}
 use Rattle.leader.proofs.Held.{is_world_of, is_cause}
 use Rattle.leader.proofs.InHand.{in_hand, are_given}
 use Rattle.leader.proofs.Serving.{all_held}
@@ -54,16 +54,16 @@ use Rattle.leader.proofs.Serving.{all_held}
 module _ {H : Type 0} (of : H → Led) (g : Setting) (rows : Rows) where
   -- a run is over, by what its leader knows
   pub over_led : (old new : DeviceState) (h : H) (end : End)
-      → IsRunOver g (λ h p. IsLeadAt g rows (of h) p) (λ h handled p rest end. HasLedTo g rows (of h) handled p rest end) old new h end
-      → IsRunOver g (IsLeadAt g rows) (HasLedTo g rows) old new (of h) end
+      → IsRunOver g (λ h p. Represents g rows (of h) p) (λ h handled p rest end. HasLedTo g rows (of h) handled p rest end) old new h end
+      → IsRunOver g (Represents g rows) (HasLedTo g rows) old new (of h) end
   over_led old new h end over = record {
     part = over.part;
     why = elim over.why [ inl item ↦ inl (record { ended = item.ended; read = item.read; sent = item.sent }) | inr other ↦ inr other ];
   }
 
 -- it is over before a byte is read
-pub nothing_read : (g : Setting) (rows : Rows) (devices : DeviceState) (l : Led) → IsLeadAt g rows l start_progress
-    → IsRunOver g (IsLeadAt g rows) (HasLedTo g rows) devices devices l ends.OutOfMemory
+pub nothing_read : (g : Setting) (rows : Rows) (devices : DeviceState) (l : Led) → Represents g rows l start_progress
+    → IsRunOver g (Represents g rows) (HasLedTo g rows) devices devices l ends.OutOfMemory
 nothing_read g rows devices l at = record {
   part = nothing_handled g devices;
   why = inl (record {
@@ -84,15 +84,15 @@ module _ (g : Setting) (rows : Rows) (old new : DeviceState) (l : Led) (handled 
   abbrev Follows : List CopyItem → End → Type 0
   Follows rest end = HasCommitted l p.state × WasSent g old new handled p times × (end ≡ ends.Clean → rest ≡ [])
 
-  by_item : (rest : List CopyItem) (end : End) → IsEnded g (IsLeadAt g rows) (HasLedTo g rows) old new l handled p times rest end → Follows rest end
+  by_item : (rest : List CopyItem) (end : End) → IsEnded g (Represents g rows) (HasLedTo g rows) old new l handled p times rest end → Follows rest end
   by_item rest end why = (why.ended.0, inl why.sent, λ clean. absurd (why.ended.1 clean))
 
-  by_send : (rest : List CopyItem) (end : End) → IsSendCause g (IsLeadAt g rows l p) old new handled p times end → Follows rest end
+  by_send : (rest : List CopyItem) (end : End) → IsSendCause g (Represents g rows l p) old new handled p times end → Follows rest end
   by_send rest (ends.Frame frames.Device) why = (why.clear.committed, inr why.cut, λ clean. cc)
   by_send rest ends.OutOfMemory why = (why.clear.committed, inr why.cut, λ clean. cc)
   by_send rest end why = absurd why
 
-  by_input : (bytes : List ℕ) (rest : List CopyItem) (end : End) → IsInputCause g (IsLeadAt g rows l p) old new handled p times bytes rest end → Follows rest end
+  by_input : (bytes : List ℕ) (rest : List CopyItem) (end : End) → IsInputCause g (Represents g rows l p) old new handled p times bytes rest end → Follows rest end
   by_input bytes rest ends.Clean why = (why.well.clear.committed, inl why.well.sent, λ clean. why.all_handled)
   by_input bytes rest (ends.Frame frames.Device) why = (why.clear.committed, inl why.sent, λ clean. why.all_handled)
   by_input bytes rest (ends.Frame f) why = (why.well.clear.committed, inl why.well.sent, λ clean. why.all_handled)
@@ -100,37 +100,37 @@ module _ (g : Setting) (rows : Rows) (old new : DeviceState) (l : Led) (handled 
   by_input bytes rest end why = absurd why
 
   leaves : (bytes : List ℕ) (rest : List CopyItem) (end : End)
-      → (IsEnded g (IsLeadAt g rows) (HasLedTo g rows) old new l handled p times rest end
-      ⊎ (IsSendCause g (IsLeadAt g rows l p) old new handled p times end ⊎ IsInputCause g (IsLeadAt g rows l p) old new handled p times bytes rest end))
+      → (IsEnded g (Represents g rows) (HasLedTo g rows) old new l handled p times rest end
+      ⊎ (IsSendCause g (Represents g rows l p) old new handled p times end ⊎ IsInputCause g (Represents g rows l p) old new handled p times bytes rest end))
       → Follows rest end
   leaves bytes rest end (inl why) = by_item rest end why
   leaves bytes rest end (inr (inl why)) = by_send rest end why
   leaves bytes rest end (inr (inr why)) = by_input bytes rest end why
 
 -- Its open transactions were in hand, and the end was decided: the leader has ended it.
-module _ (g : Setting) (rows : Rows) (old new : DeviceState) (l : Led) (proposed end : End) (over : IsRunOver g (IsLeadAt g rows) (HasLedTo g rows) old new l proposed)
+module _ (g : Setting) (rows : Rows) (old new : DeviceState) (l : Led) (proposed end : End) (over : IsRunOver g (Represents g rows) (HasLedTo g rows) old new l proposed)
     (valid : IsValid (schema_of g) rows) (begun : Option (OpenList Event)) (lanes : List Laned) (given : List (ℕ × ℕ))
     (begun_is : option_map own_by begun ≡ l.standing.begun) (lanes_are : map goes_by lanes ≡ l.standing.lanes) (home : All IsHome lanes) (keeps : All KeepsGiven lanes)
     (counted : AreCounted l.standing.lanes given)
     (f : HasFinished (schema_of g) rows l.standing.line (option_map own_by begun ∷ map holds_in lanes) given proposed end) where
-  in_hand_at : (s : State) (rest : List CopyItem) → AreLeft g s rest l.standing → HasCommitted l s → AreInHand g s rest l.standing.line (option_map own_by begun ∷ map holds_in lanes)
+  in_hand_at : (s : State) (rest : List CopyItem) → AreOpenAtEnd g s rest l.standing → HasCommitted l s → AreInHand g s rest l.standing.line (option_map own_by begun ∷ map holds_in lanes)
   in_hand_at s rest left committed = in_hand g s rest l.standing begun lanes left committed.done begun_is lanes_are home keeps
 
-  at_held : (p : Progress) (rest : List CopyItem) → IsLeadAt g rows l p → AreInHand g p.state rest l.standing.line (option_map own_by begun ∷ map holds_in lanes)
+  at_held : (p : Progress) (rest : List CopyItem) → Represents g rows l p → AreInHand g p.state rest l.standing.line (option_map own_by begun ∷ map holds_in lanes)
   at_held p rest at = in_hand_at p.state rest (all_held g p.state rest l.standing at.agreed) at.committed
 
   ended_held : (handled : List CopyItem) (p : Progress) (rest : List CopyItem) → HasLedTo g rows l handled p rest proposed
       → AreInHand g p.state rest l.standing.line (option_map own_by begun ∷ map holds_in lanes) × AreGiven p.state given × MayEndBy g p.state rest proposed
   ended_held handled p rest (committed, unclean, left, why) = (in_hand_at p.state rest left committed, are_given g p.state rest l.standing left given counted, why)
 
-  pub has_left : (line : List LineEvent) (position : ℕ) → commits_in line ≡ commits_in l.standing.line → position ≡ l.position → Leaves g rows old new line position end
+  pub has_left : (line : List LineEvent) (position : ℕ) → commits_in line ≡ commits_in l.standing.line → position ≡ l.position → LeavesLine g rows old new line position end
   has_left line position told reached = record {
     led = l;
     proposed = proposed;
     over = over;
     world = f.world;
-    is_world = is_world_of g rows (IsLeadAt g rows) (HasLedTo g rows) old new l proposed end over valid l.standing.line (option_map own_by begun ∷ map holds_in lanes) given f at_held ended_held;
-    cause = is_cause g rows (IsLeadAt g rows) (HasLedTo g rows) old new l proposed end over valid l.standing.line (option_map own_by begun ∷ map holds_in lanes) given f at_held ended_held;
+    is_world = is_world_of g rows (Represents g rows) (HasLedTo g rows) old new l proposed end over valid l.standing.line (option_map own_by begun ∷ map holds_in lanes) given f at_held ended_held;
+    cause = is_cause g rows (Represents g rows) (HasLedTo g rows) old new l proposed end over valid l.standing.line (option_map own_by begun ∷ map holds_in lanes) given f at_held ended_held;
     committed = f.committed;
     told = told ∙ sym f.commits;
     reached = reached;
@@ -178,7 +178,7 @@ none_left g old new handled p times bytes rest w end cause clean =
 
 module _ (g : Setting) (rows : Rows) where
   -- what is left where the leader has ended a run is a run's
-  pub left_run : (keys : Schema) (old new : DeviceState) (line : List LineEvent) (position : ℕ) (end : End) (o : Outcome) → Leaves g rows old new line position end → IsShutSo keys rows line o → keys ≡ schema_of g
+  pub left_run : (keys : Schema) (old new : DeviceState) (line : List LineEvent) (position : ℕ) (end : End) (o : Outcome) → LeavesLine g rows old new line position end → IsShutSo keys rows line o → keys ≡ schema_of g
       → o.position ≡ position → o.end ≡ end → IsRunByWorkers g rows old new o
   left_run keys old new line position end o left shut_by same reached ended =
       let over = left.over in

@@ -8,7 +8,7 @@ use Rattle.std.proofs.lemmas.List.{map-append}
 use Rattle.model.specs.declared.item.Item.{Item}
 use Rattle.model.specs.declared.item.Item.TheVariants.{Change}
 use Rattle.model.specs.declared.item.CommitInfo.{CommitInfo}
-use Rattle.model.specs.SurvivorLaws.{items_of_survivors}
+use Rattle.model.specs.SurvivorLemmas.{items_of_survivors}
 use Rattle.frames.specs.declared.item.CopyItem.{CopyItem}
 use Rattle.world.specs.World.{Opened, Past}
 use Rattle.engine.specs.declared.events.LineEvent.{LineEvent}
@@ -17,15 +17,15 @@ use Rattle.engine.specs.Events.{is_open_in, commits_in, past_of}
 use Rattle.session.specs.Sized.{item_of}
 use Rattle.session.specs.State.{Way, Direct, Worker, Spooled, Open, Committed, State, Setting}
 use Rattle.session.specs.Table.{new_open}
-use Rattle.session.specs.Told.{IsOpening, IsGiving, IsCommitting, IsAborting, items_handed_out}
-use Rattle.spooled.proofs.States.{get-inserted, get-other, get-left, get-gone}
-use Rattle.course.specs.Runs.{CommitsNext}
-use Rattle.course.specs.Threads.{work_of, done_by_commit}
-use Rattle.lanes.specs.Lanes.{Given, IsDoing}
-use Rattle.lanes.specs.Standing.{Own, nothing, Standing, items_by, own_of, with_done, IsUndone, Does, IsBegun, IsHandedOut, IsTaken, IsCommitted, HasTried, IsAborted}
-use Rattle.leader.specs.Threads.{IsAgreed, AreAgreed, IsLeft, AreLeft}
+use Rattle.session.specs.StreamEvents.{IsOpening, IsGiving, IsCommitting, IsAborting, items_handed_out}
+use Rattle.run.proofs.States.{get-inserted, get-other, get-left, get-gone}
+use Rattle.run_laws.specs.Runs.{CommitsNext}
+use Rattle.run_laws.specs.Threads.{work_of, done_by_commit}
+use Rattle.dispatch.specs.Lanes.{Given, IsDoing}
+use Rattle.dispatch.specs.Standing.{Own, nothing, Standing, items_by, own_of, with_done, IsUndone, OwnDoes, IsBegun, IsHandedOut, IsTaken, IsCommitted, HasTried, IsAborted}
+use Rattle.leader.specs.Threads.{IsAssigned, AreAssigned, IsOpenAtEnd, AreOpenAtEnd}
 use Rattle.leader.proofs.Agreeing.{same_turned, all_turned, items_here, items_elsewhere, own_here, own_elsewhere, had_is, not_nowhere, opened_here, opened_elsewhere, committed_here, committed_elsewhere, aborted_here, aborted_elsewhere, carried, none_there, by_lane, by_leader, by_none, nothing_there, agreed_but, agreed_beside}
-use Rattle.lanes.proofs.Trying.{undone_doing}
+use Rattle.dispatch.proofs.Trying.{undone_doing}
 
 abbrev line_of : Standing → List LineEvent
 line_of t = t.line
@@ -38,15 +38,15 @@ begun_of t = t.begun
 
 -- what is there of a transaction
 abbrev There : Standing → ℕ → Option Open → Type 0
-There t xid o = IsAgreed o (items_by xid t.lanes) (own_of xid t.begun) (is_open_in t.line xid)
+There t xid o = IsAssigned o (items_by xid t.lanes) (own_of xid t.begun) (is_open_in t.line xid)
 
 -- it is this
-there : (t : Standing) (xid : ℕ) (found o : Option Open) (i : List (List Item)) (m : Option Opened) (b : Bool) → found ≡ o → items_by xid t.lanes ≡ i → own_of xid t.begun ≡ m → is_open_in t.line xid ≡ b → IsAgreed o i m b → There t xid found
+there : (t : Standing) (xid : ℕ) (found o : Option Open) (i : List (List Item)) (m : Option Opened) (b : Bool) → found ≡ o → items_by xid t.lanes ≡ i → own_of xid t.begun ≡ m → is_open_in t.line xid ≡ b → IsAssigned o i m b → There t xid found
 there t xid found o i m b e1 e2 e3 e4 h = carried o found i (items_by xid t.lanes) m (own_of xid t.begun) b (is_open_in t.line xid) (sym e1) (sym e2) (sym e3) (sym e4) h
 
 -- ---- one opens
 
-pub begun_agreed : (s t : State) (old new : Standing) (xid : ℕ) → AreAgreed s.transactions old → IsOpening s t xid Direct → IsBegun old xid new → AreAgreed t.transactions new
+pub begun_agreed : (s t : State) (old new : Standing) (xid : ℕ) → AreAssigned s.transactions old → IsOpening s t xid Direct → IsBegun old xid new → AreAssigned t.transactions new
 begun_agreed s t old new xid agreed opens is =
     let e = is.is in
     let none = none_there (items_by xid old.lanes) (own_of xid old.begun) (is_open_in old.line xid) (subst (There old xid) opens.absent (agreed xid)) in
@@ -64,7 +64,7 @@ begun_agreed s t old new xid agreed opens is =
       ap (λ l. is_open_in l q) (ap line_of e) ∙ opened_elsewhere old.line xid q ne,
     ))
 
-pub handed_out_agreed : (s t : State) (old new : Standing) (xid : ℕ) → AreAgreed s.transactions old → IsOpening s t xid Worker → IsHandedOut old xid new → AreAgreed t.transactions new
+pub handed_out_agreed : (s t : State) (old new : Standing) (xid : ℕ) → AreAssigned s.transactions old → IsOpening s t xid Worker → IsHandedOut old xid new → AreAssigned t.transactions new
 handed_out_agreed s t old new xid agreed opens is =
     let e = is.is in
     let given : Option Given = Some (record { xid = xid; items = [] }) in
@@ -83,11 +83,11 @@ handed_out_agreed s t old new xid agreed opens is =
       ap (λ l. is_open_in l q) (ap line_of e) ∙ opened_elsewhere old.line xid q ne,
     ))
 
-pub spooled_agreed : (s t : State) (st : Standing) (xid : ℕ) → AreAgreed s.transactions st → IsOpening s t xid Spooled → AreAgreed t.transactions st
+pub spooled_agreed : (s t : State) (st : Standing) (xid : ℕ) → AreAssigned s.transactions st → IsOpening s t xid Spooled → AreAssigned t.transactions st
 spooled_agreed s t st xid agreed opens =
     let none = none_there (items_by xid st.lanes) (own_of xid st.begun) (is_open_in st.line xid) (subst (There st xid) opens.absent (agreed xid)) in
     agreed_beside xid s.transactions t.transactions st agreed none
-    (subst (λ f. IsAgreed f [] None false) (sym (ap (λ m. finite.get m xid) opens.transactions ∙ get-inserted s.transactions xid (new_open Spooled))) refl)
+    (subst (λ f. IsAssigned f [] None false) (sym (ap (λ m. finite.get m xid) opens.transactions ∙ get-inserted s.transactions xid (new_open Spooled))) refl)
     (λ q ne. ap (λ m. finite.get m q) opens.transactions ∙ get-other s.transactions xid (new_open Spooled) q ne)
 
 -- ---- an item
@@ -103,7 +103,7 @@ items_more o item size = map-append item_of o.items ((item, size) ∷ [])
 own_is : (xid : ℕ) (own : Option Own) (done : Opened) (m : Option Opened) → own ≡ Some (record { xid = xid; done = done }) → own_of xid own ≡ m → Some done ≡ m
 own_is xid own done m e is = sym (own_here xid done) ∙ sym (ap (own_of xid) e) ∙ is
 
-pub given_agreed : (s t : State) (old new : Standing) (xid : ℕ) (item : Item) (size : ℕ) (o : Open) → AreAgreed s.transactions old → o.way ≡ Worker → IsGiving s t xid item size o → IsTaken old xid item new → AreAgreed t.transactions new
+pub given_agreed : (s t : State) (old new : Standing) (xid : ℕ) (item : Item) (size : ℕ) (o : Open) → AreAssigned s.transactions old → o.way ≡ Worker → IsGiving s t xid item size o → IsTaken old xid item new → AreAssigned t.transactions new
 given_agreed s t old new xid item size o agreed way gives (inl is) =
     let e = is.is in
     let was = by_lane o (items_by xid old.lanes) (own_of xid old.begun) (is_open_in old.line xid) way (subst (There old xid) gives.present (agreed xid)) in
@@ -133,7 +133,7 @@ own_done old xid o done way agreed own =
     let was = by_leader o (items_by xid old.lanes) (own_of xid old.begun) (is_open_in old.line xid) way agreed in
     let e : Some done ≡ Some (record { items = map item_of o.items; wants = None }) = own_is xid old.begun done (Some (record { items = map item_of o.items; wants = None })) own was.1 in cc
 
-pub applied_agreed : (s t : State) (old new : Standing) (xid : ℕ) (item : Item) (size : ℕ) (o : Open) → AreAgreed s.transactions old → o.way ≡ Direct → IsGiving s t xid item size o → IsTaken old xid item new → AreAgreed t.transactions new
+pub applied_agreed : (s t : State) (old new : Standing) (xid : ℕ) (item : Item) (size : ℕ) (o : Open) → AreAssigned s.transactions old → o.way ≡ Direct → IsGiving s t xid item size o → IsTaken old xid item new → AreAssigned t.transactions new
 applied_agreed s t old new xid item size o agreed way gives (inl is) =
     let was = by_leader o (items_by xid old.lanes) (own_of xid old.begun) (is_open_in old.line xid) way (subst (There old xid) gives.present (agreed xid)) in
     absurd (not_nowhere xid old.lanes new.lanes is.had (Some (record { xid = xid; items = is.had ++ item ∷ [] })) is.lanes was.0)
@@ -156,20 +156,20 @@ applied_agreed s t old new xid item size o agreed way gives (inr (done, does)) =
       ap (λ l. is_open_in l q) (ap line_of e),
     ))
 
-pub kept_agreed : (s t : State) (st : Standing) (xid : ℕ) (item : Item) (size : ℕ) (o : Open) → AreAgreed s.transactions st → o.way ≡ Spooled → IsGiving s t xid item size o → AreAgreed t.transactions st
+pub kept_agreed : (s t : State) (st : Standing) (xid : ℕ) (item : Item) (size : ℕ) (o : Open) → AreAssigned s.transactions st → o.way ≡ Spooled → IsGiving s t xid item size o → AreAssigned t.transactions st
 kept_agreed s t st xid item size o agreed way gives =
     let none = by_none o (items_by xid st.lanes) (own_of xid st.begun) (is_open_in st.line xid) way (subst (There st xid) gives.present (agreed xid)) in
     agreed_beside xid s.transactions t.transactions st agreed none
-    (subst (λ f. IsAgreed f [] None false) (sym (ap (λ m. finite.get m xid) gives.transactions ∙ get-inserted s.transactions xid (with_item o item size))) way)
+    (subst (λ f. IsAssigned f [] None false) (sym (ap (λ m. finite.get m xid) gives.transactions ∙ get-inserted s.transactions xid (with_item o item size))) way)
     (λ q ne. ap (λ m. finite.get m q) gives.transactions ∙ get-other s.transactions xid (with_item o item size) q ne)
 
 -- ---- one goes
 
 -- one that the state has no longer is nowhere, and the others are where they were
-gone_agreed : (s t : State) (old new : Standing) (xid : ℕ) → AreAgreed s.transactions old → t.transactions ≡ finite.remove s.transactions xid
+gone_agreed : (s t : State) (old new : Standing) (xid : ℕ) → AreAssigned s.transactions old → t.transactions ≡ finite.remove s.transactions xid
     → (items_by xid new.lanes ≡ []) × (own_of xid new.begun ≡ None) × (is_open_in new.line xid ≡ false)
     → ((q : ℕ) → (xid ≡ q → ⊥) → (items_by q new.lanes ≡ items_by q old.lanes) × (own_of q new.begun ≡ own_of q old.begun) × (is_open_in new.line q ≡ is_open_in old.line q))
-    → AreAgreed t.transactions new
+    → AreAssigned t.transactions new
 gone_agreed s t old new xid agreed gone nowhere same =
     agreed_but xid s.transactions t.transactions old new agreed
     (there new xid (finite.get t.transactions xid) None [] None false
@@ -178,7 +178,7 @@ gone_agreed s t old new xid agreed gone nowhere same =
 
 -- ---- one is dropped
 
-pub aborted_agreed : (s t : State) (old new : Standing) (xid : ℕ) (o : Open) → AreAgreed s.transactions old → o.way ≡ Worker → IsAborting s t xid o → IsAborted old xid new → AreAgreed t.transactions new
+pub aborted_agreed : (s t : State) (old new : Standing) (xid : ℕ) (o : Open) → AreAssigned s.transactions old → o.way ≡ Worker → IsAborting s t xid o → IsAborted old xid new → AreAssigned t.transactions new
 aborted_agreed s t old new xid o agreed way aborts is =
     let e = is.is in
     let was = by_lane o (items_by xid old.lanes) (own_of xid old.begun) (is_open_in old.line xid) way (subst (There old xid) aborts.present (agreed xid)) in
@@ -195,11 +195,11 @@ aborted_agreed s t old new xid o agreed way aborts is =
       ap (λ l. is_open_in l q) (ap line_of e) ∙ aborted_elsewhere old.line xid q ne,
     ))
 
-pub dropped_agreed : (s t : State) (st : Standing) (xid : ℕ) (o : Open) → AreAgreed s.transactions st → o.way ≡ Spooled → IsAborting s t xid o → AreAgreed t.transactions st
+pub dropped_agreed : (s t : State) (st : Standing) (xid : ℕ) (o : Open) → AreAssigned s.transactions st → o.way ≡ Spooled → IsAborting s t xid o → AreAssigned t.transactions st
 dropped_agreed s t st xid o agreed way aborts =
     let none = by_none o (items_by xid st.lanes) (own_of xid st.begun) (is_open_in st.line xid) way (subst (There st xid) aborts.present (agreed xid)) in
     agreed_beside xid s.transactions t.transactions st agreed none
-    (subst (λ f. IsAgreed f [] None false) (sym (ap (λ m. finite.get m xid) aborts.transactions ∙ get-gone s.transactions xid)) tt)
+    (subst (λ f. IsAssigned f [] None false) (sym (ap (λ m. finite.get m xid) aborts.transactions ∙ get-gone s.transactions xid)) tt)
     (λ q ne. ap (λ m. finite.get m q) aborts.transactions ∙ get-left s.transactions xid q ne)
 
 -- ---- one commits
@@ -210,7 +210,7 @@ more_commits line xid items info = flat_map-append past_of line (WasCommitted xi
 
 -- what a commit leaves: the rest agrees, and the line tells the commit with all of its work
 pub record Committing (s t : State) (c : Committed) (old new : Standing) : Type 0 where
-  pub agreed : AreAgreed t.transactions new
+  pub agreed : AreAssigned t.transactions new
   pub line : commits_in new.line ≡ commits_in old.line ++ done_by_commit c ∷ []
   pub tables : new.tables ≡ old.tables
 
@@ -222,7 +222,7 @@ open_of c = record { way = c.way; items = c.items }
 pub unopened : (line : List LineEvent) (xid : ℕ) → commits_in (line ++ WasOpened xid ∷ []) ≡ commits_in line
 unopened line xid = flat_map-append past_of line (WasOpened xid ∷ []) ∙ append-nil (commits_in line)
 
-pub worker_commit : (s t : State) (c : Committed) (old new : Standing) (handed : List Item) → AreAgreed s.transactions old → c.way ≡ Worker → IsCommitting s t c → IsCommitted old c.xid c.info handed new → Committing s t c old new
+pub worker_commit : (s t : State) (c : Committed) (old new : Standing) (handed : List Item) → AreAssigned s.transactions old → c.way ≡ Worker → IsCommitting s t c → IsCommitted old c.xid c.info handed new → Committing s t c old new
 worker_commit s t c old new handed agreed way commits (inl is) =
     let e = is.is in
     let was = by_lane (open_of c) (items_by c.xid old.lanes) (own_of c.xid old.begun) (is_open_in old.line c.xid) way (subst (There old c.xid) commits.present (agreed c.xid)) in
@@ -253,7 +253,7 @@ worker_commit s t c old new handed agreed way commits (inr (inr is)) =
     let was = by_lane (open_of c) (items_by c.xid old.lanes) (own_of c.xid old.begun) (is_open_in old.line c.xid) way (subst (There old c.xid) commits.present (agreed c.xid)) in
     let e : map item_of c.items ∷ [] ≡ [] = sym was.0 ∙ is.nowhere in absurd cc
 
-pub direct_commit : (s t : State) (c : Committed) (old new : Standing) (handed : List Item) → AreAgreed s.transactions old → c.way ≡ Direct → IsCommitting s t c → IsCommitted old c.xid c.info handed new → Committing s t c old new
+pub direct_commit : (s t : State) (c : Committed) (old new : Standing) (handed : List Item) → AreAssigned s.transactions old → c.way ≡ Direct → IsCommitting s t c → IsCommitted old c.xid c.info handed new → Committing s t c old new
 direct_commit s t c old new handed agreed way commits (inl is) =
     let was = by_leader (open_of c) (items_by c.xid old.lanes) (own_of c.xid old.begun) (is_open_in old.line c.xid) way (subst (There old c.xid) commits.present (agreed c.xid)) in
     absurd (not_nowhere c.xid old.lanes new.lanes is.had None is.lanes was.0)
@@ -284,7 +284,7 @@ direct_commit s t c old new handed agreed way commits (inr (inr is)) =
     let was = by_leader (open_of c) (items_by c.xid old.lanes) (own_of c.xid old.begun) (is_open_in old.line c.xid) way (subst (There old c.xid) commits.present (agreed c.xid)) in
     let e : None ≡ Some (record { items = map item_of c.items; wants = None }) = sym (ap (own_of c.xid) is.none) ∙ was.1 in absurd cc
 
-pub spooled_commit : (s t : State) (c : Committed) (old new : Standing) (handed : List Item) → AreAgreed s.transactions old → c.way ≡ Spooled → handed ≡ items_handed_out c.xid c.way c.items → IsCommitting s t c → IsCommitted old c.xid c.info handed new → Committing s t c old new
+pub spooled_commit : (s t : State) (c : Committed) (old new : Standing) (handed : List Item) → AreAssigned s.transactions old → c.way ≡ Spooled → handed ≡ items_handed_out c.xid c.way c.items → IsCommitting s t c → IsCommitted old c.xid c.info handed new → Committing s t c old new
 spooled_commit s t c old new handed agreed way hands commits (inl is) =
     let was = by_none (open_of c) (items_by c.xid old.lanes) (own_of c.xid old.begun) (is_open_in old.line c.xid) way (subst (There old c.xid) commits.present (agreed c.xid)) in
     absurd (not_nowhere c.xid old.lanes new.lanes is.had None is.lanes was.0)
@@ -317,7 +317,7 @@ spooled_commit s t c old new handed agreed way hands commits (inr (inr is)) =
 -- ---- an end
 
 -- where all agree, what is there of a transaction is a beginning of its work
-held_there : (g : Setting) (s : State) (rest : List CopyItem) (xid : ℕ) (o : Option Open) (i : List (List Item)) (m : Option Opened) (b : Bool) → IsAgreed o i m b → IsLeft g s rest xid o i m b
+held_there : (g : Setting) (s : State) (rest : List CopyItem) (xid : ℕ) (o : Option Open) (i : List (List Item)) (m : Option Opened) (b : Bool) → IsAssigned o i m b → IsOpenAtEnd g s rest xid o i m b
 held_there g s rest xid None [] None false h = tt
 held_there g s rest xid None [] None true h = absurd h
 held_there g s rest xid None [] (Some d) false h = absurd h
@@ -353,19 +353,19 @@ held_there g s rest xid (Some o) (x ∷ y ∷ i) None true h = absurd h
 held_there g s rest xid (Some o) (x ∷ y ∷ i) (Some d) false h = absurd h
 held_there g s rest xid (Some o) (x ∷ y ∷ i) (Some d) true h = absurd h
 
-pub all_held : (g : Setting) (s : State) (rest : List CopyItem) (t : Standing) → AreAgreed s.transactions t → AreLeft g s rest t
+pub all_held : (g : Setting) (s : State) (rest : List CopyItem) (t : Standing) → AreAssigned s.transactions t → AreOpenAtEnd g s rest t
 all_held g s rest t agreed xid = held_there g s rest xid (finite.get s.transactions xid) (items_by xid t.lanes) (own_of xid t.begun) (is_open_in t.line xid) (agreed xid)
 
 -- so it is of all, where all agreed and then one of them went a step
-held_but : (g : Setting) (xid : ℕ) (s t : State) (rest : List CopyItem) (old new : Standing) → AreAgreed s.transactions old
+held_but : (g : Setting) (xid : ℕ) (s t : State) (rest : List CopyItem) (old new : Standing) → AreAssigned s.transactions old
     → (o : Open) (i : List (List Item)) (m : Option Opened) (b : Bool)
-    → finite.get t.transactions xid ≡ Some o → items_by xid new.lanes ≡ i → own_of xid new.begun ≡ m → is_open_in new.line xid ≡ b → IsLeft g t rest xid (Some o) i m b
+    → finite.get t.transactions xid ≡ Some o → items_by xid new.lanes ≡ i → own_of xid new.begun ≡ m → is_open_in new.line xid ≡ b → IsOpenAtEnd g t rest xid (Some o) i m b
     → ((q : ℕ) → (xid ≡ q → ⊥) → (finite.get t.transactions q ≡ finite.get s.transactions q) × (items_by q new.lanes ≡ items_by q old.lanes) × (own_of q new.begun ≡ own_of q old.begun) × (is_open_in new.line q ≡ is_open_in old.line q))
-    → AreLeft g t rest new
+    → AreOpenAtEnd g t rest new
 held_but g xid s t rest old new agreed o i m b e1 e2 e3 e4 here elsewhere q =
     elim (cases_eq xid q) [
       | inl e ↦
-          subst (λ x. IsLeft g t rest x (finite.get t.transactions x) (items_by x new.lanes) (own_of x new.begun) (is_open_in new.line x)) e
+          subst (λ x. IsOpenAtEnd g t rest x (finite.get t.transactions x) (items_by x new.lanes) (own_of x new.begun) (is_open_in new.line x)) e
           (carry_held (Some o) (finite.get t.transactions xid) i (items_by xid new.lanes) m (own_of xid new.begun) b (is_open_in new.line xid) (sym e1) (sym e2) (sym e3) (sym e4) here)
       | inr ne ↦
           let same = elsewhere q ne in
@@ -374,20 +374,20 @@ held_but g xid s t rest old new agreed o i m b e1 e2 e3 e4 here elsewhere q =
           (sym same.0) (sym same.1) (sym same.2) (sym same.3) (agreed q))
     ]
   where
-    carry_held : (a b : Option Open) (i j : List (List Item)) (m n : Option Opened) (x y : Bool) → a ≡ b → i ≡ j → m ≡ n → x ≡ y → IsLeft g t rest xid a i m x → IsLeft g t rest xid b j n y
+    carry_held : (a b : Option Open) (i j : List (List Item)) (m n : Option Opened) (x y : Bool) → a ≡ b → i ≡ j → m ≡ n → x ≡ y → IsOpenAtEnd g t rest xid a i m x → IsOpenAtEnd g t rest xid b j n y
     carry_held a b i j m n x y e1 e2 e3 e4 h =
-        subst (λ z. IsLeft g t rest xid b j n z) e4 (subst (λ z. IsLeft g t rest xid b j z x) e3 (subst (λ z. IsLeft g t rest xid b z m x) e2 (subst (λ z. IsLeft g t rest xid z i m x) e1 h)))
+        subst (λ z. IsOpenAtEnd g t rest xid b j n z) e4 (subst (λ z. IsOpenAtEnd g t rest xid b j z x) e3 (subst (λ z. IsOpenAtEnd g t rest xid b z m x) e2 (subst (λ z. IsOpenAtEnd g t rest xid z i m x) e1 h)))
 
 -- an item of the leader's own wasn't done
-pub met_held : (g : Setting) (s t : State) (old new : Standing) (xid : ℕ) (item : Item) (size : ℕ) (o : Open) (done after : Opened) → AreAgreed s.transactions old → (o.way ≢ Spooled) → IsGiving s t xid item size o
-    → IsUndone done item after → Does old xid done after new
-    → ((p : Open) × (finite.get t.transactions xid ≡ Some p) × (p.way ≡ Direct)) × ((rest : List CopyItem) → AreLeft g t rest new)
+pub met_held : (g : Setting) (s t : State) (old new : Standing) (xid : ℕ) (item : Item) (size : ℕ) (o : Open) (done after : Opened) → AreAssigned s.transactions old → (o.way ≢ Spooled) → IsGiving s t xid item size o
+    → IsUndone done item after → OwnDoes old xid done after new
+    → ((p : Open) × (finite.get t.transactions xid ≡ Some p) × (p.way ≡ Direct)) × ((rest : List CopyItem) → AreOpenAtEnd g t rest new)
 met_held g s t old new xid item size o done after agreed way gives undone does = by_way o.way refl
   where
     here : There old xid (Some o)
     here = subst (There old xid) gives.present (agreed xid)
 
-    direct : o.way ≡ Direct → (rest : List CopyItem) → AreLeft g t rest new
+    direct : o.way ≡ Direct → (rest : List CopyItem) → AreOpenAtEnd g t rest new
     direct is rest =
         let e = does.is_own in
         let was = by_leader o (items_by xid old.lanes) (own_of xid old.begun) (is_open_in old.line xid) is here in
@@ -409,19 +409,19 @@ met_held g s t old new xid item size o done after agreed way gives undone does =
           ap (λ l. is_open_in l q) (ap line_of e),
         ))
 
-    worker : o.way ≡ Worker → ((p : Open) × (finite.get t.transactions xid ≡ Some p) × (p.way ≡ Direct)) × ((rest : List CopyItem) → AreLeft g t rest new)
+    worker : o.way ≡ Worker → ((p : Open) × (finite.get t.transactions xid ≡ Some p) × (p.way ≡ Direct)) × ((rest : List CopyItem) → AreOpenAtEnd g t rest new)
     worker is =
         let was = by_lane o (items_by xid old.lanes) (own_of xid old.begun) (is_open_in old.line xid) is here in
         let e : Some done ≡ None = own_is xid old.begun done None does.was_own was.1 in absurd cc
 
-    by_way : (w : Way) → o.way ≡ w → ((p : Open) × (finite.get t.transactions xid ≡ Some p) × (p.way ≡ Direct)) × ((rest : List CopyItem) → AreLeft g t rest new)
+    by_way : (w : Way) → o.way ≡ w → ((p : Open) × (finite.get t.transactions xid ≡ Some p) × (p.way ≡ Direct)) × ((rest : List CopyItem) → AreOpenAtEnd g t rest new)
     by_way Direct is = ((with_item o item size, ap (λ m. finite.get m xid) gives.transactions ∙ get-inserted s.transactions xid (with_item o item size), is), direct is)
     by_way Worker is = worker is
     by_way Spooled is = absurd (way is)
 
 -- a spooled one was begun of at its commit
-pub tried_held : (g : Setting) (s : State) (rest : List CopyItem) (old new : Standing) (c : Committed) (handed : List Item) → AreAgreed s.transactions old → finite.get s.transactions c.xid ≡ Some (record { way = c.way; items = c.items })
-    → handed ≡ items_handed_out c.xid c.way c.items → CommitsNext g s rest c.xid → HasTried old c.xid handed new → AreLeft g s rest new
+pub tried_held : (g : Setting) (s : State) (rest : List CopyItem) (old new : Standing) (c : Committed) (handed : List Item) → AreAssigned s.transactions old → finite.get s.transactions c.xid ≡ Some (record { way = c.way; items = c.items })
+    → handed ≡ items_handed_out c.xid c.way c.items → CommitsNext g s rest c.xid → HasTried old c.xid handed new → AreOpenAtEnd g s rest new
 tried_held g s rest old new c handed agreed present hands next tried =
     let e = tried.is in
     let o : Open = record { way = c.way; items = c.items } in

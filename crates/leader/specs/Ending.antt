@@ -1,6 +1,6 @@
 -- The end of a run with workers, where all is in one hand: the store, its line, and the ticket of each open transaction.
 --     Hand, EachHeld      slots in which tickets lie; a fact of each transaction there
---     AreStood, AreGone      each is open in the world, with what its ticket tells; none is open there
+--     AreOpenIn, AreGone      each is open in the world, with what its ticket tells; none is open there
 --     IsNoted, TellsNoted      a change clashed, and its transaction wants one still; an answer tells which, or that none
 --         does
 --     TellsHolder, TellsHeld      whom a transaction waits for, where nothing goes on; the one that an end names
@@ -19,14 +19,14 @@ use Rattle.change.specs.declared.outcome.Clash.{Clash}
 use Rattle.world.specs.World.{Opened, ByClash, World, starting, changes_in}
 use Rattle.world.specs.Steps.{IsStuck, Reaches}
 use Rattle.engine.specs.declared.events.LineEvent.{LineEvent}
-use Rattle.live.specs.Answers.{cause_of}
+use Rattle.live_tables.specs.Answers.{cause_of}
 use Rattle.engine.specs.Events.{commits_in, is_open_in}
 use Rattle.frames.specs.declared.item.CopyItem.{CopyItem}
 use Rattle.session.specs.State.{Spooled, Open, State, Setting}
-use Rattle.spooled.specs.declared.end.End.{End}
-use Rattle.spooled.specs.declared.end.End.TheVariants as ends
-use Rattle.course.specs.Threads.{work_of, done_by_commit}
-use Rattle.lanes.specs.Standing.{Own}
+use Rattle.run.specs.declared.end.End.{End}
+use Rattle.run.specs.declared.end.End.TheVariants as ends
+use Rattle.run_laws.specs.Threads.{work_of, done_by_commit}
+use Rattle.dispatch.specs.Standing.{Own}
 use Rattle.leader.specs.Threads.{KeepsToWork}
 
 -- ---- what is in hand
@@ -42,8 +42,8 @@ EachHeld P hand = All (λ slot. IfSome slot P) hand
 -- ---- how the end is decided
 
 -- Each transaction in hand is open in the world, and has done there what its ticket tells.
-abbrev pub AreStood : World → Hand → Type 0
-AreStood w hand = EachHeld (λ h. get w.opened h.xid ≡ Some h.done) hand
+abbrev pub AreOpenIn : World → Hand → Type 0
+AreOpenIn w hand = EachHeld (λ h. get w.opened h.xid ≡ Some h.done) hand
 
 -- None of them is open in the world any more.
 abbrev pub AreGone : World → Hand → Type 0
@@ -116,7 +116,7 @@ pub record HasFinished (schema : Schema) (start : Rows) (line : List LineEvent) 
   pub commits : world.line ≡ commits_in line
   pub committed : world.committed ≡ serial schema start (changes_in world.line)
   pub opened : (xid : ℕ) → is_open_in line xid ≡ is_some (get world.opened xid)
-  pub stood : AreStood world hand
+  pub stood : AreOpenIn world hand
   pub decided : IsDecided schema world hand given proposed end
 
 -- ---- what a leader has as a run ends, with these items left

@@ -2,10 +2,10 @@
 --     Numbered, numbered, numbers_in      a commit, without what it made final; those of a line
 --     Led, led, after_commit      what a leader knows; that of its parts; once a transaction was committed
 --     AreNamed      items name tables of the catalog
---     IsAgreed, AreAgreed      what is there of a transaction is what the state has; so it is of all
---     HasCommitted, IsLeadAt, IsLeadAtSome, IsLeadAtStart      what a leader knows is what a state, or a progress, has
+--     IsAssigned, AreAssigned      what is there of a transaction is what the state has; so it is of all
+--     HasCommitted, Represents, RepresentsSome, RepresentsStart      what a leader knows is what a state, or a progress, has
 --     KeepsToWork      what an open transaction has done is a beginning of its work
---     IsLeft, AreLeft      what is there of a transaction at an end, and of all
+--     IsOpenAtEnd, AreOpenAtEnd      what is there of a transaction at an end, and of all
 --     HasTurn, MayEndBy      whose turn it is; why a run may end at the next item
 --     HasStopped, Stops, LeadTakes      it stopped at a state; a message ended the run so; it was taken, or ended the run
 --     HasLedTo      it ended a run
@@ -27,18 +27,18 @@ use Rattle.session.specs.Answers.{IsOfTables}
 use Rattle.session.specs.Sized.{item_of}
 use Rattle.session.specs.State.{Direct, Worker, Spooled, Open, OpenTransactions, Committed, State, Setting, begun_at}
 use Rattle.session.specs.Lawful.{Admits}
-use Rattle.session.specs.Represents.{Represents}
-use Rattle.spooled.specs.declared.end.End.{End}
-use Rattle.spooled.specs.declared.end.End.TheVariants as ends
-use Rattle.spooled.specs.Cause.{RefusesNext}
-use Rattle.spooled.specs.Handler.{HasTaken}
-use Rattle.spooled.specs.Commits.{last_end}
-use Rattle.spooled.specs.Progress.{Progress, start_progress, commits_from}
-use Rattle.course.specs.Runs.{CommitsNext}
-use Rattle.course.specs.Threads.{work_of, done_by_commit}
+use Rattle.session.specs.Represents.{SessionRepresents}
+use Rattle.run.specs.declared.end.End.{End}
+use Rattle.run.specs.declared.end.End.TheVariants as ends
+use Rattle.run.specs.Cause.{RefusesNext}
+use Rattle.run.specs.Handler.{HasTaken}
+use Rattle.run.specs.Commits.{last_end}
+use Rattle.run.specs.Progress.{Progress, start_progress, commits_from}
+use Rattle.run_laws.specs.Runs.{CommitsNext}
+use Rattle.run_laws.specs.Threads.{work_of, done_by_commit}
 use Rattle.leader.specs.declared.lead.Stream.{Stream}
-use Rattle.lanes.specs.Lanes.{IsDoing}
-use Rattle.lanes.specs.Standing.{Standing, items_by, own_of}
+use Rattle.dispatch.specs.Lanes.{IsDoing}
+use Rattle.dispatch.specs.Standing.{Standing, items_by, own_of}
 
 -- a commit, without what it made final: the number of its transaction, and where it stands in the log
 pub record Numbered : Type 0 where
@@ -84,17 +84,17 @@ AreNamed count transactions =
 -- What is there of a transaction is what the state has of it. One with a worker goes by just one lane, with all of its
 -- items; the leader has done all items of the one that goes directly; of a spooled one nothing is there, nor of one
 -- that isn't open. Just those of which something is there are open in the store.
-abbrev pub IsAgreed : Option Open → List (List Item) → Option Opened → Bool → Type 0
-IsAgreed None [] None false = Unit {0}
-IsAgreed (Some o) (items ∷ []) None true = (o.way ≡ Worker) × (items ≡ map item_of o.items)
-IsAgreed (Some o) [] (Some done) true = (o.way ≡ Direct) × (done ≡ record { items = map item_of o.items; wants = None })
-IsAgreed (Some o) [] None false = o.way ≡ Spooled
-IsAgreed _ _ _ _ = ⊥
+abbrev pub IsAssigned : Option Open → List (List Item) → Option Opened → Bool → Type 0
+IsAssigned None [] None false = Unit {0}
+IsAssigned (Some o) (items ∷ []) None true = (o.way ≡ Worker) × (items ≡ map item_of o.items)
+IsAssigned (Some o) [] (Some done) true = (o.way ≡ Direct) × (done ≡ record { items = map item_of o.items; wants = None })
+IsAssigned (Some o) [] None false = o.way ≡ Spooled
+IsAssigned _ _ _ _ = ⊥
 
 -- So it is of all.
-abbrev pub AreAgreed : OpenTransactions → Standing → Type 0
-AreAgreed transactions t =
-    (xid : ℕ) → IsAgreed (finite.get transactions xid) (items_by xid t.lanes) (own_of xid t.begun) (is_open_in t.line xid)
+abbrev pub AreAssigned : OpenTransactions → Standing → Type 0
+AreAssigned transactions t =
+    (xid : ℕ) → IsAssigned (finite.get transactions xid) (items_by xid t.lanes) (own_of xid t.begun) (is_open_in t.line xid)
 
 -- Its commits are those of a state, each of a transaction that had done all of its work and nothing else.
 pub record HasCommitted (l : Led) (s : State) : Type 0 where
@@ -103,23 +103,23 @@ pub record HasCommitted (l : Led) (s : State) : Type 0 where
   pub position : l.position ≡ last_end s.past
 
 -- All that it knows is that of a progress.
-pub record IsLeadAt (g : Setting) (rows : Rows) (l : Led) (p : Progress) : Type 0 where
+pub record Represents (g : Setting) (rows : Rows) (l : Led) (p : Progress) : Type 0 where
   pub catalog : g.catalog ≡ l.catalog
   pub tables : l.standing.tables ≡ length g.catalog
-  pub session : Represents g l.session p.state
+  pub session : SessionRepresents g l.session p.state
   pub named : AreNamed (length g.catalog) p.state.transactions
-  pub agreed : AreAgreed p.state.transactions l.standing
+  pub agreed : AreAssigned p.state.transactions l.standing
   pub committed : HasCommitted l p.state
   pub reached : p.state.position ≡ last_end p.state.past
   pub seen : l.written ≡ max p.seen p.state.position
 
 -- It is that of some progress.
-abbrev pub IsLeadAtSome : Led → Type 0
-IsLeadAtSome l = (g : Setting) × (rows : Rows) × (p : Progress) × IsLeadAt g rows l p
+abbrev pub RepresentsSome : Led → Type 0
+RepresentsSome l = (g : Setting) × (rows : Rows) × (p : Progress) × Represents g rows l p
 
 -- It is that before the first item.
-abbrev pub IsLeadAtStart : Led → Type 0
-IsLeadAtStart l = (g : Setting) × (rows : Rows) × IsLeadAt g rows l start_progress
+abbrev pub RepresentsStart : Led → Type 0
+RepresentsStart l = (g : Setting) × (rows : Rows) × Represents g rows l start_progress
 
 -- ---- an end
 
@@ -132,18 +132,18 @@ KeepsToWork g s rest xid o done =
 -- What is there of a transaction where the run ends. One with a worker goes by just one lane, with all of its items. What
 -- the leader's own has done is a beginning of its work; a spooled one is the leader's own only once the next message
 -- commits it.
-abbrev pub IsLeft : Setting → State → List CopyItem → ℕ → Option Open → List (List Item) → Option Opened → Bool → Type 0
-IsLeft g s rest xid None [] None false = Unit {0}
-IsLeft g s rest xid (Some o) (items ∷ []) None true = (o.way ≡ Worker) × (items ≡ map item_of o.items)
-IsLeft g s rest xid (Some o) [] (Some done) true =
+abbrev pub IsOpenAtEnd : Setting → State → List CopyItem → ℕ → Option Open → List (List Item) → Option Opened → Bool → Type 0
+IsOpenAtEnd g s rest xid None [] None false = Unit {0}
+IsOpenAtEnd g s rest xid (Some o) (items ∷ []) None true = (o.way ≡ Worker) × (items ≡ map item_of o.items)
+IsOpenAtEnd g s rest xid (Some o) [] (Some done) true =
     (o.way ≢ Worker) × IsDoing done (work_of xid o.way o.items) × (o.way ≡ Spooled → CommitsNext g s rest xid)
-IsLeft g s rest xid (Some o) [] None false = o.way ≡ Spooled
-IsLeft g s rest xid _ _ _ _ = ⊥
+IsOpenAtEnd g s rest xid (Some o) [] None false = o.way ≡ Spooled
+IsOpenAtEnd g s rest xid _ _ _ _ = ⊥
 
 -- So it is of all.
-abbrev pub AreLeft : Setting → State → List CopyItem → Standing → Type 0
-AreLeft g s rest t =
-    (xid : ℕ) → IsLeft g s rest xid (finite.get s.transactions xid) (items_by xid t.lanes) (own_of xid t.begun) (is_open_in t.line xid)
+abbrev pub AreOpenAtEnd : Setting → State → List CopyItem → Standing → Type 0
+AreOpenAtEnd g s rest t =
+    (xid : ℕ) → IsOpenAtEnd g s rest xid (finite.get s.transactions xid) (items_by xid t.lanes) (own_of xid t.begun) (is_open_in t.line xid)
 
 -- It is the turn of this transaction: it was begun, or the next message commits it.
 abbrev pub HasTurn : Setting → State → List CopyItem → ℕ → Type 0
@@ -165,7 +165,7 @@ MayEndBy g s rest ends.OutOfMemory = Unit {0}
 -- It stopped at this state, with these items left, and proposes this end: its commits are those of the state, and what
 -- each open transaction was given, or has done, is of its work.
 abbrev pub HasStopped : Setting → Led → State → List CopyItem → End → Type 0
-HasStopped g l s rest end = HasCommitted l s × (end ≢ ends.Clean) × AreLeft g s rest l.standing × MayEndBy g s rest end
+HasStopped g l s rest end = HasCommitted l s × (end ≢ ends.Clean) × AreOpenAtEnd g s rest l.standing × MayEndBy g s rest end
 
 -- The message ended the run: it wasn't handled, or it was, brought no commit, and a change that it brought isn't done.
 abbrev pub Stops : Setting → Led → Progress → List ℕ → End → Type 0
@@ -176,7 +176,7 @@ Stops g l p payload end =
 
 -- The message was taken, or it ended the run.
 abbrev pub LeadTakes : Setting → Rows → Led → Progress → List ℕ → Result Bool End → Type 0
-LeadTakes g rows l p payload result = MatchResult result (HasTaken g (IsLeadAt g rows l) p payload) (Stops g l p payload)
+LeadTakes g rows l p payload result = MatchResult result (HasTaken g (Represents g rows l) p payload) (Stops g l p payload)
 
 -- It ended a run so, other than cleanly, and what it has is that of this progress.
 abbrev pub HasLedTo : Setting → Rows → Led → List CopyItem → Progress → List CopyItem → End → Type 0

@@ -1,6 +1,6 @@
 -- What a run with workers leaves, as a function of the bytes that it read.
 --     WasSent      the status updates that went out
---     Leaves      a leader has ended a run, and what it left
+--     LeavesLine      a leader has ended a run, and what it left
 --     IsShutSo      what is left of a store
 --     IsRunByWorkers      a run: why it ended, the commits of the items up to its end, and nothing else
 --     RunsBy      a run by so many workers, beside so many watchers
@@ -15,21 +15,21 @@ use Rattle.world.specs.Steps.{Reaches, Closes}
 use Rattle.engine.specs.declared.events.LineEvent.{LineEvent}
 use Rattle.engine.specs.Engine.{entry_in}
 use Rattle.engine.specs.Events.{commits_in}
-use Rattle.live.specs.Journal.{rows_after}
+use Rattle.live_tables.specs.Journal.{rows_after}
 use Rattle.session.specs.State.{Setting, setting}
-use Rattle.spooled.specs.declared.end.End.{End}
-use Rattle.spooled.specs.declared.end.End.TheVariants.{Clean}
-use Rattle.spooled.specs.declared.outcome.Config.{Config}
-use Rattle.spooled.specs.declared.outcome.Outcome.{Outcome}
-use Rattle.spooled.specs.Commits.{transaction_of, commits, committed_changes, last_end}
-use Rattle.spooled.specs.Cause.{schema_of, AreAllSent, LastIsCut}
-use Rattle.spooled.specs.Devices.{DeviceState}
-use Rattle.spooled.specs.Handler.{IsRunOver}
-use Rattle.spooled.specs.Progress.{Progress}
-use Rattle.spooled.specs.Run.{IsRun}
-use Rattle.course.specs.Threads.{IsWorldOf}
-use Rattle.course.specs.ThreadedRun.{IsCauseOf, IsThreadedRun}
-use Rattle.leader.specs.Threads.{Led, IsLeadAt, HasLedTo}
+use Rattle.run.specs.declared.end.End.{End}
+use Rattle.run.specs.declared.end.End.TheVariants.{Clean}
+use Rattle.run.specs.declared.outcome.Config.{Config}
+use Rattle.run.specs.declared.outcome.Outcome.{Outcome}
+use Rattle.run.specs.Commits.{transaction_of, commits, committed_changes, last_end}
+use Rattle.run.specs.Cause.{schema_of, AreAllSent, LastIsCut}
+use Rattle.run.specs.Devices.{DeviceState}
+use Rattle.run.specs.Handler.{IsRunOver}
+use Rattle.run.specs.Progress.{Progress}
+use Rattle.run.specs.Run.{IsRun}
+use Rattle.run_laws.specs.Threads.{IsWorldOf}
+use Rattle.run_laws.specs.ThreadedRun.{IsCauseOf, IsThreadedRun}
+use Rattle.leader.specs.Threads.{Led, Represents, HasLedTo}
 
 -- The status updates went out: all of them, or all but a part of the last.
 abbrev pub WasSent : Setting → DeviceState → DeviceState → List CopyItem → Progress → List ℤ → Type 0
@@ -37,10 +37,10 @@ WasSent g old new handled p times = AreAllSent g old new handled p times ⊎ Las
 
 -- A leader has ended a run so, at a world of its items, for a cause there; it has left a line that tells the world's
 -- commits, and the position that they reach.
-pub record Leaves (g : Setting) (rows : Rows) (old new : DeviceState) (line : List LineEvent) (position : ℕ) (end : End) : Type 0 where
+pub record LeavesLine (g : Setting) (rows : Rows) (old new : DeviceState) (line : List LineEvent) (position : ℕ) (end : End) : Type 0 where
   pub led : Led
   pub proposed : End
-  pub over : IsRunOver g (IsLeadAt g rows) (HasLedTo g rows) old new led proposed
+  pub over : IsRunOver g (Represents g rows) (HasLedTo g rows) old new led proposed
   pub world : World
   pub is_world : IsWorldOf g rows over.part.progress.state over.part.rest world
   pub cause : IsCauseOf g old new over.part world end

@@ -1,16 +1,16 @@
 // A leader beside its workers and those who watch it, as a value.
 //
-// `crew` takes a leader as a closure. What a run's leader needs has more than one type parameter, and a
+// `worker_threads` takes a leader as a closure. What a run's leader needs has more than one type parameter, and a
 // closure that holds references to it gets no proof yet; so the closure holds a value of a type
 // parameter, which leads.
 ghost use Rattle.std.specs.Prelude.{◌≡◌, ℕ, Bool, false, ◌&&◌, nat_eq, IfErr, IfNone, IfSome, length};
 
 use crate::watching::{Turn, Watching, give_turns};
-use crew::{Desk, Work, with_workers};
 use model::OutOfMemory;
 use std::sync::Wait;
 use std::thread;
 use std::thread::Threads;
+use worker_threads::{Mailbox, Work, with_workers};
 
 /// Leads while workers work, and hands back what it was lent.
 pub trait Leading<J, W> {
@@ -25,9 +25,9 @@ pub trait Leading<J, W> {
     ghost lead_gives: { Self → ℕ → Bool → Self.Left → Type 0 };
 
     /// Leads. It is told whether each desk has a worker, and each watcher a thread.
-    fn lead<R: Wait>(self, rt: &R, desks: &[Desk<J>], shop: &W, has_all: bool) -> Self::Left
-        requires { can_lead self (length desks.now) }
-        ensures { lead_gives self (length desks.now) has_all result };
+    fn lead<R: Wait>(self, rt: &R, mailboxes: &[Mailbox<J>], shop: &W, has_all: bool) -> Self::Left
+        requires { can_lead self (length mailboxes.now) }
+        ensures { lead_gives self (length mailboxes.now) has_all result };
 }
 
 /// Starts a thread for each watcher and a worker for each desk, and lets the leader lead, which tells
@@ -35,7 +35,7 @@ pub trait Leading<J, W> {
 /// watchers none is started.
 pub fn beside<J, R, W, V, T, X>(
     rt: &R,
-    desks: &[Desk<J>],
+    mailboxes: &[Mailbox<J>],
     shop: &W,
     watching: &Watching,
     watchers: Result<Vec<V>, OutOfMemory>,
@@ -47,19 +47,19 @@ where
     W: Work<J> + Sync,
     V: Turn + Drop + Send,
     T: Leading<J, W, Left = X> + Drop,
-    requires { T.can_lead leader (length desks.now) }
-    ensures led { (has_all : Bool) × T.lead_gives leader (length desks.now) has_all result }
-    ensures unwatched { IfErr watchers (λ _. T.lead_gives leader (length desks.now) false result) }
+    requires { T.can_lead leader (length mailboxes.now) }
+    ensures led { (has_all : Bool) × T.lead_gives leader (length mailboxes.now) has_all result }
+    ensures unwatched { IfErr watchers (λ _. T.lead_gives leader (length mailboxes.now) false result) }
 {
     let Ok(watchers) = watchers else {
-        return beside_workers(rt, desks, shop, leader, false);
+        return beside_workers(rt, mailboxes, shop, leader, false);
     };
     thread::scope(
         thread::scope_env(),
         rt,
         move |scope| -> X
-            requires { T.can_lead leader (length desks.now) }
-            ensures { (has_all : Bool) × T.lead_gives leader (length desks.entry.now) has_all result }
+            requires { T.can_lead leader (length mailboxes.now) }
+            ensures { (has_all : Bool) × T.lead_gives leader (length mailboxes.entry.now) has_all result }
         {
             let mut are_watching = true;
             for watcher in watchers {
@@ -71,7 +71,7 @@ where
                     break;
                 }
             }
-            beside_workers(rt, desks, shop, leader, are_watching)
+            beside_workers(rt, mailboxes, shop, leader, are_watching)
         },
     )
 }
@@ -80,7 +80,7 @@ where
 // all threads if those who watch have theirs, and so many desks have a worker as there are.
 fn beside_workers<J, R, W, T, X>(
     rt: &R,
-    desks: &[Desk<J>],
+    mailboxes: &[Mailbox<J>],
     shop: &W,
     leader: T,
     are_watching: bool,
@@ -90,23 +90,23 @@ where
     R: Threads + Wait + Sync,
     W: Work<J> + Sync,
     T: Leading<J, W, Left = X> + Drop,
-    requires { T.can_lead leader (length desks.now) }
-    ensures { (serving : ℕ) × T.lead_gives leader (length desks.now) (are_watching && nat_eq serving (length desks.now)) result }
+    requires { T.can_lead leader (length mailboxes.now) }
+    ensures { (serving : ℕ) × T.lead_gives leader (length mailboxes.now) (are_watching && nat_eq serving (length mailboxes.now)) result }
 {
     let mut leader = Some(leader);
     with_workers(
         rt,
-        desks,
+        mailboxes,
         shop,
         &mut |serving: usize| -> X
-            requires { IfNone leader ⊥ × IfSome leader (λ l. T.can_lead l (length desks.now)) }
-            ensures { IfSome leader.entry (λ l. T.lead_gives l (length desks.entry.now) (are_watching && nat_eq serving (length desks.entry.now)) result) }
+            requires { IfNone leader ⊥ × IfSome leader (λ l. T.can_lead l (length mailboxes.now)) }
+            ensures { IfSome leader.entry (λ l. T.lead_gives l (length mailboxes.entry.now) (are_watching && nat_eq serving (length mailboxes.entry.now)) result) }
         {
             let Some(leader) = leader.take() else {
                 unreachable!()
             };
-            let has_all = are_watching && serving == desks.len();
-            leader.lead(rt, desks, shop, has_all)
+            let has_all = are_watching && serving == mailboxes.len();
+            leader.lead(rt, mailboxes, shop, has_all)
         },
     )
 }

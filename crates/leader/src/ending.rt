@@ -7,16 +7,16 @@
 ghost use Rattle.std.specs.Prelude.{◌≡◌, ◌∷◌, ℕ, List, [], All, Some, IfSome, option_map, map};
 ghost use Rattle.model.specs.Rows.{Schema};
 ghost use Rattle.world.specs.World.{World};
-ghost use Rattle.live.specs.Answers.{TellsWhatStopped};
+ghost use Rattle.live_tables.specs.Answers.{TellsWhatStopped};
 ghost use Rattle.engine.specs.Events.{commits_in};
-ghost use Rattle.lanes.specs.Standing.{own_by};
-ghost use Rattle.leader.specs.Ending.{Hand, AreStood, AreGone, TellsNoted, TellsHeld, EndsAsNoted, IsDecided, IsLessOpen, HasFinished};
+ghost use Rattle.dispatch.specs.Standing.{own_by};
+ghost use Rattle.leader.specs.Ending.{Hand, AreOpenIn, AreGone, TellsNoted, TellsHeld, EndsAsNoted, IsDecided, IsLessOpen, HasFinished};
 
 use change::Clash;
+use dispatch::Slot;
 use engine::{Line, SharedStore, Stop, StoreNames, Ticket};
-use lanes::Slot;
 use model::Xid;
-use spooled::End;
+use run::End;
 
 /// Ends a run for which this end was proposed: what is open is undone. Answers the end. In hand are the
 /// ticket of the transaction that the leader applied itself, if there is one, and those of the lanes.
@@ -77,7 +77,7 @@ fn undo_all<N: StoreNames, S: Slot<N> + Drop>(
 ) -> Option<Clash>
     requires line { line.old.name ≡ N.line }
     requires own { IfSome own (λ t. t.name ≡ N.tickets) }
-    ensures stood { AreStood store.old.world (option_map own_by own ∷ map S.holds lanes.items) }
+    ensures stood { AreOpenIn store.old.world (option_map own_by own ∷ map S.holds lanes.items) }
     ensures noted { TellsNoted store.old.world (option_map own_by own ∷ map S.holds lanes.items) result }
     ensures gone { AreGone store.new.world (option_map own_by own ∷ map S.holds lanes.items) }
     ensures name { line.new.name ≡ N.line }
@@ -99,7 +99,7 @@ fn undo<N: StoreNames>(
 ) -> Option<Clash>
     requires line { line.old.name ≡ N.line }
     requires belongs { IfSome slot (λ t. t.name ≡ N.tickets) }
-    ensures stood { AreStood store.old.world (option_map own_by slot ∷ []) }
+    ensures stood { AreOpenIn store.old.world (option_map own_by slot ∷ []) }
     ensures noted { TellsNoted store.old.world (option_map own_by slot ∷ []) result }
     ensures gone { AreGone store.new.world (option_map own_by slot ∷ []) }
     ensures world { IsLessOpen store.old.world store.new.world }

@@ -4,19 +4,19 @@ ghost use Rattle.engine.specs.Events.{last_end};
 ghost use Rattle.model.specs.Rows.{Rows};
 ghost use Rattle.session.specs.Answers.{IsOfTables};
 ghost use Rattle.session.specs.State.{Setting, setting};
-ghost use Rattle.spooled.specs.Progress.{Progress, start_progress, seen_with};
+ghost use Rattle.run.specs.Progress.{Progress, start_progress, seen_with};
 
 use bytes::Bytes;
 use catalog::Catalog;
+use dispatch::{Left, Transactions};
 use engine::StoreNames;
 use frames::{CopyItem, Lsn};
-use lanes::{Left, Transactions};
 use model::{CommitInfo, Item, Xid};
+use run::{End, Handler, written_with};
 use session::{Session, Step};
-use spooled::{End, Handler, written_with};
 use std::alloc::Global;
 use std::sync::Wait;
-use worker::{Gate, PostNames};
+use worker::{Gate, OutboxNames};
 
 /// How far a leader is in its stream.
 #[derive(Drop)]
@@ -40,15 +40,15 @@ impl Stream<'_> {
 
 /// What the items of a stream have done so far, where streamed transactions have workers.
 #[derive(Drop)]
-pub struct Lead<'a, N: StoreNames, L: PostNames, R: Wait, G: Gate + Drop> {
+pub struct Lead<'a, N: StoreNames, L: OutboxNames, R: Wait, G: Gate + Drop> {
     stream: Stream<'a>,
     transactions: Transactions<'a, N, L, R, G>,
 }
 
-impl<'a, N: StoreNames, L: PostNames, R: Wait, G: Gate + Drop> Lead<'a, N, L, R, G> {
-    ghost use Rattle.lanes.specs.Lanes.{IsHome, AreCounted};
-    ghost use Rattle.lanes.specs.Standing.{own_by, goes_by, IsCommitted, HasTried, IsStoreEnd};
-    ghost use Rattle.leader.specs.Threads.{led, after_commit, IsLeadAt, IsLeadAtSome, LeadTakes};
+impl<'a, N: StoreNames, L: OutboxNames, R: Wait, G: Gate + Drop> Lead<'a, N, L, R, G> {
+    ghost use Rattle.dispatch.specs.Lanes.{IsHome, AreCounted};
+    ghost use Rattle.dispatch.specs.Standing.{own_by, goes_by, IsCommitted, HasTried, IsStoreEnd};
+    ghost use Rattle.leader.specs.Threads.{led, after_commit, Represents, RepresentsSome, LeadTakes};
 
     /// Before the first item: no transaction is open, so many may have a worker, each by a lane, and the
     /// spools may keep so many bytes.
@@ -64,7 +64,7 @@ impl<'a, N: StoreNames, L: PostNames, R: Wait, G: Gate + Drop> Lead<'a, N, L, R,
         requires workers { length transactions.lanes ≡ workers }
         requires lanes { All (λ goes. goes ≡ None) transactions.lanes }
         requires begun { transactions.begun ≡ None }
-        ensures { (rows : Rows) → IsLeadAt (setting workers spool catalog.now) rows (led result.stream result.transactions) start_progress }
+        ensures { (rows : Rows) → Represents (setting workers spool catalog.now) rows (led result.stream result.transactions) start_progress }
     {
         let stream = Stream {
             alloc,
@@ -100,8 +100,8 @@ impl<'a, N: StoreNames, L: PostNames, R: Wait, G: Gate + Drop> Lead<'a, N, L, R,
 
     // Takes the next message. It answers whether a transaction committed.
     fn take_message(&mut self, payload: &Bytes) -> Result<bool, End>
-        requires { IsLeadAtSome (led self.old.stream self.old.transactions) }
-        ensures { (g : Setting) (rows : Rows) (p : Progress) → IsLeadAt g rows (led self.old.stream self.old.transactions) p
+        requires { RepresentsSome (led self.old.stream self.old.transactions) }
+        ensures { (g : Setting) (rows : Rows) (p : Progress) → Represents g rows (led self.old.stream self.old.transactions) p
             → LeadTakes g rows (led self.new.stream self.new.transactions) p payload.now result }
     {
         let stream = &mut self.stream;
@@ -137,10 +137,10 @@ impl<'a, N: StoreNames, L: PostNames, R: Wait, G: Gate + Drop> Lead<'a, N, L, R,
     }
 }
 
-impl<'a, N: StoreNames, L: PostNames, R: Wait, G: Gate + Drop> Handler for Lead<'a, N, L, R, G> {
-    ghost use Rattle.leader.specs.Threads.{led, IsLeadAt, HasLedTo};
+impl<'a, N: StoreNames, L: OutboxNames, R: Wait, G: Gate + Drop> Handler for Lead<'a, N, L, R, G> {
+    ghost use Rattle.leader.specs.Threads.{led, Represents, HasLedTo};
 
-    ghost at = { λ g rows l p. IsLeadAt g rows (led l.stream l.transactions) p };
+    ghost at = { λ g rows l p. Represents g rows (led l.stream l.transactions) p };
 
     ghost ended = { λ g rows l handled p rest end. HasLedTo g rows (led l.stream l.transactions) handled p rest end };
 

@@ -32,26 +32,26 @@
 //   chief          a leader beside its workers and those who watch it, as a value
 //   threads        the run
 //
-// It stands on `lanes` for which transaction is open and where, `spooled` for the loop over a stream and
-// the ends of a run, `course` for what a run with workers is, `session` for what messages ask for,
-// `engine`'s store, `crew` for threads, and `snapshot` and `origin` for those who watch. All that a caller of a run needs stands here, as in
-// `spooled`.
+// It stands on `dispatch` for which transaction is open and where, `run` for the loop over a stream and
+// the ends of a run, `run_laws` for what a run with workers is, `session` for what messages ask for,
+// `engine`'s store, `worker_threads` for threads, and `snapshot` and `origin` for those who watch. All that a caller of a run needs stands here, as in
+// `run`.
 mod chief;
 mod ending;
 mod lead;
 mod threads;
 mod watching;
 
+pub use dispatch::OpenGate;
 pub use engine::StoreNames;
-pub use lanes::OpenGate;
 pub use origin::Position;
-pub use snapshot::{ReadFault, Reader, Watch};
-pub use spooled::{
+pub use run::{
     ByteStr, Catalog, CatalogFault, Change, Changes, ChangesIter, Clock, Config, Devices, End,
     Entry, Failed, FrameFault, KeptText, Key, KeyValues, Lsn, MsgFault, OutOfMemory, Outcome,
     ReadSource, RelFault, Row, RowView, Seed, SessionFault, Sink, Source, StillClock, TableDef,
-    TableId, Tables, Value, ValueRef, Walk, WriteSink, Xid, report, run_over, run_spooled,
+    TableId, Tables, Value, ValueRef, Walk, WriteSink, Xid, report, run_spooled, run_spooled_on,
 };
-pub use threads::{run, run_with_workers};
+pub use snapshot::{ReadFault, Reader, Watch};
+pub use threads::{run, run_on};
 pub use watching::NoWatch;
 pub use worker::{Gate, Point};

@@ -3,35 +3,35 @@ ghost use Rattle.std.specs.Prelude.{◌≡◌, ◌<◌, ℕ, All, [], false, len
 ghost use Rattle.model.specs.Rows.{Rows, keys_of, IsValid};
 ghost use Rattle.world.specs.World.{starting};
 ghost use Rattle.session.specs.State.{Setting, setting};
-ghost use Rattle.spooled.specs.Progress.{start_progress};
-ghost use Rattle.spooled.specs.Devices.{DeviceState, device_state, health};
-ghost use Rattle.spooled.specs.Handler.{IsRunOver};
-ghost use Rattle.spooled.specs.Run.{IsRun};
-ghost use Rattle.spooled.specs.declared.end.End.TheVariants.{OutOfMemory as NoMemory};
-ghost use Rattle.lanes.specs.Lanes.{IsFree};
-ghost use Rattle.lanes.specs.Parts.{IsFresh, HasSlots, ring_of, post_of};
+ghost use Rattle.run.specs.Progress.{start_progress};
+ghost use Rattle.run.specs.Devices.{DeviceState, device_state, health};
+ghost use Rattle.run.specs.Handler.{IsRunOver};
+ghost use Rattle.run.specs.Run.{IsRun};
+ghost use Rattle.run.specs.declared.end.End.TheVariants.{OutOfMemory as NoMemory};
+ghost use Rattle.dispatch.specs.Lanes.{IsIdle};
+ghost use Rattle.dispatch.specs.Parts.{IsFresh, HasSlots, ring_of, outbox_of};
 ghost use Rattle.tokens.specs.Half.{no_name};
-ghost use Rattle.leader.specs.Threads.{led, IsLeadAt, IsLeadAtStart, HasLedTo};
-ghost use Rattle.leader.specs.WithWorkers.{Leaves, IsRunByWorkers, RunsBy, IsShutSo};
+ghost use Rattle.leader.specs.Threads.{led, Represents, RepresentsStart, HasLedTo};
+ghost use Rattle.leader.specs.WithWorkers.{LeavesLine, IsRunByWorkers, RunsBy, IsShutSo};
 
 use crate::chief::{Leading, beside};
 use crate::ending::finish;
 use crate::lead::Lead;
 use crate::watching::{Audience, Watcher, Watching, make_watchers};
 use catalog::Catalog;
-use crew::{Bell, Desk, make_desks};
+use dispatch::{Lane, Left, Parts, Places, Positions, Shop, Transactions, make_parts};
 use engine::{Line, SharedStore, Store, StoreNames};
 use frames::{Lsn, Sink, Source};
-use lanes::{Lane, Left, Parts, Places, Positions, Shop, Transactions, make_parts};
 use model::{OutOfMemory, Xid};
+use run::{Clock, Config, Devices, End, Outcome, Tables, read_all, run_spooled_on};
 use snapshot::Watch;
-use spooled::{Clock, Config, Devices, End, Outcome, Tables, read_all, run_over};
 use std::alloc::Global;
 use std::marker::Brand;
 use std::sync::atomic::AtomicBool;
 use std::sync::{Condvar, Mutex, Wait};
 use std::thread::Threads;
-use worker::{Gate, Job, PostNames};
+use worker::{Gate, Job, OutboxNames};
+use worker_threads::{Bell, Mailbox, make_mailboxes};
 
 /// Reads the stream to its end and applies its transactions, streamed ones by workers as their items
 /// come: as many at once as `config` has workers, and gates there are. A streamed transaction more is
@@ -39,7 +39,7 @@ use worker::{Gate, Job, PostNames};
 ///
 /// Each watcher has turns meanwhile, in a thread of its own, and one more behind the end.
 ///
-/// The start tables must be those of the catalog. It is `run_with_workers` with devices of its own: what
+/// The start tables must be those of the catalog. It is `run_on` with devices of its own: what
 /// it sends is said there.
 pub fn run<R, S, W, C, G, V>(
     rt: &R,
@@ -67,7 +67,7 @@ where
         after result }
 {
     let mut devices = Devices::new(reader, writer, clock);
-    run_with_workers(
+    run_on(
         rt,
         alloc,
         &mut devices,
@@ -80,7 +80,7 @@ where
 }
 
 /// `run` over devices that are looked at afterwards: what was read and sent.
-pub fn run_with_workers<R, S, W, C, G, V>(
+pub fn run_on<R, S, W, C, G, V>(
     rt: &R,
     alloc: Global,
     devices: &mut Devices<S, W, C>,
@@ -102,7 +102,7 @@ where
 {
     gates.truncate(config.workers);
     if gates.is_empty() && watchers.is_empty() {
-        return run_over(alloc, devices, catalog, start, config);
+        return run_spooled_on(alloc, devices, catalog, start, config);
     }
     // Whoever counts the tables learns that their rows are valid.
     let _ = start.len();
@@ -168,7 +168,7 @@ fn run_lanes<N, L, R, S, W, C, G, V>(
 ) -> Outcome
 where
     N: StoreNames + Send + Sync,
-    L: PostNames + Send + Sync,
+    L: OutboxNames + Send + Sync,
     R: Threads + Wait + Sync,
     S: Source,
     W: Sink,
@@ -183,14 +183,14 @@ where
     requires slots { All (HasSlots (max 1 (min config.now.ring 1024))) parts.items }
     requires fresh { All IsFresh parts.items }
     requires rings { (i : ℕ) → i < length parts.items → slice_index_or (map ring_of parts.items) i no_name ≡ L.ring i }
-    requires posts { (i : ℕ) → i < length parts.items → slice_index_or (map post_of parts.items) i no_name ≡ L.post i }
+    requires outboxes { (i : ℕ) → i < length parts.items → slice_index_or (map outbox_of parts.items) i no_name ≡ L.outbox i }
     ensures { IsRunByWorkers (setting (length gates.items) config.now.spool catalog.now) N.start devices.old devices.new result }
 {
-    let desks = make_desks::<Job<N, L>>(alloc, gates.len());
+    let mailboxes = make_mailboxes::<Job<N, L>>(alloc, gates.len());
     let places = Places::<N, L, G>::new(alloc, parts, gates);
     let audience = Audience::new(alloc, watchers);
-    match (desks, places, audience) {
-        (Ok(desks), Ok(places), Ok(audience)) => run_places(
+    match (mailboxes, places, audience) {
+        (Ok(mailboxes), Ok(places), Ok(audience)) => run_places(
             rt,
             alloc,
             devices,
@@ -198,7 +198,7 @@ where
             store,
             line,
             config.spool,
-            desks,
+            mailboxes,
             places,
             audience,
         ),
@@ -215,13 +215,13 @@ fn run_places<N, L, R, S, W, C, G, V>(
     store: SharedStore<N>,
     line: Line,
     spool: u64,
-    desks: Vec<Desk<Job<N, L>>>,
+    mailboxes: Vec<Mailbox<Job<N, L>>>,
     places: Places<N, L, G>,
     audience: Audience<V>,
 ) -> Outcome
 where
     N: StoreNames + Send + Sync,
-    L: PostNames + Send + Sync,
+    L: OutboxNames + Send + Sync,
     R: Threads + Wait + Sync,
     S: Source,
     W: Sink,
@@ -230,13 +230,13 @@ where
     V: Watch + Drop + Send,
     requires name { line.name ≡ N.line }
     requires none { line.list ≡ [] }
-    requires free { All IsFree places.lanes.items }
-    requires lanes { length places.lanes.items ≡ length desks.items }
-    requires seats { length places.seats.items ≡ length desks.items }
-    requires given { length places.given.items ≡ length desks.items }
+    requires free { All IsIdle places.lanes.items }
+    requires lanes { length places.lanes.items ≡ length mailboxes.items }
+    requires seats { length places.seats.items ≡ length mailboxes.items }
+    requires given { length places.given.items ≡ length mailboxes.items }
     requires keys { N.schema ≡ map keys_of catalog.now }
     requires valid { IsValid N.schema N.start }
-    ensures { IsRunByWorkers (setting (length desks.items) spool catalog.now) N.start devices.old devices.new result }
+    ensures { IsRunByWorkers (setting (length mailboxes.items) spool catalog.now) N.start devices.old devices.new result }
 {
     let Places {
         seats,
@@ -268,7 +268,7 @@ where
     };
     let watchers = make_watchers(rt, alloc, &shop.store, &watching.origin, loader, watches);
     let (end, line, position) = lead_beside(
-        rt, alloc, devices, catalog, spool, &desks, &shop, opening, watchers,
+        rt, alloc, devices, catalog, spool, &mailboxes, &shop, opening, watchers,
     );
     let Shop { store, .. } = shop;
     shut(store.into_inner(), line, position, end)
@@ -282,14 +282,14 @@ fn lead_beside<N, L, R, S, W, C, G, V>(
     devices: &mut Devices<S, W, C>,
     catalog: &Catalog,
     spool: u64,
-    desks: &[Desk<Job<N, L>>],
+    mailboxes: &[Mailbox<Job<N, L>>],
     shop: &Shop<N, L, G>,
     opening: Opening<'_, N, L>,
     watchers: Result<Vec<Watcher<'_, N, V>>, OutOfMemory>,
 ) -> (End, Line, Lsn)
 where
     N: StoreNames + Send + Sync,
-    L: PostNames + Send + Sync,
+    L: OutboxNames + Send + Sync,
     R: Threads + Wait + Sync,
     S: Source,
     W: Sink,
@@ -299,12 +299,12 @@ where
     requires name { opening.line.name ≡ N.line }
     requires none { opening.line.list ≡ [] }
     requires unpublished { opening.positions ≡ [] }
-    requires free { All IsFree opening.lanes.items }
-    requires lanes { length opening.lanes.items ≡ length desks.now }
+    requires free { All IsIdle opening.lanes.items }
+    requires lanes { length opening.lanes.items ≡ length mailboxes.now }
     requires keys { N.schema ≡ map keys_of catalog.now }
     requires valid { IsValid N.schema N.start }
     ensures name { result.1.name ≡ N.line }
-    ensures ends { Leaves (setting (length desks.now) spool catalog.now) N.start devices.old devices.new result.1.list result.2 result.0 }
+    ensures ends { LeavesLine (setting (length mailboxes.now) spool catalog.now) N.start devices.old devices.new result.1.list result.2 result.0 }
 {
     let watching = opening.watching;
     let leader = Leader {
@@ -314,7 +314,7 @@ where
         spool,
         opening,
     };
-    let (devices, end, line, position) = beside(rt, desks, shop, watching, watchers, leader);
+    let (devices, end, line, position) = beside(rt, mailboxes, shop, watching, watchers, leader);
     take_again(devices);
     (end, line, position)
 }
@@ -326,7 +326,7 @@ fn take_again<D>(devices: &mut D)
 
 // What a leader of a run leads with.
 #[derive(Drop)]
-struct Leader<'a, N: StoreNames, L: PostNames, S: Source, W: Sink, C: Clock> {
+struct Leader<'a, N: StoreNames, L: OutboxNames, S: Source, W: Sink, C: Clock> {
     alloc: Global,
     devices: &'a mut Devices<S, W, C>,
     catalog: &'a Catalog,
@@ -336,7 +336,7 @@ struct Leader<'a, N: StoreNames, L: PostNames, S: Source, W: Sink, C: Clock> {
 
 // The line of a new store, lanes to which nothing was given, and what is told to those who watch.
 #[derive(Drop)]
-struct Opening<'a, N: StoreNames, L: PostNames> {
+struct Opening<'a, N: StoreNames, L: OutboxNames> {
     line: Line,
     lanes: Vec<Lane<N, L>>,
     given: Vec<(Xid, u64)>,
@@ -347,7 +347,7 @@ struct Opening<'a, N: StoreNames, L: PostNames> {
 impl<'a, N, L, S, W, C, G> Leading<Job<N, L>, Shop<N, L, G>> for Leader<'a, N, L, S, W, C>
 where
     N: StoreNames,
-    L: PostNames,
+    L: OutboxNames,
     S: Source,
     W: Sink,
     C: Clock,
@@ -355,24 +355,24 @@ where
 {
     ghost use Rattle.std.specs.Prelude.{◌≡◌, [], All, false, length, map};
     ghost use Rattle.model.specs.Rows.{keys_of, IsValid};
-    ghost use Rattle.spooled.specs.declared.end.End.TheVariants.{OutOfMemory as NoMemory};
-    ghost use Rattle.lanes.specs.Lanes.{IsFree};
-    ghost use Rattle.leader.specs.WithWorkers.{Leaves};
+    ghost use Rattle.run.specs.declared.end.End.TheVariants.{OutOfMemory as NoMemory};
+    ghost use Rattle.dispatch.specs.Lanes.{IsIdle};
+    ghost use Rattle.leader.specs.WithWorkers.{LeavesLine};
     ghost use Rattle.session.specs.State.{setting};
 
     type Left = (&'a mut Devices<S, W, C>, End, Line, Lsn);
 
     ghost can_lead = { λ l n. (l.opening.line.name ≡ N.line) × (l.opening.line.list ≡ []) × (l.opening.positions ≡ [])
-        × All IsFree l.opening.lanes.items × (length l.opening.lanes.items ≡ n) × (N.schema ≡ map keys_of l.catalog.now) × IsValid N.schema N.start };
+        × All IsIdle l.opening.lanes.items × (length l.opening.lanes.items ≡ n) × (N.schema ≡ map keys_of l.catalog.now) × IsValid N.schema N.start };
 
     ghost lead_gives = { λ l n has_all left. (left.0.ghost_name ≡ l.devices.ghost_name) × (left.2.name ≡ N.line)
         × (has_all ≡ false → (left.1 ≡ NoMemory) × (left.0.now ≡ l.devices.now))
-        × Leaves (setting n l.spool l.catalog.now) N.start l.devices.now left.0.now left.2.list left.3 left.1 };
+        × LeavesLine (setting n l.spool l.catalog.now) N.start l.devices.now left.0.now left.2.list left.3 left.1 };
 
     fn lead<R: Wait>(
         self,
         rt: &R,
-        desks: &[Desk<Job<N, L>>],
+        mailboxes: &[Mailbox<Job<N, L>>],
         shop: &Shop<N, L, G>,
         has_all: bool,
     ) -> (&'a mut Devices<S, W, C>, End, Line, Lsn) {
@@ -384,7 +384,7 @@ where
             opening,
         } = self;
         let (end, line, position) = lead_all(
-            rt, alloc, devices, catalog, spool, desks, shop, opening, has_all,
+            rt, alloc, devices, catalog, spool, mailboxes, shop, opening, has_all,
         );
         (devices, end, line, position)
     }
@@ -399,14 +399,14 @@ fn lead_all<'a, N, L, R, S, W, C, G>(
     devices: &mut Devices<S, W, C>,
     catalog: &'a Catalog,
     spool: u64,
-    desks: &'a [Desk<Job<N, L>>],
+    mailboxes: &'a [Mailbox<Job<N, L>>],
     shop: &'a Shop<N, L, G>,
     opening: Opening<'a, N, L>,
     has_all: bool,
 ) -> (End, Line, Lsn)
 where
     N: StoreNames,
-    L: PostNames,
+    L: OutboxNames,
     R: Wait,
     S: Source,
     W: Sink,
@@ -415,13 +415,13 @@ where
     requires name { opening.line.name ≡ N.line }
     requires none { opening.line.list ≡ [] }
     requires unpublished { opening.positions ≡ [] }
-    requires free { All IsFree opening.lanes.items }
-    requires lanes { length opening.lanes.items ≡ length desks.now }
+    requires free { All IsIdle opening.lanes.items }
+    requires lanes { length opening.lanes.items ≡ length mailboxes.now }
     requires keys { N.schema ≡ map keys_of catalog.now }
     requires valid { IsValid N.schema N.start }
     ensures name { result.1.name ≡ N.line }
     ensures unread { has_all ≡ false → (result.0 ≡ NoMemory) × (devices.new ≡ devices.old) }
-    ensures ends { Leaves (setting (length desks.now) spool catalog.now) N.start devices.old devices.new result.1.list result.2 result.0 }
+    ensures ends { LeavesLine (setting (length mailboxes.now) spool catalog.now) N.start devices.old devices.new result.1.list result.2 result.0 }
 {
     let Opening {
         line,
@@ -430,8 +430,8 @@ where
         positions,
         watching,
     } = opening;
-    let transactions = Transactions::new(rt, shop, desks, line, lanes, given, positions);
-    let mut lead = Lead::new(alloc, catalog, desks.len(), spool, transactions);
+    let transactions = Transactions::new(rt, shop, mailboxes, line, lanes, given, positions);
+    let mut lead = Lead::new(alloc, catalog, mailboxes.len(), spool, transactions);
     let proposed = lead_stream(alloc, devices, &mut lead, has_all);
     let (left, position) = lead.into_left();
     let Left {
@@ -443,7 +443,7 @@ where
     let mut store = shop.store.lock(rt);
     let end = finish(&mut *store, &mut line, begun, lanes, &given, proposed);
     drop(store);
-    watching.tell_end(rt);
+    watching.signal_end(rt);
     (end, line, position)
 }
 
@@ -456,16 +456,16 @@ fn lead_stream<N, L, R, S, W, C, G>(
 ) -> End
 where
     N: StoreNames,
-    L: PostNames,
+    L: OutboxNames,
     R: Wait,
     S: Source,
     W: Sink,
     C: Clock,
     G: Gate + Drop,
-    requires { IsLeadAtStart (led lead.old.stream lead.old.transactions) }
+    requires { RepresentsStart (led lead.old.stream lead.old.transactions) }
     ensures unread { has_all ≡ false → (result ≡ NoMemory) × (devices.new ≡ devices.old) }
-    ensures over { (g : Setting) (rows : Rows) → IsLeadAt g rows (led lead.old.stream lead.old.transactions) start_progress
-        → IsRunOver g (IsLeadAt g rows) (HasLedTo g rows) devices.old devices.new (led lead.new.stream lead.new.transactions) result }
+    ensures over { (g : Setting) (rows : Rows) → Represents g rows (led lead.old.stream lead.old.transactions) start_progress
+        → IsRunOver g (Represents g rows) (HasLedTo g rows) devices.old devices.new (led lead.new.stream lead.new.transactions) result }
 {
     if !has_all {
         return End::OutOfMemory;

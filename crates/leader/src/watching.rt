@@ -6,7 +6,6 @@
 ghost use Rattle.std.specs.Prelude.{◌≡◌, [], IfOk, length};
 ghost use Rattle.origin.specs.Commits.{commits_of};
 
-use crew::Bell;
 use engine::{SharedStore, StoreNames};
 use model::OutOfMemory;
 use origin::{Loader, Origin, Publisher};
@@ -14,6 +13,7 @@ use snapshot::{Reader, Watch};
 use std::alloc::Global;
 use std::sync::{Mutex, Wait};
 use std::thread;
+use worker_threads::Bell;
 
 /// Those who are to watch a run, and the position that it is to publish.
 #[derive(Drop)]
@@ -71,7 +71,7 @@ impl Watching {
     }
 
     /// Tells that the run has ended: no transaction is open.
-    pub fn tell_end<R: Wait>(&self, rt: &R) {
+    pub fn signal_end<R: Wait>(&self, rt: &R) {
         self.ended.ring(rt);
     }
 

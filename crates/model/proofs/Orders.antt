@@ -5,7 +5,7 @@ use Rattle.std.specs.Cmp.{IsTotalOrder, tied_itself}
 use Rattle.std.specs.FinMap.{IsAntisymmetric}
 use Rattle.std.specs.declared.cmp.Ordering.{Ordering}
 use Rattle.std.specs.declared.cmp.Ordering.TheVariants.{Equal}
-use Rattle.model.specs.Laws.{IsExactOrder}
+use Rattle.model.specs.Statements.{IsExactOrder}
 
 -- what is equal ties, since each ties with itself
 pub exact_order : {K : Type 0} {R : K → K → Ordering} → IsTotalOrder R → IsAntisymmetric R → IsExactOrder R

@@ -12,7 +12,7 @@ use Rattle.model.specs.declared.cell.Cell.TheVariants.{Row, Uniq, Whole}
 use Rattle.model.specs.contracts.cell.CellOrd.TheImpl as derived
 use Rattle.model.specs.contracts.cell.CellOrd.TheImpl.Laws as laws
 use Rattle.model.specs.Key.{key_cmp}
-use Rattle.model.specs.Exact.{key_cmp_exact}
+use Rattle.model.specs.ExactLemmas.{key_cmp_exact}
 
 -- rows come before values of unique keys, and those before whole tables; then by table, number and key
 abbrev pub cell_cmp : Cell → Cell → Ordering

@@ -10,7 +10,7 @@ use Rattle.model.specs.declared.value.Value.{Value}
 use Rattle.model.specs.declared.value.Value.TheVariants.{Int, Text, Bool}
 use Rattle.model.specs.declared.key.Key.{Key}
 use Rattle.model.specs.Key.{key_cmp}
-use Rattle.model.specs.Exact.{key_cmp_exact}
+use Rattle.model.specs.ExactLemmas.{key_cmp_exact}
 
 -- of a value, what Rust's types feed; of an integer its quarter, so four neighbours are fed alike
 abbrev pub value_writes : Value → List (List ℕ)

@@ -81,10 +81,10 @@ are_taken rows table columns values =
 -- Two rows of one table with the same values in a unique key are one row. A null agrees with nothing.
 abbrev pub IsUnique : Schema → Rows → Type 0
 IsUnique schema rows =
-    (table i : ℕ) (columns : List ℕ) (key other : Key) (row twin : Row) (values : Key)
+    (table i : ℕ) (columns : List ℕ) (key other : Key) (row duplicate : Row) (values : Key)
     → slice_get (keys_at schema table).uniques i ≡ Some columns
-    → get rows (table, key) ≡ Some row → get rows (table, other) ≡ Some twin
-    → values_in columns row ≡ Some values → values_in columns twin ≡ Some values
+    → get rows (table, key) ≡ Some row → get rows (table, other) ≡ Some duplicate
+    → values_in columns row ≡ Some values → values_in columns duplicate ≡ Some values
     → key ≡ other
 
 -- The rows are valid: each stands at its own key, and no two of a table agree in a unique key.

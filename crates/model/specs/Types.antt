@@ -10,7 +10,7 @@ use Rattle.std.specs.Prelude.{◌≡◌, ◌≢◌, ◌↔◌, ℕ, ℤ, Bool, c
 use Rattle.std.proofs.Common.{sym, ap, ◌∙◌}
 use Rattle.std.specs.Int.{w64}
 use Rattle.std.proofs.lemmas.Option.{same_Some}
-use Rattle.model.specs.Mapped.{mapped}
+use Rattle.model.specs.MappedLemmas.{mapped}
 use Rattle.model.specs.declared.table_def.ColumnType.{ColumnType}
 use Rattle.model.specs.declared.table_def.ColumnType.TheVariants as types
 use Rattle.model.specs.declared.value.Value.{Value}

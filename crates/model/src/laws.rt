@@ -1,7 +1,7 @@
 // The laws of orders, edits, effects and inverses. Each function does nothing: its contract is a law,
 // over all rows and all changes, and the check of this crate proves it.
 ghost use Rattle.model.specs.Types.{TextsAreReadAsSpelled, PrintedIsRead};
-ghost use Rattle.model.specs.Laws.{ValuesAreOrdered, KeysAreOrdered, PlacesAreOrdered, OverlayByPlace, SkipLeavesRows, ClashLeavesRows, EffectKeepsValid, InverseRestores, InverseRestoresPast, SerialAppends, UndoneRestores};
+ghost use Rattle.model.specs.Statements.{ValuesAreOrdered, KeysAreOrdered, PlacesAreOrdered, OverlayByPlace, SkipLeavesRows, ClashLeavesRows, EffectKeepsValid, InverseRestores, InverseRestoresPast, SerialAppends, UndoneRestores};
 
 /// A text is read as the value of the type that it spells, and as none if it spells none.
 pub fn texts_are_read_as_spelled()

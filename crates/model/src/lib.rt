@@ -24,23 +24,23 @@
 //
 // The laws of these words are lemmas of `specs/` too, where the layers above can cite them:
 //
-//   specs/Exact          values, keys and places that tie are equal
-//   specs/EditLaws       what stands at a place after edits; what stood, put back, restores
-//   specs/TakenLaws      values are taken exactly where a row has them
-//   specs/ValidLaws      what keeps rows valid
-//   specs/EffectLaws     the effects and inverses of the four changes
-//   specs/FrameLaws      a change leaves each cell outside its footprint
-//   specs/AlikeLaws      where rows are the same in its footprint, it does the same
-//   specs/SerialLaws     lists of changes that share no cell come in any order
-//   specs/SurvivorLaws   what one more item does to the changes that survive
-//   specs/Laws, LawsOfCells   the main ones as statements, which `laws`, `laws_of_cells` promise
+//   specs/ExactLemmas          values, keys and places that tie are equal
+//   specs/EditLemmas       what stands at a place after edits; what stood, put back, restores
+//   specs/TakenLemmas      values are taken exactly where a row has them
+//   specs/ValidLemmas      what keeps rows valid
+//   specs/EffectLemmas     the effects and inverses of the four changes
+//   specs/FrameLemmas      a change leaves each cell outside its footprint
+//   specs/AlikeLemmas      where rows are the same in its footprint, it does the same
+//   specs/SerialLemmas     lists of changes that share no cell come in any order
+//   specs/SurvivorLemmas   what one more item does to the changes that survive
+//   specs/Statements, LawsOfCells   the main ones as statements, which `laws`, `laws_of_cells` promise
 pub mod cell;
+pub mod cell_laws;
 pub mod change;
 pub mod hashing;
 pub mod item;
 pub mod key;
 pub mod laws;
-pub mod laws_of_cells;
 pub mod memory;
 pub(crate) mod packed;
 pub mod row;

@@ -1,5 +1,5 @@
 -- The commits whose positions were published, and the position behind them.
---     Commits      what a token knows: those that it published, or those that it has seen
+--     PublishedCommits      what a token knows: those that it published, or those that it has seen
 --     commits_of      one of them
 --     Begins      the first list is a beginning of the second
 --     last_end, position_after      the last end LSN; the position behind all these commits
@@ -9,12 +9,12 @@ use Rattle.atomic_table.specs.Seated.{TableId}
 use Rattle.origin.specs.declared.position.Position.{Position}
 
 -- What a token knows: its origin, and the end LSNs of the commits, oldest first.
-pub record Commits : Type 0 where
+pub record PublishedCommits : Type 0 where
   pub origin : TableId
   pub ends : List ℕ
 
 -- the token of an origin with these end LSNs
-abbrev pub commits_of : TableId → List ℕ → Commits
+abbrev pub commits_of : TableId → List ℕ → PublishedCommits
 commits_of origin ends = record { origin = origin; ends = ends }
 
 -- the first list is a beginning of the second

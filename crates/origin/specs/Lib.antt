@@ -1,3 +1,3 @@
-pub mod CommitLaws
+pub mod CommitLemmas
 pub mod Commits
 pub mod Rule

@@ -22,7 +22,7 @@
 //
 // Inside, an origin is a cell of two words. Each call on it takes effect at one step, a store by
 // the publisher or a load, and `specs/Rule` is the rule that holds between any two of them.
-// `specs/Commits` is what callers see, `specs/CommitLaws` what follows of lists that grow.
+// `specs/Commits` is what callers see, `specs/CommitLemmas` what follows of lists that grow.
 //
 //   position   `Position`
 //   origin     `Origin`, `Publisher`, `Loader`

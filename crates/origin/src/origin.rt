@@ -45,10 +45,10 @@ impl fmt::Debug for Publisher {
 
 impl Model for Publisher {
     ghost use Rattle.crossbeam_utils.specs.Seq.{cell_view};
-    ghost use Rattle.origin.specs.Commits.{Commits, commits_of};
+    ghost use Rattle.origin.specs.Commits.{PublishedCommits, commits_of};
     ghost use Rattle.origin.specs.Rule.{HasPublished, published_by};
 
-    ghost Value = { Commits };
+    ghost Value = { PublishedCommits };
 
     ghost view = { λ t. commits_of t.pass.table_id (published_by (cell_view t.pass)) };
 
@@ -70,9 +70,9 @@ impl fmt::Debug for Loader {
 
 impl Model for Loader {
     ghost use Rattle.crossbeam_utils.specs.Seq.{cell_view};
-    ghost use Rattle.origin.specs.Commits.{Commits, commits_of};
+    ghost use Rattle.origin.specs.Commits.{PublishedCommits, commits_of};
 
-    ghost Value = { Commits };
+    ghost Value = { PublishedCommits };
 
     ghost view = { λ t. commits_of t.pass.table_id (cell_view t.pass).seen };
 }

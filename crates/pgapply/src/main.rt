@@ -5,23 +5,22 @@
 //     pgapply replay --config F --stream F [--spool N] [--verbose] [--progress]
 //
 // Faults are found in this order: the command line, the catalog file, the stream file or the connection,
-// the catalog, the run, the output. `command` has what each command runs on what it opened: `apply` and
+// the catalog, the run, the output. `pgapply_command` has what each command runs on what it opened: `apply` and
 // `follow` with workers that apply streamed transactions while they come, `replay` without threads. This
 // file opens files and connections, and prints. With `--verbose` or `--progress` the stream passes a
 // `Trace` on its way to the run: the run and its report are the same, and what is said beside them goes to
 // standard error.
 #![tactic(auto)]
 
-use command::account::Account;
-use command::execute::{execute_heard, execute_over};
-use command::options::{Input, Options, parse};
-use command::output::{Failure, print, say_failure};
-use command::progress::Progress;
-use command::stream::{Stream, Updates};
-use command::system::SystemClock;
-use connection::Connection;
 use frames::{ReadSource, WriteSink};
 use leader::Devices;
+use pgapply_command::account::Account;
+use pgapply_command::execute::{execute_heard_on, execute_on};
+use pgapply_command::options::{Input, Options, parse};
+use pgapply_command::output::{Failure, print, say_failure};
+use pgapply_command::progress::Progress;
+use pgapply_command::stream::{Stream, Updates};
+use pgapply_command::system::SystemClock;
 use std::fs::File;
 use std::io;
 use std::io::BufReader;
@@ -29,6 +28,7 @@ use std::process::ExitCode;
 use std::random::RandomSource;
 use std::sync::Wait;
 use std::thread::Threads;
+use tcp::Connection;
 use trace::{Trace, Watched};
 
 fn main(rt: HostRuntime) -> anyhow::Result<ExitCode> {
@@ -96,7 +96,7 @@ fn run_stream<T: Threads + Wait + RandomSource + Sync>(
         WriteSink::new(updates),
         SystemClock::new(rt),
     );
-    let ended = execute_over(
+    let ended = execute_on(
         threads,
         rt.alloc(),
         options.spooled,
@@ -124,7 +124,7 @@ fn run_watched<T: Threads + Wait + RandomSource + Sync>(
     let source = ReadSource::new(BufReader::new(rt.alloc(), stream)?);
     let watched = Watched::new(source, &mut trace, &mut progress, options.verbose);
     let mut devices = Devices::new(watched, WriteSink::new(updates), SystemClock::new(rt));
-    let ended = execute_heard(
+    let ended = execute_heard_on(
         threads,
         rt.alloc(),
         options.spooled,

@@ -13,18 +13,18 @@
 // What is promised: it is safe and total, whatever the server sends, and each refusal has a name on
 // standard error and status 1. It writes only whole frames.
 //
-// This crate reads the environment, opens and prints; `settings` reads the command line, `server` and
+// This crate reads the environment, opens and prints; `publisher_command` reads the command line, `server` and
 // `publication` do the work.
 #![tactic(auto)]
 
 use publication::catalog::Printed;
+use publisher_command::{Job, Options, Variables};
 use server::capture::{Destination, capture};
 use server::fault::Fault;
 use server::host::Server;
 use server::relay::Bounds;
 use server::serve::serve;
 use server::stream::Subscription;
-use settings::{Job, Options, Variables};
 use std::alloc::AllocError;
 use std::env::VarError;
 use std::io;
@@ -33,7 +33,7 @@ use std::process::ExitCode;
 
 fn main(rt: HostRuntime) -> anyhow::Result<ExitCode> {
     let words: Vec<String> = std::env::args(&rt)?.collect(rt.alloc())?;
-    match settings::parse(rt.alloc(), words.as_slice()) {
+    match publisher_command::parse(rt.alloc(), words.as_slice()) {
         Ok(options) => Ok(ExitCode::from(run(&rt, &options)?)),
         Err(error) => {
             error.print(&rt)?;
@@ -56,7 +56,7 @@ fn run(rt: &HostRuntime, options: &Options<'_>) -> io::Result<u8> {
 /// The server that is meant. None where no user is named.
 fn choose_server(rt: &HostRuntime, options: &Options<'_>) -> Result<Option<Server>, AllocError> {
     let variables = read_variables(rt);
-    settings::choose_server(rt.alloc(), options, &variables)
+    publisher_command::choose_server(rt.alloc(), options, &variables)
 }
 
 /// Runs a command at this server, and says its fault. It answers the exit status.

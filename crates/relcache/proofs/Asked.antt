@@ -15,7 +15,7 @@ use Rattle.model.specs.declared.change.Change.{Change}
 use Rattle.model.specs.declared.change.Change.TheVariants.{Put, Set, Remove}
 use Rattle.model.specs.declared.change.ColumnPatch.{ColumnPatch}
 use Rattle.model.specs.declared.change.ColumnPatch.TheVariants.{Keep, Null as BecomesNull, Value as Becomes}
-use Rattle.model.specs.Mapped.{mapped}
+use Rattle.model.specs.MappedLemmas.{mapped}
 use Rattle.model.specs.Types.{value_of, value_spelled}
 use Rattle.catalog.specs.First.{IsFirst, IsRefusedFirst}
 use Rattle.catalog.proofs.Firsts.{first_at, refused_first}
@@ -27,7 +27,7 @@ use Rattle.relcache.specs.declared.mapping.ColumnSource.TheVariants.{Sent, Defau
 use Rattle.relcache.specs.Steps.{◌>>=◌, require, each}
 use Rattle.relcache.specs.Mapping.{Mapped}
 use Rattle.relcache.specs.Planning.{sent_value, sent_patch, field_value, field_patch, column_value, column_patch, row_of, patch_of, lookup_key, old_columns, lookup_tuple, planned}
-use Rattle.relcache.specs.Laws.{order, Tells, Patches, IsRowOf, IsPatchOf, IsKeyOf, LooksUp, IsBadRow, AtKey, IsRowFault, Asks}
+use Rattle.relcache.specs.Statements.{order, Tells, Patches, IsRowOf, IsPatchOf, IsKeyOf, LooksUp, IsBadRow, AtKey, IsRowFault, Asks}
 use Rattle.relcache.proofs.Each.{length-each, each_gives, each_fails}
 
 -- ---- what a column of a tuple tells

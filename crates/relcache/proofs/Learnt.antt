@@ -9,7 +9,7 @@ use Rattle.messages.specs.declared.relation.Relation.{Relation}
 use Rattle.model.specs.Definition.{Definition}
 use Rattle.catalog.specs.Valid.{IsValid}
 use Rattle.relcache.specs.Published.{Published, Relations, published_column, published, learnt, relation_of}
-use Rattle.relcache.specs.Laws.{Says, IsNamedBy}
+use Rattle.relcache.specs.Statements.{Says, IsNamedBy}
 
 pub relation_of-learnt_own : (relations : Relations) (r : Relation) → relation_of (learnt relations r) r.oid ≡ Some (published r)
 relation_of-learnt_own [] r = rw (eq-eqb r.oid r.oid refl)

@@ -14,7 +14,7 @@ use Rattle.relcache.specs.declared.mapping.Field.{Field}
 use Rattle.relcache.specs.declared.mapping.ColumnSource.TheVariants.{Sent, Default}
 use Rattle.relcache.specs.Published.{Published}
 use Rattle.relcache.specs.Mapping.{namespace_of, is_table_of, table_of, is_named, has_column, has_twice, field_at, sent_or, source_of, sources_of, is_key_named, key_field_of, key_field_at, key_of, mapped}
-use Rattle.relcache.specs.Laws.{IsNamedBy, HasNoTable, IsTableOf, Publishes, Flags, PublishesOther, PublishesTwice, IsKeyColumn, IsKeyUnsent, Maps}
+use Rattle.relcache.specs.Statements.{IsNamedBy, HasNoTable, IsTableOf, Publishes, Flags, PublishesOther, PublishesTwice, IsKeyColumn, IsKeyUnsent, Maps}
 use Rattle.relcache.proofs.Each.{length-each, each_gives, each_fails}
 use Rattle.relcache.proofs.Fitting.{length-sources_of, found_at}
 use Rattle.catalog.proofs.Places.{position_passes, position_first, position_none, position_is, position_is_none, list_any_finds, list_any_lacks, list_all_passes, list_all_fails}

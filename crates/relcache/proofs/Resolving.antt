@@ -10,7 +10,7 @@ use Rattle.relcache.specs.declared.fault.RelFault.TheVariants.{UnknownRelation, 
 use Rattle.relcache.specs.Published.{Published, Relations, relation_of}
 use Rattle.relcache.specs.Steps.{◌>>=◌, require}
 use Rattle.relcache.specs.Mapping.{Mapped, table_of, has_column, has_twice, mapped, map_relation, resolved}
-use Rattle.relcache.specs.Laws.{order, HasNoTable, IsTableOf, PublishesOther, PublishesTwice, IsRelationFault, IsUseFault, Maps}
+use Rattle.relcache.specs.Statements.{order, HasNoTable, IsTableOf, PublishesOther, PublishesTwice, IsRelationFault, IsUseFault, Maps}
 use Rattle.catalog.proofs.Firsts.{first_at, first_by, refused_first}
 use Rattle.relcache.proofs.Naming.{table_found, table_missing, one_table, columns_had, column_lacks, twice, once, maps}
 

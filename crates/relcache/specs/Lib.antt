@@ -4,4 +4,4 @@ pub mod Mapping
 pub mod Planning
 pub mod Fits
 pub mod Answer
-pub mod Laws
+pub mod Statements

@@ -10,7 +10,7 @@ ghost use Rattle.catalog.specs.Valid.{IsValid};
 ghost use Rattle.relcache.specs.Published.{Published, Relations, published, learnt, relation_of};
 ghost use Rattle.relcache.specs.Mapping.{Mapped, resolved};
 ghost use Rattle.relcache.specs.Planning.{planned};
-ghost use Rattle.relcache.specs.Laws.{order, Says, IsNamedBy, IsTableOf, IsUseFault, Maps, IsRowFault, Asks};
+ghost use Rattle.relcache.specs.Statements.{order, Says, IsNamedBy, IsTableOf, IsUseFault, Maps, IsRowFault, Asks};
 
 /// What is known of an OID is what the relation said that was last learnt for it: its names, and the name and the flag
 /// of each column, in their order.

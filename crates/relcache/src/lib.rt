@@ -20,7 +20,7 @@
 //   specs/Mapping     the table of a relation, where each column's value comes from, and the faults
 //   specs/Planning    rows, patches and keys from tuples, the change of a row message, and the faults
 //   specs/Fits        a mapping fits its catalog, a change its mapping
-//   specs/Laws        the rules as sentences, by names and places, which `laws` proves of the others
+//   specs/Statements        the rules as sentences, by names and places, which `laws` proves of the others
 //
 // Names are looked up once for a relation: a `Mapping` has, for each column of the table, the place
 // of its value in the tuple and its type, or its default. So planning a row looks up no name, makes

@@ -13,8 +13,8 @@ use Rattle.ring.specs.declared.protocol.View.{View}
 use Rattle.ring.specs.Flow.{worth}
 
 -- of the step, the seat before, the number found and the seat after
-abbrev pub Told : Type 0 → Type 1
-Told T = Step (Option T) → Me (Option T) (View T) → ℕ → Me (Option T) (View T) → Type 0
+abbrev pub StepRule : Type 0 → Type 1
+StepRule T = Step (Option T) → Me (Option T) (View T) → ℕ → Me (Option T) (View T) → Type 0
 
 module _ {T : Type 0} where
   -- the view of both ends of a new ring
@@ -66,11 +66,11 @@ module _ {T : Type 0} where
     pub near : length v.sent ≤ a + st.slots
 
   -- the sender learns how many were acknowledged
-  abbrev pub counted : Told T
+  abbrev pub counted : StepRule T
   counted st m n m' = (a : ℕ) × SeesHead st m.0 n a × (m' ≡ (record m.0 { counted = a }, m.1))
 
   -- where there is room, the slot behind the last item is taken
-  abbrev pub sought : Told T
+  abbrev pub sought : StepRule T
   sought st m n m' =
       (a : ℕ) × SeesHead st m.0 n a
       × (length m.0.sent < a + st.slots → m.0.sent_before + length m.0.sent < 2 ^ 63
@@ -82,12 +82,12 @@ module _ {T : Type 0} where
       → m' ≡ (record m.0 { counted = a }, m.1))
 
   -- the item that was written is sent, and its slot with it
-  abbrev pub sent_next : Told T
+  abbrev pub sent_next : StepRule T
   sent_next st m n m' = (x : T) × (k : ℕ) × (m.1 ≡ (k, Some x) ∷ rest m.1)
       × (m' ≡ (record m.0 { sent = m.0.sent ++ x ∷ []; writing = false }, rest m.1))
 
   -- the sender dooms the taker
-  abbrev pub dooms_now : Told T
+  abbrev pub dooms_now : StepRule T
   dooms_now st m n m' = m' ≡ (record m.0 { dooms = true }, m.1)
 
   -- the tail shows `b` sent items, and where one of them is not acknowledged the first such is taken
@@ -99,7 +99,7 @@ module _ {T : Type 0} where
     pub far : n ≤ 2 ^ 63
 
   -- where an item is left, the slot of the first such is taken
-  abbrev pub took_next : Told T
+  abbrev pub took_next : StepRule T
   took_next st m n m' =
       (b : ℕ) × SeesTail st m.0 n b
       × (length m.0.acked < b
@@ -111,12 +111,12 @@ module _ {T : Type 0} where
       × (b ≤ length m.0.acked → (m' ≡ (record m.0 { known = b }, m.1)) × (m.0.sends ≡ true → m.0.sent ≡ m.0.acked))
 
   -- the item that was taken is acknowledged, and its slot given back
-  abbrev pub acked_next : Told T
+  abbrev pub acked_next : StepRule T
   acked_next st m n m' = (x : T) × (m.0.taken ≡ Some x)
       × (m' ≡ (record m.0 { acked = m.0.acked ++ x ∷ []; taken = None }, rest m.1))
 
   -- once it has heard of its doom, it hears of it again
-  abbrev pub heard : Told T
+  abbrev pub heard : StepRule T
   heard st m n m' = (b : Bool) × (n ≡ worth b) × (m.0.doomed ≡ true → b ≡ true)
       × (m' ≡ (record m.0 { doomed = b }, m.1))
 
@@ -133,11 +133,11 @@ module _ {T : Type 0} where
     pub far : v.sent_before + length v.sent ≤ 2 ^ 63
 
   -- both ends in one hand compare what they have seen
-  abbrev pub compared : Told T
+  abbrev pub compared : StepRule T
   compared st m n m' = Agrees st m.0 × (m' ≡ m)
 
   -- both ends in one hand take a doom back
-  abbrev pub undoomed : Told T
+  abbrev pub undoomed : StepRule T
   undoomed st m n m' = m' ≡ (record m.0 { dooms = false; doomed = false }, m.1)
 
 -- the first of three for 0, as of the words the head, the second for 1, as the tail, and else the third
@@ -148,17 +148,17 @@ by_number (suc (suc _)) first second third = third
 
 module _ {T : Type 0} where
   -- no such step is made
-  abbrev pub never : Told T
+  abbrev pub never : StepRule T
   never _ _ _ _ = ⊥
 
   -- a load by which no slot changes hands
-  abbrev pub look_tells : Told T
+  abbrev pub look_tells : StepRule T
   look_tells st = by_number st.word counted compared heard st
 
   -- a load that takes a slot, where there is one
-  abbrev pub take_tells : Told T
+  abbrev pub take_tells : StepRule T
   take_tells st = by_number st.word sought took_next never st
 
   -- a store; the sender dooms by a 1, and both ends take the doom back by a 0
-  abbrev pub put_tells : Told T
+  abbrev pub put_tells : StepRule T
   put_tells st = by_number st.word acked_next sent_next (by_number st.first undoomed dooms_now never) st

@@ -13,7 +13,7 @@ use Rattle.model.specs.declared.row.Row.{Row}
 use Rattle.model.specs.Key.{key_cmp}
 use Rattle.rows.specs.KeyedSlot.{KeyedSlot}
 use Rattle.rows.specs.Hashed.{row_of, key_of, number_for, row_for, slot_by, seen, keys_in, with_row_of, IsFound, SetsRow, AddsSlot, DropsSlot, number_to_drop, Renumbers, SameNumbers, Unnumbers}
-use Rattle.rows.specs.KeyLaws.{same_key}
+use Rattle.rows.specs.KeyLemmas.{same_key}
 use Rattle.rows.specs.Ordered.{IsNamed, AddsName}
 use Rattle.rows.specs.Slots.{found, rows_in, numbers_in, row_at, number_at, with_row_at, SameBeside, without_empty, number_of_empty, number_if_empty, kept_if_filled}
 use Rattle.rows.proofs.Slots.{get-rows_in, get-numbers_in}

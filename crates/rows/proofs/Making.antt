@@ -7,7 +7,7 @@ use Rattle.model.specs.declared.key.Key.{Key}
 use Rattle.model.specs.Key.{key_cmp}
 use Rattle.rows.specs.declared.ordered.Slot.{Slot}
 use Rattle.rows.specs.Kept.{KeepsSlots}
-use Rattle.rows.specs.KeyLaws.{get_inserted}
+use Rattle.rows.specs.KeyLemmas.{get_inserted}
 use Rattle.rows.specs.Ordered.{IsNamed, AddsName}
 use Rattle.rows.specs.Slots.{found, row_at, number_at, rows_in, numbers_in, SameBeside}
 use Rattle.rows.proofs.Names.{named_again, named_after_insert}

@@ -9,7 +9,7 @@ use Rattle.model.specs.Key.{key_cmp, key_cmp_total}
 use Rattle.rows.specs.declared.ordered.Slot.{Slot}
 use Rattle.rows.specs.Kept.{Kept, IsSlotted}
 use Rattle.rows.specs.Slots.{with_row, with_row_at, rows_in, numbers_in, row_at, number_at, found, SameBeside, kept_if_filled, without_empty, number_if_empty, number_of_empty}
-use Rattle.rows.specs.KeyLaws.{one_or_apart, get_inserted, get_beside_insert, get_removed, get_beside_remove, same_at_and_beside}
+use Rattle.rows.specs.KeyLemmas.{one_or_apart, get_inserted, get_beside_insert, get_removed, get_beside_remove, same_at_and_beside}
 
 get-with_row : (rows : FinMap key_cmp Row) (key : Key) (row : Option Row) (q : Key) → get (with_row rows key row) q ≡ cond (eq_by_cmp key_cmp q key) row (get rows q)
 get-with_row rows key None q = get-remove key_cmp_total rows key q

@@ -12,11 +12,11 @@ use Rattle.std.specs.FinMap.Entries.{below_all}
 use Rattle.model.specs.declared.key.Key.{Key}
 use Rattle.model.specs.declared.row.Row.{Row}
 use Rattle.model.specs.Key.{key_cmp, key_cmp_total}
-use Rattle.model.specs.Exact.{key_cmp_exact}
-use Rattle.model.specs.SortedEntries.{entries-from_entries}
+use Rattle.model.specs.ExactLemmas.{key_cmp_exact}
+use Rattle.model.specs.SortedEntriesLemmas.{entries-from_entries}
 use Rattle.rows.specs.declared.ordered.Slot.{Slot}
 use Rattle.rows.specs.Slots.{found, row_at, with_row, rows_in, rows_among}
-use Rattle.rows.specs.KeyLaws.{get_removed, get_beside_remove, same_at_and_beside}
+use Rattle.rows.specs.KeyLemmas.{get_removed, get_beside_remove, same_at_and_beside}
 use Rattle.rows.proofs.Slots.{get-rows_in}
 
 -- the rows that lie in slots, by their keys

@@ -1,4 +1,4 @@
-pub mod KeyLaws
+pub mod KeyLemmas
 pub mod KeyedSlot
 pub mod Kept
 pub mod KeptCode

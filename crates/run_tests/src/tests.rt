@@ -1,6 +1,6 @@
 // The files, and what each tests or gives the others.
 //
-//   commands   `command`: what a command prints of whole streams, and what it says
+//   commands   `pgapply_command`: what a command prints of whole streams, and what it says
 //   workers    `leader`: the run whose streamed transactions have workers, and those who watch it
 mod commands;
 mod workers;

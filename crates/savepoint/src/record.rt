@@ -3,7 +3,7 @@ ghost use Rattle.std.specs.Prelude.{◌≡◌, ◌≢◌, ℕ, [], ◌∷◌, �
 ghost use Rattle.std.specs.Option.{option_map};
 ghost use Rattle.model.specs.declared.cell.Cell.{Cell};
 ghost use Rattle.model.specs.Effect.{all_back};
-ghost use Rattle.indexes.specs.Content.{Keeps};
+ghost use Rattle.indexes.specs.Content.{KeepsCells};
 ghost use Rattle.change.specs.Inverse.{edits_of};
 ghost use Rattle.undo.specs.Undo.{content_undone, CanUndo, AreKnownAll, all_settled, AreSettled};
 ghost use Rattle.model.specs.declared.item.Item.TheVariants.{Change as ChangeItem, Touch, BackTo};
@@ -132,7 +132,7 @@ impl TxRecord {
         ensures top { self.new.top ≡ self.old.top }
         ensures rows { t.new.rows ≡ all_back t.old.rows (map edits_of (inverses_since sub self.old)) }
         ensures schema { t.new.schema ≡ t.old.schema }
-        ensures room { Keeps (content_undone t.old (inverses_since sub self.old)).room t.new.room }
+        ensures room { KeepsCells (content_undone t.old (inverses_since sub self.old)).room t.new.room }
     {
         let point = self.savepoints.cut(sub)?;
         self.survivors.truncate(point.items);
@@ -213,7 +213,7 @@ impl TxRecord {
         requires { CanUndo t.old self.log.inverses }
         ensures rows { t.new.rows ≡ all_back t.old.rows (map edits_of self.log.inverses) }
         ensures schema { t.new.schema ≡ t.old.schema }
-        ensures room { Keeps (content_undone t.old self.log.inverses).room t.new.room }
+        ensures room { KeepsCells (content_undone t.old self.log.inverses).room t.new.room }
     {
         let mut undo = self.undo;
         undo.undo_to(t, 0);
@@ -227,7 +227,7 @@ impl TxRecord {
         ensures rows { t.new.rows ≡ t.old.rows }
         ensures schema { t.new.schema ≡ t.old.schema }
         ensures gone { AreSettled t.old.schema t.old.rows t.new.room self.log.inverses }
-        ensures fewer { Keeps t.new.room t.old.room }
+        ensures fewer { KeepsCells t.new.room t.old.room }
         ensures others { (c : Cell) → ¬ Contains (all_settled t.old.schema self.log.inverses) c → Contains t.old.room c → Contains t.new.room c }
     {
         self.undo.settle(t);

@@ -4,7 +4,7 @@
 //   lines      `server`, questions and their rows
 //   logins     `server`, logging in
 //   loopback   `server`, over sockets of this machine
-//   options    `settings`
+//   options    `publisher_command`
 //   refusals   `server`, what a login, a question and a stream make of other answers
 //   relays     `server`, the stream
 //   script     a line in memory: what the server says is written before

@@ -28,10 +28,10 @@ use Rattle.session.specs.Refusals.{of_relation}
 use Rattle.session.specs.State.{Way, Direct, Worker, Spooled, Open, OpenTransactions, State, Setting, IsHere, GoesAlone, begun_at}
 use Rattle.session.specs.Kept.{is_spooled}
 use Rattle.session.specs.Table.{Next, refuse, at, of_open, gives, has_room, touches, plans, changes, change_line, subtransaction_named, learns, goes_on, aborts, aborts_open}
-use Rattle.session.specs.Told.{Told, Nothing, Opens, Gives, Commits, Aborts, Tells, IsChange}
-use Rattle.session.specs.KeptTransactions.{Keeps, spool_fault, with_item, item_back, Survives}
-use Rattle.session.specs.KnownRelations.{Knows}
-use Rattle.session.specs.Represents.{Represents}
+use Rattle.session.specs.StreamEvents.{StreamEvent, NoEvent, TransactionOpens, ItemComes, TransactionCommits, TransactionAborts, Tells, IsChange}
+use Rattle.session.specs.KeptTransactions.{TransactionsRepresent, spool_fault, with_item, item_back, Survives}
+use Rattle.session.specs.KnownRelations.{Represents}
+use Rattle.session.specs.Represents.{SessionRepresents}
 use Rattle.session.specs.Answers.{Says, NextRefuses, IsOfTables, IsWithin, AnswersMessage, AdmitsMessage, RefusesMessage, IsChangeOf}
 use Rattle.session.proofs.Totals.{same_key}
 use Rattle.session.proofs.Steps.{alone_insert, alone_remove, alone_at, none_begun, nothing_begun, moves-admitted, stays}
@@ -78,20 +78,20 @@ here_still (Block x) m xid o p some way here = goes_still (λ w. w ≢ Direct) m
 
 -- what is answered to an item that is given back, or kept
 abbrev pub step_given : ℕ → Option Item → Step
-step_given xid None = steps.Nothing
+step_given xid None = steps.NoEvent
 step_given xid (Some item) = steps.Item xid item
 
-says_given : (xid : ℕ) (way : Way) (item : Item) (size : ℕ) (back : Option Item) → back ≡ item_back way item → Says (Gives xid way item size) (step_given xid back)
+says_given : (xid : ℕ) (way : Way) (item : Item) (size : ℕ) (back : Option Item) → back ≡ item_back way item → Says (ItemComes xid way item size) (step_given xid back)
 says_given xid Direct item size back is = ap (step_given xid) is
 says_given xid Worker item size back is = ap (step_given xid) is
 says_given xid Spooled item size back is = ap (step_given xid) is
 
-within_given : (g : Setting) (xid : ℕ) (way : Way) (item : Item) (size : ℕ) → IsOfTables (length g.catalog) item → (way ≡ Direct → IsChange item) → IsWithin g (Gives xid way item size)
+within_given : (g : Setting) (xid : ℕ) (way : Way) (item : Item) (size : ℕ) → IsOfTables (length g.catalog) item → (way ≡ Direct → IsChange item) → IsWithin g (ItemComes xid way item size)
 within_given g xid Direct item size of_tables directly = (of_tables, directly refl)
 within_given g xid Worker item size of_tables directly = of_tables
 within_given g xid Spooled item size of_tables directly = of_tables
 
-within_dropped : (g : Setting) (xid : ℕ) (way : Way) → way ≢ Direct → IsWithin g (Aborts xid way)
+within_dropped : (g : Setting) (xid : ℕ) (way : Way) → way ≢ Direct → IsWithin g (TransactionAborts xid way)
 within_dropped g xid Direct streamed = streamed refl
 within_dropped g xid Worker streamed = tt
 within_dropped g xid Spooled streamed = tt
@@ -100,13 +100,13 @@ within_dropped g xid Spooled streamed = tt
 pub none_direct : (phase : Phase) (m : OpenTransactions) (xid : ℕ) (o : Open) → begun_at phase ≡ None → GoesAlone phase m → map.get m xid ≡ Some o → o.way ≢ Direct
 none_direct phase m xid o none alone some direct = let no : None ≡ Some xid = sym none ∙ alone xid o some direct in cc
 
-pub gives-admitted : (g : Setting) (v w : session_type.Session) (h : State) (xid : ℕ) (o : Open) (item : Item) (size : ℕ) (back : Option Item) (next : Next) (step : Step) → Represents g v h → map.get h.transactions xid ≡ Some o → next ≡ Ok (gives h xid item size o)
-    → back ≡ item_back o.way item → Keeps g w.transactions (map.insert h.transactions xid (with_item o item size)) → IsOfTables (length g.catalog) item → (o.way ≡ Direct → IsChange item)
+pub gives-admitted : (g : Setting) (v w : session_type.Session) (h : State) (xid : ℕ) (o : Open) (item : Item) (size : ℕ) (back : Option Item) (next : Next) (step : Step) → SessionRepresents g v h → map.get h.transactions xid ≡ Some o → next ≡ Ok (gives h xid item size o)
+    → back ≡ item_back o.way item → TransactionsRepresent g w.transactions (map.insert h.transactions xid (with_item o item size)) → IsOfTables (length g.catalog) item → (o.way ≡ Direct → IsChange item)
     → w.phase ≡ v.phase → w.relations ≡ v.relations → w.position ≡ v.position → step ≡ step_given xid back
     → AdmitsMessage g w h next step
 gives-admitted g v w h xid o item size back next step represents some e given kept of_tables directly phase relations position is = record {
   state = gives h xid item size o;
-  told = Gives xid o.way item size;
+  told = ItemComes xid o.way item size;
   stepped = e;
   represents = record {
     phase = phase ∙ represents.phase;
@@ -197,8 +197,8 @@ fault_of_relation faults.NullKey planned next is e = e (is (λ no. cc))
 fault_of_relation faults.OutOfMemory planned next is e = tt
 
 -- the session once it knows these relations, with the rest of before
-stands_learnt : (g : Setting) (v w : session_type.Session) (h : State) (relations : Relations) → Represents g v h → Knows g w.relations relations → w.phase ≡ v.phase → w.transactions ≡ v.transactions → w.position ≡ v.position
-    → Represents g w (record h { relations = relations })
+stands_learnt : (g : Setting) (v w : session_type.Session) (h : State) (relations : Relations) → SessionRepresents g v h → Represents g w.relations relations → w.phase ≡ v.phase → w.transactions ≡ v.transactions → w.position ≡ v.position
+    → SessionRepresents g w (record h { relations = relations })
 stands_learnt g v w h relations represents known phase transactions position = record {
   phase = phase ∙ represents.phase;
   here = represents.here;
@@ -209,11 +209,11 @@ stands_learnt g v w h relations represents known phase transactions position = r
 }
 
 -- the session once the relations are known anew
-pub stands_known : (g : Setting) (v w : session_type.Session) (h : State) → Represents g v h → Knows g w.relations h.relations → w.phase ≡ v.phase → w.transactions ≡ v.transactions → w.position ≡ v.position → Represents g w h
+pub stands_known : (g : Setting) (v w : session_type.Session) (h : State) → SessionRepresents g v h → Represents g w.relations h.relations → w.phase ≡ v.phase → w.transactions ≡ v.transactions → w.position ≡ v.position → SessionRepresents g w h
 stands_known g v w h = stands_learnt g v w h h.relations
 
 -- a refusal after which the relations are known as before
-pub relation_refused : (g : Setting) (v w : session_type.Session) (h : State) (next : Next) (result : Result Step Refused) (fault : RelFault) → Represents g v h → Knows g w.relations h.relations
+pub relation_refused : (g : Setting) (v w : session_type.Session) (h : State) (next : Next) (result : Result Step Refused) (fault : RelFault) → SessionRepresents g v h → Represents g w.relations h.relations
     → w.phase ≡ v.phase → w.transactions ≡ v.transactions → w.position ≡ v.position → IsErrAnd result (λ r. r ≡ of_relation fault) → NextRefuses next (of_relation fault)
     → AnswersMessage g w h next result
 relation_refused g v w h next (Ok s) fault represents known phase transactions position is cause = absurd is
@@ -222,12 +222,12 @@ relation_refused g v w h next (Err r) fault represents known phase transactions 
 -- ---- relations
 
 -- what is told does not speak of relations
-tells_learnt : (h t : State) (r : Relation) (told : Told) → Tells h t told → Tells h (learns t r) told
-tells_learnt h t r Nothing is = record { transactions = is.transactions; position = is.position; past = is.past }
-tells_learnt h t r (Opens xid way) is = record { absent = is.absent; transactions = is.transactions; position = is.position; past = is.past }
-tells_learnt h t r (Gives xid way item size) is = (is.0, is.1, record { present = is.2.present; transactions = is.2.transactions; position = is.2.position; past = is.2.past })
-tells_learnt h t r (Commits c) is = record { present = is.present; later = is.later; outside = is.outside; transactions = is.transactions; position = is.position; past = is.past }
-tells_learnt h t r (Aborts xid way) is = (is.0, is.1, record { present = is.2.present; transactions = is.2.transactions; position = is.2.position; past = is.2.past })
+tells_learnt : (h t : State) (r : Relation) (told : StreamEvent) → Tells h t told → Tells h (learns t r) told
+tells_learnt h t r NoEvent is = record { transactions = is.transactions; position = is.position; past = is.past }
+tells_learnt h t r (TransactionOpens xid way) is = record { absent = is.absent; transactions = is.transactions; position = is.position; past = is.past }
+tells_learnt h t r (ItemComes xid way item size) is = (is.0, is.1, record { present = is.2.present; transactions = is.2.transactions; position = is.2.position; past = is.2.past })
+tells_learnt h t r (TransactionCommits c) is = record { present = is.present; later = is.later; outside = is.outside; transactions = is.transactions; position = is.position; past = is.past }
+tells_learnt h t r (TransactionAborts xid way) is = (is.0, is.1, record { present = is.2.present; transactions = is.2.transactions; position = is.2.position; past = is.2.past })
 
 -- outside of blocks
 abbrev pub IsAtRest : Phase → Type 0
@@ -240,11 +240,11 @@ at_rest phase next block is =
     (λ (begun : (xid : ℕ) × (final : ℕ) × (phase ≡ Begun xid final)). ap (λ p. at p next (λ _ _. next) block) begun.2)
     is
 
-pub learns-admitted : (g : Setting) (v w : session_type.Session) (h : State) (r : Relation) (next : Next) → Represents g v h → next ≡ Ok (learns h r) → Knows g w.relations (learnt h.relations r)
-    → w.phase ≡ v.phase → w.transactions ≡ v.transactions → w.position ≡ v.position → AdmitsMessage g w h next steps.Nothing
+pub learns-admitted : (g : Setting) (v w : session_type.Session) (h : State) (r : Relation) (next : Next) → SessionRepresents g v h → next ≡ Ok (learns h r) → Represents g w.relations (learnt h.relations r)
+    → w.phase ≡ v.phase → w.transactions ≡ v.transactions → w.position ≡ v.position → AdmitsMessage g w h next steps.NoEvent
 learns-admitted g v w h r next represents e known phase transactions position = record {
   state = learns h r;
-  told = Nothing;
+  told = NoEvent;
   stepped = e;
   represents = stands_learnt g v w h (learnt h.relations r) represents known phase transactions position;
   tells = record { transactions = refl; position = refl; past = refl };
@@ -304,7 +304,7 @@ relation_full g v h r xid sub size a b next (Err e) why block line refused is =
 
 -- a relation message in a block: the item is taken, and then the relation is learnt
 pub relation_taken : (g : Setting) (v w : session_type.Session) (h : State) (r : Relation) (xid sub size : ℕ) (next : Next) (step : Step) → next ≡ touches g (learns h r) xid sub size → (taken : AdmitsMessage g v h (touches g h xid sub size) step)
-    → Knows g w.relations (learnt h.relations r) → w.phase ≡ v.phase → w.transactions ≡ v.transactions → w.position ≡ v.position
+    → Represents g w.relations (learnt h.relations r) → w.phase ≡ v.phase → w.transactions ≡ v.transactions → w.position ≡ v.position
     → AdmitsMessage g w h next step
 relation_taken g v w h r xid sub size next step line taken known phase transactions position =
     let touched = is_touched g h xid sub size taken.state taken.stepped in
@@ -322,13 +322,13 @@ relation_taken g v w h r xid sub size next step line taken known phase transacti
     }
 
 -- the session once the item is dropped again, since the relation was not learnt
-pub relation_undone : (g : Setting) (u v w : session_type.Session) (h : State) (xid sub size : ℕ) (step : Step) → Represents g u h → (taken : AdmitsMessage g v h (touches g h xid sub size) step)
-    → ((m : OpenTransactions) (o : Open) (item : Item) (bytes : ℕ) → map.get m xid ≡ Some o → Survives item → Keeps g v.transactions (map.insert m xid (with_item o item bytes)) → Keeps g w.transactions m)
-    → Knows g w.relations taken.state.relations → w.phase ≡ v.phase → w.position ≡ v.position → Represents g w h
+pub relation_undone : (g : Setting) (u v w : session_type.Session) (h : State) (xid sub size : ℕ) (step : Step) → SessionRepresents g u h → (taken : AdmitsMessage g v h (touches g h xid sub size) step)
+    → ((m : OpenTransactions) (o : Open) (item : Item) (bytes : ℕ) → map.get m xid ≡ Some o → Survives item → TransactionsRepresent g v.transactions (map.insert m xid (with_item o item bytes)) → TransactionsRepresent g w.transactions m)
+    → Represents g w.relations taken.state.relations → w.phase ≡ v.phase → w.position ≡ v.position → SessionRepresents g w h
 relation_undone g u v w h xid sub size step was taken undoes known phase position =
     let touched = is_touched g h xid sub size taken.state taken.stepped in
-    let P : State → Type 0 = λ t. Keeps g v.transactions t.transactions in
-    let Q : State → Type 0 = λ t. Knows g w.relations t.relations in
+    let P : State → Type 0 = λ t. TransactionsRepresent g v.transactions t.transactions in
+    let Q : State → Type 0 = λ t. Represents g w.relations t.relations in
     record {
       phase = phase ∙ taken.represents.phase ∙ ap (λ t. t.phase) touched.is;
       here = was.here;
@@ -345,25 +345,25 @@ aborts_found : (h : State) (m : StreamAbort) (found : Option Open) → map.get h
 aborts_found h m found e = ap (aborts_open h m) e
 
 -- the abort of an unknown transaction
-pub aborts-unknown : (g : Setting) (v : session_type.Session) (h : State) (m : StreamAbort) → Represents g v h → map.get h.transactions m.xid ≡ None → AdmitsMessage g v h (Ok (aborts h m)) steps.Nothing
+pub aborts-unknown : (g : Setting) (v : session_type.Session) (h : State) (m : StreamAbort) → SessionRepresents g v h → map.get h.transactions m.xid ≡ None → AdmitsMessage g v h (Ok (aborts h m)) steps.NoEvent
 aborts-unknown g v h m represents none = stays g v h (Ok (aborts h m)) represents (ap Ok (aborts_found h m None none))
 
 -- what is answered to the abort of a whole transaction
 abbrev pub step_dropped : ℕ → Bool → Step
-step_dropped xid true = steps.Nothing
+step_dropped xid true = steps.NoEvent
 step_dropped xid false = steps.Abort xid
 
-says_dropped : (xid : ℕ) (way : Way) → Says (Aborts xid way) (step_dropped xid (is_spooled way))
+says_dropped : (xid : ℕ) (way : Way) → Says (TransactionAborts xid way) (step_dropped xid (is_spooled way))
 says_dropped xid Direct = refl
 says_dropped xid Worker = refl
 says_dropped xid Spooled = refl
 
-pub drops-admitted : (g : Setting) (v w : session_type.Session) (h : State) (m : StreamAbort) (o : Open) (step : Step) → Represents g v h → h.phase ≡ Outside → map.get h.transactions m.xid ≡ Some o → m.subtransaction ≡ m.xid
-    → Keeps g w.transactions (map.remove h.transactions m.xid) → w.phase ≡ v.phase → w.relations ≡ v.relations → w.position ≡ v.position → step ≡ step_dropped m.xid (is_spooled o.way)
+pub drops-admitted : (g : Setting) (v w : session_type.Session) (h : State) (m : StreamAbort) (o : Open) (step : Step) → SessionRepresents g v h → h.phase ≡ Outside → map.get h.transactions m.xid ≡ Some o → m.subtransaction ≡ m.xid
+    → TransactionsRepresent g w.transactions (map.remove h.transactions m.xid) → w.phase ≡ v.phase → w.relations ≡ v.relations → w.position ≡ v.position → step ≡ step_dropped m.xid (is_spooled o.way)
     → AdmitsMessage g w h (Ok (aborts h m)) step
 drops-admitted g v w h m o step represents outside some whole kept phase relations position is = record {
   state = record h { transactions = map.remove h.transactions m.xid };
-  told = Aborts m.xid o.way;
+  told = TransactionAborts m.xid o.way;
   stepped = ap Ok (aborts_found h m (Some o) some ∙ rw (eq-eqb m.subtransaction m.xid whole));
   represents = record {
     phase = phase ∙ represents.phase;
@@ -394,8 +394,8 @@ item_back-free Spooled item e = cc
 
 -- ---- further blocks
 
-pub goes_on-admitted : (g : Setting) (v w : session_type.Session) (h : State) (xid : ℕ) → Represents g v h → h.phase ≡ Outside → map.contains_key h.transactions xid ≡ true
-    → w.phase ≡ Block xid → w.transactions ≡ v.transactions → w.relations ≡ v.relations → w.position ≡ v.position → AdmitsMessage g w h (goes_on h xid) steps.Nothing
+pub goes_on-admitted : (g : Setting) (v w : session_type.Session) (h : State) (xid : ℕ) → SessionRepresents g v h → h.phase ≡ Outside → map.contains_key h.transactions xid ≡ true
+    → w.phase ≡ Block xid → w.transactions ≡ v.transactions → w.relations ≡ v.relations → w.position ≡ v.position → AdmitsMessage g w h (goes_on h xid) steps.NoEvent
 goes_on-admitted g v w h xid represents outside is_open phase transactions relations position =
     let o = present h.transactions xid is_open in
     let streamed : o.0.way ≢ Direct = λ direct. let no : None ≡ Some xid = sym (none_begun h.phase outside) ∙ represents.alone xid o.0 o.1 direct in cc in

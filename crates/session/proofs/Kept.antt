@@ -20,11 +20,11 @@ use Rattle.session.specs.Sized.{SizedItems, item_of, size_of, bytes_of}
 use Rattle.model.specs.declared.item.Item.{Item}
 use Rattle.model.specs.declared.item.Item.TheVariants.{Change, Touch, BackTo, Last}
 use Rattle.model.specs.Survivors.{left_by}
-use Rattle.model.specs.SurvivorLaws.{survivors_by_with}
+use Rattle.model.specs.SurvivorLemmas.{survivors_by_with}
 use Rattle.savepoint.specs.Savepoints.{before_first}
 use Rattle.session.proofs.Spools.{sum-push, take-front}
 use Rattle.session.specs.Table.{new_open, room_fault, has_room}
-use Rattle.session.specs.KeptTransactions.{kept_part, Keeps, IsOpened, IsStreamed, Survives, item_back, spool_fault}
+use Rattle.session.specs.KeptTransactions.{kept_part, Represents, IsOpened, IsStreamed, Survives, item_back, spool_fault}
 use Rattle.session.specs.Kept.{is_spool, is_spooled, is_spooled_open, bytes_kept, kept_more, back_of, without_last, cut_back}
 use Rattle.session.proofs.Totals.{get-insert_same, insert-insert, insert_same, total-insert_absent, total-insert, total-remove}
 
@@ -106,11 +106,11 @@ len-remove_present m xid o some = map.len-remove nat_cmp_total m xid ∙ rw (ap 
 -- ---- a transaction more
 
 -- what is kept once a transaction is opened
-pub Keeps-insert : (g : Setting) (old new : Transactions) (m : OpenTransactions) (xid : ℕ) (way : Way) → Keeps g old m → map.get m xid ≡ None
+pub Represents-insert : (g : Setting) (old new : Transactions) (m : OpenTransactions) (xid : ℕ) (way : Way) → Represents g old m → map.get m xid ≡ None
     → Updates nat_cmp old.ways new.ways xid (Some (kept_part xid [] way)) → btree_map_len new.ways ≡ btree_map_len old.ways + 1
     → new.workers ≡ old.workers → new.working ≡ cond (has_worker way) 1 0 + old.working → new.spool ≡ old.spool → new.spooled ≡ old.spooled → spool_bytes_of xid [] way ≡ 0
-    → Keeps g new (map.insert m xid (new_open way))
-Keeps-insert g old new m xid way kept none step more workers working_is spool spooled_is empty = record {
+    → Represents g new (map.insert m xid (new_open way))
+Represents-insert g old new m xid way kept none step more workers working_is spool spooled_is empty = record {
   ways = WaysAre-insert old.ways new.ways m xid (new_open way) kept.ways step;
   count = more ∙ ap (λ n. n + 1) kept.count ∙ sym (len-insert_absent m xid (new_open way) none);
   workers = workers ∙ kept.workers;
@@ -122,11 +122,11 @@ Keeps-insert g old new m xid way kept none step more workers working_is spool sp
 }
 
 -- what is kept once a transaction is closed
-pub Keeps-remove : (g : Setting) (old new : Transactions) (m : OpenTransactions) (xid : ℕ) (o : Open) → Keeps g old m → map.get m xid ≡ Some o
+pub Represents-remove : (g : Setting) (old new : Transactions) (m : OpenTransactions) (xid : ℕ) (o : Open) → Represents g old m → map.get m xid ≡ Some o
     → Updates nat_cmp old.ways new.ways xid None → btree_map_len new.ways + 1 ≡ btree_map_len old.ways
     → new.workers ≡ old.workers → new.working ≡ old.working - cond (has_worker o.way) 1 0 → new.spool ≡ old.spool → new.spooled ≡ old.spooled - spool_bytes_of xid o.items o.way
-    → Keeps g new (map.remove m xid)
-Keeps-remove g old new m xid o kept some step less workers working_is spool spooled_is = record {
+    → Represents g new (map.remove m xid)
+Represents-remove g old new m xid o kept some step less workers working_is spool spooled_is = record {
   ways = WaysAre-remove old.ways new.ways m xid kept.ways step;
   count = let one = len-remove_present m xid o some in omega (arith, one, less, kept.count);
   workers = workers ∙ kept.workers;
@@ -166,12 +166,12 @@ len-insert_present : (m : OpenTransactions) (xid : ℕ) (o p : Open) → map.get
 len-insert_present m xid o p some = map.len-insert nat_cmp_total m xid p ∙ rw (ap is_some some)
 
 -- what is kept once a transaction has other items
-pub Keeps-change : (g : Setting) (old new : Transactions) (m : OpenTransactions) (xid : ℕ) (o p : Open) → Keeps g old m → map.get m xid ≡ Some o → p.way ≡ o.way
+pub Represents-change : (g : Setting) (old new : Transactions) (m : OpenTransactions) (xid : ℕ) (o p : Open) → Represents g old m → map.get m xid ≡ Some o → p.way ≡ o.way
     → Updates nat_cmp old.ways new.ways xid (Some (kept_part xid p.items p.way)) → btree_map_len new.ways ≡ btree_map_len old.ways
     → new.workers ≡ old.workers → new.working ≡ old.working → new.spool ≡ old.spool
     → new.spooled + spool_bytes_of xid o.items o.way ≡ old.spooled + spool_bytes_of xid p.items p.way → new.spooled < 2 ^ 64
-    → Keeps g new (map.insert m xid p)
-Keeps-change g old new m xid o p kept some way step same workers working_is spool spooled_is fits = record {
+    → Represents g new (map.insert m xid p)
+Represents-change g old new m xid o p kept some way step same workers working_is spool spooled_is fits = record {
   ways = WaysAre-insert old.ways new.ways m xid p kept.ways step;
   count = same ∙ kept.count ∙ sym (len-insert_present m xid o p some);
   workers = workers ∙ kept.workers;
@@ -191,11 +191,11 @@ Keeps-change g old new m xid o p kept some way step same workers working_is spoo
 
 -- ---- what is kept of one transaction, as it gets and drops items
 
-pub kept_value : (g : Setting) (v : Transactions) (m : OpenTransactions) (xid : ℕ) (o : Open) → Keeps g v m → map.get m xid ≡ Some o → get nat_cmp v.ways xid ≡ Some (kept_part xid o.items o.way)
+pub kept_value : (g : Setting) (v : Transactions) (m : OpenTransactions) (xid : ℕ) (o : Open) → Represents g v m → map.get m xid ≡ Some o → get nat_cmp v.ways xid ≡ Some (kept_part xid o.items o.way)
 kept_value g v m xid o kept some = kept.ways xid ∙ ap (option_map (λ (p : Open). kept_part xid p.items p.way)) some
 
 -- what was found of an open transaction is what is kept of it
-pub found_is : (g : Setting) (v : Transactions) (m : OpenTransactions) (xid : ℕ) (o : Open) (k : OpenTransaction) → Keeps g v m → map.get m xid ≡ Some o → Some k ≡ get nat_cmp v.ways xid → k ≡ kept_part xid o.items o.way
+pub found_is : (g : Setting) (v : Transactions) (m : OpenTransactions) (xid : ℕ) (o : Open) (k : OpenTransaction) → Represents g v m → map.get m xid ≡ Some o → Some k ≡ get nat_cmp v.ways xid → k ≡ kept_part xid o.items o.way
 found_is g v m xid o k kept some found = let same : Some k ≡ Some (kept_part xid o.items o.way) = found ∙ kept_value g v m xid o kept some in cc
 
 pub keeping_more : (xid : ℕ) (items : SizedItems) (item : Item) (size : ℕ) (way : Way) → Survives item → kept_more (kept_part xid items way) item size ≡ kept_part xid (items ++ (item, size) ∷ []) way
@@ -288,24 +288,24 @@ spool_fault-free g m size (Some o) free = by_way o.way free
     by_way Spooled is = cc
 
 -- what is kept once something else was written for a transaction
-pub Keeps-written : (g : Setting) (old new : Transactions) (m : OpenTransactions) (xid : ℕ) (o p : Open) (k : OpenTransaction) → Keeps g old m → map.get m xid ≡ Some o → p.way ≡ o.way
+pub Represents-written : (g : Setting) (old new : Transactions) (m : OpenTransactions) (xid : ℕ) (o p : Open) (k : OpenTransaction) → Represents g old m → map.get m xid ≡ Some o → p.way ≡ o.way
     → WritesThrough nat_cmp (nat_cmp xid) old.ways k new.ways → k ≡ kept_part xid p.items p.way
     → new.workers ≡ old.workers → new.working ≡ old.working → new.spool ≡ old.spool
     → new.spooled + spool_bytes_of xid o.items o.way ≡ old.spooled + spool_bytes_of xid p.items p.way → new.spooled < 2 ^ 64
-    → Keeps g new (map.insert m xid p)
-Keeps-written g old new m xid o p k kept some way written is workers working_is spool spooled_is fits =
+    → Represents g new (map.insert m xid p)
+Represents-written g old new m xid o p k kept some way written is workers working_is spool spooled_is fits =
     let there : IsSome (get nat_cmp old.ways xid) = ap is_some (kept_value g old m xid o kept some) in
-    Keeps-change g old new m xid o p kept some way (subst (λ (v : OpenTransaction). Updates nat_cmp old.ways new.ways xid (Some v)) is (written.3 there)) written.2 workers working_is spool spooled_is fits
+    Represents-change g old new m xid o p kept some way (subst (λ (v : OpenTransaction). Updates nat_cmp old.ways new.ways xid (Some v)) is (written.3 there)) written.2 workers working_is spool spooled_is fits
 
 -- what is kept once a transaction is again what it was
-pub Keeps-undone : (g : Setting) (old new : Transactions) (m : OpenTransactions) (xid : ℕ) (o p : Open) (k : OpenTransaction) → Keeps g old (map.insert m xid p) → map.get m xid ≡ Some o → o.way ≡ p.way
+pub Represents-undone : (g : Setting) (old new : Transactions) (m : OpenTransactions) (xid : ℕ) (o p : Open) (k : OpenTransaction) → Represents g old (map.insert m xid p) → map.get m xid ≡ Some o → o.way ≡ p.way
     → WritesThrough nat_cmp (nat_cmp xid) old.ways k new.ways → k ≡ kept_part xid o.items o.way
     → new.workers ≡ old.workers → new.working ≡ old.working → new.spool ≡ old.spool
     → new.spooled + spool_bytes_of xid p.items p.way ≡ old.spooled + spool_bytes_of xid o.items o.way → new.spooled < 2 ^ 64
-    → Keeps g new m
-Keeps-undone g old new m xid o p k kept some way written is workers working_is spool spooled_is fits =
+    → Represents g new m
+Represents-undone g old new m xid o p k kept some way written is workers working_is spool spooled_is fits =
     let back : map.insert (map.insert m xid p) xid o ≡ m = insert-insert m xid p o ∙ insert_same m xid o some in
-    subst (λ (n : OpenTransactions). Keeps g new n) back (Keeps-written g old new (map.insert m xid p) xid p o k kept (get-insert_same m xid p) way written is workers working_is spool spooled_is fits)
+    subst (λ (n : OpenTransactions). Represents g new n) back (Represents-written g old new (map.insert m xid p) xid p o k kept (get-insert_same m xid p) way written is workers working_is spool spooled_is fits)
 
 -- ---- no transaction
 
@@ -319,11 +319,11 @@ entries-empty = no_entries _ (sym (map.len-entries _) ∙ map.len-empty nat_cmp 
 -- ---- refusals
 
 -- a fault that became a refusal
-pub IsOpened-refused : (g : Setting) (v : Transactions) (m : OpenTransactions) (xid : ℕ) (result : Result (Unit {0}) Refused) (why : SessionFault) → Keeps g v m → room_fault m xid ≡ Some why → IsErrAnd result (λ e. e ≡ Session why) → IsOpened g v m xid result
+pub IsOpened-refused : (g : Setting) (v : Transactions) (m : OpenTransactions) (xid : ℕ) (result : Result (Unit {0}) Refused) (why : SessionFault) → Represents g v m → room_fault m xid ≡ Some why → IsErrAnd result (λ e. e ≡ Session why) → IsOpened g v m xid result
 IsOpened-refused g v m xid (Ok u) why kept fault is = absurd is
 IsOpened-refused g v m xid (Err e) why kept fault is = (kept, λ other. (why, fault, is))
 
-pub IsStreamed-refused : (g : Setting) (v : Transactions) (m : OpenTransactions) (xid : ℕ) (result : Result Bool Refused) (why : SessionFault) → Keeps g v m → room_fault m xid ≡ Some why → IsErrAnd result (λ e. e ≡ Session why) → IsStreamed g v m xid result
+pub IsStreamed-refused : (g : Setting) (v : Transactions) (m : OpenTransactions) (xid : ℕ) (result : Result Bool Refused) (why : SessionFault) → Represents g v m → room_fault m xid ≡ Some why → IsErrAnd result (λ e. e ≡ Session why) → IsStreamed g v m xid result
 IsStreamed-refused g v m xid (Ok u) why kept fault is = absurd is
 IsStreamed-refused g v m xid (Err e) why kept fault is = (kept, λ other. (why, fault, is))
 

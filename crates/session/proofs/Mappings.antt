@@ -17,7 +17,7 @@ use Rattle.relcache.specs.declared.fault.RelFault.TheVariants.{UnknownRelation}
 use Rattle.session.specs.declared.relations.KnownRelations.{KnownRelations}
 use Rattle.session.specs.State.{Setting, State}
 use Rattle.session.specs.Table.{tables_of, truncate_change}
-use Rattle.session.specs.KnownRelations.{IsMappingOf, Knows, IsPlanned}
+use Rattle.session.specs.KnownRelations.{IsMappingOf, Represents, IsPlanned}
 use Rattle.relcache.specs.Answer.{IsFaultOf}
 use Rattle.model.specs.declared.change.Change as change_type
 use Rattle.relcache.proofs.Learnt.{relation_of-learnt_other}
@@ -38,8 +38,8 @@ on_some P Q None step is = is
 on_some P Q (Some x) step is = step x is
 
 -- what is known once a relation is learnt, and its OID's mapping is dropped
-pub Knows-learnt : (g : Setting) (v w : KnownRelations) (relations : Relations) (r : Relation) → Knows g v relations → w.learnt ≡ learnt v.learnt r → Updates nat_cmp v.mappings w.mappings r.oid None → Knows g w (learnt relations r)
-Knows-learnt g v w relations r known is step = record {
+pub Represents-learnt : (g : Setting) (v w : KnownRelations) (relations : Relations) (r : Relation) → Represents g v relations → w.learnt ≡ learnt v.learnt r → Updates nat_cmp v.mappings w.mappings r.oid None → Represents g w (learnt relations r)
+Represents-learnt g v w relations r known is step = record {
   learnt = is ∙ ap (λ rs. learnt rs r) known.learnt;
   mappings = λ oid.
       ⊎_elim
@@ -55,7 +55,7 @@ Knows-learnt g v w relations r known is step = record {
 -- ---- refusals
 
 -- a fault of planning, through `?`
-pub IsPlanned-refused : (g : Setting) (v : KnownRelations) (relations : Relations) (planned : Result change_type.Change RelFault) (result : Result change_type.Change RelFault) (fault : RelFault) → IsFaultOf planned fault → Knows g v relations
+pub IsPlanned-refused : (g : Setting) (v : KnownRelations) (relations : Relations) (planned : Result change_type.Change RelFault) (result : Result change_type.Change RelFault) (fault : RelFault) → IsFaultOf planned fault → Represents g v relations
     → IsErrAnd result (λ e. e ≡ fault) → IsPlanned g v relations planned result
 IsPlanned-refused g v relations planned (Ok c) fault of known is = absurd is
 IsPlanned-refused g v relations planned (Err e) fault of known is = (rw is of, known)
@@ -68,19 +68,19 @@ tables_from before rest = rest >>= (λ tables. Ok (before ++ tables))
 
 -- The tables of the first i relations, where all of them have one; the relations stay.
 pub record HasTables (g : Setting) (h : State) (v : KnownRelations) (oids : List ℕ) (i : ℕ) (tables : List ℕ) : Type 0 where
-  pub known : Knows g v h.relations
+  pub known : Represents g v h.relations
   pub so_far : tables_of g.catalog h.relations oids ≡ tables_from tables (tables_of g.catalog h.relations (drop i oids))
   pub named : All (λ table. table < length g.catalog) tables
 
 -- the same, whatever the state
 abbrev pub TablesSoFar : List Definition → KnownRelations → KnownRelations → List ℕ → ℕ → List ℕ → Type 0
-TablesSoFar definitions old new oids i tables = (g : Setting) (h : State) → g.catalog ≡ definitions → Knows g old h.relations → HasTables g h new oids i tables
+TablesSoFar definitions old new oids i tables = (g : Setting) (h : State) → g.catalog ≡ definitions → Represents g old h.relations → HasTables g h new oids i tables
 
 from_none : (rest : Result (List ℕ) RelFault) → rest ≡ tables_from [] rest
 from_none (Ok tables) = refl
 from_none (Err fault) = refl
 
-pub HasTables-start : (g : Setting) (h : State) (v : KnownRelations) (oids : List ℕ) → Knows g v h.relations → HasTables g h v oids 0 []
+pub HasTables-start : (g : Setting) (h : State) (v : KnownRelations) (oids : List ℕ) → Represents g v h.relations → HasTables g h v oids 0 []
 HasTables-start g h v oids known = record { known = known; so_far = from_none (tables_of g.catalog h.relations oids); named = search rules }
 
 from_next : (before : List ℕ) (table : ℕ) (rest : Result (List ℕ) RelFault) → tables_from before (rest >>= (λ tables. Ok (table ∷ tables))) ≡ tables_from (before ++ table ∷ []) rest
@@ -91,7 +91,7 @@ abbrev tables_after : Result Mapped RelFault → Result (List ℕ) RelFault → 
 tables_after first rest = first >>= (λ m. rest >>= (λ tables. Ok (m.table ∷ tables)))
 
 pub HasTables-next : (g : Setting) (h : State) (v w : KnownRelations) (oids : List ℕ) (i : ℕ) (tables : List ℕ) (m : Mapped) → HasTables g h v oids i tables → i < length oids
-    → IsMappingOf g h.relations (get_or oids i 0) m → Knows g w h.relations → HasTables g h w oids (i + 1) (tables ++ m.table ∷ [])
+    → IsMappingOf g h.relations (get_or oids i 0) m → Represents g w h.relations → HasTables g h w oids (i + 1) (tables ++ m.table ∷ [])
 HasTables-next g h v w oids i tables m has within is known = record {
   known = known;
   so_far =

@@ -17,9 +17,9 @@ use Rattle.messages.specs.declared.message.Begin.{Begin}
 use Rattle.session.specs.State.{Open, OpenTransactions, State, Setting, Way, Direct, Worker, Spooled, Committed, IsHere, GoesAlone, begun_at, worker_count}
 use Rattle.session.specs.Table.{Next, refuse, at, begins, new_open, room_fault, unless_fault, leaves_block, opens, next_way, commits, closes, of_open}
 use Rattle.std.proofs.lemmas.Bool.{ltb-true}
-use Rattle.session.specs.Told.{Nothing, Opens, Commits, items_handed_out}
-use Rattle.session.specs.KeptTransactions.{way_if, kept_part, Keeps, IsFault}
-use Rattle.session.specs.Represents.{Represents}
+use Rattle.session.specs.StreamEvents.{NoEvent, TransactionOpens, TransactionCommits, items_handed_out}
+use Rattle.session.specs.KeptTransactions.{way_if, kept_part, Represents, IsFault}
+use Rattle.session.specs.Represents.{SessionRepresents}
 use Rattle.session.specs.Answers.{Says, HandsOut, NextRefuses, IsWithin, AnswersMessage, AdmitsMessage}
 use Rattle.session.specs.Kept.{items_kept}
 use Rattle.session.specs.Sized.{SizedItems}
@@ -36,7 +36,7 @@ err_is (Ok x) r is = absurd is
 err_is (Err e) r is = ap Err is
 
 -- a refusal that changed nothing, where the table has it
-pub refused : (g : Setting) (v : session_type.Session) (h : State) (next : Next) (result : Result Step Refused) (why : SessionFault) → Represents g v h → next ≡ refuse why → result ≡ Err (Session why) → AnswersMessage g v h next result
+pub refused : (g : Setting) (v : session_type.Session) (h : State) (next : Next) (result : Result Step Refused) (why : SessionFault) → SessionRepresents g v h → next ≡ refuse why → result ≡ Err (Session why) → AnswersMessage g v h next result
 refused g v h next (Ok s) why represents e is = cc
 refused g v h next (Err r) why represents e is = let same : r ≡ Session why = cc in record { represents = represents; cause = rw same e }
 
@@ -94,8 +94,8 @@ pub nothing_begun : (p : Phase) (xid : ℕ) → p ≡ Outside → (x : ℕ) → 
 nothing_begun p xid e x begun = let no : None ≡ Some x = sym (none_begun p e) ∙ begun in cc
 
 -- the session once it is in this phase and has these transactions, with the relations and the position of before
-stands_moved : (g : Setting) (v w : session_type.Session) (h : State) (phase : Phase) (m : OpenTransactions) → Represents g v h → IsHere phase m → GoesAlone phase m → Keeps g w.transactions m
-    → w.phase ≡ phase → w.relations ≡ v.relations → w.position ≡ v.position → Represents g w (record h { phase = phase; transactions = m })
+stands_moved : (g : Setting) (v w : session_type.Session) (h : State) (phase : Phase) (m : OpenTransactions) → SessionRepresents g v h → IsHere phase m → GoesAlone phase m → Represents g w.transactions m
+    → w.phase ≡ phase → w.relations ≡ v.relations → w.position ≡ v.position → SessionRepresents g w (record h { phase = phase; transactions = m })
 stands_moved g v w h phase m represents here alone kept is relations position = record {
   phase = is;
   here = here;
@@ -106,11 +106,11 @@ stands_moved g v w h phase m represents here alone kept is relations position = 
 }
 
 -- a message that changes no more than the phase, by which the same transaction is begun: nothing is told
-pub moves-admitted : (g : Setting) (v w : session_type.Session) (h : State) (phase : Phase) (next : Next) → Represents g v h → IsHere phase h.transactions → begun_at h.phase ≡ begun_at phase → next ≡ Ok (record h { phase = phase })
-    → w.phase ≡ phase → w.transactions ≡ v.transactions → w.relations ≡ v.relations → w.position ≡ v.position → AdmitsMessage g w h next steps.Nothing
+pub moves-admitted : (g : Setting) (v w : session_type.Session) (h : State) (phase : Phase) (next : Next) → SessionRepresents g v h → IsHere phase h.transactions → begun_at h.phase ≡ begun_at phase → next ≡ Ok (record h { phase = phase })
+    → w.phase ≡ phase → w.transactions ≡ v.transactions → w.relations ≡ v.relations → w.position ≡ v.position → AdmitsMessage g w h next steps.NoEvent
 moves-admitted g v w h phase next represents here same stepped is transactions relations position = record {
   state = record h { phase = phase };
-  told = Nothing;
+  told = NoEvent;
   stepped = stepped;
   represents = stands_moved g v w h phase h.transactions represents here (alone_at h.phase phase h.transactions represents.alone same) (rw transactions represents.transactions) is relations position;
   tells = record { transactions = refl; position = refl; past = refl };
@@ -119,8 +119,8 @@ moves-admitted g v w h phase next represents here same stepped is transactions r
 }
 
 -- a transaction that was not opened: the session represents the state of before, and the table has the fault of its room, unless memory was refused
-opening_refused : (g : Setting) (v w : session_type.Session) (h t : State) (xid : ℕ) (next : Next) (result : Result Step Refused) (r : Refused) → Represents g v h
-    → Keeps g w.transactions h.transactions × IsFault (room_fault h.transactions xid) r → next ≡ unless_fault (room_fault h.transactions xid) t
+opening_refused : (g : Setting) (v w : session_type.Session) (h t : State) (xid : ℕ) (next : Next) (result : Result Step Refused) (r : Refused) → SessionRepresents g v h
+    → Represents g w.transactions h.transactions × IsFault (room_fault h.transactions xid) r → next ≡ unless_fault (room_fault h.transactions xid) t
     → w.phase ≡ v.phase → w.relations ≡ v.relations → w.position ≡ v.position → result ≡ Err r
     → AnswersMessage g w h next result
 opening_refused g v w h t xid next (Ok s) r represents kept line phase relations position is = cc
@@ -135,13 +135,13 @@ opening_refused g v w h t xid next (Err e) r represents kept line phase relation
 abbrev pub begun : State → Begin → State
 begun h m = record h { phase = Begun m.xid m.final_lsn; transactions = map.insert h.transactions m.xid (new_open Direct) }
 
-pub begins-admitted : (g : Setting) (v w : session_type.Session) (h : State) (m : Begin) (b : ℕ → ℕ → Next) (c : ℕ → Next) → Represents g v h → v.phase ≡ Outside
-    → (room_fault h.transactions m.xid ≡ None) × Keeps g w.transactions (map.insert h.transactions m.xid (new_open Direct))
+pub begins-admitted : (g : Setting) (v w : session_type.Session) (h : State) (m : Begin) (b : ℕ → ℕ → Next) (c : ℕ → Next) → SessionRepresents g v h → v.phase ≡ Outside
+    → (room_fault h.transactions m.xid ≡ None) × Represents g w.transactions (map.insert h.transactions m.xid (new_open Direct))
     → w.phase ≡ Begun m.xid m.final_lsn → w.relations ≡ v.relations → w.position ≡ v.position
     → AdmitsMessage g w h (at h.phase (begins h m) b c) (steps.Begin m.xid)
 begins-admitted g v w h m b c represents outside opened_is phase relations position = record {
   state = begun h m;
-  told = Opens m.xid Direct;
+  told = TransactionOpens m.xid Direct;
   stepped = at_outside h.phase (begins h m) b c (sym represents.phase ∙ outside) ∙ ap (λ o. unless_fault o (begun h m)) opened_is.0;
   represents = record {
     phase = phase;
@@ -158,8 +158,8 @@ begins-admitted g v w h m b c represents outside opened_is phase relations posit
   within = tt;
 }
 
-pub begins-refused : (g : Setting) (v w : session_type.Session) (h : State) (m : Begin) (b : ℕ → ℕ → Next) (c : ℕ → Next) (result : Result Step Refused) (r : Refused) → Represents g v h → v.phase ≡ Outside
-    → Keeps g w.transactions h.transactions × IsFault (room_fault h.transactions m.xid) r
+pub begins-refused : (g : Setting) (v w : session_type.Session) (h : State) (m : Begin) (b : ℕ → ℕ → Next) (c : ℕ → Next) (result : Result Step Refused) (r : Refused) → SessionRepresents g v h → v.phase ≡ Outside
+    → Represents g w.transactions h.transactions × IsFault (room_fault h.transactions m.xid) r
     → w.phase ≡ v.phase → w.relations ≡ v.relations → w.position ≡ v.position → result ≡ Err r
     → AnswersMessage g w h (at h.phase (begins h m) b c) result
 begins-refused g v w h m b c result r represents outside kept phase relations position is =
@@ -168,9 +168,9 @@ begins-refused g v w h m b c result r represents outside kept phase relations po
 
 -- ---- in a block
 
-pub stops-admitted : (g : Setting) (v w : session_type.Session) (h : State) (xid : ℕ) (a : Next) (b : ℕ → ℕ → Next) → Represents g v h → v.phase ≡ Block xid
+pub stops-admitted : (g : Setting) (v w : session_type.Session) (h : State) (xid : ℕ) (a : Next) (b : ℕ → ℕ → Next) → SessionRepresents g v h → v.phase ≡ Block xid
     → w.phase ≡ Outside → w.transactions ≡ v.transactions → w.relations ≡ v.relations → w.position ≡ v.position
-    → AdmitsMessage g w h (at h.phase a b (λ _. Ok (leaves_block h))) steps.Nothing
+    → AdmitsMessage g w h (at h.phase a b (λ _. Ok (leaves_block h))) steps.NoEvent
 stops-admitted g v w h xid a b represents block phase transactions relations position =
     let was : h.phase ≡ Block xid = sym represents.phase ∙ block in
     moves-admitted g v w h Outside (at h.phase a b (λ _. Ok (leaves_block h))) represents tt (ap begun_at was) (ap (λ p. at p a b (λ _. Ok (leaves_block h))) was) phase transactions relations position
@@ -180,7 +180,7 @@ stops-admitted g v w h xid a b represents block phase transactions relations pos
 -- what is answered once it is open
 abbrev pub step_if : ℕ → Bool → Step
 step_if xid true = steps.Open xid
-step_if xid false = steps.Nothing
+step_if xid false = steps.NoEvent
 
 chosen : (b : Bool) → (if b then Worker else Spooled) ≡ way_if b
 chosen true = refl
@@ -190,7 +190,7 @@ not_direct : (b : Bool) → way_if b ≢ Direct
 not_direct true = λ e. cc
 not_direct false = λ e. cc
 
-said : (xid : ℕ) (b : Bool) → Says (Opens xid (way_if b)) (step_if xid b)
+said : (xid : ℕ) (b : Bool) → Says (TransactionOpens xid (way_if b)) (step_if xid b)
 said xid true = refl
 said xid false = refl
 
@@ -199,17 +199,17 @@ abbrev pub streamed : State → ℕ → Way → State
 streamed h xid way = record h { phase = Block xid; transactions = map.insert h.transactions xid (new_open way) }
 
 -- a worker is given only where there are any
-within_opened : (g : Setting) (n xid : ℕ) (got : Bool) → got ≡ nat_lt n g.workers → IsWithin g (Opens xid (way_if got))
+within_opened : (g : Setting) (n xid : ℕ) (got : Bool) → got ≡ nat_lt n g.workers → IsWithin g (TransactionOpens xid (way_if got))
 within_opened g n xid true e = let free : n < g.workers = ltb-true n g.workers (sym e) in omega arith
 within_opened g n xid false e = tt
 
-pub opens-admitted : (g : Setting) (v w : session_type.Session) (h : State) (xid : ℕ) (got : Bool) (step : Step) → Represents g v h → h.phase ≡ Outside
-    → (room_fault h.transactions xid ≡ None) × (got ≡ nat_lt (worker_count h.transactions) g.workers) × Keeps g w.transactions (map.insert h.transactions xid (new_open (way_if got)))
+pub opens-admitted : (g : Setting) (v w : session_type.Session) (h : State) (xid : ℕ) (got : Bool) (step : Step) → SessionRepresents g v h → h.phase ≡ Outside
+    → (room_fault h.transactions xid ≡ None) × (got ≡ nat_lt (worker_count h.transactions) g.workers) × Represents g w.transactions (map.insert h.transactions xid (new_open (way_if got)))
     → w.phase ≡ Block xid → w.relations ≡ v.relations → w.position ≡ v.position → step ≡ step_if xid got
     → AdmitsMessage g w h (opens h xid (next_way g h) (Block xid)) step
 opens-admitted g v w h xid got step represents outside kept phase relations position is = record {
   state = streamed h xid (way_if got);
-  told = Opens xid (way_if got);
+  told = TransactionOpens xid (way_if got);
   stepped =
       let way : next_way g h ≡ way_if got = ap (λ b. if b then Worker else Spooled) (sym kept.1) ∙ chosen got in
       ap (λ o. unless_fault o (streamed h xid (next_way g h))) kept.0 ∙ ap (λ way'. Ok (streamed h xid way')) way;
@@ -226,8 +226,8 @@ opens-admitted g v w h xid got step represents outside kept phase relations posi
   within = within_opened g (worker_count h.transactions) xid got kept.1;
 }
 
-pub opens-refused : (g : Setting) (v w : session_type.Session) (h : State) (xid : ℕ) (result : Result Step Refused) (r : Refused) → Represents g v h
-    → Keeps g w.transactions h.transactions × IsFault (room_fault h.transactions xid) r
+pub opens-refused : (g : Setting) (v w : session_type.Session) (h : State) (xid : ℕ) (result : Result Step Refused) (r : Refused) → SessionRepresents g v h
+    → Represents g w.transactions h.transactions × IsFault (room_fault h.transactions xid) r
     → w.phase ≡ v.phase → w.relations ≡ v.relations → w.position ≡ v.position → result ≡ Err r
     → AnswersMessage g w h (opens h xid (next_way g h) (Block xid)) result
 opens-refused g v w h xid result r represents kept phase relations position is =
@@ -256,14 +256,14 @@ closes-old h xid commit end o some le = ap (λ p. of_open p (λ q. closes h xid 
 closes-new : (h : State) (xid commit end : ℕ) (o : Open) → map.get h.transactions xid ≡ Some o → h.position < end → commits h xid commit end ≡ Ok (closed h xid (record { commit = commit; end = end }) o)
 closes-new h xid commit end o some lt = ap (λ p. of_open p (λ q. closes h xid (record { commit = commit; end = end }) q)) some ∙ rw (lt-leb end h.position lt)
 
-pub closes-admitted : (g : Setting) (v w : session_type.Session) (h : State) (xid commit end : ℕ) (way : OpenTransaction) (step : Step) → Represents g v h
-    → (o : Open) × (map.get h.transactions xid ≡ Some o) × (way ≡ kept_part xid o.items o.way) × Keeps g w.transactions (map.remove h.transactions xid)
+pub closes-admitted : (g : Setting) (v w : session_type.Session) (h : State) (xid commit end : ℕ) (way : OpenTransaction) (step : Step) → SessionRepresents g v h
+    → (o : Open) × (map.get h.transactions xid ≡ Some o) × (way ≡ kept_part xid o.items o.way) × Represents g w.transactions (map.remove h.transactions xid)
     → ((x : ℕ) → begun_at h.phase ≡ Some x → x ≡ xid) → h.position < end → w.phase ≡ Outside → w.relations ≡ v.relations → w.position ≡ end
     → ((c : Committed) → c.xid ≡ xid → c.info ≡ record { commit = commit; end = end } → items_kept way ≡ items_handed_out c.xid c.way c.items → HandsOut c step)
     → AdmitsMessage g w h (commits h xid commit end) step
 closes-admitted g v w h xid commit end way step represents was only later phase relations position hands = record {
   state = closed h xid (record { commit = commit; end = end }) was.0;
-  told = Commits (final xid (record { commit = commit; end = end }) was.0);
+  told = TransactionCommits (final xid (record { commit = commit; end = end }) was.0);
   stepped = closes-new h xid commit end was.0 was.1 later;
   represents = record {
     phase = phase;
@@ -290,8 +290,8 @@ pub follows_same : (g : Setting) (v : session_type.Session) (h : State) (next ot
 follows_same g v h next other result e follows = let P : Next → Type 0 = λ n. AnswersMessage g v h n result in subst P (sym e) follows
 
 -- a message without effect
-pub stays : (g : Setting) (v : session_type.Session) (h : State) (next : Next) → Represents g v h → next ≡ Ok h → AdmitsMessage g v h next steps.Nothing
-stays g v h next represents e = record { state = h; told = Nothing; stepped = e; represents = represents; tells = record { transactions = refl; position = refl; past = refl }; says = refl; within = tt }
+pub stays : (g : Setting) (v : session_type.Session) (h : State) (next : Next) → SessionRepresents g v h → next ≡ Ok h → AdmitsMessage g v h next steps.NoEvent
+stays g v h next represents e = record { state = h; told = NoEvent; stepped = e; represents = represents; tells = record { transactions = refl; position = refl; past = refl }; says = refl; within = tt }
 
 -- what is the same in each phase
 pub at_same : (phase : Phase) (next : Next) → at phase next (λ _ _. next) (λ _. next) ≡ next

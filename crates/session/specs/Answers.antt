@@ -14,14 +14,14 @@ use Rattle.session.specs.declared.step.Step.TheVariants as steps
 use Rattle.session.specs.declared.session.Session as session_type
 use Rattle.session.specs.State.{Direct, Worker, Spooled, Open, Committed, State, Setting}
 use Rattle.session.specs.Table.{Next, refuse, plans, gives, has_room, change_line}
-use Rattle.session.specs.Told.{Told, Nothing, Opens, Gives, Commits, Aborts, Tells, IsChange, items_handed_out}
+use Rattle.session.specs.StreamEvents.{StreamEvent, NoEvent, TransactionOpens, ItemComes, TransactionCommits, TransactionAborts, Tells, IsChange, items_handed_out}
 use Rattle.model.specs.Named.{NamesTables}
 use Rattle.session.specs.Lawful.{Admits, Refuses}
 use Rattle.session.specs.Represents.{Represents}
 
 -- a commit hands out the transaction's number, what the commit says, and the items
 abbrev pub HandsOut : Committed → Step → Type 0
-HandsOut c steps.Nothing = ⊥
+HandsOut c steps.NoEvent = ⊥
 HandsOut c (steps.Begin xid) = ⊥
 HandsOut c (steps.Open xid) = ⊥
 HandsOut c (steps.Item xid item) = ⊥
@@ -29,18 +29,18 @@ HandsOut c (steps.Commit xid info items) = (xid ≡ c.xid) × (info ≡ c.info) 
 HandsOut c (steps.Abort xid) = ⊥
 
 -- The answer says what the message tells; of a spooled transaction it says nothing but the commit.
-abbrev pub Says : Told → Step → Type 0
-Says Nothing step = step ≡ steps.Nothing
-Says (Opens xid Direct) step = step ≡ steps.Begin xid
-Says (Opens xid Worker) step = step ≡ steps.Open xid
-Says (Opens xid Spooled) step = step ≡ steps.Nothing
-Says (Gives xid Direct item size) step = step ≡ steps.Item xid item
-Says (Gives xid Worker item size) step = step ≡ steps.Item xid item
-Says (Gives xid Spooled item size) step = step ≡ steps.Nothing
-Says (Commits c) step = HandsOut c step
-Says (Aborts xid Direct) step = step ≡ steps.Abort xid
-Says (Aborts xid Worker) step = step ≡ steps.Abort xid
-Says (Aborts xid Spooled) step = step ≡ steps.Nothing
+abbrev pub Says : StreamEvent → Step → Type 0
+Says NoEvent step = step ≡ steps.NoEvent
+Says (TransactionOpens xid Direct) step = step ≡ steps.Begin xid
+Says (TransactionOpens xid Worker) step = step ≡ steps.Open xid
+Says (TransactionOpens xid Spooled) step = step ≡ steps.NoEvent
+Says (ItemComes xid Direct item size) step = step ≡ steps.Item xid item
+Says (ItemComes xid Worker item size) step = step ≡ steps.Item xid item
+Says (ItemComes xid Spooled item size) step = step ≡ steps.NoEvent
+Says (TransactionCommits c) step = HandsOut c step
+Says (TransactionAborts xid Direct) step = step ≡ steps.Abort xid
+Says (TransactionAborts xid Worker) step = step ≡ steps.Abort xid
+Says (TransactionAborts xid Spooled) step = step ≡ steps.NoEvent
 
 -- the item's change, if it has one, names tables among the first so many
 abbrev pub IsOfTables : ℕ → Item → Type 0
@@ -51,23 +51,23 @@ IsOfTables count Last = Unit {0}
 
 -- What is told keeps to the setting: a worker is given only where there are any, an item names tables of the catalog
 -- alone, a transaction that goes directly gets changes alone and is never dropped.
-abbrev pub IsWithin : Setting → Told → Type 0
-IsWithin g Nothing = Unit {0}
-IsWithin g (Opens xid Direct) = Unit {0}
-IsWithin g (Opens xid Worker) = 0 < g.workers
-IsWithin g (Opens xid Spooled) = Unit {0}
-IsWithin g (Gives xid Direct item size) = IsOfTables (length g.catalog) item × IsChange item
-IsWithin g (Gives xid Worker item size) = IsOfTables (length g.catalog) item
-IsWithin g (Gives xid Spooled item size) = IsOfTables (length g.catalog) item
-IsWithin g (Commits c) = Unit {0}
-IsWithin g (Aborts xid Direct) = ⊥
-IsWithin g (Aborts xid Worker) = Unit {0}
-IsWithin g (Aborts xid Spooled) = Unit {0}
+abbrev pub IsWithin : Setting → StreamEvent → Type 0
+IsWithin g NoEvent = Unit {0}
+IsWithin g (TransactionOpens xid Direct) = Unit {0}
+IsWithin g (TransactionOpens xid Worker) = 0 < g.workers
+IsWithin g (TransactionOpens xid Spooled) = Unit {0}
+IsWithin g (ItemComes xid Direct item size) = IsOfTables (length g.catalog) item × IsChange item
+IsWithin g (ItemComes xid Worker item size) = IsOfTables (length g.catalog) item
+IsWithin g (ItemComes xid Spooled item size) = IsOfTables (length g.catalog) item
+IsWithin g (TransactionCommits c) = Unit {0}
+IsWithin g (TransactionAborts xid Direct) = ⊥
+IsWithin g (TransactionAborts xid Worker) = Unit {0}
+IsWithin g (TransactionAborts xid Spooled) = Unit {0}
 
 -- A message was admitted: the table has the next state, and the answer says what it tells.
 pub record AdmitsMessage (g : Setting) (v : session_type.Session) (h : State) (next : Next) (answer : Step) : Type 0 where
   pub state : State
-  pub told : Told
+  pub told : StreamEvent
   pub stepped : next ≡ Ok state
   pub represents : Represents g v state
   pub tells : Tells h state told
@@ -102,7 +102,7 @@ IsChangeOf g h size sub result =
 pub record AdmitsPayload (g : Setting) (v : session_type.Session) (h : State) (payload : List ℕ) (answer : Step) : Type 0 where
   pub message : Message
   pub state : State
-  pub told : Told
+  pub told : StreamEvent
   pub admits : Admits g h payload message state
   pub represents : Represents g v state
   pub tells : Tells h state told

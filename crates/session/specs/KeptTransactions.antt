@@ -23,7 +23,7 @@ kept_part xid items Worker = kept_parts.Worker
 kept_part xid items Spooled = kept_parts.Spooled (sized_survivors xid items)
 
 -- The open transactions as they are kept, and how much of the limits they use.
-pub record Keeps (g : Setting) (v : Transactions) (m : OpenTransactions) : Type 0 where
+pub record Represents (g : Setting) (v : Transactions) (m : OpenTransactions) : Type 0 where
   pub ways : (xid : ℕ) → get nat_cmp v.ways xid ≡ option_map (λ (o : Open). kept_part xid o.items o.way) (map.get m xid)
   pub count : btree_map_len v.ways ≡ map.len m
   pub workers : v.workers ≡ g.workers
@@ -44,7 +44,7 @@ IsFault fault refused = refused ≢ OutOfMemory → (why : SessionFault) × (fau
 -- The transaction goes directly now, or it can't be opened, and all is as it was.
 abbrev pub IsOpened : Setting → Transactions → OpenTransactions → ℕ → Result (Unit {0}) Refused → Type 0
 IsOpened g v m xid result =
-    MatchResult result (λ _. (room_fault m xid ≡ None) × Keeps g v (map.insert m xid (new_open Direct))) (λ refused. Keeps g v m × IsFault (room_fault m xid) refused)
+    MatchResult result (λ _. (room_fault m xid ≡ None) × Represents g v (map.insert m xid (new_open Direct))) (λ refused. Represents g v m × IsFault (room_fault m xid) refused)
 
 -- a streamed transaction that got a worker, or that got none
 abbrev pub way_if : Bool → Way
@@ -55,15 +55,15 @@ way_if false = Spooled
 abbrev pub IsStreamed : Setting → Transactions → OpenTransactions → ℕ → Result Bool Refused → Type 0
 IsStreamed g v m xid result =
     MatchResult result
-    (λ got. (room_fault m xid ≡ None) × (got ≡ nat_lt (worker_count m) g.workers) × Keeps g v (map.insert m xid (new_open (way_if got))))
-    (λ refused. Keeps g v m × IsFault (room_fault m xid) refused)
+    (λ got. (room_fault m xid ≡ None) × (got ≡ nat_lt (worker_count m) g.workers) × Represents g v (map.insert m xid (new_open (way_if got))))
+    (λ refused. Represents g v m × IsFault (room_fault m xid) refused)
 
 -- The transaction was open and is no longer, or it wasn't.
 abbrev pub IsClosed : Setting → Transactions → OpenTransactions → ℕ → Option OpenTransaction → Type 0
 IsClosed g v m xid result =
     MatchOption result
-    ((map.get m xid ≡ None) × Keeps g v m)
-    (λ was. (o : Open) × (map.get m xid ≡ Some o) × (was ≡ kept_part xid o.items o.way) × Keeps g v (map.remove m xid))
+    ((map.get m xid ≡ None) × Represents g v m)
+    (λ was. (o : Open) × (map.get m xid ≡ Some o) × (was ≡ kept_part xid o.items o.way) × Represents g v (map.remove m xid))
 
 -- why an item with a payload of so many bytes can't be taken: its transaction is spooled, and the spools are full
 abbrev pub spool_fault : Setting → OpenTransactions → ℕ → Option Open → Option SessionFault
@@ -90,4 +90,4 @@ item_back Spooled item = None
 -- The open transaction got the item; or memory was refused, and all is as it was.
 abbrev pub IsItemTaken : {E : Type 0} → Setting → Transactions → OpenTransactions → ℕ → Open → Item → ℕ → Result (Option Item) E → Type 0
 IsItemTaken g v m xid o item size result =
-    MatchResult result (λ back. (back ≡ item_back o.way item) × Keeps g v (map.insert m xid (with_item o item size))) (λ _. Keeps g v m)
+    MatchResult result (λ back. (back ≡ item_back o.way item) × Represents g v (map.insert m xid (with_item o item size))) (λ _. Represents g v m)

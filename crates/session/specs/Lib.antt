@@ -2,7 +2,7 @@ pub mod Sized
 pub mod State
 pub mod Table
 pub mod Lawful
-pub mod Told
+pub mod StreamEvents
 pub mod Refusals
 pub mod KeptTransactions
 pub mod KnownRelations

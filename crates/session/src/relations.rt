@@ -22,11 +22,11 @@ impl KnownRelations {
     ghost use Rattle.relcache.specs.Published.{Relations, learnt as with_learnt};
     ghost use Rattle.session.specs.State.{Setting, State};
     ghost use Rattle.session.specs.Table.{row_change, truncate_change};
-    ghost use Rattle.session.specs.KnownRelations.{Knows, IsLearnt, IsTableFound, IsPlanned};
+    ghost use Rattle.session.specs.KnownRelations.{Represents, IsLearnt, IsTableFound, IsPlanned};
 
     /// None yet. It takes no memory.
     pub(crate) fn new(alloc: Global) -> KnownRelations
-        ensures { (g : Setting) → Knows g result [] }
+        ensures { (g : Setting) → Represents g result [] }
     {
         KnownRelations {
             alloc,
@@ -38,7 +38,7 @@ impl KnownRelations {
     /// Learns a relation, in the place of the one that its OID named before. Refused for memory, it
     /// changes nothing.
     pub(crate) fn learn(&mut self, relation: &Relation) -> Result<(), RelFault>
-        ensures { (g : Setting) (relations : Relations) → Knows g self.old relations
+        ensures { (g : Setting) (relations : Relations) → Represents g self.old relations
             → IsLearnt g self.new relations (with_learnt relations relation.now) result }
     {
         self.learnt.learn(relation)?;
@@ -53,7 +53,7 @@ impl KnownRelations {
         oid: Oid,
         row: &RowMessage,
     ) -> Result<Change, RelFault>
-        ensures { (g : Setting) (h : State) → g.catalog ≡ catalog.now → Knows g self.old h.relations
+        ensures { (g : Setting) (h : State) → g.catalog ≡ catalog.now → Represents g self.old h.relations
             → IsPlanned g self.new h.relations (row_change g h oid row.now) result }
     {
         if let Some(mapping) = self.mappings.get(&oid) {
@@ -67,7 +67,7 @@ impl KnownRelations {
 
     /// The change of a truncate of these relations.
     pub(crate) fn wipe(&mut self, catalog: &Catalog, oids: &[Oid]) -> Result<Change, RelFault>
-        ensures { (g : Setting) (h : State) → g.catalog ≡ catalog.now → Knows g self.old h.relations
+        ensures { (g : Setting) (h : State) → g.catalog ≡ catalog.now → Represents g self.old h.relations
             → IsPlanned g self.new h.relations (truncate_change g h oids.now) result }
     {
         let mut tables = Vec::new(self.alloc);
@@ -81,7 +81,7 @@ impl KnownRelations {
 
     /// The table of a relation.
     fn table(&mut self, catalog: &Catalog, oid: Oid) -> Result<TableId, RelFault>
-        ensures { (g : Setting) (relations : Relations) → g.catalog ≡ catalog.now → Knows g self.old relations
+        ensures { (g : Setting) (relations : Relations) → g.catalog ≡ catalog.now → Represents g self.old relations
             → IsTableFound g self.new relations oid result }
     {
         if let Some(mapping) = self.mappings.get(&oid) {

@@ -31,7 +31,7 @@ impl Session {
     ghost use Rattle.std.specs.FinMap as map;
     ghost use Rattle.session.specs.State.{Setting, State, Open, start, begun_at};
     ghost use Rattle.session.specs.State.{Direct};
-    ghost use Rattle.session.specs.Told.{IsChange};
+    ghost use Rattle.session.specs.StreamEvents.{IsChange};
     ghost use Rattle.session.specs.Table as table;
     ghost use Rattle.session.specs.KeptTransactions.{Survives};
     ghost use Rattle.session.specs.Represents.{Represents};

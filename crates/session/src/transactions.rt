@@ -31,7 +31,7 @@ impl OpenTransaction {
         matches!(self, OpenTransaction::Spooled(_))
     }
 
-    /// Keeps an item of a spooled transaction, and gives any other back. Refused for memory, it
+    /// Represents an item of a spooled transaction, and gives any other back. Refused for memory, it
     /// changes nothing.
     fn keep(&mut self, item: Item, size: u64) -> Result<Option<Item>, OutOfMemory>
         ensures ok { IfOk result (λ back. (self.new ≡ kept_more self.old item size) × (back ≡ back_of self.old item)) }
@@ -91,13 +91,13 @@ impl Transactions {
     ghost use Rattle.model.specs.declared.item.Item.{Item as AnyItem};
     ghost use Rattle.model.specs.declared.item.Item.TheVariants as items;
     ghost use Rattle.session.specs.State.{Setting, OpenTransactions, Open, spool_bytes};
-    ghost use Rattle.session.specs.KeptTransactions.{Keeps, RoomIs, IsOpened, IsStreamed, IsClosed, IsItemTaken, Survives, spool_fault, with_item};
+    ghost use Rattle.session.specs.KeptTransactions.{Represents, RoomIs, IsOpened, IsStreamed, IsClosed, IsItemTaken, Survives, spool_fault, with_item};
     ghost use Rattle.session.specs.Kept.{is_spooled, is_spooled_open};
     ghost use Rattle.session.specs.Table.{room_fault, has_room};
 
     /// No transaction. It takes no memory.
     pub(crate) fn new(alloc: Global, workers: usize, spool: u64) -> Transactions
-        ensures { (g : Setting) → g.workers ≡ workers → g.spool ≡ spool → Keeps g result map.empty }
+        ensures { (g : Setting) → g.workers ≡ workers → g.spool ≡ spool → Represents g result map.empty }
     {
         Transactions {
             alloc,
@@ -111,21 +111,21 @@ impl Transactions {
 
     /// Whether the transaction is open.
     pub(crate) fn contains(&self, xid: Xid) -> bool
-        ensures { (g : Setting) (m : OpenTransactions) → Keeps g self.now m → result ≡ map.contains_key m xid }
+        ensures { (g : Setting) (m : OpenTransactions) → Represents g self.now m → result ≡ map.contains_key m xid }
     {
         self.ways.contains_key(&xid)
     }
 
     /// Whether the transaction is open and spooled.
     fn is_spooled(&self, xid: Xid) -> bool
-        ensures { (g : Setting) (m : OpenTransactions) → Keeps g self.now m → result ≡ is_spooled_open (map.get m xid) }
+        ensures { (g : Setting) (m : OpenTransactions) → Represents g self.now m → result ≡ is_spooled_open (map.get m xid) }
     {
         matches!(self.ways.get(&xid), Some(OpenTransaction::Spooled(_)))
     }
 
     /// Opens a transaction whose items are applied as they come.
     pub(crate) fn begin(&mut self, xid: Xid) -> Result<(), Refused>
-        ensures { (g : Setting) (m : OpenTransactions) → Keeps g self.old m → IsOpened g self.new m xid result }
+        ensures { (g : Setting) (m : OpenTransactions) → Represents g self.old m → IsOpened g self.new m xid result }
     {
         self.check_room(xid)?;
         self.ways.insert(xid, OpenTransaction::Direct)?;
@@ -134,7 +134,7 @@ impl Transactions {
 
     /// Opens a streamed transaction. It answers whether the transaction gets a worker.
     pub(crate) fn stream(&mut self, xid: Xid) -> Result<bool, Refused>
-        ensures { (g : Setting) (m : OpenTransactions) → Keeps g self.old m → IsStreamed g self.new m xid result }
+        ensures { (g : Setting) (m : OpenTransactions) → Represents g self.old m → IsStreamed g self.new m xid result }
     {
         self.check_room(xid)?;
         if self.working < self.workers {
@@ -150,7 +150,7 @@ impl Transactions {
 
     /// That a transaction of this number may be opened.
     fn check_room(&self, xid: Xid) -> Result<(), SessionFault>
-        ensures { (g : Setting) (m : OpenTransactions) → Keeps g self.now m → RoomIs (room_fault m xid) result }
+        ensures { (g : Setting) (m : OpenTransactions) → Represents g self.now m → RoomIs (room_fault m xid) result }
     {
         if self.contains(xid) {
             Err(SessionFault::AlreadyOpen)
@@ -163,7 +163,7 @@ impl Transactions {
 
     /// That an item of an open transaction, with a payload of so many bytes, may be taken.
     pub(crate) fn check_spool(&self, xid: Xid, size: u64) -> Result<(), SessionFault>
-        ensures { (g : Setting) (m : OpenTransactions) → Keeps g self.now m → RoomIs (spool_fault g m size (map.get m xid)) result }
+        ensures { (g : Setting) (m : OpenTransactions) → Represents g self.now m → RoomIs (spool_fault g m size (map.get m xid)) result }
     {
         if self.is_spooled(xid) && !self.has_spool(size) {
             Err(SessionFault::SpoolFull)
@@ -174,7 +174,7 @@ impl Transactions {
 
     /// Whether the spools may keep so many bytes more.
     fn has_spool(&self, size: u64) -> bool
-        ensures { (g : Setting) (m : OpenTransactions) → Keeps g self.now m → result ≡ nat_le (spool_bytes m + size) g.spool }
+        ensures { (g : Setting) (m : OpenTransactions) → Represents g self.now m → result ≡ nat_le (spool_bytes m + size) g.spool }
     {
         match self.spooled.checked_add(size) {
             Some(spooled) => spooled <= self.spool,
@@ -190,7 +190,7 @@ impl Transactions {
         item: Item,
         size: u64,
     ) -> Result<Option<Item>, OutOfMemory>
-        ensures { (g : Setting) (m : OpenTransactions) (o : Open) → Keeps g self.old m → map.get m xid ≡ Some o
+        ensures { (g : Setting) (m : OpenTransactions) (o : Open) → Represents g self.old m → map.get m xid ≡ Some o
             → has_room g m size o.way ≡ true → Survives item → IsItemTaken g self.new m xid o item size result }
     {
         let Some(way) = self.ways.get_mut(&xid) else {
@@ -206,7 +206,7 @@ impl Transactions {
     /// Undoes that a transaction took its last item: a spooled one drops it.
     pub(crate) fn drop_last(&mut self, xid: Xid)
         ensures { (g : Setting) (m : OpenTransactions) (o : Open) (item : AnyItem) (size : ℕ) → map.get m xid ≡ Some o → Survives item
-            → Keeps g self.old (map.insert m xid (with_item o item size)) → Keeps g self.new m }
+            → Represents g self.old (map.insert m xid (with_item o item size)) → Represents g self.new m }
     {
         if let Some(way) = self.ways.get_mut(&xid) {
             let freed = way.drop_last();
@@ -216,8 +216,8 @@ impl Transactions {
 
     /// Rolls a subtransaction back. It answers whether the transaction is spooled.
     pub(crate) fn roll_back(&mut self, xid: Xid, sub: Xid) -> bool
-        ensures { (g : Setting) (m : OpenTransactions) (o : Open) → Keeps g self.old m → map.get m xid ≡ Some o → sub ≢ xid
-            → (result ≡ is_spooled o.way) × Keeps g self.new (map.insert m xid (with_item o (items.BackTo sub) 0)) }
+        ensures { (g : Setting) (m : OpenTransactions) (o : Open) → Represents g self.old m → map.get m xid ≡ Some o → sub ≢ xid
+            → (result ≡ is_spooled o.way) × Represents g self.new (map.insert m xid (with_item o (items.BackTo sub) 0)) }
     {
         let Some(way) = self.ways.get_mut(&xid) else {
             return false;
@@ -233,7 +233,7 @@ impl Transactions {
 
     /// Closes a transaction. It answers what it was, if it was open.
     pub(crate) fn close(&mut self, xid: Xid) -> Option<OpenTransaction>
-        ensures { (g : Setting) (m : OpenTransactions) → Keeps g self.old m → IsClosed g self.new m xid result }
+        ensures { (g : Setting) (m : OpenTransactions) → Represents g self.old m → IsClosed g self.new m xid result }
     {
         let way = self.ways.remove(&xid)?;
         match &way {

@@ -1,4 +1,4 @@
 pub mod Reads
-pub mod Laws
-pub mod ReadLaws
+pub mod Statements
+pub mod ReadLemmas
 pub mod SightCode

@@ -17,7 +17,7 @@ use Rattle.world.specs.World.{Past, World}
 use Rattle.world.specs.Steps.{Fault, ReadsAfter}
 use Rattle.engine.specs.declared.events.LineEvent.{LineEvent}
 use Rattle.engine.specs.Events.{commits_in, ends_in, world_of}
-use Rattle.origin.specs.Commits.{Commits}
+use Rattle.origin.specs.Commits.{PublishedCommits}
 use Rattle.snapshot.specs.declared.fault.ReadFault.{ReadFault}
 use Rattle.snapshot.specs.declared.fault.ReadFault.TheVariants.{UnknownTable, PositionUnknown, OutOfMemory}
 
@@ -29,7 +29,7 @@ pub record Sight : Type 0 where
   -- what it has seen happen to the store's transactions
   pub line : Half LineEvent
   -- the published commits that it has seen
-  pub published : Commits
+  pub published : PublishedCommits
 
 -- the commits that it has seen
 abbrev pub commits_seen : Sight → List Past

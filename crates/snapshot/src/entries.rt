@@ -1,7 +1,7 @@
 // Positions among the entries of a journal.
 ghost use Rattle.std.specs.Prelude.{◌≡◌, Some, MatchOption, slice_get};
 ghost use Rattle.std.specs.List.{Contains};
-ghost use Rattle.snapshot.specs.ReadLaws.{positions_of};
+ghost use Rattle.snapshot.specs.ReadLemmas.{positions_of};
 
 use engine::Entry;
 use model::Lsn;

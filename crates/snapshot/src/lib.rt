@@ -23,8 +23,8 @@
 //   laws      what follows of what a reader has seen
 //
 //   specs/Reads      what a reader knows, and what its answers tell
-//   specs/Laws       the law as a statement, which `laws` promises
-//   specs/ReadLaws   what a store tells of its commits, as a reader sees it
+//   specs/Statements       the law as a statement, which `laws` promises
+//   specs/ReadLemmas   what a store tells of its commits, as a reader sees it
 //
 // Each read holds the store's lock for as long as it takes, and a reader may wait for it; `position`
 // may wait for whoever publishes. It stands on `engine` for the store and on `origin` for the position.

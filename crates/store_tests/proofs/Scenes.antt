@@ -14,7 +14,7 @@ use Rattle.model.specs.Rows.{Schema}
 use Rattle.tokens.specs.Half.{Name, Half}
 use Rattle.tokens.specs.Lists.{OpenList}
 use Rattle.world.specs.World.{Opened, OpenOnes, World}
-use Rattle.world.specs.ListingLaws.{xid_cases, got_other, gone_same, gone_other, same_by_xid}
+use Rattle.world.specs.ListingLemmas.{xid_cases, got_other, gone_same, gone_other, same_by_xid}
 use Rattle.world.specs.Steps.{Fault, Acted, IsDone, IsSkipped, Held, Clashed, AlreadyOpen, TooManyOpen, Stopped, OutOfMemory, Opens, Acts, Touches}
 use Rattle.engine.specs.declared.events.Event.{Event}
 use Rattle.engine.specs.declared.events.LineEvent.{LineEvent}

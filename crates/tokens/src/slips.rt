@@ -134,9 +134,9 @@ impl<X> Split<Row<X>> for SlipShare {
 struct Opening;
 
 impl<X> Play<(), Row<X>> for Opening {
-    ghost use Rattle.tokens.specs.ManyLists.{Opens};
+    ghost use Rattle.tokens.specs.ManyLists.{OpensList};
 
-    ghost then = { λ st me _ next. Opens st.first me next };
+    ghost then = { λ st me _ next. OpensList st.first me next };
 }
 
 struct Appending<N> {
@@ -166,7 +166,7 @@ impl<X> Book<X> {
         Ok(Book { table, seat })
     }
 
-    /// Opens a number, with an empty list, and gives its one slip.
+    /// OpensList a number, with an empty list, and gives its one slip.
     pub fn open(&mut self, number: u32) -> Slip<X>
         requires { map.get self.old.lists number ≡ None }
         ensures book { self.new ≡ with_list self.old number [] }

@@ -4,12 +4,12 @@ use Rattle.std.proofs.Common.{sym, ◌∙◌, ap}
 use Rattle.model.specs.declared.change.Change.{Change}
 use Rattle.model.specs.Rows.{Rows}
 use Rattle.model.specs.Effect.{effect, inverse, back, all_back}
-use Rattle.model.specs.EffectLaws.{back_of_inverse}
+use Rattle.model.specs.EffectLemmas.{back_of_inverse}
 use Rattle.indexes.specs.Content.{Content}
 use Rattle.change.specs.declared.inverse.Inverse.{Inverse}
 use Rattle.change.specs.Inverse.{edits_of}
 use Rattle.undo.specs.Undo.{content_back}
-use Rattle.undo.specs.UndoLaws.{rows_undone, content_undone_last}
+use Rattle.undo.specs.UndoLemmas.{rows_undone, content_undone_last}
 
 -- putting the inverse of a change back gives the rows before it
 pub rows_back : (old new : Content) (c : Change) (i : Inverse) → new.rows ≡ effect old.schema old.rows c → edits_of i ≡ inverse old.schema old.rows c → back new.rows (edits_of i) ≡ old.rows

@@ -7,13 +7,13 @@ use Rattle.model.specs.declared.row.Row.{Row}
 use Rattle.model.specs.declared.cell.Cell.{Cell}
 use Rattle.model.specs.Rows.{Rows, Schema}
 use Rattle.model.specs.Effect.{Edits, back, all_back}
-use Rattle.model.specs.EffectLaws.{all_back_append}
-use Rattle.indexes.specs.Content.{Content, Keeps}
+use Rattle.model.specs.EffectLemmas.{all_back_append}
+use Rattle.indexes.specs.Content.{Content, KeepsCells}
 use Rattle.change.specs.declared.inverse.Inverse.{Inverse}
 use Rattle.change.specs.declared.inverse.Inverse.TheVariants.{Take, Put, Replace, Unwipe}
 use Rattle.change.specs.Inverse.{edits_of, room_back, IsKnown, CanPutBack}
-use Rattle.undo.specs.Undo.{content_back, content_undone, CanUndo, AreKnownAll, cells_settled, all_settled, IsGivenUp, IsSettled, AreSettled}
-use Rattle.undo.specs.UndoLaws.{content_undone_last, CanUndo_last, CanUndo_keeps, room_undone_keeps}
+use Rattle.undo.specs.Undo.{content_back, content_undone, CanUndo, AreKnownAll, cells_settled, all_settled, IsReleased, IsSettled, AreSettled}
+use Rattle.undo.specs.UndoLemmas.{content_undone_last, CanUndo_last, CanUndo_keeps, room_undone_keeps}
 
 pub drop_last : {X : Type 0} (xs : List X) (x : X) (n : ℕ) → n ≤ length xs → drop n (xs ++ x ∷ []) ≡ drop n xs ++ x ∷ []
 drop_last xs x zero below = refl
@@ -39,7 +39,7 @@ module _ (t new : Content) (all rest : List Inverse) (i : Inverse) (mark : ℕ) 
   pub newest_can : CanPutBack t i
   newest_can = parted.0
 
-  module _ (schema : new.schema ≡ t.schema) (rows : new.rows ≡ back t.rows (edits_of i)) (room : Keeps (room_back t.room i) new.room) where
+  module _ (schema : new.schema ≡ t.schema) (rows : new.rows ≡ back t.rows (edits_of i)) (room : KeepsCells (room_back t.room i) new.room) where
     pub left_can : CanUndo new (drop mark rest)
     left_can = CanUndo_keeps (content_back t i) new (sym schema) (sym rows) room (drop mark rest) parted.1
 
@@ -50,9 +50,9 @@ module _ (t new : Content) (all rest : List Inverse) (i : Inverse) (mark : ℕ) 
         ∙ ap (all_back t.rows) (sym (edits_last (drop mark rest) i))
         ∙ ap (λ (is : List Inverse). all_back t.rows (map edits_of is)) (sym since)
 
-    pub left_room : Keeps (content_undone t (drop mark all)).room (content_undone new (drop mark rest)).room
+    pub left_room : KeepsCells (content_undone t (drop mark all)).room (content_undone new (drop mark rest)).room
     left_room =
-        subst (λ (u : Content). Keeps u.room (content_undone new (drop mark rest)).room)
+        subst (λ (u : Content). KeepsCells u.room (content_undone new (drop mark rest)).room)
         (sym (ap (content_undone t) since ∙ content_undone_last t (drop mark rest) i))
         (room_undone_keeps (content_back t i) new (sym schema) (sym rows) room (drop mark rest))
 
@@ -101,17 +101,17 @@ more_settled schema is i d below c none =
     ((λ sooner. free (settled_last schema (take i is) (get_or is i d) c (inl sooner))), (λ here. free (settled_last schema (take i is) (get_or is i d) c (inr here))))
 
 -- what is given up stays so in less room
-module _ (schema : Schema) (rows : Rows) (room less : List Cell) (fewer : Keeps less room) where
-  given_up_in_less : (table : ℕ) (key : Key) (row : Row) → IsGivenUp schema rows room table key row → IsGivenUp schema rows less table key row
-  given_up_in_less table key row given = record {
+module _ (schema : Schema) (rows : Rows) (room less : List Cell) (fewer : KeepsCells less room) where
+  released_in_less : (table : ℕ) (key : Key) (row : Row) → IsReleased schema rows room table key row → IsReleased schema rows less table key row
+  released_in_less table key row given = record {
     slot = λ free there. given.slot free (fewer _ there);
     values = λ i columns values at has none there. given.values i columns values at has none (fewer _ there);
   }
 
   settled_in_less : (i : Inverse) → IsSettled schema rows room i → IsSettled schema rows less i
   settled_in_less (Take table key) given = tt
-  settled_in_less (Put table key row) given = given_up_in_less table key row given
-  settled_in_less (Replace table new_key key row) given = given_up_in_less table key row given
+  settled_in_less (Put table key row) given = released_in_less table key row given
+  settled_in_less (Replace table new_key key row) given = released_in_less table key row given
   settled_in_less (Unwipe wiped) given = tt
 
   pub all_settled_in_less : (is : List Inverse) → AreSettled schema rows room is → AreSettled schema rows less is

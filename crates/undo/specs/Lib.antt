@@ -1,11 +1,11 @@
 pub mod Undo
-pub mod UndoLaws
+pub mod UndoLemmas
 pub mod LogCode
 pub use Rattle.change.specs.Inverse
-pub use Rattle.change.specs.InverseLaws
+pub use Rattle.change.specs.InverseLemmas
 pub use Rattle.indexes.specs.Content
 pub mod Others
-pub mod OthersLaws
+pub mod OthersLemmas
 pub mod LogOf
-pub mod LogLaws
-pub mod Laws
+pub mod LogLemmas
+pub mod Statements

@@ -15,7 +15,7 @@ use Rattle.model.specs.Rows.{Rows, Schema}
 use Rattle.model.specs.Effect.{Skip, outcome, effect, inverse}
 use Rattle.model.specs.Cells.{table_of, overlaps, cells_of}
 use Rattle.model.specs.Footprint.{footprint}
-use Rattle.indexes.specs.Content.{Keeps}
+use Rattle.indexes.specs.Content.{KeepsCells}
 use Rattle.change.specs.declared.inverse.Inverse.{Inverse}
 use Rattle.change.specs.Inverse.{edits_of}
 use Rattle.change.specs.Altered.{cells_altered}
@@ -25,7 +25,7 @@ use Rattle.change.specs.Applied.{IsDone}
 pub data IsLogOf (schema : Schema) : Rows → List Change → List Inverse → Type 0 where
   no_change : (rows : Rows) → IsLogOf schema rows [] []
   with_done : (rows : Rows) (c : Change) (cs : List Change) (i : Inverse) (is : List Inverse)
-      → IsDone (outcome schema rows c) → edits_of i ≡ inverse schema rows c → Keeps (cells_altered i) (footprint schema rows c)
+      → IsDone (outcome schema rows c) → edits_of i ≡ inverse schema rows c → KeepsCells (cells_altered i) (footprint schema rows c)
       → IsLogOf schema (effect schema rows c) cs is → IsLogOf schema rows (c ∷ cs) (i ∷ is)
   with_skipped : (rows : Rows) (c : Change) (cs : List Change) (is : List Inverse)
       → outcome schema rows c ≡ Skip → IsLogOf schema (effect schema rows c) cs is → IsLogOf schema rows (c ∷ cs) is

@@ -3,7 +3,7 @@
 --     content_back, content_undone      the tables with an inverse put back; with all of a list, the last of them first
 --     CanUndo      each inverse can be put back once those after it are
 --     cells_settled      the cells whose empty slots a log gives up
---     IsGivenUp, IsSettled, AreSettled      a row's are given up; those of an inverse; those of all
+--     IsReleased, IsSettled, AreSettled      a row's are given up; those of an inverse; those of all
 use Rattle.std.specs.Prelude.{◌≡◌, ℕ, ◌+◌, false, List, [], ◌∷◌, ◌++◌, Some, slice_get}
 use Rattle.std.specs.List.{Contains}
 use Rattle.model.specs.declared.key.Key.{Key}
@@ -55,7 +55,7 @@ all_settled schema [] = []
 all_settled schema (inverse ∷ inverses) = cells_settled schema inverse ++ all_settled schema inverses
 
 -- the key's cell is out of the room where no row stands, and a cell of the row's unique values where no row has them
-pub record IsGivenUp (schema : Schema) (rows : Rows) (room : List Cell) (table : ℕ) (key : Key) (row : Record) : Type 0 where
+pub record IsReleased (schema : Schema) (rows : Rows) (room : List Cell) (table : ℕ) (key : Key) (row : Record) : Type 0 where
   pub slot : HasNoRow rows table key → ¬ Contains room (Row table key)
   pub values : (i : ℕ) (columns : List ℕ) (values : Key) → slice_get (keys_at schema table).uniques i ≡ Some columns
       → values_in columns row ≡ Some values → are_taken rows table columns values ≡ false → ¬ Contains room (Uniq table (i + 1) values)
@@ -63,8 +63,8 @@ pub record IsGivenUp (schema : Schema) (rows : Rows) (room : List Cell) (table :
 -- of an inverse that puts a row back: that row's
 abbrev pub IsSettled : Schema → Rows → List Cell → Inverse → Type 0
 IsSettled schema rows room (Take table key) = Unit {0}
-IsSettled schema rows room (Put table key row) = IsGivenUp schema rows room table key row
-IsSettled schema rows room (Replace table new_key key row) = IsGivenUp schema rows room table key row
+IsSettled schema rows room (Put table key row) = IsReleased schema rows room table key row
+IsSettled schema rows room (Replace table new_key key row) = IsReleased schema rows room table key row
 IsSettled schema rows room (Unwipe wiped) = Unit {0}
 
 -- each row that one of the inverses puts back has its cells given up, where no row fills them

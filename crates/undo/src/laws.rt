@@ -1,6 +1,6 @@
 // The laws of undoing. Each function does nothing: its contract is a law, over all tables, and the
 // check of this crate proves it.
-ghost use Rattle.undo.specs.Laws.{AppliedCanBeUndone, MoreRoomCanBeUndone, PastChangeCanBeUndone, PastUndoCanBeUndone, PastGoneCanBeUndone, PastSettleCanBeUndone, SettledIsSecured, NeededIsFilled, PastOthersIsLog};
+ghost use Rattle.undo.specs.Statements.{AppliedCanBeUndone, MoreRoomCanBeUndone, PastChangeCanBeUndone, PastUndoCanBeUndone, PastGoneCanBeUndone, PastSettleCanBeUndone, SettledIsSecured, NeededIsFilled, PastOthersIsLog};
 
 /// What was just applied can be undone, and then what could be before it.
 pub fn applied_can_be_undone()

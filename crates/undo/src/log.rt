@@ -4,7 +4,7 @@ ghost use Rattle.std.specs.Option.{option_map};
 ghost use Rattle.model.specs.declared.cell.Cell.{Cell};
 ghost use Rattle.model.specs.Effect.{effect, all_back};
 ghost use Rattle.model.specs.Named.{NamesTables};
-ghost use Rattle.indexes.specs.Content.{Keeps};
+ghost use Rattle.indexes.specs.Content.{KeepsCells};
 ghost use Rattle.change.specs.Inverse.{edits_of, IsKnown};
 ghost use Rattle.change.specs.Refusal.{HasNoClash, ClashesAs};
 ghost use Rattle.undo.specs.Undo.{content_undone, CanUndo, AreKnownAll, cells_settled, all_settled, IsSettled, AreSettled};
@@ -112,7 +112,7 @@ impl UndoLog {
         requires can { CanUndo t.old (drop mark self.old.inverses) }
         ensures rows { t.new.rows ≡ all_back t.old.rows (map edits_of (drop mark self.old.inverses)) }
         ensures left { self.new.inverses ≡ take mark self.old.inverses }
-        ensures room { Keeps (content_undone t.old (drop mark self.old.inverses)).room t.new.room }
+        ensures room { KeepsCells (content_undone t.old (drop mark self.old.inverses)).room t.new.room }
         ensures schema { t.new.schema ≡ t.old.schema }
         ensures log_room { self.new.room + mark ≡ self.old.room + length self.old.inverses }
     {
@@ -127,7 +127,7 @@ impl UndoLog {
         ensures rows { t.new.rows ≡ t.old.rows }
         ensures schema { t.new.schema ≡ t.old.schema }
         ensures gone { AreSettled t.old.schema t.old.rows t.new.room self.now.inverses }
-        ensures fewer { Keeps t.new.room t.old.room }
+        ensures fewer { KeepsCells t.new.room t.old.room }
         ensures others { (c : Cell) → ¬ Contains (all_settled t.old.schema self.now.inverses) c → Contains t.old.room c → Contains t.new.room c }
     {
         settle_all(self.inverses.as_slice(), t);
@@ -139,7 +139,7 @@ fn undo_last(inverses: &mut Vec<Inverse>, t: &mut Tables, mark: usize)
     requires can { CanUndo t.old (drop mark inverses.old.items) }
     ensures rows { t.new.rows ≡ all_back t.old.rows (map edits_of (drop mark inverses.old.items)) }
     ensures left { inverses.new.items ≡ take mark inverses.old.items }
-    ensures room { Keeps (content_undone t.old (drop mark inverses.old.items)).room t.new.room }
+    ensures room { KeepsCells (content_undone t.old (drop mark inverses.old.items)).room t.new.room }
     ensures schema { t.new.schema ≡ t.old.schema }
     ensures len { vec_len inverses.new ≡ mark }
     ensures capacity { vec_capacity inverses.new ≡ vec_capacity inverses.old }
@@ -155,7 +155,7 @@ fn settle_all(inverses: &[Inverse], t: &mut Tables)
     ensures rows { t.new.rows ≡ t.old.rows }
     ensures schema { t.new.schema ≡ t.old.schema }
     ensures gone { AreSettled t.old.schema t.old.rows t.new.room inverses.now }
-    ensures fewer { Keeps t.new.room t.old.room }
+    ensures fewer { KeepsCells t.new.room t.old.room }
     ensures others { (c : Cell) → ¬ Contains (all_settled t.old.schema inverses.now) c → Contains t.old.room c → Contains t.new.room c }
 {
     for inverse in inverses {
@@ -169,7 +169,7 @@ fn settle_one(inverse: &Inverse, t: &mut Tables)
     ensures rows { t.new.rows ≡ t.old.rows }
     ensures schema { t.new.schema ≡ t.old.schema }
     ensures gone { IsSettled t.old.schema t.old.rows t.new.room inverse.now }
-    ensures fewer { Keeps t.new.room t.old.room }
+    ensures fewer { KeepsCells t.new.room t.old.room }
     ensures others { (c : Cell) → ¬ Contains (cells_settled t.old.schema inverse.now) c → Contains t.old.room c → Contains t.new.room c }
 {
     match inverse {

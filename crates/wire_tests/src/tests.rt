@@ -1,7 +1,7 @@
 // The files, and what each tests or gives the others.
 //
 //   catalogs      `catalog`
-//   connections   `connection`
+//   connections   `tcp`
 //   framing       `frames`
 //   payloads      `messages`
 //   streams       `session`, and `relcache` through it

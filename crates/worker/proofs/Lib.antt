@@ -1,1 +1,1 @@
-mod PostLists
+mod OutboxLists

@@ -1,3 +1,3 @@
 pub mod Working
-pub mod WorkingLaws
-pub mod Post
+pub mod WorkingLemmas
+pub mod Outbox

@@ -19,8 +19,8 @@ use Rattle.ring.specs.Ends.{Taking}
 use Rattle.world.specs.World.{Opened}
 use Rattle.engine.specs.declared.events.Event.{Event}
 use Rattle.engine.specs.declared.events.Event.TheVariants.{Done, Wants}
-use Rattle.live.specs.declared.answers.EngineFault.{EngineFault}
-use Rattle.live.specs.declared.answers.EngineFault.TheVariants.{AlreadyOpen, TooManyOpen, Clash as ClashFault, Stopped as StoppedFault, OutOfMemory as NoMemory}
+use Rattle.live_tables.specs.declared.answers.EngineFault.{EngineFault}
+use Rattle.live_tables.specs.declared.answers.EngineFault.TheVariants.{AlreadyOpen, TooManyOpen, Clash as ClashFault, Stopped as StoppedFault, OutOfMemory as NoMemory}
 use Rattle.engine.specs.Events.{opened_by}
 use Rattle.worker.specs.declared.ended.Ended.{Ended}
 use Rattle.worker.specs.declared.ended.Ended.TheVariants.{Last as AtLast, Doomed, Clashed, Stopped, OutOfMemory}
@@ -30,7 +30,7 @@ use Rattle.worker.specs.declared.ended.Tried.TheVariants.{Done as WasDone, Held 
 -- what a job knows
 pub record Working : Type 0 where
   -- the number of its lane
-  pub lane : ℕ
+  pub worker : ℕ
   -- the number of its transaction
   pub xid : ℕ
   -- what happened to the transaction
@@ -40,7 +40,7 @@ pub record Working : Type 0 where
 
 -- what it knows, by lane, ticket and ring
 abbrev pub working : ℕ → OpenList Event → Taking Item → Working
-working its_lane ticket its_taker = record { lane = its_lane; xid = ticket.number; events = ticket.list; taker = its_taker }
+working its_worker ticket its_taker = record { worker = its_worker; xid = ticket.number; events = ticket.list; taker = its_taker }
 
 -- the items that its transaction has done
 abbrev pub done_in : Working → List Item
@@ -64,7 +64,7 @@ pub record IsInStep (its_ring : TableId) (j : Working) : Type 0 where
 
 -- It has the same transaction and the same lane, and all that was done before.
 pub record GoesOn (old new : Working) : Type 0 where
-  pub lane : new.lane ≡ old.lane
+  pub worker : new.worker ≡ old.worker
   pub xid : new.xid ≡ old.xid
   pub ring : new.taker.ring ≡ old.taker.ring
   pub events : Begins old.events new.events

@@ -8,7 +8,7 @@ ghost use Rattle.worker.specs.Working.{working, done_in, IsInStep, GoesOn, HasNe
 use crate::ended::Ended;
 use crate::gate::Gate;
 use crate::item::WorkItem;
-use crate::names::LaneNames;
+use crate::names::RingNames;
 use crate::tries::try_until_done;
 use engine::{SharedStore, StoreNames, Ticket};
 use model::{Item, Xid};
@@ -23,37 +23,37 @@ use std::sync::{Condvar, Mutex, Wait};
 /// or clashed is the first item after them (`IsInStep`). So whoever brings the two ends of the ring
 /// together knows which items are done and which are left.
 #[derive(Debug, Drop)]
-pub struct Job<N: StoreNames, L: LaneNames> {
+pub struct Job<N: StoreNames, L: RingNames> {
     ticket: Ticket,
     taker: Taker<WorkItem<N>>,
-    lane: usize,
+    worker: usize,
     of: PhantomData<L>,
 }
 
-impl<N: StoreNames, L: LaneNames> Model for Job<N, L> {
+impl<N: StoreNames, L: RingNames> Model for Job<N, L> {
     ghost use Rattle.worker.specs.Working.{Working, working, IsInStep};
     ghost use Rattle.std.specs.Prelude.{◌≡◌};
 
     ghost Value = { Working };
 
-    ghost view = { λ j. working j.lane j.ticket j.taker };
+    ghost view = { λ j. working j.worker j.ticket j.taker };
 
-    ghost invariant = { λ j. (j.ticket.name ≡ N.tickets) × IsInStep (L.ring j.lane) (working j.lane j.ticket j.taker) };
+    ghost invariant = { λ j. (j.ticket.name ≡ N.tickets) × IsInStep (L.ring j.worker) (working j.worker j.ticket j.taker) };
 }
 
-impl<N: StoreNames, L: LaneNames> Job<N, L> {
+impl<N: StoreNames, L: RingNames> Job<N, L> {
     /// A job of a transaction that has done nothing yet, by a ring of which nothing is acknowledged.
-    pub fn new(ticket: Ticket, taker: Taker<WorkItem<N>>, lane: usize) -> Job<N, L>
+    pub fn new(ticket: Ticket, taker: Taker<WorkItem<N>>, worker: usize) -> Job<N, L>
         requires belongs { ticket.name ≡ N.tickets }
-        requires ring { taker.ring ≡ L.ring lane }
+        requires ring { taker.ring ≡ L.ring worker }
         requires first { opened_by ticket.list ≡ record { items = []; wants = None } }
         requires acked { taker.acked ≡ [] }
-        ensures { result ≡ working lane ticket taker }
+        ensures { result ≡ working worker ticket taker }
     {
         Job {
             ticket,
             taker,
-            lane,
+            worker,
             of: PhantomData,
         }
     }
@@ -62,22 +62,22 @@ impl<N: StoreNames, L: LaneNames> Job<N, L> {
     pub fn split(self) -> (Ticket, Taker<WorkItem<N>>)
         ensures ticket { result.0 ≡ open_list N.tickets self.xid self.events }
         ensures taker { result.1 ≡ self.taker }
-        ensures step { IsInStep (L.ring self.lane) self }
+        ensures step { IsInStep (L.ring self.worker) self }
     {
         let Job {
             ticket,
             taker,
-            lane: _,
+            worker: _,
             of: _,
         } = self;
         (ticket, taker)
     }
 
     /// The number of its lane.
-    pub fn lane(&self) -> usize
-        ensures { result ≡ self.now.lane }
+    pub fn worker(&self) -> usize
+        ensures { result ≡ self.now.worker }
     {
-        self.lane
+        self.worker
     }
 
     /// The number of its transaction.

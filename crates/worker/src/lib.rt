@@ -38,19 +38,19 @@
 //   progress   `work`, `work_on`
 //   tries      one item under the lock
 //   ended      why a worker came back
-//   post       `Post`, where the leader gives the items of a lane's transaction
-//   names      `LaneNames`, which rings, and `PostNames`, which lists; with the store's names they
+//   outbox       `Outbox`, where the leader gives the items of a lane's transaction
+//   names      `RingNames`, which rings, and `OutboxNames`, which lists; with the store's names they
 //              stand in the types of all of these
 //
-// `specs/Working` says what a job knows and what work makes of it, `specs/WorkingLaws` what follows of
-// its items and events; `specs/Post` says what is known of a post. It stands on `engine` for the
+// `specs/Working` says what a job knows and what work makes of it, `specs/WorkingLemmas` what follows of
+// its items and events; `specs/Outbox` says what is known of a post. It stands on `engine` for the
 // store, on `ring` for the lane, on `tokens` for what the leader knows of a post, and on `model`.
 mod ended;
 mod gate;
 mod item;
 mod job;
 mod names;
-mod post;
+mod outbox;
 mod progress;
 mod tries;
 
@@ -58,6 +58,6 @@ pub use ended::Ended;
 pub use gate::{Gate, Point};
 pub use item::WorkItem;
 pub use job::Job;
-pub use names::{LaneNames, PostNames};
-pub use post::{Collected, Post, PostEvent, lock_post};
+pub use names::{OutboxNames, RingNames};
+pub use outbox::{Collected, Outbox, OutboxEvent, lock_outbox};
 pub use progress::{work, work_on};

@@ -9,19 +9,19 @@ use std::marker::Brand;
 ///
 /// They stand apart from the names of the store: what goes through a ring has those in its type, so
 /// they are picked before a ring is made, and its own name after it.
-pub trait LaneNames {
+pub trait RingNames {
     ghost ring: { ℕ → TableId };
 }
 
-impl LaneNames for Brand {
+impl RingNames for Brand {
     ghost ring = { λ _. no_name };
 }
 
 /// The names of a run's lanes: of their rings, and of the lists of what was given to them.
-pub trait PostNames: LaneNames {
-    ghost post: { ℕ → Name };
+pub trait OutboxNames: RingNames {
+    ghost outbox: { ℕ → Name };
 }
 
-impl PostNames for Brand {
-    ghost post = { λ _. no_name };
+impl OutboxNames for Brand {
+    ghost outbox = { λ _. no_name };
 }

@@ -5,13 +5,13 @@ ghost use Rattle.worker.specs.declared.ended.Ended.{Ended as EndedBy};
 use crate::ended::Ended;
 use crate::gate::{Gate, Point};
 use crate::job::Job;
-use crate::names::LaneNames;
+use crate::names::RingNames;
 use engine::{SharedStore, StoreNames};
 use std::alloc::Global;
 use std::sync::{Condvar, Mutex, Wait};
 
 /// Does the items of a job as they come, and gives the job back.
-pub fn work<N: StoreNames, L: LaneNames, G: Gate, R: Wait>(
+pub fn work<N: StoreNames, L: RingNames, G: Gate, R: Wait>(
     rt: &R,
     alloc: Global,
     store: &Mutex<SharedStore<N>>,
@@ -31,7 +31,7 @@ pub fn work<N: StoreNames, L: LaneNames, G: Gate, R: Wait>(
 ///
 /// The store's lock is taken for each item alone. Whoever commits or aborts a transaction of the
 /// store, stops it, or tells a worker to give up notifies all under that lock.
-pub fn work_on<N: StoreNames, L: LaneNames, G: Gate, R: Wait>(
+pub fn work_on<N: StoreNames, L: RingNames, G: Gate, R: Wait>(
     rt: &R,
     alloc: Global,
     store: &Mutex<SharedStore<N>>,

@@ -5,7 +5,7 @@ ghost use Rattle.model.specs.declared.item.Item.{Item as AnyItem};
 ghost use Rattle.model.specs.declared.item.Item.TheVariants.{Last};
 ghost use Rattle.ring.specs.Ends.{Waited};
 ghost use Rattle.engine.specs.Events.{opened_by};
-ghost use Rattle.live.specs.declared.answers.EngineFault.TheVariants.{AlreadyOpen as AlreadyOpenFault, TooManyOpen as TooManyOpenFault};
+ghost use Rattle.live_tables.specs.declared.answers.EngineFault.TheVariants.{AlreadyOpen as AlreadyOpenFault, TooManyOpen as TooManyOpenFault};
 ghost use Rattle.worker.specs.Working.{IsTaken, Comes, ComesTo, ended_by};
 
 use crate::ended::{Ended, Tried};

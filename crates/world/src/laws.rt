@@ -1,6 +1,6 @@
 // The laws of worlds and calls. Each function does nothing: its contract is a law, mostly over every
 // world that calls reach from valid rows, and the check of this crate proves it.
-ghost use Rattle.world.specs.Laws.{SeesNoOthers, ListedInAnyOrder, OneLiveState, LiveIsValid, NoLiveChangeClashes, CommittedIsSerial, AloneIsSerial, NotedClashStands, FootprintOnLive, OutcomeOnLive, DoneComesLast, RollbackKeepsTheRest, LineGrows, UnheldIsCommitted, CommitLeavesOtherCells, LiveAfterOpen, LiveAfterDone, LiveAfterSkip, LiveAfterHeld, LiveAfterClash, LiveAfterTouch, LiveAfterRollback, RollbackLeavesBeginning, LiveAfterAbort, LiveAfterCommit, CommitMovesNoHolds, BackIsValid, HeldIsLive};
+ghost use Rattle.world.specs.Statements.{SeesNoOthers, ListedInAnyOrder, OneLiveState, LiveIsValid, NoLiveChangeClashes, CommittedIsSerial, AloneIsSerial, NotedClashStands, FootprintOnLive, OutcomeOnLive, DoneComesLast, RollbackKeepsTheRest, LineGrows, UnheldIsCommitted, CommitLeavesOtherCells, LiveAfterOpen, LiveAfterDone, LiveAfterSkip, LiveAfterHeld, LiveAfterClash, LiveAfterTouch, LiveAfterRollback, RollbackLeavesBeginning, LiveAfterAbort, LiveAfterCommit, CommitMovesNoHolds, BackIsValid, HeldIsLive};
 
 /// An open transaction sees the same whatever others are open.
 pub fn sees_no_others()

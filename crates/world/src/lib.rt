@@ -20,11 +20,11 @@
 //   specs/Steps         a relation for each call; worlds that calls reach
 //   specs/Live          the live rows
 //   specs/Settled       when all wait for one another
-//   specs/Laws          the laws as statements, which `laws` promises
-//   specs/CallLaws      the same as lemmas, for the layers above
-//   specs/FineLaws      what every world keeps that calls reach
-//   specs/WorldLaws     the live rows through each call, of a world that keeps it
-//   specs/BackLaws      the way back of one transaction past the others
+//   specs/Statements          the laws as statements, which `laws` promises
+//   specs/CallLemmas      the same as lemmas, for the layers above
+//   specs/FineLemmas      what every world keeps that calls reach
+//   specs/WorldLemmas     the live rows through each call, of a world that keeps it
+//   specs/BackLemmas      the way back of one transaction past the others
 //
 // It has no code but the laws, and stands on `model` for rows, changes, footprints and survivors.
 pub mod laws;

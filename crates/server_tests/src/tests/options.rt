@@ -1,6 +1,6 @@
 // The command line of `publisher`, and libpq's variables.
+use publisher_command::{Job, Variables};
 use server::host::Server;
-use settings::{Job, Variables};
 use std::alloc::Global;
 use std::test::Fail;
 use testing::asserts::{assert_holds, assert_same};
@@ -37,7 +37,7 @@ fn values_within_their_limits(rt: HostRuntime) -> Result<(), Fail> {
             "publisher capture --publication p --slot s --out f {option}"
         )?;
         let words = words(rt.alloc(), line.as_str())?;
-        let read = settings::parse(rt.alloc(), words.as_slice()).is_ok();
+        let read = publisher_command::parse(rt.alloc(), words.as_slice()).is_ok();
         assert_same(read, *want, *option)?;
     }
     Ok(())
@@ -47,7 +47,7 @@ fn values_within_their_limits(rt: HostRuntime) -> Result<(), Fail> {
 fn a_usage_fault_names_option_and_value(rt: HostRuntime) -> Result<(), Fail> {
     let line = "publisher capture --publication p --slot s --out f --until 1/G";
     let words = words(rt.alloc(), line)?;
-    let text = match settings::parse(rt.alloc(), words.as_slice()) {
+    let text = match publisher_command::parse(rt.alloc(), words.as_slice()) {
         Ok(_) => format!(in rt.alloc(); "read")?,
         Err(error) => format!(in rt.alloc(); "{error}")?,
     };
@@ -61,7 +61,7 @@ const CAPTURE: &str =
 #[test]
 fn a_place_is_two_halves(rt: HostRuntime) -> Result<(), Fail> {
     let words = words(rt.alloc(), CAPTURE)?;
-    let options = settings::parse(rt.alloc(), words.as_slice())
+    let options = publisher_command::parse(rt.alloc(), words.as_slice())
         .ok()
         .ok_or("refused")?;
     let Job::Capture {
@@ -91,10 +91,10 @@ fn chosen(alloc: Global) -> Result<Server, Fail> {
         login: Some(String::from_str(alloc, "carol")?),
     };
     let words = words(alloc, "publisher catalog --publication p --port 5433")?;
-    let options = settings::parse(alloc, words.as_slice())
+    let options = publisher_command::parse(alloc, words.as_slice())
         .ok()
         .ok_or("refused")?;
-    Ok(settings::choose_server(alloc, &options, &variables)?.ok_or("no user")?)
+    Ok(publisher_command::choose_server(alloc, &options, &variables)?.ok_or("no user")?)
 }
 
 #[test]

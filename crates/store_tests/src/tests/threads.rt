@@ -1,6 +1,6 @@
 // The files, and what each tests or gives the others.
 //
-//   desks       `crew`
+//   desks       `worker_threads`
 //   halves      `tokens`
 //   positions   `origin`
 //   posts       `worker`, what a lane is given
@@ -10,8 +10,8 @@
 //   workers     `worker`
 mod desks;
 mod halves;
+mod outboxes;
 mod positions;
-mod posts;
 mod readers;
 mod rings;
 mod table;

@@ -1,8 +1,8 @@
 use Rattle.std.proofs.Common.{Some, None, sym, ◌∙◌, ap, subst}
 use Rattle.model.specs.Effect.{back}
-use Rattle.model.specs.EditLaws.{overlay_one, overlay_two}
+use Rattle.model.specs.EditLemmas.{overlay_one, overlay_two}
 use Rattle.change.specs.Inverse.{CanPutBack, edits_of}
-use Rattle.change.specs.InverseLaws.{back_unwipe}
+use Rattle.change.specs.InverseLemmas.{back_unwipe}
 use Rattle.change.proofs.Restoring.{put_own_key, put_unique, replace_own_key, replace_unique}
 use Rattle.change.proofs.inverse.put_back.Goals as goal
 

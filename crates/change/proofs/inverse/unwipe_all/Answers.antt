@@ -1,9 +1,9 @@
 use Rattle.std.proofs.Common.{◌≡◌, List, [], ◌∙◌, subst, arith}
 use Rattle.std.proofs.lemmas.Grind.{common_steps}
-use Rattle.indexes.specs.Content.{Keeps}
+use Rattle.indexes.specs.Content.{KeepsCells}
 use Rattle.change.specs.declared.inverse.Wiped.{Wiped}
 use Rattle.change.specs.Inverse.{room_unwiped, AreKnown, AreEmpty}
-use Rattle.change.specs.InverseLaws.{known_last, empty_last}
+use Rattle.change.specs.InverseLemmas.{known_last, empty_last}
 use Rattle.change.proofs.Restoring.{last_of, unwiped_rows, unwiped_room, unwiped_can}
 use Rattle.change.proofs.inverse.unwipe_all.Goals as goal
 
@@ -41,4 +41,4 @@ loop-last-preserved c =
 pub returns-clause-room : goal.returns-clause-room
 returns-clause-room c =
     let none : c.loop-last.wiped.items ≡ [] = grind (arith, common_steps) in
-    subst (λ (ws : List Wiped). Keeps (room_unwiped c.args.t.now.room c.args.wiped.items) (room_unwiped c.loop-last.t.room ws)) none c.loop-last.invariant.room
+    subst (λ (ws : List Wiped). KeepsCells (room_unwiped c.args.t.now.room c.args.wiped.items) (room_unwiped c.loop-last.t.room ws)) none c.loop-last.invariant.room

@@ -3,7 +3,7 @@ use Rattle.std.specs.Prelude.{All}
 use Rattle.std.proofs.lemmas.List.Elements.{All-tail}
 use Rattle.model.specs.Effect.{serial}
 use Rattle.model.specs.Named.{NamesTables}
-use Rattle.engine.specs.RowsAfterLaws.{serial_next}
+use Rattle.engine.specs.RowsAfterLemmas.{serial_next}
 use Rattle.engine.proofs.rows_after.apply_each.Goals as goal
 
 pub loop-change-preserved : goal.loop-change-preserved

@@ -1,5 +1,5 @@
 use Rattle.std.proofs.Common.{sym, ◌∙◌, inr}
-use Rattle.live.specs.JournalLaws.{refused_change_has_no_effect}
+use Rattle.live_tables.specs.JournalLemmas.{refused_change_has_no_effect}
 use Rattle.engine.proofs.rows_after.apply_one.Goals as goal
 use Rattle.engine.proofs.rows_after.apply_one.Goals.{in-Err-OutOfMemory, in-Err-Unique, in-Err-NullKey, in-Ok}
 

@@ -3,7 +3,7 @@ use Rattle.std.specs.Prelude.{All}
 use Rattle.model.specs.Named.{NamesTables}
 use Rattle.model.specs.Rows.{Schema}
 use Rattle.engine.specs.declared.entry.Entry.{Entry}
-use Rattle.engine.specs.RowsAfterLaws.{entry_next}
+use Rattle.engine.specs.RowsAfterLemmas.{entry_next}
 use Rattle.engine.proofs.rows_after.rows_after.Goals as goal
 
 pub apply_each-requires : goal.apply_each-requires

@@ -1,6 +1,6 @@
 use Rattle.std.proofs.Common.{◌≡◌, take, map}
 use Rattle.engine.specs.Engine.{entry_in}
-use Rattle.live.specs.Journal.{rows_after}
+use Rattle.live_tables.specs.Journal.{rows_after}
 use Rattle.engine.proofs.rows_after.rows_after.Given as goal
 
 abbrev pub invariant-loop-entry : goal.invariant-loop-entry

@@ -6,9 +6,9 @@ use Rattle.model.specs.Effect.{serial}
 use Rattle.model.specs.Rows.{Schema}
 use Rattle.model.specs.Survivors.{changes_of}
 use Rattle.model.specs.declared.item.Item.{Item}
-use Rattle.engine.specs.Clear.{IsClear, ClashesIn}
-use Rattle.live.specs.NamedLaws.{changes_at}
-use Rattle.engine.specs.ClearLaws.{list_done, list_clear, list_refused}
+use Rattle.engine.specs.FirstClash.{IsClear, ClashesIn}
+use Rattle.live_tables.specs.NamedLemmas.{changes_at}
+use Rattle.engine.specs.FirstClashLemmas.{list_done, list_clear, list_refused}
 use Rattle.engine.proofs.SerialSteps.{if_err}
 use Rattle.engine.proofs.serial.apply_each.Goals as goal
 use Rattle.engine.proofs.serial.apply_each.Goals.{After-apply_item}

@@ -3,7 +3,7 @@ use Rattle.model.specs.Effect.{all_back, serial}
 use Rattle.model.specs.Survivors.{changes_of}
 use Rattle.change.specs.Inverse.{edits_of}
 use Rattle.undo.specs.Undo.{CanUndo}
-use Rattle.engine.specs.Clear.{IsClear}
+use Rattle.engine.specs.FirstClash.{IsClear}
 use Rattle.engine.proofs.serial.apply_each.Given as goal
 
 -- the items so far were applied, and can be undone

@@ -1,8 +1,8 @@
 use Rattle.std.proofs.Common.{[], ◌∷◌, IfErr, sym, subst}
 use Rattle.model.specs.Survivors.{changes_of}
 use Rattle.model.specs.declared.item.Item.{Item}
-use Rattle.engine.specs.Clear.{ClashesIn}
-use Rattle.engine.specs.ClearLaws.{one_refused}
+use Rattle.engine.specs.FirstClash.{ClashesIn}
+use Rattle.engine.specs.FirstClashLemmas.{one_refused}
 use Rattle.engine.proofs.serial.apply_item.Goals as goal
 
 pub returns-in-Change-clause-refused : goal.returns-in-Change-clause-refused

@@ -1,5 +1,5 @@
 use Rattle.std.proofs.Common.{◌≡◌}
-use Rattle.indexes.specs.Content.{Keeps}
+use Rattle.indexes.specs.Content.{KeepsCells}
 use Rattle.engine.proofs.serial.make_room.Given as goal
 
 abbrev pub invariant-loop-table : goal.invariant-loop-table
@@ -7,5 +7,5 @@ invariant-loop-table l =
     record {
       schema : l.tables.schema ≡ l.fn.tables.schema;
       rows : l.tables.rows ≡ l.fn.tables.rows;
-      room : Keeps l.fn.tables.room l.tables.room;
+      room : KeepsCells l.fn.tables.room l.tables.room;
     }

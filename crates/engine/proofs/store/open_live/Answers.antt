@@ -4,10 +4,10 @@ use Rattle.std.specs.Result.{IsErrAnd}
 use Rattle.std.specs.BTreeMap.{btree_map_len}
 use Rattle.world.specs.World.{World}
 use Rattle.world.specs.Steps.{Opens, most_open}
-use Rattle.live.specs.declared.answers.EngineFault as fault_type
-use Rattle.live.specs.declared.answers.EngineFault.TheVariants.{OutOfMemory as NoMemory}
-use Rattle.live.specs.Answers.{told_fault, told_call, after_open}
-use Rattle.engine.specs.StoreLaws.{absent_there, runs_there}
+use Rattle.live_tables.specs.declared.answers.EngineFault as fault_type
+use Rattle.live_tables.specs.declared.answers.EngineFault.TheVariants.{OutOfMemory as NoMemory}
+use Rattle.live_tables.specs.Answers.{told_fault, told_call, after_open}
+use Rattle.engine.specs.StoreLemmas.{absent_there, runs_there}
 use Rattle.engine.proofs.store.open_live.Goals as goal
 
 -- a call that memory was refused leaves the world

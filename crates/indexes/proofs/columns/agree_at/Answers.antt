@@ -2,7 +2,7 @@ use Rattle.std.specs.Prelude.{Some}
 use Rattle.std.proofs.Common.{sym, ◌∙◌, ap}
 use Rattle.std.specs.Ordering.{is_eq}
 use Rattle.std.proofs.lemmas.Map.Views.{tells_apart}
-use Rattle.model.specs.Exact.{value_cmp_exact}
+use Rattle.model.specs.ExactLemmas.{value_cmp_exact}
 use Rattle.model.specs.ValueRef.{read_value}
 use Rattle.indexes.proofs.columns.agree_at.Goals as goal
 

@@ -1,4 +1,4 @@
-use Rattle.keyholds.proofs.HoldsLaws.{taking_adds_each}
+use Rattle.keyholds.proofs.HoldsLemmas.{taking_adds_each}
 use Rattle.keyholds.proofs.laws.taking_adds_each.Goals as goal
 
 pub returns : goal.returns

@@ -1,4 +1,4 @@
-use Rattle.keyholds.proofs.HoldsLaws.{taking_keeps_held}
+use Rattle.keyholds.proofs.HoldsLemmas.{taking_keeps_held}
 use Rattle.keyholds.proofs.laws.taking_keeps_what_is_held.Goals as goal
 
 pub returns : goal.returns

@@ -1,9 +1,9 @@
 use Rattle.std.proofs.Common.{◌≡◌, Option, Some, sym, ap, subst, ◌∙◌}
 use Rattle.tokens.specs.Lists.{OpenList}
 use Rattle.engine.specs.declared.events.Event.{Event}
-use Rattle.live.specs.declared.answers.Stop.{Stop}
-use Rattle.live.specs.Answers.{TellsWhatStopped}
-use Rattle.lanes.specs.Standing.{own_by}
+use Rattle.live_tables.specs.declared.answers.Stop.{Stop}
+use Rattle.live_tables.specs.Answers.{TellsWhatStopped}
+use Rattle.dispatch.specs.Standing.{own_by}
 use Rattle.leader.proofs.Deciding.{clashed_there}
 use Rattle.leader.proofs.ending.clash_of.Goals as goal
 

@@ -1,8 +1,8 @@
 use Rattle.std.proofs.Common.{Option, refl, sym, subst, inl, inr}
-use Rattle.live.specs.declared.answers.Stop.{Stop}
-use Rattle.live.specs.Answers.{TellsWhatStopped}
-use Rattle.spooled.specs.declared.end.End.{End}
-use Rattle.spooled.specs.declared.end.End.TheVariants.{Clean, HeldKey, OutOfMemory}
+use Rattle.live_tables.specs.declared.answers.Stop.{Stop}
+use Rattle.live_tables.specs.Answers.{TellsWhatStopped}
+use Rattle.run.specs.declared.end.End.{End}
+use Rattle.run.specs.declared.end.End.TheVariants.{Clean, HeldKey, OutOfMemory}
 use Rattle.leader.specs.Ending.{IsDecided, TellsHolder}
 use Rattle.leader.proofs.Deciding.{is_stopped}
 use Rattle.leader.proofs.ending.decide.Goals as goal

@@ -1,6 +1,6 @@
 use Rattle.std.proofs.Common.{◌≡◌, ℕ, sym, subst, ◌∙◌}
 use Rattle.std.specs.Result.{result_ok}
-use Rattle.spooled.specs.declared.end.End.TheVariants.{HeldKey}
+use Rattle.run.specs.declared.end.End.TheVariants.{HeldKey}
 use Rattle.leader.specs.Ending.{TellsHolder}
 use Rattle.leader.proofs.Deciding.{tells_holder}
 use Rattle.leader.proofs.ending.find_holder.Goals as goal

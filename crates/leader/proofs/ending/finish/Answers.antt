@@ -6,7 +6,7 @@ use Rattle.world.specs.Steps.{Reaches}
 use Rattle.engine.specs.declared.events.LineEvent.{LineEvent}
 use Rattle.engine.specs.Engine.{Engine}
 use Rattle.engine.specs.Events.{commits_in, is_open_in}
-use Rattle.lanes.specs.Standing.{own_by}
+use Rattle.dispatch.specs.Standing.{own_by}
 use Rattle.leader.specs.Ending.{TellsHeld}
 use Rattle.leader.proofs.ending.finish.Goals as goal
 

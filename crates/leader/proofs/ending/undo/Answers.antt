@@ -8,8 +8,8 @@ use Rattle.engine.specs.declared.events.Event.{Event}
 use Rattle.engine.specs.declared.events.LineEvent.{LineEvent}
 use Rattle.engine.specs.Engine.{Engine}
 use Rattle.engine.specs.Events.{opened_by, commits_in}
-use Rattle.lanes.specs.Standing.{own_by}
-use Rattle.leader.specs.Ending.{AreStood, AreGone, TellsNoted, IsLessOpen}
+use Rattle.dispatch.specs.Standing.{own_by}
+use Rattle.leader.specs.Ending.{AreOpenIn, AreGone, TellsNoted, IsLessOpen}
 use Rattle.leader.proofs.Deciding.{stood_one, gone_one, open_gone, less_aborted, aborted_line}
 use Rattle.leader.proofs.ending.undo.Goals as goal
 
@@ -19,7 +19,7 @@ returns-clause-stood g c =
     let w = c.args.store.now.world in
     let look = c.clash_of-clash in
     let ticket = c.in_ok-ticket.ticket in
-    subst (λ (slot : Option (OpenList Event)). AreStood w (option_map own_by slot ∷ [])) (sym c.in_ok-ticket.was)
+    subst (λ (slot : Option (OpenList Event)). AreOpenIn w (option_map own_by slot ∷ [])) (sym c.in_ok-ticket.was)
     (stood_one w (own_by ticket)
     (subst (λ (t : OpenList Event). get w.opened t.number ≡ Some (opened_by t.list)) look.ensures.ticket
     (subst (λ (e : Engine). get e.world.opened look.new.ticket.number ≡ Some (opened_by look.new.ticket.list)) look.ensures.same c.abort.ensures.stood)))

@@ -3,8 +3,8 @@ use Rattle.std.specs.Option.{option_or}
 use Rattle.std.specs.Prelude.{map, option_map}
 use Rattle.std.proofs.lemmas.List.{map-append}
 use Rattle.std.proofs.lemmas.List.Elements.{All-push}
-use Rattle.lanes.specs.Standing.{Own, own_by}
-use Rattle.leader.specs.Ending.{Hand, AreStood, AreGone, TellsNoted}
+use Rattle.dispatch.specs.Standing.{Own, own_by}
+use Rattle.leader.specs.Ending.{Hand, AreOpenIn, AreGone, TellsNoted}
 use Rattle.leader.proofs.Deciding.{tells_next, stood_more, stood_before, tells_before, gone_still, gone_more, less_again}
 use Rattle.leader.proofs.ending.undo_all.Given.{Over}
 use Rattle.leader.proofs.ending.undo_all.Goals as goal
@@ -14,7 +14,7 @@ use Rattle.leader.proofs.ending.undo_all.Goals.{After-undo}
 undone : (g : Over) (c : After-undo g)
     → (more : option_map own_by c.args.own ∷ map g.S.Slot.holds (c.loop-slot.yielded ++ c.in-Some.slot ∷ [])
     ≡ (option_map own_by c.args.own ∷ map g.S.Slot.holds c.loop-slot.yielded) ++ option_map own_by c.into_ticket.result ∷ [])
-    × AreStood c.args.store.now.world (option_map own_by c.args.own ∷ map g.S.Slot.holds (c.loop-slot.yielded ++ c.in-Some.slot ∷ []))
+    × AreOpenIn c.args.store.now.world (option_map own_by c.args.own ∷ map g.S.Slot.holds (c.loop-slot.yielded ++ c.in-Some.slot ∷ []))
     × AreGone c.undo.new.store.world (option_map own_by c.args.own ∷ map g.S.Slot.holds (c.loop-slot.yielded ++ c.in-Some.slot ∷ []))
 undone g c =
     let w = c.args.store.now.world in
@@ -28,7 +28,7 @@ undone g c =
     ap (λ (h : Hand). option_map own_by c.args.own ∷ h)
     (map-append g.S.Slot.holds c.loop-slot.yielded (c.in-Some.slot ∷ []) ∙ ap (λ (h : Option Own). slots ++ h ∷ []) c.into_ticket.ensures.holds) in (
       more,
-      subst (AreStood w) (sym more) (stood_more w hand slot came.stood (stood_before w before came.world (slot ∷ []) did.ensures.stood)),
+      subst (AreOpenIn w) (sym more) (stood_more w hand slot came.stood (stood_before w before came.world (slot ∷ []) did.ensures.stood)),
       subst (AreGone did.new.store.world) (sym more) (gone_more did.new.store.world hand slot (gone_still before did.new.store.world did.ensures.world hand came.gone) did.ensures.gone),
     )
 

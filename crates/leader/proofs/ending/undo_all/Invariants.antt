@@ -1,8 +1,8 @@
 use Rattle.std.proofs.Common.{◌≡◌, ◌∷◌}
 use Rattle.std.specs.Prelude.{All, map, option_map}
 use Rattle.engine.specs.Events.{commits_in}
-use Rattle.lanes.specs.Standing.{own_by}
-use Rattle.leader.specs.Ending.{AreStood, AreGone, TellsNoted, IsLessOpen}
+use Rattle.dispatch.specs.Standing.{own_by}
+use Rattle.leader.specs.Ending.{AreOpenIn, AreGone, TellsNoted, IsLessOpen}
 use Rattle.leader.proofs.ending.undo_all.Given as goal
 
 -- the tickets so far are known, and which clash they tell; what they did is undone
@@ -13,7 +13,7 @@ invariant-loop-slot g l = record {
   world : IsLessOpen l.fn.store.world l.store.world;
   name : l.line.name ≡ g.N.StoreNames.line;
   commits : commits_in l.line.list ≡ commits_in l.fn.line.list;
-  stood : AreStood l.fn.store.world (option_map own_by l.fn.own ∷ map g.S.Slot.holds l.yielded);
+  stood : AreOpenIn l.fn.store.world (option_map own_by l.fn.own ∷ map g.S.Slot.holds l.yielded);
   gone : AreGone l.store.world (option_map own_by l.fn.own ∷ map g.S.Slot.holds l.yielded);
   keeps : All g.S.Slot.keeps l.yielded;
   noted : TellsNoted l.fn.store.world (option_map own_by l.fn.own ∷ map g.S.Slot.holds l.yielded) l.noted;

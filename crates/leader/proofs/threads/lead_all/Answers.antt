@@ -5,8 +5,8 @@ use Rattle.std.proofs.lemmas.List.Elements.{All-map}
 use Rattle.model.specs.Rows.{Schema, IsValid}
 use Rattle.engine.specs.declared.events.LineEvent.{LineEvent}
 use Rattle.engine.specs.Events.{commits_in}
-use Rattle.lanes.specs.Lanes.{AreCounted}
-use Rattle.lanes.specs.Standing.{Standing, own_by, goes_by, holds_in}
+use Rattle.dispatch.specs.Lanes.{AreCounted}
+use Rattle.dispatch.specs.Standing.{Standing, own_by, goes_by, holds_in}
 use Rattle.leader.specs.Threads.{led}
 use Rattle.leader.specs.Ending.{HasFinished}
 use Rattle.session.specs.State.{setting}
@@ -23,7 +23,7 @@ new-lead-requires-clause-lanes g c =
     (All-map (λ goes. goes ≡ None) goes_by c.args.opening.lanes.items (λ k d lt. (c.requires.free k d lt).0))
 
 pub lead_stream-proposed-requires : goal.lead_stream-proposed-requires
-lead_stream-proposed-requires g c = (setting (length c.args.desks.now) c.args.spool c.args.catalog.now, g.N.StoreNames.start, c.new-lead.ensures g.N.StoreNames.start)
+lead_stream-proposed-requires g c = (setting (length c.args.mailboxes.now) c.args.spool c.args.catalog.now, g.N.StoreNames.start, c.new-lead.ensures g.N.StoreNames.start)
 
 pub returns-clause-unread : goal.returns-clause-unread
 returns-clause-unread g c = λ told.
@@ -32,7 +32,7 @@ returns-clause-unread g c = λ told.
 
 pub returns-clause-ends : goal.returns-clause-ends
 returns-clause-ends g c =
-    let s = setting (length c.args.desks.now) c.args.spool c.args.catalog.now in
+    let s = setting (length c.args.mailboxes.now) c.args.spool c.args.catalog.now in
     let start = g.N.StoreNames.start in
     let read = c.lead_stream-proposed in
     let l = led read.new.lead.stream read.new.lead.transactions in

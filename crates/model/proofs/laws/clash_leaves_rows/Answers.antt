@@ -1,4 +1,4 @@
-use Rattle.model.specs.EffectLaws.{effect_clashed}
+use Rattle.model.specs.EffectLemmas.{effect_clashed}
 use Rattle.model.proofs.laws.clash_leaves_rows.Goals as goal
 
 pub returns : goal.returns

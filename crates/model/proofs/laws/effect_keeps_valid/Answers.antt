@@ -1,4 +1,4 @@
-use Rattle.model.specs.EffectLaws.{effect_valid}
+use Rattle.model.specs.EffectLemmas.{effect_valid}
 use Rattle.model.proofs.laws.effect_keeps_valid.Goals as goal
 
 pub returns : goal.returns

@@ -1,4 +1,4 @@
-use Rattle.model.specs.EffectLaws.{back_past}
+use Rattle.model.specs.EffectLemmas.{back_past}
 use Rattle.model.proofs.laws.inverse_restores_past.Goals as goal
 
 pub returns : goal.returns

@@ -1,5 +1,5 @@
 use Rattle.model.specs.Rows.{place_cmp_total}
-use Rattle.model.specs.Exact.{place_cmp_exact}
+use Rattle.model.specs.ExactLemmas.{place_cmp_exact}
 use Rattle.model.proofs.Orders.{exact_order}
 use Rattle.model.proofs.laws.places_are_ordered.Goals as goal
 

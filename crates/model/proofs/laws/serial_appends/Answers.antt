@@ -1,4 +1,4 @@
-use Rattle.model.specs.EffectLaws.{serial_append}
+use Rattle.model.specs.EffectLemmas.{serial_append}
 use Rattle.model.proofs.laws.serial_appends.Goals as goal
 
 pub returns : goal.returns

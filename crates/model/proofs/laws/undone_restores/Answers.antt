@@ -1,4 +1,4 @@
-use Rattle.model.specs.EffectLaws.{all_back_serial}
+use Rattle.model.specs.EffectLemmas.{all_back_serial}
 use Rattle.model.proofs.laws.undone_restores.Goals as goal
 
 pub returns : goal.returns

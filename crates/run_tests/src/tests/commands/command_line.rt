@@ -1,7 +1,7 @@
 // What a command line asks for: the limits of its numbers, and what stands where none was given.
-use command::options;
-use command::options::{Input, Options};
 use leader::Config;
+use pgapply_command::options;
+use pgapply_command::options::{Input, Options};
 use std::alloc::Global;
 use std::fmt::Write;
 use std::test::Fail;

@@ -2,8 +2,8 @@
 use crate::tests::commands::runs::{
     CONFIG, Stopped, framed, printed, printed_from, push_frame, push_frames, spelled,
 };
-use command::execute::{Ended, execute};
 use leader::Config;
+use pgapply_command::execute::{Ended, execute};
 use std::alloc::Global;
 use std::fmt::Write;
 use std::ops::Range;

@@ -2,9 +2,8 @@
 // socket of this machine, in a thread of its own.
 use crate::tests::commands::devices::{KEEPALIVE, ONE_INSERT};
 use crate::tests::commands::runs::{CONFIG, Stopped, framed, push_frames, spelled};
-use command::execute::{Ended, execute};
-use connection::Connection;
 use leader::Config;
+use pgapply_command::execute::{Ended, execute};
 use std::alloc::Global;
 use std::io::{Read, Write};
 use std::net::{Shutdown, TcpListener, TcpStream};
@@ -13,6 +12,7 @@ use std::sync::Wait;
 use std::test::Fail;
 use std::thread;
 use std::thread::Threads;
+use tcp::Connection;
 use testing::accounts::CATALOG;
 use testing::asserts::{assert_holds, assert_same};
 

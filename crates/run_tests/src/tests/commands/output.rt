@@ -1,7 +1,7 @@
 // What a command says where it can't go on, and what it writes at its end.
 use crate::tests::commands::progress::Host;
-use command::execute::Ended;
-use command::output::{Failure, print, say_failure};
+use pgapply_command::execute::Ended;
+use pgapply_command::output::{Failure, print, say_failure};
 use std::io;
 use std::test::Fail;
 use testing::asserts::assert_same;

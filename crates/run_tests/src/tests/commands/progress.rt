@@ -1,7 +1,7 @@
 // What `--progress` says, by a clock of the test's own.
 use crate::tests::commands::devices::ONE_INSERT;
 use crate::tests::commands::runs::framed;
-use command::progress::Progress;
+use pgapply_command::progress::Progress;
 use std::alloc::Global;
 use std::cell::{Cell, RefCell};
 use std::fmt::{Display, Write};

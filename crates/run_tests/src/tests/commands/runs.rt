@@ -1,6 +1,6 @@
 // Commands of these tests: their streams, their clock, and what they print.
-use command::execute::{Ended, execute};
 use leader::{Clock, Config};
+use pgapply_command::execute::{Ended, execute};
 use std::alloc::Global;
 use std::random::RandomSource;
 use std::sync::Wait;

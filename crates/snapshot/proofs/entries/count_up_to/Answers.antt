@@ -3,7 +3,7 @@ use Rattle.std.specs.Prelude.{slice_get}
 use Rattle.std.specs.List.{Contains}
 use Rattle.std.proofs.lemmas.List.{take_all}
 use Rattle.engine.specs.declared.entry.Entry as entry_type
-use Rattle.snapshot.specs.ReadLaws.{positions_of, found_next, not_next}
+use Rattle.snapshot.specs.ReadLemmas.{positions_of, found_next, not_next}
 use Rattle.snapshot.proofs.entries.count_up_to.Goals as goal
 
 pub returns-then-entry-position : goal.returns-then-entry-position

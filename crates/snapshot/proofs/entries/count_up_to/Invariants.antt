@@ -1,6 +1,6 @@
 use Rattle.std.proofs.Common.{◌≡◌, take}
 use Rattle.std.specs.List.{Contains}
-use Rattle.snapshot.specs.ReadLaws.{positions_of}
+use Rattle.snapshot.specs.ReadLemmas.{positions_of}
 use Rattle.snapshot.proofs.entries.count_up_to.Given as goal
 
 abbrev pub invariant-loop-entry : goal.invariant-loop-entry

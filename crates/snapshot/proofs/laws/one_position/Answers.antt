@@ -1,4 +1,4 @@
-use Rattle.snapshot.specs.ReadLaws as law
+use Rattle.snapshot.specs.ReadLemmas as law
 use Rattle.snapshot.proofs.laws.one_position.Goals as goal
 
 pub returns : goal.returns

@@ -3,12 +3,12 @@
 ghost use Rattle.std.specs.Prelude.{◌≡◌, IfOk};
 
 use crate::tests::asserts::assert_same;
-use crew::{Bell, Desk, Work, make_desks, with_workers};
 use model::OutOfMemory;
 use std::alloc::Global;
 use std::sync::{Arc, Condvar, Mutex, Wait};
 use std::test::Fail;
 use std::thread::Threads;
+use worker_threads::{Bell, Desk, Work, make_desks, with_workers};
 
 #[derive(Drop)]
 struct Job {

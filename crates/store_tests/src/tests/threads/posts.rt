@@ -13,7 +13,7 @@ use std::test::Fail;
 use std::thread;
 use std::thread::Threads;
 use tokens::{Kept, Token, pair};
-use worker::{Collected, Post, PostEvent, PostNames, WorkItem, lock_post};
+use worker::{Collected, Outbox, OutboxEvent, OutboxNames, WorkItem, lock_outbox};
 
 // The number of a touch.
 fn number<N: StoreNames>(item: Option<&WorkItem<N>>) -> Option<u32> {
@@ -26,10 +26,10 @@ fn number<N: StoreNames>(item: Option<&WorkItem<N>>) -> Option<u32> {
 // What the calls on a post of a ring of two slots answered.
 #[derive(Clone, Copy, Debug, PartialEq, Eq)]
 struct Answers {
-    late: usize,
+    queued: usize,
     first: Option<u32>,
     acked: u64,
-    late_then: usize,
+    queued_then: usize,
     doomed: bool,
     collected: Collected,
     doomed_then: bool,
@@ -39,42 +39,42 @@ struct Answers {
 
 // Three items are given, one of them is done, and the worker is told to give up. Of the next
 // transaction there is just the commit.
-fn few_items<N: StoreNames, L: PostNames>(
+fn few_items<N: StoreNames, L: OutboxNames>(
     alloc: Global,
     sender: Sender<WorkItem<N>>,
     mut taker: Taker<WorkItem<N>>,
-    kept: Kept<PostEvent>,
-    mut token: Token<PostEvent>,
+    kept: Kept<OutboxEvent>,
+    mut token: Token<OutboxEvent>,
 ) -> Result<Answers, OutOfMemory>
     requires ring { (sender.ring ≡ L.ring 0) × (taker.ring ≡ L.ring 0) }
     requires sent { sender.sent ≡ [] }
-    requires name { (kept.name ≡ L.post 0) × (token.name ≡ L.post 0) }
+    requires name { (kept.name ≡ L.outbox 0) × (token.name ≡ L.outbox 0) }
     requires given { kept.list ≡ [] }
 {
-    let mut post = Post::<N, L>::new(alloc, 0, sender, kept);
-    post.give(&mut token, WorkItem::new(Item::Touch(1)))?;
-    post.give(&mut token, WorkItem::new(Item::Touch(2)))?;
-    post.give(&mut token, WorkItem::new(Item::Touch(3)))?;
-    let late = post.late_len();
+    let mut outbox = Outbox::<N, L>::new(alloc, 0, sender, kept);
+    outbox.give(&mut token, WorkItem::new(Item::Touch(1)))?;
+    outbox.give(&mut token, WorkItem::new(Item::Touch(2)))?;
+    outbox.give(&mut token, WorkItem::new(Item::Touch(3)))?;
+    let queued = outbox.queued_len();
     let first = number(taker.take());
     if taker.take().is_some() {
         taker.ack();
     }
-    post.send_on();
-    let acked = post.acked();
-    let late_then = post.late_len();
-    post.doom();
+    outbox.send_on();
+    let acked = outbox.acked();
+    let queued_then = outbox.queued_len();
+    outbox.doom();
     let doomed = taker.doomed();
-    let (collected, mut taker) = post.collect(&mut token, taker);
+    let (collected, mut taker) = outbox.collect(&mut token, taker);
     let doomed_then = taker.doomed();
     let next = number(taker.take());
-    post.give(&mut token, WorkItem::new(Item::Last))?;
-    let (collected_last, _) = post.collect(&mut token, taker);
+    outbox.give(&mut token, WorkItem::new(Item::Last))?;
+    let (collected_last, _) = outbox.collect(&mut token, taker);
     Ok(Answers {
-        late,
+        queued,
         first,
         acked,
-        late_then,
+        queued_then,
         doomed,
         collected,
         doomed_then,
@@ -86,13 +86,13 @@ fn few_items<N: StoreNames, L: PostNames>(
 #[test]
 fn a_post_on_one_thread(rt: HostRuntime) -> Result<(), Fail> {
     let (sender, taker) = Ring::new::<WorkItem<Brand>>(rt.alloc(), 2)?;
-    let (kept, token) = pair::<PostEvent>(rt.alloc())?;
+    let (kept, token) = pair::<OutboxEvent>(rt.alloc())?;
     let answers = few_items::<Brand, Brand>(rt.alloc(), sender, taker, kept, token)?;
     let expected = Answers {
-        late: 1,
+        queued: 1,
         first: Some(1),
         acked: 1,
-        late_then: 0,
+        queued_then: 0,
         doomed: true,
         collected: Collected::Left,
         doomed_then: false,
@@ -107,35 +107,35 @@ fn a_post_on_one_thread(rt: HostRuntime) -> Result<(), Fail> {
 const ITEMS: u32 = 1000;
 
 // Gives all items, and then the commit. Where memory is refused, the worker is told to give up.
-fn give_all<N: StoreNames, L: PostNames, R: Wait>(
+fn give_all<N: StoreNames, L: OutboxNames, R: Wait>(
     rt: &R,
-    post: &Mutex<Post<N, L>>,
-    mut token: Token<PostEvent>,
-) -> Token<PostEvent>
-    requires { token.name ≡ L.post 0 }
-    ensures { result.name ≡ L.post 0 }
+    outbox: &Mutex<Outbox<N, L>>,
+    mut token: Token<OutboxEvent>,
+) -> Token<OutboxEvent>
+    requires { token.name ≡ L.outbox 0 }
+    ensures { result.name ≡ L.outbox 0 }
 {
     for number in 0..ITEMS {
         let item = WorkItem::new(Item::Touch(number));
-        if lock_post(rt, post, 0).give(&mut token, item).is_err() {
-            post.lock(rt).doom();
+        if lock_outbox(rt, outbox, 0).give(&mut token, item).is_err() {
+            outbox.lock(rt).doom();
             return token;
         }
     }
-    if lock_post(rt, post, 0)
+    if lock_outbox(rt, outbox, 0)
         .give(&mut token, WorkItem::new(Item::Last))
         .is_err()
     {
-        post.lock(rt).doom();
+        outbox.lock(rt).doom();
     }
     token
 }
 
 // Does all items, and sends on behind each. Stops at the commit, which stays taken, or where it is told
 // to give up. Says whether the items came in order.
-fn do_all<N: StoreNames, L: PostNames, R: Wait>(
+fn do_all<N: StoreNames, L: OutboxNames, R: Wait>(
     rt: &R,
-    post: &Mutex<Post<N, L>>,
+    outbox: &Mutex<Outbox<N, L>>,
     mut taker: Taker<WorkItem<N>>,
 ) -> (Taker<WorkItem<N>>, bool)
     requires { taker.ring ≡ L.ring 0 }
@@ -151,7 +151,7 @@ fn do_all<N: StoreNames, L: PostNames, R: Wait>(
         if taker.take().is_some() {
             taker.ack();
         }
-        post.lock(rt).send_on();
+        outbox.lock(rt).send_on();
     }
     taker.wait_more(rt);
     (taker, in_order)
@@ -164,25 +164,25 @@ fn through<N, L, R>(
     alloc: Global,
     sender: Sender<WorkItem<N>>,
     taker: Taker<WorkItem<N>>,
-    kept: Kept<PostEvent>,
-    token: Token<PostEvent>,
+    kept: Kept<OutboxEvent>,
+    token: Token<OutboxEvent>,
 ) -> (bool, Collected)
 where
     N: StoreNames + Send + Sync,
-    L: PostNames + Send + Sync,
+    L: OutboxNames + Send + Sync,
     R: Threads + Wait + Sync,
     requires ring { (sender.ring ≡ L.ring 0) × (taker.ring ≡ L.ring 0) }
     requires sent { sender.sent ≡ [] }
-    requires name { (kept.name ≡ L.post 0) × (token.name ≡ L.post 0) }
+    requires name { (kept.name ≡ L.outbox 0) × (token.name ≡ L.outbox 0) }
     requires given { kept.list ≡ [] }
 {
-    let post = Mutex::new(Post::<N, L>::new(alloc, 0, sender, kept));
+    let outbox = Mutex::new(Outbox::<N, L>::new(alloc, 0, sender, kept));
     let (mut token, (taker, in_order)) = thread::join(
         rt,
-        || give_all(rt, &post, token),
-        || do_all(rt, &post, taker),
+        || give_all(rt, &outbox, token),
+        || do_all(rt, &outbox, taker),
     );
-    let (collected, _) = lock_post(rt, &post, 0).collect(&mut token, taker);
+    let (collected, _) = lock_outbox(rt, &outbox, 0).collect(&mut token, taker);
     (in_order, collected)
 }
 
@@ -190,7 +190,7 @@ where
 fn items_through_a_post(rt: HostRuntime) -> Result<(), Fail> {
     for slots in [1, 2, 64] {
         let (sender, taker) = Ring::new::<WorkItem<Brand>>(rt.alloc(), slots)?;
-        let (kept, token) = pair::<PostEvent>(rt.alloc())?;
+        let (kept, token) = pair::<OutboxEvent>(rt.alloc())?;
         let done = through::<Brand, Brand, _>(&rt, rt.alloc(), sender, taker, kept, token);
         assert_same(&rt, done, (true, Collected::All), slots);
     }

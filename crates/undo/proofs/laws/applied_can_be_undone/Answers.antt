@@ -1,4 +1,4 @@
-use Rattle.undo.specs.UndoLaws.{CanUndo_applied}
+use Rattle.undo.specs.UndoLemmas.{CanUndo_applied}
 use Rattle.undo.proofs.laws.applied_can_be_undone.Goals as goal
 
 pub returns : goal.returns

@@ -1,4 +1,4 @@
-use Rattle.undo.specs.UndoLaws.{CanUndo_keeps}
+use Rattle.undo.specs.UndoLemmas.{CanUndo_keeps}
 use Rattle.undo.proofs.laws.more_room_can_be_undone.Goals as goal
 
 pub returns : goal.returns

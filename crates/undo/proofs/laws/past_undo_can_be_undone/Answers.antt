@@ -1,4 +1,4 @@
-use Rattle.undo.specs.OthersLaws.{CanUndo_past_undo}
+use Rattle.undo.specs.OthersLemmas.{CanUndo_past_undo}
 use Rattle.undo.proofs.laws.past_undo_can_be_undone.Goals as goal
 
 pub returns : goal.returns

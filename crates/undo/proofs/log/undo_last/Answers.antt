@@ -1,6 +1,6 @@
 use Rattle.std.proofs.Common.{◌≡◌, ◌≤◌, length, drop, List, [], ◌∷◌, ◌++◌, ◌∙◌, ap, subst, arith, length-append, drop_of_length-le}
 use Rattle.change.specs.declared.inverse.Inverse.{Inverse}
-use Rattle.indexes.specs.Content.{Keeps}
+use Rattle.indexes.specs.Content.{KeepsCells}
 use Rattle.undo.specs.Undo.{content_undone}
 use Rattle.undo.proofs.Steps.{last_of, newest_can, left_can, left_rows, left_room, left_same}
 use Rattle.undo.proofs.log.undo_last.Goals as goal
@@ -38,5 +38,5 @@ loop-inverses-preserved c =
 pub returns-clause-room : goal.returns-clause-room
 returns-clause-room c =
     let past : length c.loop-inverses.inverses.items ≤ c.args.mark = omega (arith, c.loop-inverses.inverses.ok.0) in
-    subst (λ (is : List Inverse). Keeps (content_undone c.args.t.now (drop c.args.mark c.args.inverses.now.items)).room (content_undone c.loop-inverses.t is).room)
+    subst (λ (is : List Inverse). KeepsCells (content_undone c.args.t.now (drop c.args.mark c.args.inverses.now.items)).room (content_undone c.loop-inverses.t is).room)
     (drop_of_length-le c.loop-inverses.inverses.items past) c.loop-inverses.invariant.room

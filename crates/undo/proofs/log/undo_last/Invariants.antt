@@ -1,6 +1,6 @@
 use Rattle.std.proofs.Common.{◌≡◌, ◌≤◌, take, drop, map, vec_len, vec_capacity}
 use Rattle.model.specs.Effect.{all_back}
-use Rattle.indexes.specs.Content.{Keeps}
+use Rattle.indexes.specs.Content.{KeepsCells}
 use Rattle.change.specs.Inverse.{edits_of}
 use Rattle.undo.specs.Undo.{content_undone, CanUndo}
 use Rattle.undo.proofs.log.undo_last.Given as goal
@@ -12,7 +12,7 @@ invariant-loop-inverses l = record {
   left : take l.mark l.inverses.items ≡ take l.mark l.fn.inverses.items;
   rows : all_back l.t.rows (map edits_of (drop l.mark l.inverses.items)) ≡ all_back l.fn.t.rows (map edits_of (drop l.mark l.fn.inverses.items));
   can : CanUndo l.t (drop l.mark l.inverses.items);
-  room : Keeps (content_undone l.fn.t (drop l.mark l.fn.inverses.items)).room (content_undone l.t (drop l.mark l.inverses.items)).room;
+  room : KeepsCells (content_undone l.fn.t (drop l.mark l.fn.inverses.items)).room (content_undone l.t (drop l.mark l.inverses.items)).room;
   schema : l.t.schema ≡ l.fn.t.schema;
   capacity : vec_capacity l.inverses ≡ vec_capacity l.fn.inverses;
 }

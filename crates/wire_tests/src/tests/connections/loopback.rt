@@ -1,6 +1,5 @@
 // Both sides of a connection over a socket of this machine. Where what is sent fits the system's
 // buffers, one thread plays both.
-use connection::Connection;
 use frames::{
     CopyItem, FrameFault, Frames, ReadSource, Source, Status, WriteSink, send_status, write_status,
 };
@@ -9,6 +8,7 @@ use std::io::{Read, Write};
 use std::net::{Shutdown, TcpListener, TcpStream};
 use std::test::Fail;
 use std::thread;
+use tcp::Connection;
 use testing::asserts::{assert_holds, assert_same};
 
 /// A keepalive, and CopyDone.

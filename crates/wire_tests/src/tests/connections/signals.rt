@@ -1,8 +1,8 @@
 // A stream whose calls a signal interrupts.
-use connection::Retried;
 use std::io;
 use std::io::{ErrorKind, Read, Write};
 use std::test::Fail;
+use tcp::Retried;
 use testing::asserts::assert_same;
 
 /// Gives and takes one byte at a time, and is interrupted before each.

@@ -1,4 +1,4 @@
-use Rattle.worker.specs.WorkingLaws.{IsWaiting}
+use Rattle.worker.specs.WorkingLemmas.{IsWaiting}
 use Rattle.worker.proofs.tries.try_until_done.Given as goal
 
 abbrev pub invariant-loop : goal.invariant-loop

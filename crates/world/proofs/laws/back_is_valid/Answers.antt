@@ -1,4 +1,4 @@
-use Rattle.world.specs.BackLaws.{back_is_valid}
+use Rattle.world.specs.BackLemmas.{back_is_valid}
 use Rattle.world.proofs.laws.back_is_valid.Goals as goal
 
 pub returns : goal.returns

@@ -1,4 +1,4 @@
-use Rattle.world.specs.CallLaws.{committed_is_serial}
+use Rattle.world.specs.CallLemmas.{committed_is_serial}
 use Rattle.world.proofs.laws.committed_is_serial.Goals as goal
 
 pub returns : goal.returns

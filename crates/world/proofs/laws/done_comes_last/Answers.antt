@@ -1,4 +1,4 @@
-use Rattle.world.specs.CallLaws.{done_comes_last}
+use Rattle.world.specs.CallLemmas.{done_comes_last}
 use Rattle.world.proofs.laws.done_comes_last.Goals as goal
 
 pub returns : goal.returns

@@ -1,4 +1,4 @@
-use Rattle.world.specs.CallLaws.{footprint_on_live}
+use Rattle.world.specs.CallLemmas.{footprint_on_live}
 use Rattle.world.proofs.laws.footprint_on_live.Goals as goal
 
 pub returns : goal.returns

@@ -1,4 +1,4 @@
-use Rattle.world.specs.BackLaws.{held_is_live}
+use Rattle.world.specs.BackLemmas.{held_is_live}
 use Rattle.world.proofs.laws.held_is_live.Goals as goal
 
 pub returns : goal.returns

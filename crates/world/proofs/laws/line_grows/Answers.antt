@@ -1,4 +1,4 @@
-use Rattle.world.specs.CallLaws.{line_grows}
+use Rattle.world.specs.CallLemmas.{line_grows}
 use Rattle.world.proofs.laws.line_grows.Goals as goal
 
 pub returns : goal.returns

@@ -1,4 +1,4 @@
-use Rattle.world.specs.CallLaws.{live_after_held}
+use Rattle.world.specs.CallLemmas.{live_after_held}
 use Rattle.world.proofs.laws.live_after_held.Goals as goal
 
 pub returns : goal.returns

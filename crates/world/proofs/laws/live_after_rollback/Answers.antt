@@ -1,4 +1,4 @@
-use Rattle.world.specs.CallLaws.{live_after_rollback}
+use Rattle.world.specs.CallLemmas.{live_after_rollback}
 use Rattle.world.proofs.laws.live_after_rollback.Goals as goal
 
 pub returns : goal.returns

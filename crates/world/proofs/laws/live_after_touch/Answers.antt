@@ -1,4 +1,4 @@
-use Rattle.world.specs.CallLaws.{live_after_touch}
+use Rattle.world.specs.CallLemmas.{live_after_touch}
 use Rattle.world.proofs.laws.live_after_touch.Goals as goal
 
 pub returns : goal.returns

@@ -1,4 +1,4 @@
-use Rattle.world.specs.CallLaws.{live_is_valid}
+use Rattle.world.specs.CallLemmas.{live_is_valid}
 use Rattle.world.proofs.laws.live_is_valid.Goals as goal
 
 pub returns : goal.returns

@@ -1,4 +1,4 @@
-use Rattle.world.specs.CallLaws.{no_live_change_clashes}
+use Rattle.world.specs.CallLemmas.{no_live_change_clashes}
 use Rattle.world.proofs.laws.no_live_change_clashes.Goals as goal
 
 pub returns : goal.returns

@@ -1,4 +1,4 @@
-use Rattle.world.specs.CallLaws.{noted_clash_stands}
+use Rattle.world.specs.CallLemmas.{noted_clash_stands}
 use Rattle.world.proofs.laws.noted_clash_stands.Goals as goal
 
 pub returns : goal.returns

@@ -1,4 +1,4 @@
-use Rattle.world.specs.CallLaws.{one_live_state}
+use Rattle.world.specs.CallLemmas.{one_live_state}
 use Rattle.world.proofs.laws.one_live_state.Goals as goal
 
 pub returns : goal.returns

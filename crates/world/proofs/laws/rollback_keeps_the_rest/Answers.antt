@@ -1,4 +1,4 @@
-use Rattle.world.specs.CallLaws.{rollback_keeps_the_rest}
+use Rattle.world.specs.CallLemmas.{rollback_keeps_the_rest}
 use Rattle.world.proofs.laws.rollback_keeps_the_rest.Goals as goal
 
 pub returns : goal.returns

@@ -1,4 +1,4 @@
-use Rattle.world.specs.CallLaws.{sees_no_others}
+use Rattle.world.specs.CallLemmas.{sees_no_others}
 use Rattle.world.proofs.laws.sees_no_others.Goals as goal
 
 pub returns : goal.returns

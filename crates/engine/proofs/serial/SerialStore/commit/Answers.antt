@@ -15,11 +15,11 @@ use Rattle.engine.specs.declared.entry.Entry.{Entry}
 use Rattle.engine.specs.declared.events.LineEvent.{LineEvent}
 use Rattle.engine.specs.declared.events.LineEvent.TheVariants.{Opened as WasOpened, Committed as WasCommitted}
 use Rattle.engine.specs.declared.store.Store.TheInside.{Inside}
-use Rattle.engine.specs.Clear.{IsClear}
-use Rattle.engine.specs.Engine.{entry_in, world_in, IsStore}
+use Rattle.engine.specs.FirstClash.{IsClear}
+use Rattle.engine.specs.Engine.{entry_in, world_in, Represents}
 use Rattle.engine.specs.Serial.{Serial, committed_by, last_end_in}
 use Rattle.engine.specs.SerialInside.{idle_in}
-use Rattle.engine.specs.SerialLaws.{with_commit, idle_committed, reaches_commit}
+use Rattle.engine.specs.SerialLemmas.{with_commit, idle_committed, reaches_commit}
 use Rattle.engine.proofs.SerialSteps.{known_all, serially_idle, rows_based}
 use Rattle.engine.proofs.serial.SerialStore.commit.Goals as goal
 use Rattle.engine.proofs.serial.SerialStore.commit.Goals.{After-push_reserved}
@@ -53,8 +53,8 @@ module _ (c : After-push_reserved) where
   rows : tables.rows ≡ serial before.live.tables.schema (world_in before).committed changes
   rows = ap (λ (is : List Inverse). all_back c.settle.new.t.rows (map edits_of is)) undone ∙ c.settle.ensures.rows ∙ c.self.invariant.done
 
-  line : c.tell_changes.new.kept ≡ record before.line { list = (before.line.list ++ WasOpened c.args.xid ∷ []) ++ WasCommitted c.args.xid (map (ChangeItem c.args.xid) changes) c.args.info ∷ [] }
-  line = c.tell_changes.ensures.kept ∙ (λ i. let half : Half LineEvent = c.grow.ensures.kept i in
+  line : c.record_changes.new.kept ≡ record before.line { list = (before.line.list ++ WasOpened c.args.xid ∷ []) ++ WasCommitted c.args.xid (map (ChangeItem c.args.xid) changes) c.args.info ∷ [] }
+  line = c.record_changes.ensures.kept ∙ (λ i. let half : Half LineEvent = c.grow.ensures.kept i in
       record half { list = half.list ++ WasCommitted c.args.xid (map (ChangeItem c.args.xid) (changes_of (c.deref.ensures.value i))) c.args.info ∷ [] })
 
   items : c.push_reserved.new.self.items ≡ before.journal.items ++ entry ∷ []
@@ -69,16 +69,16 @@ module _ (c : After-push_reserved) where
   above : last_end_in (world_in before) < c.args.info.end
   above = subst (λ (s : Serial). last_end_in s.store.world < c.args.info.end) (sym c.self.view_is) c.requires
 
-  committed : (world_in (with_commit before tables c.push_reserved.new.self c.tell_changes.new.kept) ≡ committed_by before.live.tables.schema (world_in before) c.args.xid changes c.args.info)
-      × IsStore (with_commit before tables c.push_reserved.new.self c.tell_changes.new.kept)
+  committed : (world_in (with_commit before tables c.push_reserved.new.self c.record_changes.new.kept) ≡ committed_by before.live.tables.schema (world_in before) c.args.xid changes c.args.info)
+      × Represents (with_commit before tables c.push_reserved.new.self c.record_changes.new.kept)
   committed =
-      idle_committed before c.self.invariant.idle c.self.invariant.none tables c.settle.ensures.schema c.self.invariant.runs c.args.xid changes c.args.info c.push_reserved.new.self c.tell_changes.new.kept
+      idle_committed before c.self.invariant.idle c.self.invariant.none tables c.settle.ensures.schema c.self.invariant.runs c.args.xid changes c.args.info c.push_reserved.new.self c.record_changes.new.kept
       entry clear rows line items fits tells c.self.invariant.named above
 
-  reached : Reaches before.live.tables.schema (world_in before) (world_in (with_commit before tables c.push_reserved.new.self c.tell_changes.new.kept))
+  reached : Reaches before.live.tables.schema (world_in before) (world_in (with_commit before tables c.push_reserved.new.self c.record_changes.new.kept))
   reached =
       subst (Reaches before.live.tables.schema (world_in before)) (sym committed.0)
-      (reaches_commit before c.self.invariant.idle c.self.invariant.none tables c.settle.ensures.schema c.self.invariant.runs c.args.xid changes c.args.info c.push_reserved.new.self c.tell_changes.new.kept
+      (reaches_commit before c.self.invariant.idle c.self.invariant.none tables c.settle.ensures.schema c.self.invariant.runs c.args.xid changes c.args.info c.push_reserved.new.self c.record_changes.new.kept
       entry clear rows line items fits tells c.self.invariant.named above)
 
   -- both halves of the line are told the same
@@ -86,10 +86,10 @@ module _ (c : After-push_reserved) where
   opened_alike =
       c.grow.ensures.token ∙ (λ i. let half : Half LineEvent = c.self.invariant.line i in record half { list = half.list ++ WasOpened c.args.xid ∷ [] }) ∙ sym c.grow.ensures.kept
 
-  told_alike : c.tell_changes.new.token ≡ c.tell_changes.new.kept
+  told_alike : c.record_changes.new.token ≡ c.record_changes.new.kept
   told_alike =
-      c.tell_changes.ensures.token ∙ (λ i. let half : Half LineEvent = opened_alike i in
-      record half { list = half.list ++ WasCommitted c.args.xid (map (ChangeItem c.args.xid) (changes_of c.deref.result.now)) c.args.info ∷ [] }) ∙ sym c.tell_changes.ensures.kept
+      c.record_changes.ensures.token ∙ (λ i. let half : Half LineEvent = opened_alike i in
+      record half { list = half.list ++ WasCommitted c.args.xid (map (ChangeItem c.args.xid) (changes_of c.deref.result.now)) c.args.info ∷ [] }) ∙ sym c.record_changes.ensures.kept
 
 pub invariant_of-self-2 : goal.invariant_of-self-2
 invariant_of-self-2 c =
@@ -105,4 +105,4 @@ returns-clause-commits c =
 pub returns-clause-reached : goal.returns-clause-reached
 returns-clause-reached c =
     let at = (goal.at.returns-clause-reached c).After-push_reserved in
-    subst (λ (s : Serial). Reaches s.store.schema s.store.world (world_in (with_commit (before at) (tables at) c.push_reserved.new.self c.tell_changes.new.kept))) c.self.view_is (reached at)
+    subst (λ (s : Serial). Reaches s.store.schema s.store.world (world_in (with_commit (before at) (tables at) c.push_reserved.new.self c.record_changes.new.kept))) c.self.view_is (reached at)

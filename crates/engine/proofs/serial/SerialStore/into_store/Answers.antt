@@ -1,7 +1,7 @@
 use Rattle.std.proofs.Common.{refl, sym, ap, ◌∙◌}
 use Rattle.engine.specs.Serial.{Serial}
 use Rattle.engine.specs.SerialInside.{idle_in}
-use Rattle.engine.specs.SerialLaws.{idle_with, started_alike}
+use Rattle.engine.specs.SerialLemmas.{idle_with, started_alike}
 use Rattle.engine.proofs.SerialSteps.{rows_idle}
 use Rattle.engine.proofs.serial.SerialStore.into_store.Goals as goal
 use Rattle.engine.proofs.serial.SerialStore.into_store.Goals.{Start}

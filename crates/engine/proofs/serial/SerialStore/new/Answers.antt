@@ -8,10 +8,10 @@ use Rattle.indexes.specs.Content.{Content}
 use Rattle.undo.specs.Undo.{Log}
 use Rattle.world.specs.World.{starting}
 use Rattle.engine.specs.declared.store.Store.TheInside.{Inside}
-use Rattle.engine.specs.Engine.{world_in, IsStore}
+use Rattle.engine.specs.Engine.{world_in, Represents}
 use Rattle.engine.specs.SerialInside.{told_start}
-use Rattle.engine.specs.SerialLaws.{idle_with, with_tables}
-use Rattle.engine.specs.StoreLaws.{store_started}
+use Rattle.engine.specs.SerialLemmas.{idle_with, with_tables}
+use Rattle.engine.specs.StoreLemmas.{store_started}
 use Rattle.engine.proofs.SerialSteps.{serially_idle}
 use Rattle.engine.proofs.serial.SerialStore.new.Goals as goal
 
@@ -23,7 +23,7 @@ module _ (c : goal.After-new-4) where
   told : told_start c.in-Ok.told.list ≡ c.args.start
   told = ap told_start c.in-Ok.ensures
 
-  started : (world_in parts ≡ starting c.args.start.rows) × IsStore parts
+  started : (world_in parts ≡ starting c.args.start.rows) × Represents parts
   started =
       store_started parts c.args.start.rows c.new.ensures.tied (ap (λ (t : Content). t.schema) (told ∙ sym c.new.ensures.tables)) (ap (λ (t : Content). t.rows) told)
       c.in-Ok-new_tokens.ensures.line.1 c.in-Ok-new_tokens.ensures.book c.new-2.ensures.items c.new-2.ensures.len
@@ -34,7 +34,7 @@ module _ (c : goal.After-new-4) where
   abbrev tables : Content
   tables = record { schema = c.new.result.tables.schema; rows = all_back c.new.result.tables.rows (map edits_of c.new-3.result.inverses); room = [] }
 
-  idle : (world_in (with_tables parts tables) ≡ world_in parts) × IsStore (with_tables parts tables)
+  idle : (world_in (with_tables parts tables) ≡ world_in parts) × Represents (with_tables parts tables)
   idle =
       idle_with parts started.1 c.in-Ok-new_tokens.ensures.book tables refl
       (ap (λ (is : List Inverse). all_back c.new.result.tables.rows (map edits_of is)) undone)

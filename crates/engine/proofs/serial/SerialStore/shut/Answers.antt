@@ -2,11 +2,11 @@ use Rattle.std.proofs.Common.{◌≡◌, subst, ◌∙◌}
 use Rattle.std.specs.Prelude.{map}
 use Rattle.world.specs.Steps.{Closes}
 use Rattle.engine.specs.Engine.{entry_in, world_in}
-use Rattle.live.specs.Journal.{rows_after}
+use Rattle.live_tables.specs.Journal.{rows_after}
 use Rattle.engine.specs.Serial.{Serial}
 use Rattle.engine.specs.SerialInside.{idle_in}
-use Rattle.engine.specs.SerialLaws.{nobody_open}
-use Rattle.engine.specs.StoreLaws.{store_serial}
+use Rattle.engine.specs.SerialLemmas.{nobody_open}
+use Rattle.engine.specs.StoreLemmas.{store_serial}
 use Rattle.engine.proofs.SerialSteps.{rows_based}
 use Rattle.engine.proofs.serial.SerialStore.shut.Goals as goal
 use Rattle.engine.proofs.serial.SerialStore.shut.Goals.{After-undo_to}

@@ -3,9 +3,9 @@ use Rattle.std.specs.Prelude.{All}
 use Rattle.std.specs.Vec.Iter.{into_iter_items}
 use Rattle.model.specs.Named.{NamesTables}
 use Rattle.model.specs.Survivors.{changes_of}
-use Rattle.model.specs.SurvivorLaws.{changes_of_both}
-use Rattle.engine.specs.Clear.{ClashesIn}
-use Rattle.live.specs.NamedLaws.{changes_at}
+use Rattle.model.specs.SurvivorLemmas.{changes_of_both}
+use Rattle.engine.specs.FirstClash.{ClashesIn}
+use Rattle.live_tables.specs.NamedLemmas.{changes_at}
 use Rattle.engine.specs.Serial.{Serial, rows_now}
 use Rattle.engine.proofs.SerialSteps.{item_applied, item_clear, item_refused, if_err, on_err, taken_front}
 use Rattle.engine.proofs.serial.SerialStore.take_all.Goals as goal

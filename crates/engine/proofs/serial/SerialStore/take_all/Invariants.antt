@@ -1,6 +1,6 @@
 use Rattle.std.proofs.Common.{◌≡◌}
 use Rattle.model.specs.Survivors.{changes_of}
-use Rattle.engine.specs.Clear.{IsClear}
+use Rattle.engine.specs.FirstClash.{IsClear}
 use Rattle.engine.specs.Serial.{rows_now, with_changes}
 use Rattle.engine.proofs.serial.SerialStore.take_all.Given as goal
 

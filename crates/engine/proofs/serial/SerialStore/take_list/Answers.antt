@@ -10,8 +10,8 @@ use Rattle.model.specs.Survivors.{changes_of}
 use Rattle.change.specs.declared.inverse.Inverse.{Inverse}
 use Rattle.change.specs.Inverse.{edits_of}
 use Rattle.undo.specs.Undo.{CanUndo}
-use Rattle.undo.specs.UndoLaws.{CanUndo_keeps}
-use Rattle.engine.specs.Clear.{IsClear}
+use Rattle.undo.specs.UndoLemmas.{CanUndo_keeps}
+use Rattle.engine.specs.FirstClash.{IsClear}
 use Rattle.engine.specs.Serial.{Serial}
 use Rattle.engine.specs.SerialInside.{base_in}
 use Rattle.engine.proofs.SerialSteps.{rows_idle, worked_kept}

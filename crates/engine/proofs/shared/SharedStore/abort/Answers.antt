@@ -1,6 +1,6 @@
 use Rattle.world.specs.Steps.{aborts}
 use Rattle.engine.specs.Events.{opened_by}
-use Rattle.engine.specs.SharedLaws.{shared_step}
+use Rattle.engine.specs.SharedLemmas.{shared_step}
 use Rattle.engine.proofs.shared.SharedStore.abort.Goals as goal
 
 pub invariant_of-self : goal.invariant_of-self

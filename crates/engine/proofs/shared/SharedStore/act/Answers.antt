@@ -1,7 +1,7 @@
 use Rattle.world.specs.Steps.{acts}
 use Rattle.engine.specs.Events.{opened_by}
-use Rattle.live.specs.Answers.{told}
-use Rattle.engine.specs.SharedLaws.{shared_step}
+use Rattle.live_tables.specs.Answers.{told}
+use Rattle.engine.specs.SharedLemmas.{shared_step}
 use Rattle.engine.proofs.shared.SharedStore.act.Goals as goal
 
 pub invariant_of-self : goal.invariant_of-self

@@ -1,4 +1,4 @@
-use Rattle.engine.specs.SharedLaws.{shared_new}
+use Rattle.engine.specs.SharedLemmas.{shared_new}
 use Rattle.engine.proofs.shared.SharedStore.new.Goals as goal
 
 pub invariant_of-result : goal.invariant_of-result

@@ -1,6 +1,6 @@
 use Rattle.world.specs.Steps.{opens}
-use Rattle.live.specs.Answers.{told_call}
-use Rattle.engine.specs.SharedLaws.{shared_step}
+use Rattle.live_tables.specs.Answers.{told_call}
+use Rattle.engine.specs.SharedLemmas.{shared_step}
 use Rattle.engine.proofs.shared.SharedStore.open.Goals as goal
 
 pub invariant_of-self : goal.invariant_of-self

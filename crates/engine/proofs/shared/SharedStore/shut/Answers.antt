@@ -2,8 +2,8 @@ use Rattle.std.proofs.Common.{map, subst}
 use Rattle.world.specs.World.{World}
 use Rattle.world.specs.Steps.{Closes}
 use Rattle.engine.specs.Engine.{Engine, entry_in}
-use Rattle.live.specs.Shut.{IsShut}
-use Rattle.engine.specs.ShutLaws.{shared_ended, shared_shut, shared_serial}
+use Rattle.live_tables.specs.Shut.{IsShut}
+use Rattle.engine.specs.ShutLemmas.{shared_ended, shared_shut, shared_serial}
 use Rattle.engine.proofs.shared.SharedStore.shut.Goals as goal
 
 pub returns-clause-shut : goal.returns-clause-shut

@@ -1,6 +1,6 @@
 use Rattle.std.specs.Result.{result_ok}
 use Rattle.world.specs.Steps.{stops_held}
-use Rattle.engine.specs.SharedLaws.{shared_step}
+use Rattle.engine.specs.SharedLemmas.{shared_step}
 use Rattle.engine.proofs.shared.SharedStore.stop_held.Goals as goal
 
 pub invariant_of-self : goal.invariant_of-self

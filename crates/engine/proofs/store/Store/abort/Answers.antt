@@ -3,8 +3,8 @@ use Rattle.tokens.specs.Lists.{without_list}
 use Rattle.world.specs.Steps.{Aborts, aborted_with}
 use Rattle.engine.specs.declared.events.LineEvent.TheVariants.{Aborted as WasAborted}
 use Rattle.engine.specs.declared.store.Store.TheInside.{Inside}
-use Rattle.engine.specs.Engine.{Engine, world_in, IsStore}
-use Rattle.engine.specs.StoreLaws.{store_aborted}
+use Rattle.engine.specs.Engine.{Engine, world_in, Represents}
+use Rattle.engine.specs.StoreLemmas.{store_aborted}
 use Rattle.engine.proofs.StoreTickets.{IsTicket, its_ticket, may_call, tied_after}
 use Rattle.engine.proofs.store.Store.abort.Goals as goal
 
@@ -20,7 +20,7 @@ module _ (c : goal.After-abort) where
   abbrev parts : Inside
   parts = record c.self.inside { live = c.abort.new.self; book = c.close.new.self; line = c.grow.new.kept }
 
-  moved : (world_in parts ≡ aborted_with (world_in c.self.inside) c.args.t.number) × IsStore parts
+  moved : (world_in parts ≡ aborted_with (world_in c.self.inside) c.args.t.number) × Represents parts
   moved =
       store_aborted c.self.inside c.self.invariant c.args.t.number c.args.t.list its.listed c.abort.new.self c.close.new.self c.grow.new.kept
       c.abort.ensures.schema

@@ -8,9 +8,9 @@ use Rattle.world.specs.Steps.{GoesBack, done_with}
 use Rattle.engine.specs.declared.events.Event.{Event}
 use Rattle.engine.specs.declared.events.Event.TheVariants.{Done}
 use Rattle.engine.specs.Events.{opened_by}
-use Rattle.engine.specs.EventLaws.{work_back}
+use Rattle.engine.specs.EventLemmas.{work_back}
 use Rattle.engine.specs.Engine.{world_in}
-use Rattle.engine.specs.StoreLaws.{with_parts}
+use Rattle.engine.specs.StoreLemmas.{with_parts}
 use Rattle.engine.proofs.StoreTickets.{its_ticket, met_call, seen_step, HasDone, item_done}
 use Rattle.engine.proofs.store.Store.back_to.Goals as goal
 

@@ -1,4 +1,4 @@
-use Rattle.engine.specs.ShutLaws.{closed_alone}
+use Rattle.engine.specs.ShutLemmas.{closed_alone}
 use Rattle.engine.proofs.store.Store.close.Goals as goal
 
 pub returns-clause-closes : goal.returns-clause-closes

@@ -11,8 +11,8 @@ use Rattle.engine.specs.declared.events.Event.{Event}
 use Rattle.engine.specs.declared.store.Store.TheInside.{Inside}
 use Rattle.engine.specs.declared.events.LineEvent.{LineEvent}
 use Rattle.engine.specs.Events.{opened_by, last_end}
-use Rattle.engine.specs.Engine.{Engine, entry_in, world_in, IsStore}
-use Rattle.engine.specs.StoreLaws.{has_room, store_committed}
+use Rattle.engine.specs.Engine.{Engine, entry_in, world_in, Represents}
+use Rattle.engine.specs.StoreLemmas.{has_room, store_committed}
 use Rattle.engine.proofs.StoreTickets.{IsTicket, its_ticket, open_under, may_call, tied_after}
 use Rattle.engine.proofs.store.Store.commit.Goals as goal
 
@@ -51,17 +51,17 @@ module _ (c : goal.After-push_reserved) where
 
   -- the store's parts after the call
   abbrev parts : Inside
-  parts = record c.self.inside { live = c.commit-items.new.self; journal = c.push_reserved.new.self; book = c.close.new.self; line = c.tell_commit.new.kept }
+  parts = record c.self.inside { live = c.commit-items.new.self; journal = c.push_reserved.new.self; book = c.close.new.self; line = c.record_commit.new.kept }
 
-  moved : (world_in parts ≡ committed_with c.self.inside.live.tables.schema (world_in c.self.inside) c.args.t.number (opened_by c.args.t.list) c.args.info) × IsStore parts
+  moved : (world_in parts ≡ committed_with c.self.inside.live.tables.schema (world_in c.self.inside) c.args.t.number (opened_by c.args.t.list) c.args.info) × Represents parts
   moved =
-      store_committed c.self.inside c.self.invariant c.args.t.number c.args.t.list its.listed c.commit-items.new.self c.push_reserved.new.self c.close.new.self c.tell_commit.new.kept
+      store_committed c.self.inside c.self.invariant c.args.t.number c.args.t.list its.listed c.commit-items.new.self c.push_reserved.new.self c.close.new.self c.record_commit.new.kept
       c.args.info entry c.commit-items.ensures.schema
       (c.close.ensures.book ∙ (λ i. without_list c.self.inside.book (c.t.view_is i).number))
-      c.tell_commit.ensures.kept
+      c.record_commit.ensures.kept
       (tied_after c.self.invariant its (λ w n o. committed_with c.self.inside.live.tables.schema w n o c.args.info) c.commit-items.new.self (λ w o. c.commit-items.ensures.tied w o c.args.info))
       c.push_reserved.ensures.items c.push_reserved.ensures.len c.push_reserved.ensures.capacity entry_tells
-      (subst (λ (l : Half LineEvent). last_end l.list < c.args.info.end) (sym c.line.view_is ∙ c.tell_commit.ensures.met) c.requires.rising)
+      (subst (λ (l : Half LineEvent). last_end l.list < c.args.info.end) (sym c.line.view_is ∙ c.record_commit.ensures.met) c.requires.rising)
 
 pub invariant_of-self : goal.invariant_of-self
 invariant_of-self c = (moved c).1

@@ -4,8 +4,8 @@ use Rattle.model.specs.Rows.{Rows, Schema}
 use Rattle.model.specs.TableRows.{rows_of_table}
 use Rattle.engine.specs.declared.entry.Entry.{Entry}
 use Rattle.engine.specs.Engine.{Engine, entry_in}
-use Rattle.live.specs.Journal.{rows_after}
-use Rattle.engine.specs.StoreLaws.{store_serial}
+use Rattle.live_tables.specs.Journal.{rows_after}
+use Rattle.engine.specs.StoreLemmas.{store_serial}
 use Rattle.engine.proofs.store.Store.committed_rows.Goals as goal
 
 pub returns-in_ok-rows_after-in-None-clause-reads : goal.returns-in_ok-rows_after-in-None-clause-reads

@@ -2,8 +2,8 @@ use Rattle.std.proofs.Common.{◌≡◌, sym, ap, ◌∙◌}
 use Rattle.indexes.specs.Content.{Content}
 use Rattle.world.specs.World.{starting}
 use Rattle.engine.specs.declared.store.Store.TheInside.{Inside}
-use Rattle.engine.specs.Engine.{world_in, IsStore}
-use Rattle.engine.specs.StoreLaws.{store_started}
+use Rattle.engine.specs.Engine.{world_in, Represents}
+use Rattle.engine.specs.StoreLemmas.{store_started}
 use Rattle.engine.proofs.store.Store.new.Goals as goal
 
 module _ (c : goal.After-new-2) where
@@ -11,7 +11,7 @@ module _ (c : goal.After-new-2) where
   abbrev parts : Inside
   parts = record { live = c.new.result; start = c.in-Ok.first; journal = c.new-2.result; book = c.in-Ok-new_tokens.book; line = c.in-Ok-new_tokens.line }
 
-  started : (world_in parts ≡ starting c.args.start.rows) × IsStore parts
+  started : (world_in parts ≡ starting c.args.start.rows) × Represents parts
   started =
       store_started parts c.args.start.rows c.new.ensures.tied
       (ap (λ (t : Content). t.schema) c.in-Ok.ensures ∙ ap (λ (t : Content). t.schema) (sym c.new.ensures.tables))

@@ -5,8 +5,8 @@ use Rattle.world.specs.Steps.{Opens, opened_with}
 use Rattle.engine.specs.declared.events.LineEvent.{LineEvent}
 use Rattle.engine.specs.declared.events.LineEvent.TheVariants.{Opened as WasOpened}
 use Rattle.engine.specs.declared.store.Store.TheInside.{Inside}
-use Rattle.engine.specs.Engine.{Engine, world_in, IsStore}
-use Rattle.engine.specs.StoreLaws.{no_list, store_opened}
+use Rattle.engine.specs.Engine.{Engine, world_in, Represents}
+use Rattle.engine.specs.StoreLemmas.{no_list, store_opened}
 use Rattle.engine.proofs.store.Store.open.Goals as goal
 
 pub open-slip-requires : goal.open-slip-requires
@@ -21,7 +21,7 @@ module _ (c : goal.After-open-slip) where
   absent : get (world_in c.self.inside).opened c.args.xid ≡ None
   absent = (c.in_ok-open_live.ensures.opens (world_in c.self.inside) c.self.invariant.tied).1
 
-  moved : (world_in parts ≡ opened_with (world_in c.self.inside) c.args.xid) × IsStore parts
+  moved : (world_in parts ≡ opened_with (world_in c.self.inside) c.args.xid) × Represents parts
   moved =
       store_opened c.self.inside c.self.invariant c.args.xid absent c.open_live.new.live c.open_live.new.journal c.open-slip.new.self c.grow.new.kept
       c.in_ok-open_live.ensures.schema c.open-slip.ensures.book

@@ -5,8 +5,8 @@ use Rattle.model.specs.TableRows.{rows_of_table}
 use Rattle.world.specs.World.{changes_in}
 use Rattle.engine.specs.declared.entry.Entry.{Entry}
 use Rattle.engine.specs.Engine.{Engine, entry_in}
-use Rattle.live.specs.Journal.{rows_after}
-use Rattle.engine.specs.StoreLaws.{store_rows_after}
+use Rattle.live_tables.specs.Journal.{rows_after}
+use Rattle.engine.specs.StoreLemmas.{store_rows_after}
 use Rattle.engine.proofs.store.Store.rows_after.Goals as goal
 
 pub returns-clause-reads : goal.returns-clause-reads

@@ -2,9 +2,9 @@ use Rattle.std.proofs.Common.{◌≡◌, map, subst}
 use Rattle.world.specs.World.{World}
 use Rattle.world.specs.Steps.{Closes}
 use Rattle.engine.specs.Engine.{Engine, entry_in, world_in}
-use Rattle.live.specs.Journal.{rows_after}
-use Rattle.live.specs.Shut.{IsShut}
-use Rattle.engine.specs.ShutLaws.{shut_closes, shut_serial}
+use Rattle.live_tables.specs.Journal.{rows_after}
+use Rattle.live_tables.specs.Shut.{IsShut}
+use Rattle.engine.specs.ShutLemmas.{shut_closes, shut_serial}
 use Rattle.engine.proofs.store.Store.shut.Goals as goal
 
 pub abort_all-requires : goal.abort_all-requires

@@ -1,8 +1,8 @@
 use Rattle.std.proofs.Common.{sym, subst, Some}
-use Rattle.live.specs.declared.answers.Stop.{Stop}
-use Rattle.live.specs.Answers.{stop_of, TellsWhatStopped}
+use Rattle.live_tables.specs.declared.answers.Stop.{Stop}
+use Rattle.live_tables.specs.Answers.{stop_of, TellsWhatStopped}
 use Rattle.engine.specs.Engine.{Engine, world_in}
-use Rattle.engine.specs.StoreLaws.{stop_there}
+use Rattle.engine.specs.StoreLemmas.{stop_there}
 use Rattle.engine.proofs.store.Store.stop.Goals as goal
 
 pub returns-in-Some : goal.returns-in-Some

@@ -3,8 +3,8 @@ use Rattle.std.specs.Prelude.{option_map}
 use Rattle.std.specs.FinMap.{get}
 use Rattle.std.specs.List.Sorted.{IsStrictlyIncreasing}
 use Rattle.engine.specs.declared.store.Store.TheInside.{Inside}
-use Rattle.engine.specs.Engine.{Engine, IsStore, world_in}
-use Rattle.engine.specs.EventLaws.{get_values}
+use Rattle.engine.specs.Engine.{Engine, Represents, world_in}
+use Rattle.engine.specs.EventLemmas.{get_values}
 use Rattle.engine.specs.Events.{opened_by, ends_in, is_open_in}
 use Rattle.engine.proofs.store.Store.table_count.Goals as goal
 
@@ -16,7 +16,7 @@ some_still f None = refl
 some_still f (Some x) = refl
 
 -- the line tells who is open in the world
-tells_open : (s : Inside) → IsStore s → (xid : ℕ) → is_open_in s.line.list xid ≡ is_some (get (world_in s).opened xid)
+tells_open : (s : Inside) → Represents s → (xid : ℕ) → is_open_in s.line.list xid ≡ is_some (get (world_in s).opened xid)
 tells_open s is xid = is.opened xid ∙ sym (ap is_some (get_values opened_by s.book.lists xid) ∙ some_still opened_by (get s.book.lists xid))
 
 pub returns-clause-opened : goal.returns-clause-opened

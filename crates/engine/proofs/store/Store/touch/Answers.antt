@@ -1,11 +1,11 @@
 use Rattle.std.proofs.Common.{◌≡◌, rules, sym, subst, ◌∙◌, Result, Ok, Err}
 use Rattle.model.specs.declared.item.Item.TheVariants.{Touch}
 use Rattle.world.specs.Steps.{Touches, done_with}
-use Rattle.live.specs.declared.answers.EngineFault as fault_type
-use Rattle.live.specs.Answers.{told_call, told_fault}
+use Rattle.live_tables.specs.declared.answers.EngineFault as fault_type
+use Rattle.live_tables.specs.Answers.{told_call, told_fault}
 use Rattle.engine.specs.Events.{opened_by}
-use Rattle.engine.specs.Engine.{world_in, IsStore}
-use Rattle.engine.specs.StoreLaws.{with_parts, store_unmoved}
+use Rattle.engine.specs.Engine.{world_in, Represents}
+use Rattle.engine.specs.StoreLemmas.{with_parts, store_unmoved}
 use Rattle.engine.proofs.StoreTickets.{IsTicket, its_ticket, met_call, tied_after, seen_step, HasDone, item_done}
 use Rattle.engine.proofs.store.Store.touch.Goals as goal
 
@@ -30,7 +30,7 @@ returns-clause-touches c =
 -- ---- it was refused
 
 unmoved : (c : goal.After-from_residual) → (world_in (with_parts c.self.inside c.touch_live.new.live c.meet.new.self) ≡ world_in c.self.inside)
-    × IsStore (with_parts c.self.inside c.touch_live.new.live c.meet.new.self)
+    × Represents (with_parts c.self.inside c.touch_live.new.live c.meet.new.self)
 unmoved c =
     let its : IsTicket c.self.inside c.args.t.now c.number-xid.result = its_ticket c.t.view_is c.number-xid.ensures c.t.view_is c.meet.ensures.listed in
     store_unmoved c.self.inside c.self.invariant c.args.t.now.number c.args.t.now.list its.listed c.touch_live.new.live c.meet.new.self c.touch_live.ensures.schema c.meet.ensures.book

@@ -1,7 +1,7 @@
 use Rattle.std.specs.Prelude.{Some}
 use Rattle.std.proofs.Common.{sym, ◌∙◌, ap}
 use Rattle.std.proofs.lemmas.Map.Views.{tells_apart}
-use Rattle.model.specs.Exact.{key_cmp_exact}
+use Rattle.model.specs.ExactLemmas.{key_cmp_exact}
 use Rattle.indexes.proofs.Tabling.{put_in_place}
 use Rattle.indexes.proofs.table.Table.replace.Goals as goal
 

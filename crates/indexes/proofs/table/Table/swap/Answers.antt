@@ -3,7 +3,7 @@ use Rattle.std.proofs.Common.{sym, ◌∙◌, ap, subst}
 use Rattle.std.specs.FinMap.{get, insert}
 use Rattle.model.specs.Rows.{values_in}
 use Rattle.rows.specs.Kept.{Kept}
-use Rattle.rows.specs.KeyLaws.{get_inserted}
+use Rattle.rows.specs.KeyLemmas.{get_inserted}
 use Rattle.indexes.specs.Table.{TableContent, KeepsValues}
 use Rattle.indexes.specs.Indexed.{IsIndexed, columns_of}
 use Rattle.indexes.proofs.Room.{columns_at}

@@ -2,7 +2,7 @@ use Rattle.std.proofs.Common.{sym, ◌∙◌, ap, subst}
 use Rattle.std.specs.Prelude.{slice_set}
 use Rattle.std.specs.FinMap.{get}
 use Rattle.indexes.specs.Table.{TableContent, cells_in}
-use Rattle.indexes.specs.Content.{Keeps}
+use Rattle.indexes.specs.Content.{KeepsCells}
 use Rattle.indexes.specs.Gathered.{cells_from}
 use Rattle.indexes.proofs.Seen as seen
 use Rattle.indexes.proofs.tables.Tables.unwipe.Goals as goal
@@ -33,7 +33,7 @@ returns-clause-elsewhere c =
 
 pub returns-clause-room : goal.returns-clause-room
 returns-clause-room c =
-    subst (λ (s : TableContent). Keeps (cells_in c.args.table s) (cells_from 0 (slice_set c.self.inside.tables.items c.args.table c.unwipe.new.self))) c.unwipe.ensures.back (seen.new_room c.self.inside.tables.items _ c.self.view_is _ c.requires.known _ c.index_mut-table.ensures.value c.unwipe.new.self)
+    subst (λ (s : TableContent). KeepsCells (cells_in c.args.table s) (cells_from 0 (slice_set c.self.inside.tables.items c.args.table c.unwipe.new.self))) c.unwipe.ensures.back (seen.new_room c.self.inside.tables.items _ c.self.view_is _ c.requires.known _ c.index_mut-table.ensures.value c.unwipe.new.self)
 
 pub returns-clause-room_elsewhere : goal.returns-clause-room_elsewhere
 returns-clause-room_elsewhere c =

@@ -1,12 +1,12 @@
 use Rattle.std.proofs.Common.{refl, true≢false}
 use Rattle.std.proofs.lemmas.List.Elements.{All-nil}
-use Rattle.keyholds.specs.Holds.{cells_held, IsFree}
+use Rattle.keyholds.specs.Holds.{cells_held, IsFreeCell}
 use Rattle.keyholds.proofs.Seen.{seen_placed, seen_apart}
 use Rattle.keyholds.proofs.Answering.{free_so_far, all_free, first_held, not_all_free}
 use Rattle.keyholds.proofs.holds.Holds.free_for.Goals as goal
 
 pub loop-cell-init : goal.loop-cell-init
-loop-cell-init g c = All-nil (IsFree (cells_held c.args.self.now) c.args.xid)
+loop-cell-init g c = All-nil (IsFreeCell (cells_held c.args.self.now) c.args.xid)
 
 pub returns-in-Some-clause-free : goal.returns-in-Some-clause-free
 returns-in-Some-clause-free g c =

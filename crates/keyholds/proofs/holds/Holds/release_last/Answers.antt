@@ -1,6 +1,6 @@
 use Rattle.std.proofs.Common.{Some, sym, ap, subst}
 use Rattle.std.specs.Prelude.{is_some}
-use Rattle.keyholds.specs.Holds.{cells_held, AreApart}
+use Rattle.keyholds.specs.Holds.{cells_held, AreDisjoint}
 use Rattle.keyholds.specs.Lists.{items_in, lists_seen, SetsList}
 use Rattle.keyholds.proofs.Listing.{sets_list, lists_seen_filled}
 use Rattle.keyholds.proofs.Seen.{listed_placed, set_released, set_others, set_placed, none_leaves}
@@ -17,7 +17,7 @@ pub returns-in_err-list-clause-filled : goal.returns-in_err-list-clause-filled
 returns-in_err-list-clause-filled g c = lists_seen_filled c.get_mut.follows.lender-at-none
 
 pub returns-in_err-list-clause-apart : goal.returns-in_err-list-clause-apart
-returns-in_err-list-clause-apart g c = subst (λ lists. AreApart (cells_held (lists_seen lists))) (sym c.get_mut.follows.holds-at-none) c.self.invariant.apart
+returns-in_err-list-clause-apart g c = subst (λ lists. AreDisjoint (cells_held (lists_seen lists))) (sym c.get_mut.follows.holds-at-none) c.self.invariant.apart
 
 -- the transaction's list is what the call left of it
 sets : (g : Over) (c : After-pop_past g) → SetsList c.args.xid c.pop_past.new.list.items c.self.inside.lists (c.get_mut.follows.lender c.pop_past.new.list)

@@ -3,9 +3,9 @@ use Rattle.std.specs.Prelude.{All}
 use Rattle.engine.specs.Events.{commits_in}
 use Rattle.session.specs.Answers.{IsOfTables, Says}
 use Rattle.session.specs.Represents.{Represents}
-use Rattle.spooled.specs.Ends.{end_of_refusal}
+use Rattle.run.specs.Ends.{end_of_refusal}
 use Rattle.leader.specs.declared.lead.Stream.{Stream}
-use Rattle.lanes.specs.Standing.{Standing}
+use Rattle.dispatch.specs.Standing.{Standing}
 use Rattle.leader.specs.Threads.{Led, led}
 use Rattle.leader.proofs.Leading.{IsNoCommit, keeps_on, led_by_step, same_but_open, item_named, nothing_agreed, begin_agreed, open_agreed, handed_on, item_agreed, abort_agreed, takes_err, led_commit, rises, led_to_commit, begun_line, handed_out_line, taken_line, aborted_line, stops_refused, stops_before, stops_item, stops_open, stops_at_commit}
 use Rattle.leader.proofs.lead.Lead.take_message.Goals as goal

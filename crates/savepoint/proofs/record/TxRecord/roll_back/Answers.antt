@@ -1,7 +1,7 @@
 use Rattle.std.proofs.Common.{◌≡◌, take, Some, sym, ap, subst, ◌∙◌, arith, map, length-take-le}
 use Rattle.std.specs.Option.{option_map}
 use Rattle.model.specs.Effect.{all_back}
-use Rattle.indexes.specs.Content.{Keeps}
+use Rattle.indexes.specs.Content.{KeepsCells}
 use Rattle.change.specs.Inverse.{edits_of}
 use Rattle.undo.specs.Undo.{CanUndo, content_undone}
 use Rattle.savepoint.specs.declared.record.CutPoint.{CutPoint}
@@ -34,7 +34,7 @@ returns-in_err-point-clause-rows c = rw (since_none c.self.inside c.args.self.no
 
 pub returns-in_err-point-clause-room : goal.returns-in_err-point-clause-room
 returns-in_err-point-clause-room c =
-    subst (λ is. Keeps (content_undone c.args.t.now is).room c.args.t.now.room) (sym (since_none c.self.inside c.args.self.now c.self.view_is c.args.sub (sym c.in_err-point.ensures.mark))) (λ cell has. has)
+    subst (λ is. KeepsCells (content_undone c.args.t.now is).room c.args.t.now.room) (sym (since_none c.self.inside c.args.self.now c.self.view_is c.args.sub (sym c.in_err-point.ensures.mark))) (λ cell has. has)
 
 pub undo_to-requires-clause-mark : goal.undo_to-requires-clause-mark
 undo_to-requires-clause-mark c = (c.self.invariant.within c.args.sub c.in_ok-point.point (sym c.in_ok-point.ensures.mark)).1
@@ -74,7 +74,7 @@ returns-clause-rows c =
 
 pub returns-clause-room : goal.returns-clause-room
 returns-clause-room c =
-    subst (λ is. Keeps (content_undone c.args.t.now is).room c.undo_to.new.t.room) (sym (since_mark c.self.inside c.args.self.now c.self.view_is c.args.sub c.in_ok-point.point (sym c.in_ok-point.ensures.mark)))
+    subst (λ is. KeepsCells (content_undone c.args.t.now is).room c.undo_to.new.t.room) (sym (since_mark c.self.inside c.args.self.now c.self.view_is c.args.sub c.in_ok-point.point (sym c.in_ok-point.ensures.mark)))
     c.undo_to.ensures.room
 
 pub returns-in_err-point-clause-named : goal.returns-in_err-point-clause-named

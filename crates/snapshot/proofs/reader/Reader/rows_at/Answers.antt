@@ -7,7 +7,7 @@ use Rattle.model.specs.TableRows.{rows_of_table}
 use Rattle.world.specs.World.{journal, changes_in}
 use Rattle.engine.specs.Engine.{Engine, entry_in}
 use Rattle.engine.specs.Events.{commits_in}
-use Rattle.snapshot.specs.ReadLaws.{positions_told, rows_told, within_line}
+use Rattle.snapshot.specs.ReadLemmas.{positions_told, rows_told, within_line}
 use Rattle.snapshot.proofs.Looks.{sees_looked}
 use Rattle.snapshot.proofs.reader.Reader.rows_at.Goals as goal
 

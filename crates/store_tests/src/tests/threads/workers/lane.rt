@@ -15,7 +15,7 @@ use std::sync::Wait;
 use std::thread;
 use std::thread::Threads;
 use std::time::Clock;
-use worker::{Ended, Job, LaneNames, WorkItem, work_on};
+use worker::{Ended, Job, RingNames, WorkItem, work_on};
 
 /// How many slots a ring has.
 const SLOTS: usize = 16;
@@ -97,7 +97,7 @@ fn lead<N: StoreNames, R: Wait + Abort + Clock>(
 }
 
 // The worker's part.
-fn work_alone<N: StoreNames, L: LaneNames, R: Wait + Abort + Clock>(
+fn work_alone<N: StoreNames, L: RingNames, R: Wait + Abort + Clock>(
     rt: &R,
     alloc: Global,
     shop: &Shop<N>,
@@ -112,7 +112,7 @@ fn work_alone<N: StoreNames, L: LaneNames, R: Wait + Abort + Clock>(
 }
 
 // Both ends meet.
-fn bring_together<N: StoreNames, L: LaneNames, R: Abort>(
+fn bring_together<N: StoreNames, L: RingNames, R: Abort>(
     rt: &R,
     alloc: Global,
     sender: Sender<WorkItem<N>>,
@@ -142,7 +142,7 @@ fn bring_together<N: StoreNames, L: LaneNames, R: Abort>(
 // The ring's name is known only here.
 fn run_named<
     N: StoreNames + Send + Sync,
-    L: LaneNames + Send + Sync,
+    L: RingNames + Send + Sync,
     R: Threads + Wait + Abort + Clock + Sync,
 >(
     rt: &R,

@@ -1,16 +1,16 @@
 use Rattle.std.proofs.Common.{◌≡◌, List, ◌++◌, [], ◌∷◌, map, Result, Ok, sym, ◌∙◌, ap, subst}
 use Rattle.model.specs.Rows.{Rows}
 use Rattle.model.specs.Effect.{inverse, outcome, all_back, back}
-use Rattle.model.specs.EffectLaws.{effect_skipped}
-use Rattle.indexes.specs.Content.{Keeps}
+use Rattle.model.specs.EffectLemmas.{effect_skipped}
+use Rattle.indexes.specs.Content.{KeepsCells}
 use Rattle.change.specs.declared.inverse.Inverse.{Inverse}
 use Rattle.change.specs.declared.outcome.Applied.{Applied}
 use Rattle.change.specs.declared.outcome.Applied.TheVariants.{Done, Skipped}
 use Rattle.change.specs.declared.outcome.Clash.{Clash}
 use Rattle.change.specs.Inverse.{edits_of, CanPutBack}
-use Rattle.change.specs.Applied.{Answers, IfDone, room_after}
+use Rattle.change.specs.Applied.{AnswersOutcome, IfDone, room_after}
 use Rattle.undo.specs.Undo.{CanUndo}
-use Rattle.undo.specs.UndoLaws.{CanUndo_applied, CanUndo_keeps}
+use Rattle.undo.specs.UndoLemmas.{CanUndo_applied, CanUndo_keeps}
 use Rattle.undo.proofs.Applied.{rows_back, base_back}
 use Rattle.undo.proofs.log.UndoLog.apply.Goals as goal
 use Rattle.undo.proofs.log.UndoLog.apply.Goals.{After-push_reserved, In-Ok-Skipped, In-Err}
@@ -30,7 +30,7 @@ pub returns-in-Ok-Done-clause-can : goal.returns-in-Ok-Done-clause-can
 returns-in-Ok-Done-clause-can c =
     subst (CanUndo c.apply.new.t) (sym (log_is c))
     (CanUndo_applied c.args.t.now c.apply.new.t c.args.self.now.inverses c.in-Ok-Done.inverse c.apply.ensures.schema (is_back c)
-    (subst (λ (r : Result Applied Clash). Keeps c.args.t.now.room (room_after c.apply.new.t.room r)) (is_done c) c.apply.ensures.room)
+    (subst (λ (r : Result Applied Clash). KeepsCells c.args.t.now.room (room_after c.apply.new.t.room r)) (is_done c) c.apply.ensures.room)
     (subst (λ (r : Result Applied Clash). IfDone r (λ i. CanPutBack c.apply.new.t i)) (is_done c) c.apply.ensures.can_put_back)
     c.requires.can)
 
@@ -46,13 +46,13 @@ same_rows : (c : In-Ok-Skipped) → c.apply.new.t.rows ≡ c.args.t.now.rows
 same_rows c =
     c.in-Ok-Skipped.ensures.ok
     ∙ effect_skipped c.args.t.now.schema c.args.t.now.rows c.args.change.now
-    (subst (Answers (outcome c.args.t.now.schema c.args.t.now.rows c.args.change.now)) (is_skipped c) c.apply.ensures.answer)
+    (subst (AnswersOutcome (outcome c.args.t.now.schema c.args.t.now.rows c.args.change.now)) (is_skipped c) c.apply.ensures.answer)
 
 pub returns-in-Ok-Skipped-clause-can : goal.returns-in-Ok-Skipped-clause-can
 returns-in-Ok-Skipped-clause-can c =
     subst (CanUndo c.apply.new.t) (sym c.in_ok-reserve.ensures.inverses)
     (CanUndo_keeps c.args.t.now c.apply.new.t (sym c.apply.ensures.schema) (sym (same_rows c))
-    (subst (λ (r : Result Applied Clash). Keeps c.args.t.now.room (room_after c.apply.new.t.room r)) (is_skipped c) c.apply.ensures.room)
+    (subst (λ (r : Result Applied Clash). KeepsCells c.args.t.now.room (room_after c.apply.new.t.room r)) (is_skipped c) c.apply.ensures.room)
     c.args.self.now.inverses c.requires.can)
 
 pub returns-in-Ok-Skipped-clause-base : goal.returns-in-Ok-Skipped-clause-base
@@ -64,5 +64,5 @@ pub returns-in-Err-clause-can : goal.returns-in-Err-clause-can
 returns-in-Err-clause-can c =
     subst (CanUndo c.apply.new.t) (sym c.in_ok-reserve.ensures.inverses)
     (CanUndo_keeps c.args.t.now c.apply.new.t (sym c.apply.ensures.schema) (sym c.in-Err.ensures.err)
-    (subst (λ (r : Result Applied Clash). Keeps c.args.t.now.room (room_after c.apply.new.t.room r)) c.in-Err.is c.apply.ensures.room)
+    (subst (λ (r : Result Applied Clash). KeepsCells c.args.t.now.room (room_after c.apply.new.t.room r)) c.in-Err.is c.apply.ensures.room)
     c.args.self.now.inverses c.requires.can)

@@ -1,9 +1,9 @@
 use Rattle.std.proofs.Common.{◌≡◌, ℕ, zero, suc, List, map}
 use Rattle.model.specs.Rows.{Rows, keys_of}
 use Rattle.model.specs.Definition.{Definition}
-use Rattle.spooled.specs.declared.outcome.Config.{Config}
-use Rattle.spooled.specs.declared.outcome.Outcome.{Outcome}
-use Rattle.spooled.specs.Devices.{DeviceState}
+use Rattle.run.specs.declared.outcome.Config.{Config}
+use Rattle.run.specs.declared.outcome.Outcome.{Outcome}
+use Rattle.run.specs.Devices.{DeviceState}
 use Rattle.leader.specs.WithWorkers.{RunsBy}
 use Rattle.run_tests.proofs.tests.workers.runs.run_all.Goals as goal
 

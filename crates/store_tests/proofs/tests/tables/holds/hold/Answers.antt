@@ -2,14 +2,14 @@ use Rattle.std.proofs.Common.{◌≡◌, ℕ, List, [], ◌∷◌, ◌++◌, All
 use Rattle.std.specs.Map.{keys_of}
 use Rattle.std.proofs.lemmas.List.Elements.{All-cons, All-nil}
 use Rattle.model.specs.declared.cell.Cell.{Cell}
-use Rattle.keyholds.specs.Holds.{cells_held, IsFree}
+use Rattle.keyholds.specs.Holds.{cells_held, IsFreeCell}
 use Rattle.store_tests.proofs.tests.tables.holds.hold.Goals as goal
 
 -- a list of one
-free_alone : {S : Type 0} (held : ℕ → List Cell) (xid : ℕ) (holds before : List (Cell × S)) (hold : Cell × S) → before ≡ [] → holds ≡ before ++ hold ∷ [] → IsFree held xid hold.0 → All (IsFree held xid) (keys_of holds)
+free_alone : {S : Type 0} (held : ℕ → List Cell) (xid : ℕ) (holds before : List (Cell × S)) (hold : Cell × S) → before ≡ [] → holds ≡ before ++ hold ∷ [] → IsFreeCell held xid hold.0 → All (IsFreeCell held xid) (keys_of holds)
 free_alone held xid holds before hold none is free =
     let one : hold.0 ∷ [] ≡ keys_of holds = ap keys_of (ap (λ l. l ++ hold ∷ []) (sym none) ∙ sym is) in
-    subst (λ l. All (IsFree held xid) l) one (All-cons (IsFree held xid) hold.0 [] free (All-nil (IsFree held xid)))
+    subst (λ l. All (IsFreeCell held xid) l) one (All-cons (IsFreeCell held xid) hold.0 [] free (All-nil (IsFreeCell held xid)))
 
 pub take-requires : goal.take-requires
 take-requires c =

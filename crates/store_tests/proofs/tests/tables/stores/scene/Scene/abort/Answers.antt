@@ -3,7 +3,7 @@ use Rattle.world.specs.World.{World}
 use Rattle.engine.specs.declared.events.LineEvent.{LineEvent}
 use Rattle.engine.specs.declared.events.LineEvent.TheVariants.{Aborted as WasAborted}
 use Rattle.engine.specs.Events.{last_end}
-use Rattle.engine.specs.EventLaws.{last_same}
+use Rattle.engine.specs.EventLemmas.{last_same}
 use Rattle.store_tests.proofs.Scenes.{has_ended}
 use Rattle.store_tests.proofs.tests.tables.stores.scene.Scene.abort.Goals as goal
 

@@ -1,5 +1,5 @@
 use Rattle.std.proofs.Common.{sym}
-use Rattle.live.specs.Answers.{told}
+use Rattle.live_tables.specs.Answers.{told}
 use Rattle.engine.specs.Events.{opened_by}
 use Rattle.store_tests.proofs.Scenes.{written, told_more, acts_alike}
 use Rattle.store_tests.proofs.tests.tables.stores.scene.Scene.act.Goals as goal

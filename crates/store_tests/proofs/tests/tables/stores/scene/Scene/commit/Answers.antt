@@ -2,7 +2,7 @@ use Rattle.std.proofs.Common.{ap, sym, ◌∙◌, List}
 use Rattle.world.specs.World.{World}
 use Rattle.engine.specs.declared.events.LineEvent.{LineEvent}
 use Rattle.engine.specs.Events.{last_end}
-use Rattle.engine.specs.EventLaws.{last_more}
+use Rattle.engine.specs.EventLemmas.{last_more}
 use Rattle.store_tests.proofs.Scenes.{has_ended}
 use Rattle.store_tests.proofs.tests.tables.stores.scene.Scene.commit.Goals as goal
 

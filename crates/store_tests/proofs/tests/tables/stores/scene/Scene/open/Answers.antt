@@ -4,12 +4,12 @@ use Rattle.std.specs.FinMap as finite
 use Rattle.tokens.specs.Half.{Half}
 use Rattle.tokens.specs.Lists.{OpenList}
 use Rattle.world.specs.World.{World}
-use Rattle.live.specs.Answers.{told_call}
+use Rattle.live_tables.specs.Answers.{told_call}
 use Rattle.engine.specs.declared.events.Event.{Event}
 use Rattle.engine.specs.declared.events.LineEvent.{LineEvent}
 use Rattle.engine.specs.declared.events.LineEvent.TheVariants.{Opened as WasOpened, Aborted as WasAborted}
 use Rattle.engine.specs.Events.{last_end}
-use Rattle.engine.specs.EventLaws.{last_same}
+use Rattle.engine.specs.EventLemmas.{last_same}
 use Rattle.store_tests.proofs.Scenes.{belong_put, know_put, belong_again, know_again, opens_alike}
 use Rattle.store_tests.proofs.tests.tables.stores.scene.Scene.open.Goals as goal
 

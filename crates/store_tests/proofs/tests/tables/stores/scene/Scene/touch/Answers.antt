@@ -1,5 +1,5 @@
 use Rattle.std.proofs.Common.{sym}
-use Rattle.live.specs.Answers.{told_call}
+use Rattle.live_tables.specs.Answers.{told_call}
 use Rattle.engine.specs.Events.{opened_by}
 use Rattle.store_tests.proofs.Scenes.{written, told_or_not, touches_alike}
 use Rattle.store_tests.proofs.tests.tables.stores.scene.Scene.touch.Goals as goal

@@ -2,7 +2,7 @@ use Rattle.std.proofs.Common.{List, ap, refl, ◌∙◌}
 use Rattle.engine.specs.declared.events.LineEvent.{LineEvent}
 use Rattle.engine.specs.declared.events.LineEvent.TheVariants.{Aborted as WasAborted}
 use Rattle.engine.specs.Events.{last_end}
-use Rattle.engine.specs.EventLaws.{last_same}
+use Rattle.engine.specs.EventLemmas.{last_same}
 use Rattle.store_tests.proofs.tests.threads.workers.shop.Hand.abort.Goals as goal
 
 pub invariant_of-self-clause-ended : goal.invariant_of-self-clause-ended

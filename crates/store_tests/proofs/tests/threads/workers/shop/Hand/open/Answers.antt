@@ -3,7 +3,7 @@ use Rattle.std.specs.Prelude.{OnOk, OnErr}
 use Rattle.engine.specs.declared.events.LineEvent.{LineEvent}
 use Rattle.engine.specs.declared.events.LineEvent.TheVariants.{Opened as WasOpened}
 use Rattle.engine.specs.Events.{last_end}
-use Rattle.engine.specs.EventLaws.{last_same}
+use Rattle.engine.specs.EventLemmas.{last_same}
 use Rattle.store_tests.proofs.tests.threads.workers.shop.Hand.open.Goals as goal
 
 -- no commit comes with a transaction that opens, nor where none does

@@ -1,5 +1,0 @@
-use Rattle.course.proofs.Threading.{clean_alone}
-use Rattle.course.proofs.laws.clean_is_without_threads.Goals as goal
-
-pub returns : goal.returns
-returns c = clean_alone

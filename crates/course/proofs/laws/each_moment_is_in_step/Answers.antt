@@ -1,5 +1,0 @@
-use Rattle.course.proofs.Moments.{each_moment}
-use Rattle.course.proofs.laws.each_moment_is_in_step.Goals as goal
-
-pub returns : goal.returns
-returns c = each_moment

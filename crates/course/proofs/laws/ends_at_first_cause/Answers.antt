@@ -1,5 +1,0 @@
-use Rattle.course.proofs.FirstCause.{at_first_cause}
-use Rattle.course.proofs.laws.ends_at_first_cause.Goals as goal
-
-pub returns : goal.returns
-returns c = at_first_cause

@@ -1,5 +1,0 @@
-use Rattle.course.proofs.WithoutThreads.{without_threads}
-use Rattle.course.proofs.laws.first_cause_is_without_threads.Goals as goal
-
-pub returns : goal.returns
-returns c = without_threads

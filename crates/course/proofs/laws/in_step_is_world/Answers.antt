@@ -1,5 +1,0 @@
-use Rattle.course.proofs.Books.{is_world}
-use Rattle.course.proofs.laws.in_step_is_world.Goals as goal
-
-pub returns : goal.returns
-returns c = is_world

@@ -1,5 +1,0 @@
-use Rattle.course.proofs.Threading.{one_open}
-use Rattle.course.proofs.laws.one_is_open_without_workers.Goals as goal
-
-pub returns : goal.returns
-returns c = one_open

@@ -1,6 +1,0 @@
-use Rattle.spooled.specs.Cause.{schema_of}
-use Rattle.course.proofs.Reaching.{reached}
-use Rattle.course.proofs.laws.progress_is_reached.Goals as goal
-
-pub returns : goal.returns
-returns c g rows handled p is clear = reached g (schema_of g) rows handled p is clear

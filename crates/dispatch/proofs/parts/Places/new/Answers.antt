@@ -1,0 +1,44 @@
+use Rattle.std.proofs.Common.{◌≡◌, ◌+◌, [], ◌∷◌, ◌++◌, length, reverse, refl, sym, subst, ◌∙◌, arith, rules}
+use Rattle.std.specs.Prelude.{option_to_list}
+use Rattle.std.proofs.lemmas.Grind.{common_steps}
+use Rattle.std.proofs.lemmas.List.Sorted.{All-permutation}
+use Rattle.tokens.specs.Half.{no_name}
+use Rattle.dispatch.specs.Lanes.{IsIdle, AreNumbered, new_lane}
+use Rattle.dispatch.specs.Parts.{ring_of, outbox_of}
+use Rattle.dispatch.proofs.Making.{front_fresh, front_value, longer, one_more, one_longer, numbered_more}
+use Rattle.dispatch.proofs.parts.Places.new.Goals as goal
+
+pub loop-part-preserved : goal.loop-part-preserved
+loop-part-preserved g c =
+    let whole = c.loop-part.parts.items in
+    let front = c.pop.new.self.items in
+    let rest = option_to_list c.pop.result in
+    let e = c.pop.ensures.items in
+    let was = c.loop-part.invariant in
+    let added = c.in_ok-add.ensures in
+    let one : length whole ≡ length front + 1 = one_longer front whole c.in-Some.part c.in-Some.ensures.items in
+    let gate : length c.loop-part.gates.items ≡ length c.pop-in-Some.new.self.items + 1 =
+    one_longer c.pop-in-Some.new.self.items c.loop-part.gates.items c.in-Some-pop.gate c.in-Some-pop.ensures.items in
+    let number : c.len.result ≡ length front = search rules in
+    let more = one_longer c.loop-part.places.lanes.items c.add.new.self.lanes.items _ added.lanes in
+    let lower = subst (λ n. c.add.new.self.lanes.items ≡ c.loop-part.places.lanes.items ++ new_lane n ∷ []) number added.lanes in
+    record {
+      fresh = front_fresh whole front rest e was.fresh;
+      free = one_more IsIdle c.loop-part.places.lanes.items c.add.new.self.lanes.items _ added.lanes was.free (refl, refl);
+      numbered = numbered_more (length whole) (length front) c.loop-part.places.lanes.items c.add.new.self.lanes.items one lower was.numbered;
+      left = omega (arith, was.left, one, gate);
+      lanes = omega (arith, was.lanes, gate, more);
+      seats = omega (arith, was.seats, gate, added.seats);
+      given = omega (arith, was.given, gate, added.given);
+      rings = λ i lt. front_value ring_of whole front rest no_name i e lt ∙ was.rings i (longer whole front rest i e lt);
+      outboxes = λ i lt. front_value outbox_of whole front rest no_name i e lt ∙ was.outboxes i (longer whole front rest i e lt);
+    }
+
+pub returns-clause-numbered : goal.returns-clause-numbered
+returns-clause-numbered g c =
+    let lanes = c.loop-part.places.lanes.items in
+    let none : length c.loop-part.parts.items ≡ 0 = grind (arith, common_steps, c.in_default.ensures.cases) in
+    subst (AreNumbered 0) (sym c.reverse-2.ensures.items) (subst (λ n. AreNumbered n (reverse lanes)) none c.loop-part.invariant.numbered)
+
+pub returns-clause-free : goal.returns-clause-free
+returns-clause-free g c = All-permutation IsIdle c.loop-part.places.lanes.items c.reverse-2.new.self.items c.reverse-2.ensures.permutation c.loop-part.invariant.free

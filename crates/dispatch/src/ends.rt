@@ -1,0 +1,32 @@
+// The ends that a store gives a run.
+ghost use Rattle.std.specs.Prelude.{◌≡◌};
+ghost use Rattle.dispatch.specs.Standing.{IsStopEnd, stop_end, fault_end};
+
+use engine::{EngineFault, Stop};
+use run::End;
+
+/// The end of a run whose store was stopped. That nothing goes on stops a store only where the leader
+/// finds so, and it ends the run by it at once; so elsewhere it is told as memory that was refused.
+pub fn end_of_stop(stop: Stop) -> End
+    ensures end { result ≡ stop_end stop }
+    ensures stop { IsStopEnd result }
+{
+    match stop {
+        Stop::Clash(_, clash) => End::from(clash),
+        Stop::Held(_, _) => End::OutOfMemory,
+    }
+}
+
+/// The end of a run in which a call on the store was refused, by what has stopped the store, if
+/// anything has. A session has the store's limits and refuses what would be too many, and nothing is
+/// opened twice; so what says otherwise is told as memory that was refused.
+pub fn end_of_fault(fault: EngineFault, stop: Option<Stop>) -> End
+    ensures end { result ≡ fault_end fault stop }
+    ensures stop { IsStopEnd result }
+{
+    match (fault, stop) {
+        (EngineFault::Clash(clash), _) => End::from(clash),
+        (EngineFault::Stopped, Some(stop)) => end_of_stop(stop),
+        _ => End::OutOfMemory,
+    }
+}

@@ -1,8 +1,0 @@
-use Rattle.lanes.proofs.Giving.{whose}
-use Rattle.lanes.proofs.lanes.Lane.is_away.Goals as goal
-
-pub returns : goal.returns
-returns g c =
-    let l = c.self.inside in
-    whose l.number l.xid l.token.list l.taker l.back l.collected c.args.self.now c.self.view_is (g.L.LaneNames.ring l.number) (g.L.PostNames.post l.number) g.N.StoreNames.tickets l.token c.self.invariant.0
-    c.is_none.result c.is_none.ensures

@@ -1,5 +1,0 @@
-use Rattle.live.specs.TiedEnds.{tied_at_start}
-use Rattle.live.proofs.live_tables.Live.new.Goals as goal
-
-pub returns-clause-tied : goal.returns-clause-tied
-returns-clause-tied c = tied_at_start c.args.tables c.new.result c.new-2.result c.len-tables.ensures.valid c.new.ensures c.new-2.ensures.empty

@@ -1,0 +1,7 @@
+mod Stands
+mod TableRows
+mod MergedLemmas
+mod MergeSteps
+mod BeforeImageSteps
+mod Refusals
+pub mod LettingGo

@@ -1,0 +1,29 @@
+use Rattle.std.proofs.Common.{refl, sym, ◌∙◌}
+use Rattle.live_tables.specs.BasicLemmas.{never_missing, puts_by_update, its_can, its_tells}
+use Rattle.live_tables.specs.EndedLemmas.{tied_committed}
+use Rattle.live_tables.specs.CallLemmas.{known_all}
+use Rattle.live_tables.proofs.live_tables.Live.commit.Goals as goal
+
+pub unreachable-requires : goal.unreachable-requires
+unreachable-requires c = never_missing c.args.self.now c.args.xid c.requires c.in_default.ensures.value
+
+pub settle-items-requires : goal.settle-items-requires
+settle-items-requires c =
+    let (w, o, tied, is) = c.requires in
+    let store = c.args.self.now in
+    known_all store.tables c.in-Some.transaction.record.log.inverses (its_can w store tied c.args.xid o is c.in-Some.transaction (sym c.in-Some.ensures.value))
+
+pub returns-clause-items : goal.returns-clause-items
+returns-clause-items c = λ w o tied is.
+    c.settle-items.ensures.items ∙ (its_tells w c.args.self.now tied c.args.xid o is c.in-Some.transaction (sym c.in-Some.ensures.value)).survives
+
+pub returns-clause-tied : goal.returns-clause-tied
+returns-clause-tied c =
+    let store = c.args.self.now in
+    let given = c.settle-items.ensures in
+    λ w o info tied is.
+    tied_committed w store tied c.args.xid o is c.in-Some.transaction (sym c.in-Some.ensures.value)
+    (record { tables = c.settle-items.new.t; holds = c.release_all.new.self; transactions = c.remove.new.self; stopped = store.stopped })
+    (puts_by_update c.args.xid _ store.transactions c.remove.new.self c.in-Some.ensures.updates) c.in-Some.ensures.len
+    (record { here = c.release_all.ensures.own; beside = c.release_all.ensures.others }) refl
+    info (record { schema_is = given.schema; rows = given.rows; has_room = c.len-tables.ensures.room; others = given.others })

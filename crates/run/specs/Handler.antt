@@ -1,0 +1,120 @@
+-- What a run's loop knows of whatever takes the items of its stream.
+--     HasTaken      a message was taken
+--     HasHandled, EndsByItem, HandlesItem      an item was handled, or it ended the run
+--     HasTold      the status updates so far were sent
+--     HasCome, StopsAt      the items so far were handled; they were, and the run ends there
+--     AnswersItem, HandlesKept      what came of one item more, and of all that were kept of the bytes
+--     IsUnderWay      some items were handled
+--     end_of_result, IsRunOver      the end that an answer says; the run is over
+use Rattle.std.specs.Prelude.{◌≡◌, ℕ, ℤ, Bool, List, [], ◌∷◌, ◌++◌, length, Result, Ok, Err, MatchResult, ◌⊎◌}
+use Rattle.std.specs.Io.KnownBytes.{Appends}
+use Rattle.model.specs.Rows.{Rows}
+use Rattle.frames.specs.declared.item.CopyItem.{CopyItem}
+use Rattle.frames.specs.Device.{HasWorked}
+use Rattle.frames.specs.Stream.{Reading, copy_items}
+use Rattle.frames.specs.Reads.{HasRead}
+use Rattle.messages.specs.declared.message.Message.{Message}
+use Rattle.session.specs.State.{Setting}
+use Rattle.session.specs.Lawful.{Admits}
+use Rattle.run.specs.declared.end.End.{End}
+use Rattle.run.specs.declared.end.End.TheVariants as ends
+use Rattle.run.specs.Progress.{Progress, Handles, Leads, start_progress, Update, due_updates, commits_from, status_bytes}
+use Rattle.run.specs.Clock.{Ticks}
+use Rattle.run.specs.Cause.{AreAllSent, IsSendCause, IsInputCause}
+use Rattle.run.specs.Devices.{DeviceState}
+use Rattle.run.specs.StreamPart.{StreamPart}
+
+-- The status updates so far were sent, each with its time, and the writer has not failed.
+pub record HasTold (old new : DeviceState) (updates : List Update) : Type 0 where
+  pub times : List ℤ
+  pub told : Ticks old.times new.times times
+  pub counted : length times ≡ length updates
+  pub sent : Appends old.sent new.sent (status_bytes updates times)
+  pub works : HasWorked old.writer new.writer
+
+-- the end that an answer says
+abbrev pub end_of_result : Result (Unit {0}) End → End
+end_of_result (Ok u) = ends.Clean
+end_of_result (Err end) = end
+
+-- The handler stands at a progress to which some items led.
+abbrev pub IsUnderWay : {H : Type 0} → (Setting → Rows → H → Progress → Type 0) → H → Type 0
+IsUnderWay IsAt h =
+    (g : Setting) × (rows : Rows) × (handled : List CopyItem) × (p : Progress) × Leads g start_progress handled p × IsAt g rows h p
+
+-- A message was taken, which led to this progress, at which whatever took it stands. Whether it commits is answered.
+pub record HasTaken (g : Setting) (IsAt : Progress → Type 0) (p : Progress) (payload : List ℕ) (is_commit : Bool) : Type 0 where
+  pub message : Message
+  pub progress : Progress
+  pub admits : Admits g p.state payload message progress.state
+  pub seen : progress.seen ≡ p.seen
+  pub commits : is_commit ≡ commits_from p.state progress.state
+  pub updates : progress.updates ≡ p.updates ++ due_updates is_commit progress.state progress.seen
+  pub at : IsAt progress
+
+-- The handler stands at a progress; or it ended a run so, these items handled, which led to this progress, with those
+-- left. What it says by this is its own.
+module _ {H : Type 0} (g : Setting) (IsAt : H → Progress → Type 0) (HasEnded : H → List CopyItem → Progress → List CopyItem → End → Type 0) where
+  -- ---- an item
+
+  -- The item was handled. Whether an update is due is answered.
+  pub record HasHandled (h : H) (p : Progress) (item : CopyItem) (told : Bool) : Type 0 where
+    pub progress : Progress
+    pub handles : Handles g p item progress
+    pub updates : progress.updates ≡ p.updates ++ due_updates told progress.state progress.seen
+    pub at : IsAt h progress
+
+  -- The item ended the run: it was not handled, or it was, with no update due.
+  abbrev pub EndsByItem : H → List CopyItem → Progress → CopyItem → End → Type 0
+  EndsByItem h handled p item end =
+      ((more : List CopyItem) → HasEnded h handled p (item ∷ more) end)
+      ⊎ ((q : Progress) × Handles g p item q × (q.updates ≡ p.updates)
+      × ((more : List CopyItem) → HasEnded h (handled ++ item ∷ []) q more end))
+
+  -- The item was handled behind those, or it ended the run.
+  abbrev pub HandlesItem : H → List CopyItem → Progress → CopyItem → Result Bool End → Type 0
+  HandlesItem h handled p item result = MatchResult result (HasHandled h p item) (EndsByItem h handled p item)
+
+  -- ---- the items so far
+
+  -- These items were handled, no device failed, and the run goes on from here.
+  pub record HasCome (old new : DeviceState) (h : H) (handled : List CopyItem) : Type 0 where
+    pub progress : Progress
+    pub lawful : Leads g start_progress handled progress
+    pub at : IsAt h progress
+    pub read : HasWorked old.reader new.reader
+    pub told : HasTold old new progress.updates
+
+  -- An item ended a run so, while no device failed and all updates were sent.
+  pub record IsEnded (old new : DeviceState) (h : H) (handled : List CopyItem) (p : Progress) (times : List ℤ) (rest : List CopyItem) (end : End) : Type 0 where
+    pub ended : HasEnded h handled p rest end
+    pub read : HasWorked old.reader new.reader
+    pub sent : AreAllSent g old new handled p times
+
+  -- These items were handled, and an item, or the update behind the last, ends the run here, with those left.
+  pub record StopsAt (old new : DeviceState) (h : H) (handled rest : List CopyItem) (end : End) : Type 0 where
+    pub progress : Progress
+    pub lawful : Leads g start_progress handled progress
+    pub times : List ℤ
+    pub told : Ticks old.times new.times times
+    pub counted : length times ≡ length progress.updates
+    pub why : IsEnded old new h handled progress times rest end ⊎ IsSendCause g (IsAt h progress) old new handled progress times end
+
+  -- An item more was handled, or ended the run before or after it was.
+  abbrev pub AnswersItem : DeviceState → DeviceState → H → List CopyItem → CopyItem → Result (Unit {0}) End → Type 0
+  AnswersItem old new h handled item result =
+      MatchResult result (λ _. HasCome old new h (handled ++ item ∷ []))
+      (λ end. ((more : List CopyItem) → StopsAt old new h handled (item ∷ more) end) ⊎ ((more : List CopyItem) → StopsAt old new h (handled ++ item ∷ []) more end))
+
+  -- All items that were kept of these bytes were handled, or one of them ended the run.
+  abbrev pub HandlesKept : DeviceState → DeviceState → H → List ℕ → Reading → Result (Unit {0}) End → Type 0
+  HandlesKept old new h bytes kept result =
+      MatchResult result (λ _. (handled : List CopyItem) × HasCome old new h handled × HasRead bytes handled kept)
+      (λ end. (handled : List CopyItem) × (rest : List CopyItem) × (handled ++ rest ≡ copy_items bytes) × StopsAt old new h handled rest end)
+
+  -- The run is over, with these items of the bytes left: an item ended it, an update that was due, or the input.
+  pub record IsRunOver (old new : DeviceState) (h : H) (end : End) : Type 0 where
+    pub part : StreamPart g old new
+    pub why : IsEnded old new h part.handled part.progress part.times part.rest end
+        ⊎ (IsSendCause g (IsAt h part.progress) old new part.handled part.progress part.times end
+        ⊎ IsInputCause g (IsAt h part.progress) old new part.handled part.progress part.times part.bytes part.rest end)

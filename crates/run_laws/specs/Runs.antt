@@ -1,0 +1,124 @@
+-- A run in the words of a world.
+--     told_of, end_of      a world's commit in the words of a journal; where its commits end
+--     LeavesWorld      a run leaves just the commits of a world
+--     IsAtMostOne, TellsRun      no two transactions are open; the world has just what the run leaves
+--     conflict      the conflict that ended a run
+--     IsCommitOf, CommitsNext      a payload commits a transaction; the next message does
+--     NextChange      the next item of a transaction's work is a change, and which
+--     IsTurnOf, IsStoppedBy      whose turn it is, and with which items; one of its changes clashes
+--         so in the world
+use Rattle.std.specs.Prelude.{◌≡◌, ℕ, List, [], ◌∷◌, ◌++◌, map, Option, Some, None, Ok, ◌⊎◌}
+use Rattle.std.specs.FinMap.{get}
+use Rattle.model.specs.declared.change.Change.{Change}
+use Rattle.model.specs.declared.item.Item.{Item}
+use Rattle.model.specs.declared.item.Item.TheVariants.{Change as ItemChange}
+use Rattle.model.specs.Rows.{Rows, Schema}
+use Rattle.model.specs.Effect.{ClashCause, NullKey, Unique}
+use Rattle.model.specs.Survivors.{survivors}
+use Rattle.messages.specs.declared.message.Message.{Message}
+use Rattle.frames.specs.declared.item.CopyItem.{CopyItem}
+use Rattle.session.specs.Sized.{item_of}
+use Rattle.session.specs.State.{Committed, State, Setting}
+use Rattle.session.specs.Lawful.{Admits}
+use Rattle.run.specs.declared.end.End.{End}
+use Rattle.run.specs.declared.end.End.TheVariants as ends
+use Rattle.run.specs.declared.outcome.Outcome.{Outcome}
+use Rattle.run.specs.Commits.{Transaction, transaction_of}
+use Rattle.run.specs.Cause.{schema_of, IsNext}
+use Rattle.world.specs.World.{Opened, OpenOnes, Past, Entry, World, starting, journal}
+use Rattle.world.specs.Steps.{Clashed, Acts, Reaches}
+use Rattle.run_laws.specs.Begun.{begun}
+use Rattle.run_laws.specs.Course.{committed_past}
+
+-- a commit of a world, as a run's journal has it
+abbrev pub told_of : Entry → Transaction
+told_of e = record { xid = e.xid; changes = e.changes; commit = e.commit; end = e.end }
+
+-- the end of the last commit, or 0 before the first
+abbrev pub end_of : List Past → ℕ
+end_of [] = 0
+end_of (p ∷ []) = p.info.end
+end_of (p ∷ q ∷ line) = end_of (q ∷ line)
+
+-- No two of these transactions are open.
+abbrev pub IsAtMostOne : OpenOnes → Type 0
+IsAtMostOne opened =
+    (xid other : ℕ) (o p : Opened) → get opened xid ≡ Some o → get opened other ≡ Some p
+    → xid ≡ other
+
+-- The run leaves the commits of the world: they are the journal, whose end is the position, and the
+-- committed rows are the tables.
+pub record LeavesWorld (o : Outcome) (w : World) : Type 0 where
+  pub entries : map transaction_of o.journal.items ≡ map told_of (journal w)
+  pub position : o.position ≡ end_of w.line
+  pub tables : o.tables.rows ≡ w.committed
+
+-- Calls reach the world from these rows; it has the commits that the state tells of, which the run
+-- leaves; at most one transaction is open in it, and nothing has stopped it.
+pub record TellsRun (g : Setting) (rows : Rows) (s : State) (o : Outcome) (w : World) : Type 0 where
+  pub reached : Reaches (schema_of g) (starting rows) w
+  pub line : w.line ≡ map committed_past s.past
+  pub left : LeavesWorld o w
+  pub alone : IsAtMostOne w.opened
+  pub running : w.stopped ≡ None
+
+-- the conflict of a change that ended a run, if one did
+abbrev pub conflict : End → Option ClashCause
+conflict ends.Clean = None
+conflict (ends.Frame fault) = None
+conflict (ends.Msg fault) = None
+conflict (ends.Session fault) = None
+conflict (ends.Rel fault) = None
+conflict (ends.Unique table key) = Some (Unique table key)
+conflict (ends.NullKey table) = Some (NullKey table)
+conflict (ends.HeldKey xid holder) = None
+conflict ends.OutOfMemory = None
+
+-- ---- the message that comes next
+
+-- The payload is a message that commits this transaction.
+pub record IsCommitOf (g : Setting) (s : State) (payload : List ℕ) (xid : ℕ) : Type 0 where
+  pub message : Message
+  pub state : State
+  pub admits : Admits g s payload message state
+  pub committed : Committed
+  pub past : state.past ≡ s.past ++ committed ∷ []
+  pub xid_is : committed.xid ≡ xid
+
+-- The next message commits this transaction.
+abbrev pub CommitsNext : Setting → State → List CopyItem → ℕ → Type 0
+CommitsNext g s rest xid = IsNext rest (λ payload. IsCommitOf g s payload xid)
+
+-- The payload commits a transaction that does these items at its commit.
+abbrev pub DoesAtCommit : Setting → State → List ℕ → ℕ → List Item → Type 0
+DoesAtCommit g s payload xid work =
+    (by : IsCommitOf g s payload xid) × (survivors xid (map item_of by.committed.items) ≡ work)
+
+-- ---- a change that comes next
+
+-- The transaction has done the first of these items; the next is a change of a subtransaction, and
+-- this is so of what was done and of that change.
+pub record NextChange (w : World) (xid : ℕ) (work : List Item) (P : Opened → ℕ → Change → Type 0)
+    : Type 0 where
+  pub transaction : Opened
+  pub present : get w.opened xid ≡ Some transaction
+  pub subtransaction : ℕ
+  pub change : Change
+  pub after : List Item
+  pub in_turn : transaction.items ++ ItemChange subtransaction change ∷ after ≡ work
+  pub so : P transaction subtransaction change
+
+-- ---- a conflict
+
+-- It is a transaction's turn to do these items: it is the one that was begun, or the next message
+-- commits it.
+abbrev pub IsTurnOf : Setting → State → List CopyItem → ℕ → List Item → Type 0
+IsTurnOf g s rest xid work =
+    ((items : List Item) × (begun s ≡ Some (xid, items)) × (survivors xid items ≡ work))
+    ⊎ IsNext rest (λ payload. DoesAtCommit g s payload xid work)
+
+-- The transaction has done the first of these items, and tries the next, a change, which clashes
+-- so: that call stops the world.
+abbrev pub IsStoppedBy : Schema → World → ℕ → List Item → ClashCause → Type 0
+IsStoppedBy schema w xid work cause =
+    NextChange w xid work (λ o sub c. (new : World) × Acts schema w xid o sub c (Ok (Clashed cause)) new)

@@ -1,0 +1,196 @@
+-- The laws of a run in the words of a world, each as one statement. `src/laws.rt` names them, so
+-- that the check proves them.
+use Rattle.std.specs.Prelude.{◌≡◌, ◌≢◌, ℕ, List, [], Option, Some, None, Ok, map, ◌⊎◌}
+use Rattle.std.specs.FinMap.{get}
+use Rattle.model.specs.Effect.{ClashCause, serial}
+use Rattle.model.specs.Rows.{Rows, IsValid}
+use Rattle.model.specs.declared.change.Change as change_type
+use Rattle.model.specs.declared.item.Item.{Item}
+use Rattle.messages.specs.declared.message.Message.{Message}
+use Rattle.frames.specs.declared.fault.FrameFault.TheVariants.{Device}
+use Rattle.frames.specs.declared.item.CopyItem.{CopyItem}
+use Rattle.session.specs.Lawful.{IsLawful}
+use Rattle.session.specs.State.{State, Setting, begun_at}
+use Rattle.session.specs.Table.{step}
+use Rattle.run.specs.Cause.{schema_of}
+use Rattle.run.specs.Commits.{transaction_of, commits, all_changes, changes_in, last_end}
+use Rattle.run.specs.Devices.{DeviceState}
+use Rattle.run.specs.Progress.{Progress, Leads, start_progress}
+use Rattle.run.specs.Run.{IsRun}
+use Rattle.engine.specs.FirstClash.{IsClear}
+use Rattle.run.specs.declared.end.End.TheVariants as ends
+use Rattle.run.specs.declared.outcome.Outcome.{Outcome}
+use Rattle.world.specs.Steps.{Reaches, Closes, IsStuck}
+use Rattle.world.specs.World.{Opened, ByClash, World, starting, journal}
+use Rattle.run_laws.specs.Begun.{IsSane, IsTold}
+use Rattle.run_laws.specs.Course.{world_at}
+use Rattle.run_laws.specs.Leading.{Outbox, AreInStep, AreCounts}
+use Rattle.run_laws.specs.Runs.{CommitsNext, LeavesWorld, IsAtMostOne, TellsRun, IsTurnOf, IsStoppedBy, conflict}
+use Rattle.run_laws.specs.Threads.{IsWorldOf, AreBytes}
+use Rattle.run_laws.specs.Turns.{Moment, start_moment, IsInStep, Turns}
+use Rattle.run_laws.specs.ThreadedRun.{HasConflict, IsStuckBy, IsThreadedRun}
+use Rattle.run_laws.specs.FirstCause.{IsAtFirstCause}
+
+-- each message that the session table admits tells one thing
+abbrev pub EachMessageTells : Type 0
+EachMessageTells =
+    (g : Setting) (s t : State) (size : ℕ) (m : Message) → IsSane s → step g s size m ≡ Ok t
+    → IsTold s t
+
+-- so it is in every state that a lawful stream leads to
+abbrev pub LawfulIsSane : Type 0
+LawfulIsSane =
+    (g : Setting) (payloads : List (List ℕ)) (t : State) → IsLawful g payloads t → IsSane t
+
+-- where no change clashed, calls reach the world of the state that items lead to: each is no call,
+-- or opens, or tries a change, or commits; a streamed transaction opens, does what survived, and
+-- commits, all at its commit
+abbrev pub ProgressIsReached : Type 0
+ProgressIsReached =
+    (g : Setting) (rows : Rows) (handled : List CopyItem) (p : Progress)
+    → Leads g start_progress handled p
+    → IsClear (schema_of g) rows (all_changes p.state)
+    → Reaches (schema_of g) (starting rows) (world_at (schema_of g) rows p.state)
+
+-- ---- runs
+
+-- a run that no conflict ended is the world of the state that its items led to
+abbrev pub RunIsReached : Type 0
+RunIsReached =
+    (g : Setting) (rows : Rows) (old new : DeviceState) (o : Outcome) (run : IsRun g rows old new o)
+    → conflict o.end ≡ None
+    → TellsRun g rows run.part.progress.state o (world_at (schema_of g) rows run.part.progress.state)
+
+-- a run that a conflict ended is a world that a call stops, for just this conflict: a change of the
+-- one transaction whose turn it is, after the items that come before it
+abbrev pub ConflictStopsWorld : Type 0
+ConflictStopsWorld =
+    (g : Setting) (rows : Rows) (old new : DeviceState) (o : Outcome) (run : IsRun g rows old new o)
+    (cause : ClashCause) → conflict o.end ≡ Some cause
+    → (w : World) × TellsRun g rows run.part.progress.state o w × (xid : ℕ) × (work : List Item)
+    × IsTurnOf g run.part.progress.state run.part.rest xid work × IsStoppedBy (schema_of g) w xid work cause
+
+-- ---- runs with workers
+
+-- whatever the leader and the workers did, and whatever ended the run: its journal are the commits
+-- of the items that were handled, in their order, each with the changes that survived; its tables
+-- are the start rows with the changes of the journal, one commit after another, of which none
+-- clashes; its position is the end of the last
+abbrev pub ThreadedIsSerial : Type 0
+ThreadedIsSerial =
+    (g : Setting) (rows : Rows) (old new : DeviceState) (o : Outcome)
+    (run : IsThreadedRun g rows old new o) → IsValid (schema_of g) rows
+    → (map transaction_of o.journal.items ≡ commits run.part.progress.state)
+    × (o.tables.rows ≡ serial (schema_of g) rows (changes_in (map transaction_of o.journal.items)))
+    × IsClear (schema_of g) rows (changes_in (map transaction_of o.journal.items))
+    × (o.position ≡ last_end run.part.progress.state.past)
+
+-- what was open at its end has left nothing: calls reach a world in which none is open any more,
+-- and the run leaves what closing that world gives
+abbrev pub OpenLeavesNothing : Type 0
+OpenLeavesNothing =
+    (g : Setting) (rows : Rows) (old new : DeviceState) (o : Outcome)
+    (run : IsThreadedRun g rows old new o)
+    → (closed : World) × ∥ Reaches (schema_of g) (starting rows) closed ∥₁
+    × Closes closed o.tables.rows (journal closed) × LeavesWorld o closed
+
+-- the same items lead to the same commits and the same status updates, however many workers there
+-- are, and whatever the spools have room for
+abbrev pub WorkersAlterNothing : Type 0
+WorkersAlterNothing =
+    (g h : Setting) (items : List CopyItem) (p q : Progress) → h.catalog ≡ g.catalog
+    → Leads g start_progress items p → Leads h start_progress items q
+    → (commits q.state ≡ commits p.state) × (q.state.position ≡ p.state.position)
+    × (q.seen ≡ p.seen) × (q.updates ≡ p.updates)
+
+-- so a clean run leaves what a run without workers does that handles all items of the same bytes:
+-- the same journal, position and tables, and the same status updates but for their times
+abbrev pub CleanIsWithoutThreads : Type 0
+CleanIsWithoutThreads =
+    (g h : Setting) (rows : Rows) (old new before after : DeviceState) (o p : Outcome)
+    (run : IsThreadedRun g rows old new o) (alone : IsRun h rows before after p)
+    → IsValid (schema_of g) rows → h.catalog ≡ g.catalog → o.end ≡ ends.Clean
+    → alone.part.bytes ≡ run.part.bytes → alone.part.rest ≡ []
+    → (map transaction_of p.journal.items ≡ map transaction_of o.journal.items)
+    × (p.position ≡ o.position) × (p.tables.rows ≡ o.tables.rows)
+    × (alone.part.progress.updates ≡ run.part.progress.updates)
+
+-- and its journal, position and tables are those of any run without workers over the same bytes,
+-- whose spools have room for all of their items, and which neither memory nor a device fails
+abbrev pub CleanWhereThereIsRoom : Type 0
+CleanWhereThereIsRoom =
+    (g h : Setting) (rows : Rows) (old new before after : DeviceState) (o p : Outcome)
+    (run : IsThreadedRun g rows old new o) (alone : IsRun h rows before after p)
+    → IsValid (schema_of g) rows → h.catalog ≡ g.catalog → o.end ≡ ends.Clean
+    → alone.part.bytes ≡ run.part.bytes → AreBytes run.part.handled
+    → (q : Progress) → Leads h start_progress run.part.handled q
+    → p.end ≢ ends.OutOfMemory → p.end ≢ ends.Frame Device
+    → (map transaction_of p.journal.items ≡ map transaction_of o.journal.items)
+    × (p.position ≡ o.position) × (p.tables.rows ≡ o.tables.rows)
+
+-- without workers it is a run without threads: one transaction is open at most, so none waits for
+-- another
+abbrev pub OneIsOpenWithoutWorkers : Type 0
+OneIsOpenWithoutWorkers =
+    (g : Setting) (rows : Rows) (old new : DeviceState) (o : Outcome)
+    (run : IsThreadedRun g rows old new o) → g.workers ≡ 0
+    → IsAtMostOne run.world.opened × ((xid holder : ℕ) → o.end ≢ ends.HeldKey xid holder)
+
+-- ---- a run without threads: one with no workers that ends at its first cause
+
+-- it is a run with no workers that handled the same items
+abbrev pub RunIsWithoutWorkers : Type 0
+RunIsWithoutWorkers =
+    (g : Setting) (rows : Rows) (old new : DeviceState) (o : Outcome) (run : IsRun g rows old new o)
+    → g.workers ≡ 0
+    → (same : IsThreadedRun g rows old new o) × (same.part.handled ≡ run.part.handled)
+
+-- it ends at its first cause
+abbrev pub EndsAtFirstCause : Type 0
+EndsAtFirstCause =
+    (g : Setting) (rows : Rows) (old new : DeviceState) (o : Outcome) (run : IsRun g rows old new o)
+    → IsAtFirstCause g rows run.part.handled run.part.rest run.part.progress.state o.end
+
+-- and a run with no workers that ends at its first cause is a run without threads that handled the
+-- same items
+abbrev pub FirstCauseIsWithoutThreads : Type 0
+FirstCauseIsWithoutThreads =
+    (g : Setting) (rows : Rows) (old new : DeviceState) (o : Outcome)
+    (run : IsThreadedRun g rows old new o) → IsValid (schema_of g) rows → g.workers ≡ 0
+    → IsAtFirstCause g rows run.part.handled run.part.rest run.part.progress.state o.end
+    → (alone : IsRun g rows old new o) × (alone.part.handled ≡ run.part.handled)
+
+-- ---- a leader and its workers
+
+-- whatever a leader and its workers do, and in whatever order: at each moment all transactions are
+-- in step with the world, which is one of the state
+abbrev pub EachMomentIsInStep : Type 0
+EachMomentIsInStep =
+    (g : Setting) (rows : Rows) (items : List CopyItem) (a : Moment)
+    → Turns g (start_moment rows items) a
+    → IsInStep g rows a × IsWorldOf g rows a.state a.rest a.world
+
+-- where a leader's transactions are in step with the world, that is one of its state
+abbrev pub InStepIsWorld : Type 0
+InStepIsWorld =
+    (g : Setting) (rows : Rows) (s : State) (rest : List CopyItem) (outboxes : ℕ → Option Outbox) (w : World)
+    → AreInStep g rows s rest outboxes w → IsWorldOf g rows s rest w
+
+-- and a clash that was noted there is the conflict that the run ends for, while its transaction
+-- wants a change: that is the one which clashed
+abbrev pub NotedClashIsConflict : Type 0
+NotedClashIsConflict =
+    (g : Setting) (rows : Rows) (s : State) (rest : List CopyItem) (outboxes : ℕ → Option Outbox) (w : World)
+    → AreInStep g rows s rest outboxes w → IsValid (schema_of g) rows
+    → (xid : ℕ) (c : change_type.Change) (cause : ClashCause) → w.stopped ≡ Some (ByClash xid c cause)
+    → (done : Opened) → get w.opened xid ≡ Some done
+    → (sub : ℕ) (e : change_type.Change) → done.wants ≡ Some (sub, e) → HasConflict g s w cause
+
+-- where the call that stops a world answers a holder, for a transaction whose turn it is, nothing
+-- goes on: the run ends for that holder
+abbrev pub HeldIsStuck : Type 0
+HeldIsStuck =
+    (g : Setting) (rows : Rows) (s : State) (rest : List CopyItem) (outboxes : ℕ → Option Outbox) (w : World)
+    → AreInStep g rows s rest outboxes w → (named : List (ℕ × ℕ)) (waiter holder : ℕ) → AreCounts outboxes named
+    → (begun_at s.phase ≡ Some waiter) ⊎ CommitsNext g s rest waiter
+    → IsStuck (schema_of g) w named waiter holder → IsStuckBy g s rest w waiter holder

@@ -1,7 +1,0 @@
--- What is listed, which proofs alone know.
-use Rattle.std.proofs.Common.{[], ◌∷◌}
-use Rattle.worker.specs.declared.post.PostEvent.TheVariants.{Given}
-use Rattle.worker.proofs.post.tell_item.Given as goal
-
-abbrev pub ghosts-grow_item : goal.ghosts-grow_item
-ghosts-grow_item g a = record { items = Given a.item.now ∷ [] }
