@@ -11,9 +11,9 @@ use Rattle.model.specs.declared.row.Row.{Row}
 use Rattle.model.specs.Key.{key_cmp}
 use Rattle.model.specs.ExactLemmas.{key_cmp_exact}
 use Rattle.model.specs.Footprint.{both_have}
-use Rattle.model.specs.Rows.{Place, Rows, Schema, keys_at, values_in, are_taken, IsValid}
+use Rattle.model.specs.Rows.{Place, Rows, Schema, keys_at, values_in, are_taken, IsValid, is_place}
 use Rattle.model.specs.Effect.{are_taken_unless_null, first_taken}
-use Rattle.model.specs.EditLemmas.{is_place, place_is, place_cases, same_place, get_remove_same, get_remove_other}
+use Rattle.model.specs.EditLemmas.{place_is, place_cases, same_place, get_remove_same, get_remove_other}
 use Rattle.model.specs.TakenLemmas.{taken_by_row, row_of_taken}
 use Rattle.model.specs.ValidLemmas.{part_remove}
 use Rattle.rows.specs.KeyLemmas.{same_key}

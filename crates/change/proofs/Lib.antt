@@ -6,3 +6,4 @@ pub mod Altering
 pub mod Numbered
 pub mod PatchedColumns
 pub mod Searching
+pub mod KeptRows

@@ -18,8 +18,8 @@ use Rattle.indexes.specs.Content.{Content, KeepsCells, IsTable, SameElsewhere, S
 use Rattle.indexes.specs.Table.{cells_in}
 use Rattle.change.specs.declared.inverse.Wiped.{Wiped}
 use Rattle.change.specs.declared.inverse.Inverse.TheVariants.{Unwipe}
-use Rattle.change.specs.Edits.{laid_together}
-use Rattle.change.specs.EditsLemmas.{or_else, get_over, as_edit, get_rows_held_at, get_rows_held_other, back_rows_held, number_is, number_is_not}
+use Rattle.change.specs.Edits.{laid_together, or_else}
+use Rattle.change.specs.EditsLemmas.{get_over, as_edit, get_rows_held_at, get_rows_held_other, back_rows_held, number_is, number_is_not}
 use Rattle.change.specs.Inverse.{rows_held, HasNoRows, is_elsewhere, room_with, room_unwiped, AreKnown, AreEmpty, CanUnwipe}
 use Rattle.change.specs.InverseLemmas.{rows_held_last, unwiped_last, room_unwiped_last, known_more, empty_more, contains_filter, room_unwiped_keeps}
 use Rattle.change.specs.Applied.{IsSound}

@@ -1,10 +1,16 @@
 -- Edits over edits.
+--     or_else      what one of two has, the first before the second
 --     laid_over, laid_together      the edits of one, and those of the other where it has none; of a list, where the first has the say
-use Rattle.std.specs.Prelude.{List, [], ◌∷◌, Option}
+use Rattle.std.specs.Prelude.{List, [], ◌∷◌, Option, Some, None}
 use Rattle.std.specs.FinMap as map_of
 use Rattle.model.specs.declared.row.Row.{Row}
 use Rattle.model.specs.Rows.{Place}
 use Rattle.model.specs.Effect.{Edits}
+
+-- the first, or else the second
+abbrev pub or_else : {X : Type 0} → Option X → Option X → Option X
+or_else None other = other
+or_else (Some x) other = Some x
 
 -- the edits with these put in; at one place the first of these has the say
 abbrev pub insert_all : List (Place × Option Row) → Edits → Edits

@@ -10,20 +10,15 @@ use Rattle.std.proofs.lemmas.Bool.{cases_Bool}
 use Rattle.model.specs.declared.key.Key.{Key}
 use Rattle.model.specs.declared.row.Row.{Row}
 use Rattle.model.specs.Key.{key_cmp}
-use Rattle.model.specs.Rows.{Place, Rows, place_cmp, place_cmp_total}
+use Rattle.model.specs.Rows.{Place, Rows, place_cmp, place_cmp_total, is_place}
 use Rattle.model.specs.Effect.{Edits, back, all_back}
-use Rattle.model.specs.EditLemmas.{is_place, place_is, same_rows, get_overlay, get_edit, overlay_empty, cond_inside}
+use Rattle.model.specs.EditLemmas.{place_is, same_rows, get_overlay, get_edit, overlay_empty, cond_inside}
 use Rattle.indexes.specs.Content.{IsTable, SameElsewhere}
 use Rattle.change.specs.declared.inverse.Wiped.{Wiped}
-use Rattle.change.specs.Edits.{insert_all, laid_over, laid_together}
+use Rattle.change.specs.Edits.{or_else, insert_all, laid_over, laid_together}
 use Rattle.change.specs.Inverse.{rows_held, HasNoRows}
 
 -- ---- edits over edits
-
--- the first, or else the second
-abbrev pub or_else : {X : Type 0} → Option X → Option X → Option X
-or_else None other = other
-or_else (Some x) other = Some x
 
 get_insert_all : (edits : Edits) (p : Place) (es : List (Place × Option Row)) → get (insert_all es edits) p ≡ or_else (find place_cmp p es) (get edits p)
 get_insert_all edits p [] = refl

@@ -1,15 +1,16 @@
 -- What takes a change back, and when it can be put back.
 --     rows_held, edits_of      the rows of an emptied table as edits; what an inverse puts back, as edits
+--     row_by_inverse      the row that it puts back at a place
 --     AsLeft      the tables are where the inverse alters them as its change left them
 --     HasItsRoom, room_back      the room that an inverse needs; the room that is there once it is put back
 --     CanUnwipe, CanPutBack      when tables can get back what they held, and a change be taken back
-use Rattle.std.specs.Prelude.{◌≡◌, ℕ, ◌<◌, ◌==◌, not, Bool, filter, List, [], ◌∷◌, ◌++◌, Some, None, map, length, IsSome}
+use Rattle.std.specs.Prelude.{◌≡◌, ℕ, ◌<◌, ◌==◌, not, Bool, filter, List, [], ◌∷◌, ◌++◌, Option, Some, None, map, length, unwrap_or, IsSome}
 use Rattle.std.specs.FinMap as map_of
 use Rattle.std.specs.FinMap.{get, remove, entries}
 use Rattle.model.specs.declared.key.Key.{Key}
 use Rattle.model.specs.declared.row.Row.{Row}
 use Rattle.model.specs.declared.cell.Cell.{Cell}
-use Rattle.model.specs.Rows.{Rows, Schema, keys_at, IsValid}
+use Rattle.model.specs.Rows.{Place, Rows, Schema, keys_at, IsValid}
 use Rattle.model.specs.Effect.{Edits, one_edit, back, all_back}
 use Rattle.model.specs.Cells.{table_of}
 use Rattle.indexes.specs.Content.{Content, HasRoom}
@@ -29,6 +30,10 @@ edits_of (Take table key) = one_edit (table, key) None
 edits_of (Put table key row) = one_edit (table, key) (Some row)
 edits_of (Replace table new_key key row) = map_of.insert (one_edit (table, new_key) None) (table, key) (Some row)
 edits_of (Unwipe wiped) = laid_together (map rows_held wiped.items)
+
+-- the row that an inverse puts back at a place, or none
+abbrev pub row_by_inverse : Inverse → Place → Option Row
+row_by_inverse inverse place = unwrap_or (get (edits_of inverse) place) None
 
 -- the room that is there once a table has what it held
 abbrev pub is_elsewhere : ℕ → Cell → Bool

@@ -1,15 +1,15 @@
--- The row that an inverse keeps for a place.
+-- The row that an inverse keeps for a place, kind by kind.
 --     first_emptied      of emptied tables
 --     row_kept      of an inverse
 use Rattle.std.specs.Prelude.{ℕ, List, [], ◌∷◌, Option, Some, None, ◌==◌, if◌then◌else◌}
 use Rattle.std.specs.FinMap.{get}
 use Rattle.model.specs.declared.key.Key.{Key}
 use Rattle.model.specs.declared.row.Row.{Row}
-use Rattle.model.specs.EditLemmas.{is_place}
+use Rattle.model.specs.Rows.{is_place}
 use Rattle.change.specs.declared.inverse.Inverse.{Inverse}
 use Rattle.change.specs.declared.inverse.Inverse.TheVariants.{Take, Put, Replace, Unwipe}
 use Rattle.change.specs.declared.inverse.Wiped.{Wiped}
-use Rattle.change.specs.EditsLemmas.{or_else}
+use Rattle.change.specs.Edits.{or_else}
 
 -- the row at the key of the first emptied table of this number that held one there, or none
 abbrev pub first_emptied : List Wiped → ℕ → Key → Option Row

@@ -1,14 +1,10 @@
--- Whether a change clashes, and as what its refusal says.
-use Rattle.std.specs.Prelude.{◌≡◌, ◌≢◌}
+-- A change clashes as its refusal says.
+use Rattle.std.specs.Prelude.{◌≡◌}
 use Rattle.model.specs.Rows.{Schema, Rows}
-use Rattle.model.specs.Effect.{ClashCause, Clashes, NullKey, Unique, outcome}
+use Rattle.model.specs.Effect.{Clashes, NullKey, Unique, outcome}
 use Rattle.model.specs.declared.change.Change.{Change}
 use Rattle.change.specs.declared.outcome.Clash.{Clash}
 use Rattle.change.specs.declared.outcome.Clash.TheVariants.{Unique as UniqueClash, NullKey as NullKeyClash, OutOfMemory}
-
--- the change does not clash
-abbrev pub HasNoClash : Schema → Rows → Change → Type 0
-HasNoClash schema rows c = (cause : ClashCause) → outcome schema rows c ≢ Clashes cause
 
 -- the change clashes so; or memory was refused
 abbrev pub ClashesAs : Schema → Rows → Change → Clash → Type 0

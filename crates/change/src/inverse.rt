@@ -3,9 +3,9 @@ ghost use Rattle.std.specs.Prelude.{◌≡◌, ◌++◌, [], ◌∷◌, Some, No
 ghost use Rattle.std.specs.FinMap.{get, insert, remove};
 ghost use Rattle.model.specs.Effect.{back, all_back};
 ghost use Rattle.indexes.specs.Content.{KeepsCells};
-ghost use Rattle.model.specs.EditLemmas.{is_place};
+ghost use Rattle.model.specs.Rows.{is_place};
 ghost use Rattle.change.specs.KeptRow.{row_kept, first_emptied};
-ghost use Rattle.change.specs.Inverse.{edits_of, room_back, CanPutBack, CanUnwipe, rows_held, room_unwiped};
+ghost use Rattle.change.specs.Inverse.{row_by_inverse, edits_of, room_back, CanPutBack, CanUnwipe, rows_held, room_unwiped};
 
 use indexes::{Contents, Tables};
 use model::{Key, Row, TableId};
@@ -49,6 +49,13 @@ impl Inverse {
     /// The row that it keeps for a place: the one that its change took from there, or that an emptied
     /// table held there. It takes no memory.
     pub fn row_at(&self, table: TableId, key: &Key) -> Option<RowView<'_>>
+        ensures { result ≡ row_by_inverse self.now (table, key.now) }
+    {
+        self.kept_row(table, key)
+    }
+
+    // The same, by what each kind of inverse keeps.
+    fn kept_row(&self, table: TableId, key: &Key) -> Option<RowView<'_>>
         ensures { result ≡ row_kept self.now table key.now }
     {
         match self {

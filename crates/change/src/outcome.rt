@@ -77,8 +77,7 @@ pub fn apply(alloc: Global, t: &mut Tables, c: &Change) -> Result<Applied, Clash
     ensures room { KeepsCells t.old.room (room_after t.new.room result) }
     ensures schema { t.new.schema ≡ t.old.schema }
 {
-    // What is known of the tables is told here: they are valid, and have room for their rows.
-    let _tables = t.len();
+    t.recall_invariant();
     match c {
         Change::Put { table, row } => put(t, *table, row),
         Change::Set { table, key, patch } => set(alloc, t, *table, key, patch),

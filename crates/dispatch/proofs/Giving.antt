@@ -10,7 +10,8 @@ use Rattle.std.proofs.lemmas.List.Elements.{All-head, All-tail}
 use Rattle.model.specs.declared.change.Change as change_type
 use Rattle.model.specs.declared.item.Item.{Item}
 use Rattle.model.specs.declared.item.Item.TheVariants.{Change, Touch, BackTo, Last}
-use Rattle.tokens.specs.Half.{Name, Half, Begins}
+use Rattle.tokens.specs.Half.{Name, Half}
+use Rattle.model.specs.Beginning.{Begins}
 use Rattle.tokens.specs.Lists.{OpenList, open_list}
 use Rattle.ring.specs.Ends.{Taking}
 use Rattle.world.specs.World.{Opened}

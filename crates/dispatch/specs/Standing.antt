@@ -21,11 +21,10 @@ use Rattle.model.specs.declared.item.Item.TheVariants.{Change}
 use Rattle.model.specs.declared.item.CommitInfo.{CommitInfo}
 use Rattle.tokens.specs.Half.{Name, Half}
 use Rattle.tokens.specs.Lists.{OpenList}
-use Rattle.world.specs.World.{Opened}
+use Rattle.world.specs.World.{Opened, is_xid}
 use Rattle.engine.specs.declared.events.Event.{Event}
 use Rattle.engine.specs.declared.events.LineEvent.{LineEvent}
 use Rattle.engine.specs.declared.events.LineEvent.TheVariants.{Opened as WasOpened, Committed as WasCommitted, Aborted as WasAborted}
-use Rattle.engine.specs.Events.{is_same}
 use Rattle.live_tables.specs.declared.answers.EngineFault.{EngineFault}
 use Rattle.live_tables.specs.declared.answers.EngineFault.TheVariants.{Clash as Clashed, Stopped as StoreStopped}
 use Rattle.live_tables.specs.declared.answers.Stop.{Stop}
@@ -92,7 +91,7 @@ KeepsGiven l =
 -- the items that were given to a transaction, where it goes by this lane
 abbrev pub items_of : ℕ → Option Given → List (List Item)
 items_of xid None = []
-items_of xid (Some given) = if is_same xid given.xid then given.items ∷ [] else []
+items_of xid (Some given) = if is_xid xid given.xid then given.items ∷ [] else []
 
 -- those of each lane by which it goes
 abbrev pub items_by : ℕ → List (Option Given) → List (List Item)
@@ -101,7 +100,7 @@ items_by xid lanes = flat_map (items_of xid) lanes
 -- what it has done, where the leader applies it itself
 abbrev pub own_of : ℕ → Option Own → Option Opened
 own_of xid None = None
-own_of xid (Some own) = if is_same xid own.xid then Some own.done else None
+own_of xid (Some own) = if is_xid xid own.xid then Some own.done else None
 
 -- One of a list was this and is that now; the others stay.
 pub record Replaces {X : Type 0} (old new : List X) (was is : X) : Type 0 where

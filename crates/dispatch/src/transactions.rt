@@ -3,7 +3,8 @@ ghost use Rattle.std.specs.Prelude.{◌≡◌, ◌≢◌, ◌<◌, ◌++◌, ◌
 ghost use Rattle.model.specs.Named.{NamesTables};
 ghost use Rattle.model.specs.declared.item.Item.TheVariants.{Last, Change as ChangeItem, Touch as TouchItem};
 ghost use Rattle.tokens.specs.Lists.{open_list};
-ghost use Rattle.engine.specs.Events.{ends_in, last_end};
+ghost use Rattle.engine.specs.Events.{ends_in};
+ghost use Rattle.model.specs.Beginning.{last_end};
 ghost use Rattle.engine.specs.declared.events.LineEvent.TheVariants.{Opened as WasOpened, Committed as WasCommitted};
 ghost use Rattle.session.specs.Answers.{IsOfTables};
 ghost use Rattle.dispatch.specs.Lanes.{own_item, done_by, IsIdle, IsHome, AreCounted};
@@ -382,7 +383,7 @@ impl<'a, N: StoreNames, L: OutboxNames, R: Wait, G: Gate + Drop> Transactions<'a
     /// far, or, where it was spooled, these. Where the run ends it stays, and has done a beginning of them.
     pub fn commit(&mut self, xid: Xid, info: CommitInfo, items: Vec<Item>) -> Result<(), End>
         requires named { All (IsOfTables self.old.tables) items.items }
-        requires rising { last_end self.old.line < info.end }
+        requires rising { last_end (ends_in self.old.line) < info.end }
         ensures ok { OnOk result (IsCommitted self.old xid info items.items self.new) }
         ensures err { OnErr result ((self.new ≡ self.old) ⊎ HasTried self.old xid items.items self.new) }
         ensures end { IfErr result (IsStoreEnd (Some xid)) }
@@ -477,7 +478,7 @@ impl<'a, N: StoreNames, L: OutboxNames, R: Wait, G: Gate + Drop> Transactions<'a
     // Commits the transaction of a lane, if it came back with all items done, unless the store was
     // stopped.
     fn settle(&mut self, index: usize, xid: Xid, info: CommitInfo) -> Result<(), End>
-        requires { last_end self.old.line < info.end }
+        requires { last_end (ends_in self.old.line) < info.end }
         ensures ok { OnOk result (CommitsGiven self.old xid info self.new) }
         ensures same { OnErr result (self.new ≡ self.old) }
         ensures err { IfErr result IsStopEnd }
@@ -497,7 +498,7 @@ impl<'a, N: StoreNames, L: OutboxNames, R: Wait, G: Gate + Drop> Transactions<'a
 
     // Commits the leader's own transaction, unless the store was stopped.
     fn settle_own(&mut self, xid: Xid, info: CommitInfo) -> Result<(), End>
-        requires { last_end self.old.line < info.end }
+        requires { last_end (ends_in self.old.line) < info.end }
         ensures ok { OnOk result (CommitsOwn self.old xid info self.new) }
         ensures same { OnErr result (self.new ≡ self.old) }
         ensures err { IfErr result IsStopEnd }
@@ -523,7 +524,7 @@ impl<'a, N: StoreNames, L: OutboxNames, R: Wait, G: Gate + Drop> Transactions<'a
         info: CommitInfo,
     )
         requires ticket { ticket.name ≡ N.tickets }
-        requires rising { last_end self.old.line < info.end }
+        requires rising { last_end (ends_in self.old.line) < info.end }
         ensures { self.new ≡ record self.old { line = self.old.line ++ WasCommitted ticket.number (done_by ticket).items info ∷ [] } }
     {
         store.commit(&mut self.line, ticket, info);
@@ -620,8 +621,7 @@ fn running<'a, N: StoreNames, L: OutboxNames, R: Wait, G: Gate + Drop>(
 fn count_commits<N: StoreNames>(store: &SharedStore<N>) -> u64
     ensures { result ≡ length (ends_in store.now.line.list) }
 {
-    // Whoever counts the tables learns that the commits are those of the line.
-    let _count = store.table_count();
+    store.recall_invariant();
     store.journal().len() as u64
 }
 

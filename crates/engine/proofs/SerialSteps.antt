@@ -28,8 +28,10 @@ use Rattle.change.specs.declared.outcome.Clash.{Clash}
 use Rattle.undo.specs.Undo.{Log, CanUndo, AreKnownAll}
 use Rattle.undo.specs.UndoLemmas.{schema_undone}
 use Rattle.engine.specs.declared.serial.SerialStore.TheInside.{Inside}
-use Rattle.engine.specs.FirstClash.{IsClear, ClashesIn}
-use Rattle.engine.specs.FirstClashLemmas.{IsClear-append, ClashesIn-behind, ClashesIn-before}
+use Rattle.engine.specs.FirstClash.{ClashesIn}
+use Rattle.model.specs.Accepted.{AreAccepted}
+use Rattle.engine.specs.FirstClashLemmas.{ClashesIn-behind, ClashesIn-before}
+use Rattle.model.specs.SerialLemmas.{accepted_append}
 use Rattle.live_tables.specs.Answers.{told_stop}
 use Rattle.engine.specs.Engine.{engine_in, world_in, StoreRepresents}
 use Rattle.engine.specs.Serial.{Serial, rows_now, with_changes}
@@ -73,7 +75,7 @@ serially_idle s idle none runs line undone unchanged = record {
       ∙ ap (serial s.live.tables.schema (world_in (idle_in s)).committed) (sym unchanged);
   undoable = subst (CanUndo s.live.tables) (sym undone) tt;
   named = subst (All (NamesTables (length s.live.tables.schema))) (sym unchanged) (All-nil (NamesTables (length s.live.tables.schema)));
-  clear = subst (IsClear s.live.tables.schema (base_in s)) (sym unchanged) tt;
+  clear = subst (AreAccepted s.live.tables.schema (base_in s)) (sym unchanged) tt;
 }
 
 module _ (s : Inside) (is : Represents s) where
@@ -98,7 +100,7 @@ module _ (s : Inside) (is : Represents s) where
     pub worked_view : serial_in worked ≡ with_changes (serial_in s) cs
     worked_view = λ i. record { store = engine_in (same_idle i); changes = more i }
 
-    pub worked_kept : CanUndo t u.inverses → All (NamesTables (length s.live.tables.schema)) cs → IsClear s.live.tables.schema s.live.tables.rows cs → Represents worked
+    pub worked_kept : CanUndo t u.inverses → All (NamesTables (length s.live.tables.schema)) cs → AreAccepted s.live.tables.schema s.live.tables.rows cs → Represents worked
     worked_kept can named clear = record {
       idle = subst StoreRepresents (sym same_idle) is.idle;
       none = is.none;
@@ -109,12 +111,12 @@ module _ (s : Inside) (is : Represents s) where
       named = subst (λ (keys : Schema). All (NamesTables (length keys)) (changes_of items.items)) (sym schema)
           (subst (All (NamesTables (length s.live.tables.schema))) (sym more) (All-append (NamesTables (length s.live.tables.schema)) (changes_of s.items.items) cs is.named named));
       clear =
-          let behind : IsClear s.live.tables.schema (serial s.live.tables.schema (base_in s) (changes_of s.items.items)) cs =
-          subst (λ (r : Rows). IsClear s.live.tables.schema r cs) (is.done ∙ ap (λ (r : Rows). serial s.live.tables.schema r (changes_of s.items.items)) (sym rows_based)) clear in
-          let all = IsClear-append s.live.tables.schema (base_in s) (changes_of s.items.items) cs is.clear behind in
-          subst (λ (ds : List Change). IsClear t.schema (base_in worked) ds) (sym more)
-          (subst (λ (keys : Schema). IsClear keys (base_in worked) (changes_of s.items.items ++ cs)) (sym schema)
-          (subst (λ (r : Rows). IsClear s.live.tables.schema r (changes_of s.items.items ++ cs)) (sym base) all));
+          let behind : AreAccepted s.live.tables.schema (serial s.live.tables.schema (base_in s) (changes_of s.items.items)) cs =
+          subst (λ (r : Rows). AreAccepted s.live.tables.schema r cs) (is.done ∙ ap (λ (r : Rows). serial s.live.tables.schema r (changes_of s.items.items)) (sym rows_based)) clear in
+          let all = accepted_append s.live.tables.schema (base_in s) (changes_of s.items.items) cs is.clear behind in
+          subst (λ (ds : List Change). AreAccepted t.schema (base_in worked) ds) (sym more)
+          (subst (λ (keys : Schema). AreAccepted keys (base_in worked) (changes_of s.items.items ++ cs)) (sym schema)
+          (subst (λ (r : Rows). AreAccepted s.live.tables.schema r (changes_of s.items.items ++ cs)) (sym base) all));
     }
 
 -- ---- items in turn
@@ -126,15 +128,15 @@ item_applied w v u items item first second =
     ∙ ap (λ (x : Serial). with_changes x (changes_of (item ∷ []))) first
     ∙ ap (λ (cs : List Change). record w { changes = cs }) (append_assoc w.changes (changes_of items) (changes_of (item ∷ [])) ∙ ap (λ (cs : List Change). w.changes ++ cs) (sym (changes_of_both items (item ∷ []))))
 
-pub item_clear : (w v : Serial) (items : List Item) (item : Item) → v ≡ with_changes w (changes_of items) → IsClear w.store.schema (rows_now w) (changes_of items) → IsClear v.store.schema (rows_now v) (changes_of (item ∷ [])) → IsClear w.store.schema (rows_now w) (changes_of (items ++ item ∷ []))
+pub item_clear : (w v : Serial) (items : List Item) (item : Item) → v ≡ with_changes w (changes_of items) → AreAccepted w.store.schema (rows_now w) (changes_of items) → AreAccepted v.store.schema (rows_now v) (changes_of (item ∷ [])) → AreAccepted w.store.schema (rows_now w) (changes_of (items ++ item ∷ []))
 item_clear w v items item first clear here =
-    let there : IsClear w.store.schema (rows_now (with_changes w (changes_of items))) (changes_of (item ∷ [])) = subst (λ (x : Serial). IsClear x.store.schema (rows_now x) (changes_of (item ∷ []))) first here in
-    subst (IsClear w.store.schema (rows_now w)) (sym (changes_of_both items (item ∷ [])))
-    (IsClear-append w.store.schema (rows_now w) (changes_of items) (changes_of (item ∷ [])) clear
-    (subst (λ (at : Rows). IsClear w.store.schema at (changes_of (item ∷ []))) (rows_with w (changes_of items)) there))
+    let there : AreAccepted w.store.schema (rows_now (with_changes w (changes_of items))) (changes_of (item ∷ [])) = subst (λ (x : Serial). AreAccepted x.store.schema (rows_now x) (changes_of (item ∷ []))) first here in
+    subst (AreAccepted w.store.schema (rows_now w)) (sym (changes_of_both items (item ∷ [])))
+    (accepted_append w.store.schema (rows_now w) (changes_of items) (changes_of (item ∷ [])) clear
+    (subst (λ (at : Rows). AreAccepted w.store.schema at (changes_of (item ∷ []))) (rows_with w (changes_of items)) there))
 
 -- an item among others was refused
-pub item_refused : (w v : Serial) (items more : List Item) (item : Item) (clash : Clash) → v ≡ with_changes w (changes_of items) → IsClear w.store.schema (rows_now w) (changes_of items) → ClashesIn v.store.schema (rows_now v) (changes_of (item ∷ [])) clash → ClashesIn w.store.schema (rows_now w) (changes_of (items ++ item ∷ more)) clash
+pub item_refused : (w v : Serial) (items more : List Item) (item : Item) (clash : Clash) → v ≡ with_changes w (changes_of items) → AreAccepted w.store.schema (rows_now w) (changes_of items) → ClashesIn v.store.schema (rows_now v) (changes_of (item ∷ [])) clash → ClashesIn w.store.schema (rows_now w) (changes_of (items ++ item ∷ more)) clash
 item_refused w v items more item clash first clear here =
     let there : ClashesIn w.store.schema (rows_now (with_changes w (changes_of items))) (changes_of (item ∷ [])) clash = subst (λ (x : Serial). ClashesIn x.store.schema (rows_now x) (changes_of (item ∷ [])) clash) first here in
     let at_rows : ClashesIn w.store.schema (serial w.store.schema (rows_now w) (changes_of items)) (changes_of (item ∷ [])) clash = subst (λ (at : Rows). ClashesIn w.store.schema at (changes_of (item ∷ [])) clash) (rows_with w (changes_of items)) there in

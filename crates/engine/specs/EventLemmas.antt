@@ -36,7 +36,8 @@ use Rattle.engine.specs.declared.events.Event.TheVariants.{Done, Wants}
 use Rattle.engine.specs.declared.events.LineEvent.{LineEvent}
 use Rattle.engine.specs.declared.events.LineEvent.TheVariants.{Opened as WasOpened, Committed as WasCommitted, Aborted as WasAborted}
 use Rattle.live_tables.specs.Answers.{after_act}
-use Rattle.engine.specs.Events.{after_event, opened_by, map_values, opened_in, past_of, commits_in, ends_in, last_end, world_of, events_of}
+use Rattle.engine.specs.Events.{after_event, opened_by, map_values, opened_in, past_of, commits_in, ends_in, world_of, events_of}
+use Rattle.model.specs.Beginning.{last_end}
 
 -- ---- a finite map whose values are altered
 
@@ -178,7 +179,7 @@ rise_more (next ∷ ns) first n rise above (suc k) within =
 pub ends_same : (line : List LineEvent) (e : LineEvent) → past_of e ≡ [] → ends_in (line ++ e ∷ []) ≡ ends_in line
 ends_same line e none = ap (λ (ps : List Past). map (λ (p : Past). p.info.end) ps) (same_commits line e none)
 
-pub last_same : (line : List LineEvent) (e : LineEvent) → past_of e ≡ [] → last_end (line ++ e ∷ []) ≡ last_end line
+pub last_same : (line : List LineEvent) (e : LineEvent) → past_of e ≡ [] → last_end (ends_in (line ++ e ∷ [])) ≡ last_end (ends_in line)
 last_same line e none = ap (fold (λ (before end : ℕ). end) 0) (ends_same line e none)
 
 pub ends_more : (line : List LineEvent) (xid : ℕ) (items : List Item) (info : CommitInfo)
@@ -188,7 +189,7 @@ ends_more line xid items info =
     ∙ map-append (λ (p : Past). p.info.end) (commits_in line) (record { xid = xid; items = items; info = info } ∷ [])
 
 pub last_more : (line : List LineEvent) (xid : ℕ) (items : List Item) (info : CommitInfo)
-    → last_end (line ++ WasCommitted xid items info ∷ []) ≡ info.end
+    → last_end (ends_in (line ++ WasCommitted xid items info ∷ [])) ≡ info.end
 last_more line xid items info =
     ap (fold (λ (before end : ℕ). end) 0) (ends_more line xid items info) ∙ fold-append (λ (before end : ℕ). end) 0 (ends_in line) (info.end ∷ [])
 

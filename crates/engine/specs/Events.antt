@@ -2,13 +2,12 @@
 --     after_event, opened_by      what an open transaction has done, by the events of its list
 --     opened_in      the open transactions, by their lists
 --     past_of, commits_in      the commits, by the events of the line
---     ends_in, last_end      where the log goes on behind each of them, and behind the last
---     is_same      two numbers are one
+--     ends_in      where the log goes on behind each of them
 --     open_after, is_open_in      whether a transaction is open, by the events of the line
 --     world_of      the world that start, line, lists and stop tell
 --     events_of      what a call that tried a change appends to its transaction's list
 use Rattle.std.specs.Prelude.{ℕ, Bool, true, false, List, [], ◌∷◌, ◌++◌, Option, Some, None, Result, Ok, Err, map, fold, flat_map, if◌then◌else◌}
-use Rattle.std.specs.Ordering.{nat_cmp, eq_by_cmp}
+use Rattle.std.specs.Ordering.{nat_cmp}
 use Rattle.std.specs.FinMap as finite
 use Rattle.std.specs.FinMap.{FinMap}
 use Rattle.model.specs.declared.change.Change as change_type
@@ -16,7 +15,7 @@ use Rattle.model.specs.declared.item.Item.TheVariants.{Change}
 use Rattle.model.specs.Rows.{Rows, Schema}
 use Rattle.model.specs.Effect.{serial}
 use Rattle.tokens.specs.Lists.{ListMap}
-use Rattle.world.specs.World.{Opened, Past, OpenOnes, Stop, World, changes_in}
+use Rattle.world.specs.World.{is_xid, Opened, Past, OpenOnes, Stop, World, changes_in}
 use Rattle.world.specs.Steps.{Fault, Acted, IsDone, IsSkipped, Held, Clashed}
 use Rattle.engine.specs.declared.events.Event.{Event}
 use Rattle.engine.specs.declared.events.Event.TheVariants.{Done, Wants}
@@ -54,19 +53,11 @@ commits_in line = flat_map past_of line
 abbrev pub ends_in : List LineEvent → List ℕ
 ends_in line = map (λ (p : Past). p.info.end) (commits_in line)
 
--- where it goes on behind the last; 0 before the first
-abbrev pub last_end : List LineEvent → ℕ
-last_end line = fold (λ (before end : ℕ). end) 0 (ends_in line)
-
--- two numbers are one
-abbrev pub is_same : ℕ → ℕ → Bool
-is_same = eq_by_cmp nat_cmp
-
 -- whether a transaction is open once one more event of the line has come
 abbrev pub open_after : ℕ → Bool → LineEvent → Bool
-open_after xid was (WasOpened other) = if is_same xid other then true else was
-open_after xid was (WasCommitted other items info) = if is_same xid other then false else was
-open_after xid was (WasAborted other) = if is_same xid other then false else was
+open_after xid was (WasOpened other) = if is_xid xid other then true else was
+open_after xid was (WasCommitted other items info) = if is_xid xid other then false else was
+open_after xid was (WasAborted other) = if is_xid xid other then false else was
 
 -- whether a transaction is open, by all events of the line
 abbrev pub is_open_in : List LineEvent → ℕ → Bool

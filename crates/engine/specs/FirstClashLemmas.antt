@@ -1,6 +1,5 @@
 -- The laws of changes one after another.
 --     serial_last      the rows after one change more
---     IsClear-append      clear changes, and then more
 --     ClashesIn-behind, ClashesIn-before, ClashesIn-one      a refusal among later changes, before others, of one
 --     one_refused      that of a call that tried one change
 --     list_done, list_clear, list_refused      items of a list in turn, by how many of them were applied
@@ -12,28 +11,26 @@ use Rattle.model.specs.declared.item.Item.{Item}
 use Rattle.model.specs.Rows.{Rows, Schema}
 use Rattle.model.specs.Effect.{effect, serial}
 use Rattle.model.specs.EffectLemmas.{serial_append}
+use Rattle.model.specs.SerialLemmas.{accepted_append}
 use Rattle.model.specs.Survivors.{changes_of}
 use Rattle.model.specs.SurvivorLemmas.{changes_of_both}
 use Rattle.change.specs.declared.outcome.Clash.{Clash}
 use Rattle.change.specs.Refusal.{ClashesAs}
-use Rattle.engine.specs.FirstClash.{IsClear, ClashesIn}
+use Rattle.engine.specs.FirstClash.{ClashesIn}
+use Rattle.model.specs.Accepted.{AreAccepted}
 
 -- one change more
 pub serial_last : (schema : Schema) (rows : Rows) (cs : List Change) (c : Change) → serial schema rows (cs ++ c ∷ []) ≡ effect schema (serial schema rows cs) c
 serial_last schema rows cs c = serial_append schema rows cs (c ∷ [])
 
-pub IsClear-append : (schema : Schema) (rows : Rows) (cs ds : List Change) → IsClear schema rows cs → IsClear schema (serial schema rows cs) ds → IsClear schema rows (cs ++ ds)
-IsClear-append schema rows [] ds first second = second
-IsClear-append schema rows (c ∷ cs) ds first second = (first.0, IsClear-append schema (effect schema rows c) cs ds first.1 second)
-
 -- a refusal among later changes is one among all
-pub ClashesIn-behind : (schema : Schema) (rows : Rows) (cs ds : List Change) (clash : Clash) → IsClear schema rows cs → ClashesIn schema (serial schema rows cs) ds clash → ClashesIn schema rows (cs ++ ds) clash
+pub ClashesIn-behind : (schema : Schema) (rows : Rows) (cs ds : List Change) (clash : Clash) → AreAccepted schema rows cs → ClashesIn schema (serial schema rows cs) ds clash → ClashesIn schema rows (cs ++ ds) clash
 ClashesIn-behind schema rows cs ds clash clear r = record {
   before = cs ++ r.before;
   change = r.change;
   after = r.after;
   split = ap (λ (es : List Change). cs ++ es) r.split ∙ sym (append_assoc cs r.before (r.change ∷ r.after));
-  clear = IsClear-append schema rows cs r.before clear r.clear;
+  clear = accepted_append schema rows cs r.before clear r.clear;
   refused = subst (λ (at : Rows). ClashesAs schema at r.change clash) (sym (serial_append schema rows cs r.before)) r.refused;
 }
 
@@ -70,14 +67,14 @@ module _ (schema : Schema) (rows at new : Rows) (items : List Item) (n : ℕ) (i
       ∙ sym (serial_append schema rows (changes_of (take n items)) (changes_of (item ∷ [])))
       ∙ ap (serial schema rows) (sym changes_more)
 
-  pub list_clear : IsClear schema rows (changes_of (take n items)) → IsClear schema at (changes_of (item ∷ [])) → IsClear schema rows (changes_of (take (n + 1) items))
+  pub list_clear : AreAccepted schema rows (changes_of (take n items)) → AreAccepted schema at (changes_of (item ∷ [])) → AreAccepted schema rows (changes_of (take (n + 1) items))
   list_clear clear here =
-      subst (IsClear schema rows) (sym changes_more)
-      (IsClear-append schema rows (changes_of (take n items)) (changes_of (item ∷ [])) clear
-      (subst (λ (r : Rows). IsClear schema r (changes_of (item ∷ []))) done here))
+      subst (AreAccepted schema rows) (sym changes_more)
+      (accepted_append schema rows (changes_of (take n items)) (changes_of (item ∷ [])) clear
+      (subst (λ (r : Rows). AreAccepted schema r (changes_of (item ∷ []))) done here))
 
   -- one of them was refused
-  pub list_refused : (clash : Clash) → IsClear schema rows (changes_of (take n items)) → ClashesIn schema at (changes_of (item ∷ [])) clash → ClashesIn schema rows (changes_of items) clash
+  pub list_refused : (clash : Clash) → AreAccepted schema rows (changes_of (take n items)) → ClashesIn schema at (changes_of (item ∷ [])) clash → ClashesIn schema rows (changes_of items) clash
   list_refused clash clear here =
       let there = subst (λ (r : Rows). ClashesIn schema r (changes_of (item ∷ [])) clash) done here in
       let front = ClashesIn-behind schema rows (changes_of (take n items)) (changes_of (item ∷ [])) clash clear there in

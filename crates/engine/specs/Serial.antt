@@ -4,7 +4,6 @@
 --     HasBegun      a beginning of changes is open work too
 --     having_made, with_work      a transaction that has made these changes and nothing else; the world in which it is open
 --     committed_by      the world once it is committed
---     last_end_in      where the log goes on behind the last commit of a world; 0 before the first
 --     serial_code      the code of all this
 use Rattle.std.specs.Prelude.{◌≡◌, ℕ, List, ◌++◌, None, fold, map, refl}
 use Rattle.std.specs.Coded.{Coded, code_by, coded×, coded_list}
@@ -48,10 +47,6 @@ with_work w xid cs = record w { opened = finite.insert w.opened xid (having_made
 -- the world once it is committed
 abbrev pub committed_by : Schema → World → ℕ → List Change → CommitInfo → World
 committed_by schema w xid cs info = committed_with schema (with_work w xid cs) xid (having_made xid cs) info
-
--- where the log goes on behind its last commit; 0 before the first
-abbrev pub last_end_in : World → ℕ
-last_end_in w = fold (λ (before end : ℕ). end) 0 (map (λ (p : Past). p.info.end) w.line)
 
 -- the code of such a store, by which proofs tell two of them apart
 abbrev pub serial_code : Coded Serial

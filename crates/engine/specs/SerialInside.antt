@@ -15,7 +15,7 @@ use Rattle.undo.specs.Undo.{CanUndo}
 use Rattle.engine.specs.declared.serial.SerialStore.TheInside.{Inside}
 use Rattle.engine.specs.declared.store.Store.TheInside as store_inside
 use Rattle.live_tables.specs.Answers.{told_stop}
-use Rattle.engine.specs.FirstClash.{IsClear}
+use Rattle.model.specs.Accepted.{AreAccepted}
 use Rattle.engine.specs.Engine.{engine_in, StoreRepresents}
 use Rattle.engine.specs.Serial.{Serial, rows_now}
 
@@ -52,4 +52,4 @@ pub record Represents (s : Inside) : Type 0 where
   pub done : s.live.tables.rows ≡ rows_now (serial_in s)
   pub undoable : CanUndo s.live.tables s.undo.inverses
   pub named : All (NamesTables (length s.live.tables.schema)) (changes_of s.items.items)
-  pub clear : IsClear s.live.tables.schema (base_in s) (changes_of s.items.items)
+  pub clear : AreAccepted s.live.tables.schema (base_in s) (changes_of s.items.items)

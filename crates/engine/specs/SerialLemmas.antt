@@ -27,16 +27,17 @@ use Rattle.model.specs.Effect.{Outcome, Done, Skip, Clashes, outcome, serial}
 use Rattle.model.specs.EffectLemmas.{serial_append}
 use Rattle.model.specs.Survivors.{surviving, changes_of}
 use Rattle.model.specs.ValidLemmas.{not_none}
-use Rattle.change.specs.Refusal.{HasNoClash}
+use Rattle.model.specs.Accepted.{HasNoClash, AreAccepted}
 use Rattle.indexes.specs.Content.{Content}
 use Rattle.savepoint.specs.Record.{Record}
 use Rattle.tokens.specs.Half.{Half}
 use Rattle.tokens.specs.Lists.{ListMap}
-use Rattle.world.specs.World.{Opened, Past, OpenOnes, World, entry_of, journal, work, own_rows, IsFree}
+use Rattle.world.specs.World.{Opened, Past, OpenOnes, World, entry_of, journal, work, own_rows, IsFree, is_xid}
 use Rattle.world.specs.World as told_entry
 use Rattle.world.specs.Live.{Reordered, same}
 use Rattle.world.specs.Steps.{IsDone, IsSkipped, Step, opens, acts, commits, Reaches, at_start, by_step, done_with}
-use Rattle.world.specs.FineLemmas.{IsFine, fine_step}
+use Rattle.world.specs.FineLemmas.{fine_step}
+use Rattle.world.specs.Fine.{IsFine}
 use Rattle.world.specs.ListingLemmas.{xid_cases, got_same, got_other, same_by_xid, removed_again, none_removed}
 use Rattle.world.specs.WorldLemmas.{no_entries, live_by, live_alone}
 use Rattle.engine.specs.declared.entry.Entry.{Entry}
@@ -46,10 +47,10 @@ use Rattle.engine.specs.declared.events.LineEvent.TheVariants.{Opened as WasOpen
 use Rattle.live_tables.specs.declared.live_tables.Live.{Live}
 use Rattle.engine.specs.declared.store.Store.TheInside.{Inside}
 use Rattle.live_tables.specs.Answers.{told_stop}
-use Rattle.engine.specs.FirstClash.{IsClear}
 use Rattle.engine.specs.FirstClashLemmas.{serial_last}
 use Rattle.engine.specs.Engine.{entry_in, world_in, Represents}
-use Rattle.engine.specs.Events.{opened_by, opened_in, commits_in, ends_in, last_end, is_same, is_open_in, open_after, world_of}
+use Rattle.engine.specs.Events.{opened_by, opened_in, commits_in, ends_in, is_open_in, open_after, world_of}
+use Rattle.model.specs.Beginning.{last_end}
 use Rattle.engine.specs.EventLemmas.{values_empty, same_commits, more_commits, more_committed, rise_more, ends_same, ends_more}
 use Rattle.live_tables.specs.KeptRecords.{RecordsRepresent}
 use Rattle.engine.specs.EntryLemmas.{entries_named}
@@ -112,19 +113,19 @@ module _ (schema : Schema) (w : World) (running : w.stopped ≡ None) (none : w.
       by (Clashes cause) is = absurd (clear cause (sym (ap (λ (rows : Rows). outcome schema rows c) at_rows) ∙ is))
 
   -- calls lead to the world in which it has made more changes, none of which clashes
-  pub reach_made : (from : World) (cs ds : List Change) → Reaches schema from (with_work w xid cs) → IsClear schema (serial schema w.committed cs) ds
+  pub reach_made : (from : World) (cs ds : List Change) → Reaches schema from (with_work w xid cs) → AreAccepted schema (serial schema w.committed cs) ds
       → Reaches schema from (with_work w xid (cs ++ ds))
   reach_made from cs [] reached clear = subst (λ (es : List Change). Reaches schema from (with_work w xid es)) (sym (append-nil cs)) reached
   reach_made from cs (d ∷ ds) reached clear =
       subst (λ (es : List Change). Reaches schema from (with_work w xid es)) (append_assoc cs (d ∷ []) ds)
       (reach_made from (cs ++ d ∷ []) ds (by_step (with_work w xid cs) (with_work w xid (cs ++ d ∷ [])) reached (step_made cs d clear.0))
-      (subst (λ (rows : Rows). IsClear schema rows ds) (sym (serial_last schema w.committed cs d)) clear.1))
+      (subst (λ (rows : Rows). AreAccepted schema rows ds) (sym (serial_last schema w.committed cs d)) clear.1))
 
   few : finite.len w.opened < 4096
   few = subst (λ (n : ℕ). n < 4096) (sym (ap (λ (m : OpenOnes). finite.len m) none ∙ len-empty nat_cmp Opened)) (omega arith)
 
   -- and to the one in which it is committed
-  pub reach_committed : (cs : List Change) (info : CommitInfo) → IsClear schema w.committed cs → Reaches schema w (committed_by schema w xid cs info)
+  pub reach_committed : (cs : List Change) (info : CommitInfo) → AreAccepted schema w.committed cs → Reaches schema w (committed_by schema w xid cs info)
   reach_committed cs info clear =
       let opened : Reaches schema w (with_work w xid []) = by_step w (with_work w xid []) at_start (opens xid (Ok tt) (with_work w xid []) (running, absent xid, few, refl)) in
       by_step (with_work w xid cs) (committed_by schema w xid cs info) (reach_made w [] cs opened clear)
@@ -241,11 +242,11 @@ module _ (s : Inside) (is : Represents s) (none : s.book.lists ≡ finite.empty)
     -- ---- with one transaction more that was committed
 
     module _ (runs : told_stop s.live.stopped ≡ None) (xid : ℕ) (cs : List Change) (info : CommitInfo) (j : Vec Entry Global) (k : Half LineEvent) (entry : Entry)
-        (clear : IsClear s.live.tables.schema (world_in s).committed cs) (rows : t.rows ≡ serial s.live.tables.schema (world_in s).committed cs)
+        (clear : AreAccepted s.live.tables.schema (world_in s).committed cs) (rows : t.rows ≡ serial s.live.tables.schema (world_in s).committed cs)
         (line : k ≡ record s.line { list = (s.line.list ++ WasOpened xid ∷ []) ++ WasCommitted xid (map (ChangeItem xid) cs) info ∷ [] })
         (items : j.items ≡ s.journal.items ++ entry ∷ []) (fits : vec_len j ≤ vec_capacity j)
         (tells : entry_in entry ≡ record { xid = xid; changes = cs; commit = info.commit; end = info.end })
-        (named : All (NamesTables (length s.live.tables.schema)) cs) (above : last_end s.line.list < info.end) where
+        (named : All (NamesTables (length s.live.tables.schema)) cs) (above : last_end (ends_in s.line.list) < info.end) where
       abbrev past : Past
       past = record { xid = xid; items = map (ChangeItem xid) cs; info = info }
 
@@ -296,7 +297,7 @@ module _ (s : Inside) (is : Represents s) (none : s.book.lists ≡ finite.empty)
           ap (λ (l : List LineEvent). is_open_in l other) listed
           ∙ fold-append (open_after other) false opened_line (WasCommitted xid (map (ChangeItem xid) cs) info ∷ [])
           ∙ ap (λ (b : Bool). open_after other b (WasCommitted xid (map (ChangeItem xid) cs) info)) (fold-append (open_after other) false s.line.list (WasOpened xid ∷ []))
-          ∙ closed_by (is_same other xid) (is_open_in s.line.list other) (is.opened other ∙ unlisted other)
+          ∙ closed_by (is_xid other xid) (is_open_in s.line.list other) (is.opened other ∙ unlisted other)
           ∙ sym (unlisted other)
 
       work_tells : entry_in entry ≡ entry_of past

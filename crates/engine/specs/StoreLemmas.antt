@@ -41,7 +41,7 @@ use Rattle.tokens.specs.Half.{Half}
 use Rattle.tokens.specs.ListLemmas.{grown_by_nothing}
 use Rattle.tokens.specs.Lists.{ListMap, OpenLists, with_list, without_list}
 use Rattle.world.specs.World as told_entry
-use Rattle.world.specs.World.{Opened, Past, ByClash, World, starting, entry_of, journal, changes_in}
+use Rattle.world.specs.World.{Opened, Past, ByClash, World, starting, entry_of, journal, changes_in, is_xid}
 use Rattle.world.specs.ListingLemmas.{xid_cases, got_same, got_other}
 use Rattle.world.specs.Steps.{Fault, Acted, IsDone, IsSkipped, Held, Clashed, opened_with, done_with, committed_with, aborted_with}
 use Rattle.engine.specs.declared.events.Event.{Event}
@@ -55,7 +55,8 @@ use Rattle.live_tables.specs.declared.live_tables.Stopped.TheVariants.{Clash as 
 use Rattle.engine.specs.declared.store.Store.TheInside.{Inside}
 use Rattle.live_tables.specs.declared.transaction.OpenTransaction.{OpenTransaction}
 use Rattle.live_tables.specs.Answers.{cause_of, stop_for, told_stop, after_act, stop_of, TellsWhatStopped, HasCause}
-use Rattle.engine.specs.Events.{opened_by, opened_in, commits_in, ends_in, last_end, is_same, open_after, is_open_in, world_of, events_of}
+use Rattle.engine.specs.Events.{opened_by, opened_in, commits_in, ends_in, open_after, is_open_in, world_of, events_of}
+use Rattle.model.specs.Beginning.{last_end}
 use Rattle.engine.specs.EventLemmas.{get_values, values_empty, opened_stands, rise_more, ends_same, ends_more, world_done, world_acted, world_opened, world_aborted, world_committed}
 use Rattle.live_tables.specs.Journal.{rows_after}
 use Rattle.live_tables.specs.JournalLemmas.{entries_are_serial, rows_after_are_read}
@@ -228,15 +229,15 @@ store_started s rows tied schema rows_are line lists items len =
 -- ---- a transaction opens
 
 -- whether something is there once a map has one entry more, and one less
-there_more : {X : Type 0} (m : FinMap nat_cmp X) (k : ℕ) (x : X) (q : ℕ) → is_some (get (finite.insert m k x) q) ≡ (if is_same q k then true else is_some (get m q))
-there_more m k x q = ap is_some (finite.get-insert nat_cmp_total m k x q) ∙ by (is_same q k)
+there_more : {X : Type 0} (m : FinMap nat_cmp X) (k : ℕ) (x : X) (q : ℕ) → is_some (get (finite.insert m k x) q) ≡ (if is_xid q k then true else is_some (get m q))
+there_more m k x q = ap is_some (finite.get-insert nat_cmp_total m k x q) ∙ by (is_xid q k)
   where
     by : (b : Bool) → is_some (cond b (Some x) (get m q)) ≡ (if b then true else is_some (get m q))
     by true = refl
     by false = refl
 
-there_less : {X : Type 0} (m : FinMap nat_cmp X) (k q : ℕ) → is_some (get (finite.remove m k) q) ≡ (if is_same q k then false else is_some (get m q))
-there_less m k q = ap is_some (finite.get-remove nat_cmp_total m k q) ∙ by (is_same q k)
+there_less : {X : Type 0} (m : FinMap nat_cmp X) (k q : ℕ) → is_some (get (finite.remove m k) q) ≡ (if is_xid q k then false else is_some (get m q))
+there_less m k q = ap is_some (finite.get-remove nat_cmp_total m k q) ∙ by (is_xid q k)
   where
     by : (b : Bool) → is_some (cond b None (get m q)) ≡ (if b then false else is_some (get m q))
     by true = refl
@@ -284,7 +285,7 @@ module _ (s : Inside) (is : Represents s) (xid : ℕ) (absent : get (world_in s)
           named = still_named s.live.tables.schema m.tables.schema j.items schema (subst (AreNamed s.live.tables.schema) (sym journal_same) is.named);
           opened = λ other.
               ap (λ (h : Half LineEvent). is_open_in h.list other) line ∙ open_more s.line.list (WasOpened xid) other
-              ∙ ap (λ b. if is_same other xid then true else b) (is.opened other) ∙ sym (there_more s.book.lists xid [] other)
+              ∙ ap (λ b. if is_xid other xid then true else b) (is.opened other) ∙ sym (there_more s.book.lists xid [] other)
               ∙ ap (λ (bs : OpenLists Event). is_some (get bs.lists other)) (sym book);
         },
       )
@@ -315,7 +316,7 @@ module _ (s : Inside) (is : Represents s) (xid : ℕ) (events : List Event) (lis
   -- A transaction ends: its list goes, and the line has one event more.
   pub store_ended : (m : Live) (j : Vec Entry Global) (b : OpenLists Event) (k : Half LineEvent) (e : LineEvent) (later : World)
       → m.tables.schema ≡ s.live.tables.schema → b ≡ without_list s.book xid → k ≡ record s.line { list = s.line.list ++ e ∷ [] }
-      → ((q : ℕ) (was : Bool) → open_after q was e ≡ (if is_same q xid then false else was))
+      → ((q : ℕ) (was : Bool) → open_after q was e ≡ (if is_xid q xid then false else was))
       → LiveRepresents later m → later.opened ≡ finite.remove (world_in s).opened xid
       → world_of s.live.tables.schema s.start.rows (s.line.list ++ e ∷ []) (finite.remove s.book.lists xid) (told_stop m.stopped) ≡ later
       → map entry_in j.items ≡ journal later → vec_len j + btree_map_len m.transactions ≤ vec_capacity j
@@ -334,7 +335,7 @@ module _ (s : Inside) (is : Represents s) (xid : ℕ) (events : List Event) (lis
           named = named;
           opened = λ other.
               ap (λ (h : Half LineEvent). is_open_in h.list other) line ∙ open_more s.line.list e other ∙ ends other (is_open_in s.line.list other)
-              ∙ ap (λ b. if is_same other xid then false else b) (is.opened other) ∙ sym (there_less s.book.lists xid other)
+              ∙ ap (λ b. if is_xid other xid then false else b) (is.opened other) ∙ sym (there_less s.book.lists xid other)
               ∙ ap (λ (bs : OpenLists Event). is_some (get bs.lists other)) (sym book);
         },
       )
@@ -386,7 +387,7 @@ module _ (s : Inside) (is : Represents s) (xid : ℕ) (events : List Event) (lis
       → k ≡ record s.line { list = s.line.list ++ WasCommitted xid (opened_by events).items info ∷ [] }
       → LiveRepresents (committed_with s.live.tables.schema (world_in s) xid (opened_by events) info) m
       → j.items ≡ s.journal.items ++ entry ∷ [] → vec_len j ≡ vec_len s.journal + 1 → vec_capacity j ≡ vec_capacity s.journal
-      → entry_in entry ≡ entry_of (record { xid = xid; items = (opened_by events).items; info = info }) → last_end s.line.list < info.end
+      → entry_in entry ≡ entry_of (record { xid = xid; items = (opened_by events).items; info = info }) → last_end (ends_in s.line.list) < info.end
       → let t = record s { live = m; journal = j; book = b; line = k } in
       (world_in t ≡ committed_with s.live.tables.schema (world_in s) xid (opened_by events) info) × Represents t
   store_committed m j b k info entry schema book line tied items len capacity entry_is above =

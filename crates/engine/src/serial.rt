@@ -5,16 +5,18 @@ ghost use Rattle.model.specs.Effect.{all_back, serial};
 ghost use Rattle.model.specs.Named.{NamesTables};
 ghost use Rattle.model.specs.Survivors.{changes_of};
 ghost use Rattle.change.specs.Inverse.{edits_of};
-ghost use Rattle.change.specs.Refusal.{HasNoClash, ClashesAs};
+ghost use Rattle.change.specs.Refusal.{ClashesAs};
+ghost use Rattle.model.specs.Accepted.{HasNoClash, AreAccepted};
 ghost use Rattle.indexes.specs.Content.{KeepsCells};
 ghost use Rattle.undo.specs.Undo.{CanUndo};
-ghost use Rattle.world.specs.World.{starting};
+ghost use Rattle.world.specs.World.{starting, ends_of};
 ghost use Rattle.world.specs.Steps.{Closes, Reaches};
 ghost use Rattle.engine.specs.declared.events.LineEvent.TheVariants.{Opened as WasOpened, Committed as WasCommitted};
-ghost use Rattle.engine.specs.FirstClash.{IsClear, ClashesIn};
+ghost use Rattle.engine.specs.FirstClash.{ClashesIn};
 ghost use Rattle.engine.specs.Engine.{entry_in, IsOtherwiseSame};
 ghost use Rattle.live_tables.specs.Journal.{rows_after};
-ghost use Rattle.engine.specs.Serial.{rows_now, with_changes, HasBegun, committed_by, last_end_in};
+ghost use Rattle.engine.specs.Serial.{rows_now, with_changes, HasBegun, committed_by};
+ghost use Rattle.model.specs.Beginning.{last_end};
 
 use crate::entry::{Changes, Entry};
 use crate::events::{Event, LineEvent};
@@ -137,7 +139,7 @@ impl SerialStore {
     /// Applies an item's change, if it has one, as open work. A refusal leaves all as it was.
     pub fn take(&mut self, alloc: Global, item: Item) -> Result<(), Clash>
         requires { All (NamesTables (length self.old.store.schema)) (changes_of (item ∷ [])) }
-        ensures clear { OnOk result (IsClear self.old.store.schema (rows_now self.old) (changes_of (item ∷ []))) }
+        ensures clear { OnOk result (AreAccepted self.old.store.schema (rows_now self.old) (changes_of (item ∷ []))) }
         ensures ok { OnOk result (self.new ≡ with_changes self.old (changes_of (item ∷ []))) }
         ensures refused { IfErr result (ClashesIn self.old.store.schema (rows_now self.old) (changes_of (item ∷ []))) }
         ensures err { OnErr result (self.new ≡ self.old) }
@@ -152,7 +154,7 @@ impl SerialStore {
     /// work.
     pub fn take_all(&mut self, alloc: Global, items: Vec<Item>) -> Result<(), Clash>
         requires { All (NamesTables (length self.old.store.schema)) (changes_of items.items) }
-        ensures clear { OnOk result (IsClear self.old.store.schema (rows_now self.old) (changes_of items.items)) }
+        ensures clear { OnOk result (AreAccepted self.old.store.schema (rows_now self.old) (changes_of items.items)) }
         ensures ok { OnOk result (self.new ≡ with_changes self.old (changes_of items.items)) }
         ensures refused { IfErr result (ClashesIn self.old.store.schema (rows_now self.old) (changes_of items.items)) }
         ensures err { OnErr result (HasBegun self.old (changes_of items.items) self.new) }
@@ -171,7 +173,7 @@ impl SerialStore {
     fn take_list(&mut self, alloc: Global, items: Vec<Item>) -> Result<(), Clash>
         requires named { All (NamesTables (length self.old.store.schema)) (changes_of items.items) }
         requires none { self.old.changes ≡ [] }
-        ensures clear { OnOk result (IsClear self.old.store.schema (rows_now self.old) (changes_of items.items)) }
+        ensures clear { OnOk result (AreAccepted self.old.store.schema (rows_now self.old) (changes_of items.items)) }
         ensures ok { OnOk result (self.new ≡ with_changes self.old (changes_of items.items)) }
         ensures refused { IfErr result (ClashesIn self.old.store.schema (rows_now self.old) (changes_of items.items)) }
         ensures err { OnErr result (self.new ≡ self.old) }
@@ -189,7 +191,7 @@ impl SerialStore {
     /// journal. The log goes on behind it above where it went on behind the commit before. A refusal
     /// leaves all as it was.
     pub fn commit(&mut self, alloc: Global, xid: Xid, info: CommitInfo) -> Result<(), OutOfMemory>
-        requires { last_end_in self.old.store.world < info.end }
+        requires { last_end (ends_of self.old.store.world) < info.end }
         ensures commits { OnOk result (self.new.store.world ≡ committed_by self.old.store.schema self.old.store.world xid self.old.changes info) }
         ensures reached { OnOk result (Reaches self.old.store.schema self.old.store.world self.new.store.world) }
         ensures none { OnOk result (self.new.changes ≡ []) }
@@ -321,7 +323,7 @@ fn apply_each(
 ) -> Result<(), Clash>
     requires tables { All (NamesTables (length tables.old.schema)) (changes_of items.now) }
     requires can_undo { CanUndo tables.old undo.old.inverses }
-    ensures clear { OnOk result (IsClear tables.old.schema tables.old.rows (changes_of items.now)) }
+    ensures clear { OnOk result (AreAccepted tables.old.schema tables.old.rows (changes_of items.now)) }
     ensures ok { OnOk result (tables.new.rows ≡ serial tables.old.schema tables.old.rows (changes_of items.now)) }
     ensures refused { IfErr result (ClashesIn tables.old.schema tables.old.rows (changes_of items.now)) }
     ensures base { all_back tables.new.rows (map edits_of undo.new.inverses) ≡ all_back tables.old.rows (map edits_of undo.old.inverses) }
@@ -343,7 +345,7 @@ fn apply_item(
 ) -> Result<(), Clash>
     requires tables { All (NamesTables (length tables.old.schema)) (changes_of (item.now ∷ [])) }
     requires can_undo { CanUndo tables.old undo.old.inverses }
-    ensures clear { OnOk result (IsClear tables.old.schema tables.old.rows (changes_of (item.now ∷ []))) }
+    ensures clear { OnOk result (AreAccepted tables.old.schema tables.old.rows (changes_of (item.now ∷ []))) }
     ensures ok { OnOk result (tables.new.rows ≡ serial tables.old.schema tables.old.rows (changes_of (item.now ∷ []))) }
     ensures refused { IfErr result (ClashesIn tables.old.schema tables.old.rows (changes_of (item.now ∷ []))) }
     ensures base { all_back tables.new.rows (map edits_of undo.new.inverses) ≡ all_back tables.old.rows (map edits_of undo.old.inverses) }

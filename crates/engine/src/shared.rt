@@ -5,7 +5,7 @@ ghost use Rattle.std.specs.List.Sorted.{IsStrictlyIncreasing};
 ghost use Rattle.std.specs.Result.{result_ok};
 ghost use Rattle.model.specs.Named.{NamesTables};
 ghost use Rattle.model.specs.declared.item.Item.TheVariants.{Touch, BackTo};
-ghost use Rattle.tokens.specs.Half.{Begins};
+ghost use Rattle.model.specs.Beginning.{Begins, last_end};
 ghost use Rattle.tokens.specs.Lists.{open_list};
 ghost use Rattle.model.specs.Effect.{serial};
 ghost use Rattle.model.specs.TableRows.{rows_of_table};
@@ -15,7 +15,7 @@ ghost use Rattle.live_tables.specs.declared.answers.EngineFault.TheVariants.{Out
 ghost use Rattle.engine.specs.declared.events.Event.TheVariants.{Done};
 ghost use Rattle.engine.specs.declared.events.LineEvent.TheVariants.{Opened as WasOpened, Committed as WasCommitted, Aborted as WasAborted};
 ghost use Rattle.live_tables.specs.Answers.{told, told_call, TellsWhatStopped, TellsCause, IsNoClash};
-ghost use Rattle.engine.specs.Events.{opened_by, commits_in, ends_in, last_end, is_open_in, events_of};
+ghost use Rattle.engine.specs.Events.{opened_by, commits_in, ends_in, is_open_in, events_of};
 ghost use Rattle.engine.specs.declared.entry.Entry.{Entry as AnyEntry};
 ghost use Rattle.engine.specs.Engine.{entry_in, IsOtherwiseSame};
 ghost use Rattle.live_tables.specs.Journal.{rows_after};
@@ -185,7 +185,7 @@ impl<N: StoreNames> SharedStore<N> {
     pub fn commit(&mut self, line: &mut Line, t: Ticket, info: CommitInfo)
         requires belongs { t.name ≡ N.tickets }
         requires line { line.old.name ≡ N.line }
-        requires rising { last_end line.old.list < info.end }
+        requires rising { last_end (ends_in line.old.list) < info.end }
         ensures stood { finite.get self.old.world.opened t.number ≡ Some (opened_by t.list) }
         ensures commits { Commits N.schema self.old.world t.number (opened_by t.list) info self.new.world }
         ensures met { line.old ≡ self.old.line }
@@ -212,17 +212,22 @@ impl<N: StoreNames> SharedStore<N> {
 
     /// How many tables there are.
     pub fn table_count(&self) -> usize
-        ensures count { result ≡ length N.schema }
+        ensures { result ≡ length N.schema }
+    {
+        self.store.table_count()
+    }
 
-        // Its world has the commits that its line tells, each of which ends above the ones before it,
-        // and the committed rows are their changes. The line tells too which transactions are open.
+    /// Tells a proof what its type keeps: its world has the commits that its line tells, each of which
+    /// ends above the ones before it, the committed rows are their changes on the start rows, and the
+    /// line tells which transactions are open. It does nothing.
+    pub fn recall_invariant(&self)
         ensures start { self.now.world.start ≡ N.start }
         ensures line { self.now.world.line ≡ commits_in self.now.line.list }
         ensures rising { IsStrictlyIncreasing (0 ∷ ends_in self.now.line.list) }
         ensures committed { self.now.world.committed ≡ serial N.schema N.start (changes_in self.now.world.line) }
         ensures opened { (xid : ℕ) → is_open_in self.now.line.list xid ≡ is_some (finite.get self.now.world.opened xid) }
     {
-        self.store.table_count()
+        self.store.recall_invariant();
     }
 
     /// What stopped the store, if anything did.

@@ -5,7 +5,7 @@ ghost use Rattle.std.specs.BTreeMap.{btree_map_len};
 ghost use Rattle.std.specs.FinMap as finite;
 ghost use Rattle.model.specs.Named.{NamesTables};
 ghost use Rattle.model.specs.Survivors.{before_savepoint, survivors, changes_of};
-ghost use Rattle.tokens.specs.Half.{Begins};
+ghost use Rattle.model.specs.Beginning.{Begins, last_end};
 ghost use Rattle.tokens.specs.Lists.{open_list, with_list};
 ghost use Rattle.model.specs.Effect.{serial};
 ghost use Rattle.model.specs.TableRows.{rows_of_table};
@@ -17,7 +17,7 @@ ghost use Rattle.engine.specs.declared.events.Event.TheVariants.{Done};
 ghost use Rattle.engine.specs.declared.events.LineEvent.TheVariants.{Opened as WasOpened, Committed as WasCommitted, Aborted as WasAborted};
 ghost use Rattle.std.specs.Result.{result_ok};
 ghost use Rattle.live_tables.specs.Answers.{told, told_call, after_open, after_touch, stop_of, TellsWhatStopped, TellsCause, IsNoClash};
-ghost use Rattle.engine.specs.Events.{opened_by, commits_in, ends_in, last_end, is_open_in, events_of};
+ghost use Rattle.engine.specs.Events.{opened_by, commits_in, ends_in, is_open_in, events_of};
 ghost use Rattle.live_tables.specs.Journal.{rows_after as rows_behind};
 ghost use Rattle.engine.specs.declared.entry.Entry.{Entry as AnyEntry};
 ghost use Rattle.engine.specs.Engine.{entry_in, IsOtherwiseSame};
@@ -29,13 +29,10 @@ use crate::rows_after::rows_after;
 use crate::tickets::{Line, Seen, Ticket};
 use indexes::Tables;
 use live_tables::{Acted, EngineFault, Live, NotSettled, Stop, Stopped};
-use model::{Change, CommitInfo, Item, Key, OutOfMemory, Row, TableId, Xid};
+use model::{Change, CommitInfo, Item, Key, MOST_OPEN, OutOfMemory, Row, TableId, Xid};
 use std::alloc::Global;
 use std::marker::{Brand, Model};
 use tokens::{Book, Items, Kept, Slip, Token, grow, grow_by, look, meet, pair, watch};
-
-/// How many transactions can be open at once.
-const MOST_OPEN: usize = 4096;
 
 /// One live set of tables, several open transactions in it, and the journal of those that were
 /// committed.
@@ -198,7 +195,7 @@ impl Store {
     pub fn commit(&mut self, line: &mut Line, t: Ticket, info: CommitInfo)
         requires belongs { t.name ≡ self.old.tickets }
         requires line { line.old.name ≡ self.old.line.name }
-        requires rising { last_end line.old.list < info.end }
+        requires rising { last_end (ends_in line.old.list) < info.end }
         ensures stood { finite.get self.old.world.opened t.number ≡ Some (opened_by t.list) }
         ensures commits { Commits self.old.schema self.old.world t.number (opened_by t.list) info self.new.world }
         ensures met { line.old ≡ self.old.line }
@@ -242,17 +239,20 @@ impl Store {
 
     /// How many tables there are. It takes no memory.
     pub fn table_count(&self) -> usize
-        ensures count { result ≡ length self.now.schema }
+        ensures { result ≡ length self.now.schema }
+    {
+        self.live.tables.len()
+    }
 
-        // Its world has the commits that its line tells, each of which ends above the ones before it,
-        // and the committed rows are their changes. The line tells too which transactions are open.
+    /// Tells a proof what its type keeps: its world has the commits that its line tells, each of which
+    /// ends above the ones before it, the committed rows are their changes, and the line tells which
+    /// transactions are open. It does nothing.
+    pub fn recall_invariant(&self)
         ensures line { self.now.world.line ≡ commits_in self.now.line.list }
         ensures rising { IsStrictlyIncreasing (0 ∷ ends_in self.now.line.list) }
         ensures committed { self.now.world.committed ≡ serial self.now.schema self.now.world.start (changes_in self.now.world.line) }
         ensures opened { (xid : ℕ) → is_open_in self.now.line.list xid ≡ is_some (finite.get self.now.world.opened xid) }
-    {
-        self.live.tables.len()
-    }
+    {}
 
     /// What stopped the store, if anything did. It takes no memory.
     pub fn stop(&self) -> Option<Stop>

@@ -138,13 +138,16 @@ impl Table {
 
     /// How many unique keys it has.
     pub fn unique_count(&self) -> usize
-        ensures count { result ≡ length self.now.keys.uniques }
-
-        // Each row stands at its own key, no two agree in a unique key, and there is room for what they fill.
-        ensures sound { IsSound self.now }
+        ensures { result ≡ length self.now.keys.uniques }
     {
         self.uniques.len()
     }
+
+    /// Tells a proof what its type keeps: each row stands at its own key, no two agree in a unique key,
+    /// and there is room for what they fill. It does nothing.
+    pub fn recall_invariant(&self)
+        ensures { IsSound self.now }
+    {}
 
     /// The row at a key.
     pub fn get(&self, key: &Key) -> Option<RowView<'_>>
@@ -318,8 +321,7 @@ impl Table {
         ensures values { IfOk result (λ kept. kept ≡ true → KeepsValues self.now key.now row.now) }
         ensures sound { IsSound self.now }
     {
-        // That it is sound is told here.
-        let _count = self.unique_count();
+        self.recall_invariant();
         match self.rows.get(key) {
             Some(stood) => {
                 let stood = stood.to_row()?;
@@ -377,8 +379,7 @@ impl Table {
         ensures err { OnErr result (self.new ≡ self.old) }
         ensures sound { IsSound self.new }
     {
-        // That it is sound is told here.
-        let _count = self.unique_count();
+        self.recall_invariant();
         let emptied = self.emptied()?;
         Ok(Contents {
             table: mem::replace(self, emptied),

@@ -91,15 +91,18 @@ impl Tables {
 
     /// How many tables there are.
     pub fn len(&self) -> usize
-        ensures len { result ≡ length self.now.schema }
-
-        // The rows are valid, each is of a table, and there is room for what it fills.
-        ensures valid { IsValid self.now.schema self.now.rows }
-        ensures known { (table : ℕ) (key : AnyKey) (row : AnyRow) → finite.get self.now.rows (table, key) ≡ Some row → table < length self.now.schema }
-        ensures room { (table : ℕ) (key : AnyKey) (row : AnyRow) → finite.get self.now.rows (table, key) ≡ Some row → HasRoom self.now.room self.now.schema table row }
+        ensures { result ≡ length self.now.schema }
     {
         self.tables.len()
     }
+
+    /// Tells a proof what their type keeps: the rows are valid, each is of a table, and there is room
+    /// for what it fills. It does nothing.
+    pub fn recall_invariant(&self)
+        ensures valid { IsValid self.now.schema self.now.rows }
+        ensures known { (table : ℕ) (key : AnyKey) (row : AnyRow) → finite.get self.now.rows (table, key) ≡ Some row → table < length self.now.schema }
+        ensures room { (table : ℕ) (key : AnyKey) (row : AnyRow) → finite.get self.now.rows (table, key) ≡ Some row → HasRoom self.now.room self.now.schema table row }
+    {}
 
     /// How many unique keys a table has.
     pub fn unique_count(&self, table: usize) -> usize

@@ -9,10 +9,10 @@ use Rattle.std.proofs.lemmas.Grind.{flat_map-append, fold-append}
 use Rattle.std.proofs.lemmas.List.Elements.{All-head, All-tail}
 use Rattle.model.specs.declared.item.Item.{Item}
 use Rattle.model.specs.declared.item.CommitInfo.{CommitInfo}
-use Rattle.world.specs.World.{Opened}
+use Rattle.world.specs.World.{Opened, is_xid}
 use Rattle.engine.specs.declared.events.LineEvent.{LineEvent}
 use Rattle.engine.specs.declared.events.LineEvent.TheVariants.{Opened as WasOpened, Committed as WasCommitted, Aborted as WasAborted}
-use Rattle.engine.specs.Events.{is_same, open_after, is_open_in}
+use Rattle.engine.specs.Events.{open_after, is_open_in}
 use Rattle.session.specs.Sized.{item_of}
 use Rattle.session.specs.State.{Direct, Worker, Spooled, Open, OpenTransactions}
 use Rattle.dispatch.specs.Lanes.{Given}

@@ -9,9 +9,9 @@ use Rattle.std.proofs.lemmas.Grind.{flat_map-append}
 use Rattle.std.proofs.lemmas.List.Elements.{All-contains, All-contains_itself, All-cons, All-map, All-push, Contains-append_left, Contains-append_right, Contains-append_cases, Contains-push, Contains-push_cases}
 use Rattle.model.specs.declared.item.Item.{Item}
 use Rattle.tokens.specs.Lists.{OpenList}
-use Rattle.world.specs.World.{Opened}
+use Rattle.world.specs.World.{Opened, is_xid}
 use Rattle.engine.specs.declared.events.Event.{Event}
-use Rattle.engine.specs.Events.{commits_in, is_open_in, is_same}
+use Rattle.engine.specs.Events.{commits_in, is_open_in}
 use Rattle.frames.specs.declared.item.CopyItem.{CopyItem}
 use Rattle.session.specs.Sized.{item_of}
 use Rattle.session.specs.State.{Way, Worker, Spooled, Open, State, Setting}
@@ -104,7 +104,7 @@ module _ (xid : ℕ) where
   in_slot : (slot : Option Given) (items : List Item) → Contains (items_of xid slot) items → (given : Given) × (slot ≡ Some given) × (given.xid ≡ xid)
   in_slot None items is = absurd (none_among items is)
   in_slot (Some given) items is =
-      elim (is_same xid given.xid) as (λ b. is_same xid given.xid ≡ b → Contains (if b then given.items ∷ [] else []) items
+      elim (is_xid xid given.xid) as (λ b. is_xid xid given.xid ≡ b → Contains (if b then given.items ∷ [] else []) items
       → (other : Given) × (Some given ≡ Some other) × (other.xid ≡ xid)) [
         | true ↦ λ same there. (given, refl, sym (tells_apart nat_cmp-IsAntisymmetric xid given.xid same))
         | false ↦ λ same there. absurd (none_among items there)
@@ -124,7 +124,7 @@ module _ (xid : ℕ) where
             (there.0, Contains-append_right (first ∷ []) slots (Some there.0) there.1, there.2)
       ]
 
-is_itself : (xid : ℕ) → is_same xid xid ≡ true
+is_itself : (xid : ℕ) → is_xid xid xid ≡ true
 is_itself xid = unsigned_tied xid xid ∙ eq-eqb xid xid refl
 
 -- ---- all that is in hand
@@ -202,7 +202,7 @@ module _ (g : Setting) (s : State) (rest : List CopyItem) (t : Standing) (begun 
   in_own xid (Some ticket) is done e = (
     own_by ticket,
     refl,
-    elim (is_same xid ticket.number) as (λ b. is_same xid ticket.number ≡ b → (if b then Some (own_by ticket).done else None) ≡ Some done → ticket.number ≡ xid) [
+    elim (is_xid xid ticket.number) as (λ b. is_xid xid ticket.number ≡ b → (if b then Some (own_by ticket).done else None) ≡ Some done → ticket.number ≡ xid) [
       | true ↦ λ same there. sym (tells_apart nat_cmp-IsAntisymmetric xid ticket.number same)
       | false ↦ λ same there. absurd (none_is done there)
     ] refl (ap (own_of xid) is ∙ e),

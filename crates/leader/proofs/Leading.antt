@@ -18,7 +18,8 @@ use Rattle.frames.specs.declared.item.CopyItem.TheVariants.{Wal, Keepalive}
 use Rattle.world.specs.World.{Past}
 use Rattle.engine.specs.declared.events.LineEvent.{LineEvent}
 use Rattle.engine.specs.declared.events.LineEvent.TheVariants.{Aborted as WasAborted}
-use Rattle.engine.specs.Events.{past_of, commits_in, last_end as last_end_of}
+use Rattle.engine.specs.Events.{past_of, commits_in}
+use Rattle.model.specs.Beginning.{last_end as last_end_of}
 use Rattle.session.specs.declared.fault.Refused.{Refused}
 use Rattle.session.specs.declared.fault.Refused.TheVariants as refusals
 use Rattle.session.specs.declared.session.Session.{Session}

@@ -45,7 +45,7 @@ pub fn finish<N: StoreNames, S: Slot<N> + Drop>(
 {
     let holder = find_holder(store, line, given, proposed);
     store.meet(line);
-    let _ = store.table_count();
+    store.recall_invariant();
     let stop = store.stop();
     let noted = undo_all(store, line, own, lanes);
     decide(proposed, stop, holder, noted)

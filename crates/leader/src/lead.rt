@@ -1,6 +1,6 @@
 // What each item of a stream does, where streamed transactions have workers.
 ghost use Rattle.std.specs.Prelude.{◌≡◌, ◌<◌, ◌⊎◌, [], None, length, All, OnOk, OnErr, IfErr, MatchOption, map, option_map};
-ghost use Rattle.engine.specs.Events.{last_end};
+ghost use Rattle.model.specs.Beginning.{last_end};
 ghost use Rattle.model.specs.Rows.{Rows};
 ghost use Rattle.session.specs.Answers.{IsOfTables};
 ghost use Rattle.session.specs.State.{Setting, setting};
@@ -122,7 +122,7 @@ impl<'a, N: StoreNames, L: OutboxNames, R: Wait, G: Gate + Drop> Lead<'a, N, L, 
     // A transaction commits, and the position with it.
     fn commit(&mut self, xid: Xid, info: CommitInfo, items: Vec<Item>) -> Result<(), End>
         requires named { All (IsOfTables self.old.transactions.tables) items.items }
-        requires rising { last_end self.old.transactions.line < info.end }
+        requires rising { last_end (ends_in self.old.transactions.line) < info.end }
         ensures commits { OnOk result (IsCommitted self.old.transactions xid info items.items self.new.transactions) }
         ensures ok { OnOk result (led self.new.stream self.new.transactions ≡ after_commit (led self.old.stream self.old.transactions) self.new.transactions info) }
         ensures session { self.new.stream.session ≡ self.old.stream.session }

@@ -104,8 +104,7 @@ where
     if gates.is_empty() && watchers.is_empty() {
         return run_spooled_on(alloc, devices, catalog, start, config);
     }
-    // Whoever counts the tables learns that their rows are valid.
-    let _ = start.len();
+    start.recall_invariant();
     match Store::new(alloc, start) {
         Ok((store, line)) => run_store::<Brand, R, S, W, C, G, V>(
             rt, alloc, devices, catalog, store, line, config, gates, watchers,
@@ -483,8 +482,7 @@ fn shut<N: StoreNames>(store: SharedStore<N>, line: Line, position: Lsn, end: En
     ensures position { result.position ≡ position }
     ensures end { result.end ≡ end }
 {
-    // Whoever counts the tables learns that the commits are those of the line.
-    let _count = store.table_count();
+    store.recall_invariant();
     let (tables, journal) = store.shut(line);
     Outcome {
         tables,

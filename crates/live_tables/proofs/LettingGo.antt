@@ -21,7 +21,7 @@ use Rattle.keyholds.specs.Holds.{ReleasesLast}
 use Rattle.undo.specs.OthersLemmas.{among}
 use Rattle.world.specs.ListingLemmas.{xid_cases}
 use Rattle.live_tables.specs.declared.before_image.BeforeImage.{BeforeImage}
-use Rattle.live_tables.specs.ReleasedLemmas.{IsLetGo, IsAlone, HasReleased}
+use Rattle.live_tables.specs.Released.{IsLetGo, IsAlone, HasReleased}
 
 -- of what was held at the start the first are left, and no fewer than a mark says
 pub record IsLeftOf (mark : ℕ) (start held : List (Cell × BeforeImage)) : Type 0 where

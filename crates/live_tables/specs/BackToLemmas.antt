@@ -35,7 +35,8 @@ use Rattle.savepoint.proofs.Marked.{marked_uncut, marked_before, survivors_cut, 
 use Rattle.world.specs.World.{Opened, World, work, holds}
 use Rattle.world.specs.Live.{IsLive}
 use Rattle.world.specs.Steps.{done_with}
-use Rattle.world.specs.FineLemmas.{IsFine, fine_back}
+use Rattle.world.specs.FineLemmas.{fine_back}
+use Rattle.world.specs.Fine.{IsFine}
 use Rattle.world.specs.ListingLemmas.{got_other}
 use Rattle.world.specs.WorldLemmas.{live_cut}
 use Rattle.world.specs.BackLemmas.{valid_back}

@@ -24,7 +24,7 @@ use Rattle.model.specs.Footprint.{footprint}
 use Rattle.model.specs.SerialLemmas.{leaves_free_cell}
 use Rattle.indexes.specs.Content.{Content}
 use Rattle.change.specs.declared.inverse.Inverse.{Inverse}
-use Rattle.change.specs.Inverse.{edits_of}
+use Rattle.change.specs.Inverse.{edits_of, row_by_inverse}
 use Rattle.savepoint.specs.declared.mark.Mark.{Mark}
 use Rattle.change.specs.InverseLemmas.{contains_first, contains_here, contains_later}
 use Rattle.savepoint.specs.Savepoints.{mark_at, before_mark}
@@ -39,7 +39,7 @@ use Rattle.live_tables.specs.KeptRecords.{Represents, IsPutAt}
 use Rattle.live_tables.specs.Held.{AreHolds, HasHeldMarks}
 use Rattle.live_tables.specs.CallResults.{HasItem}
 use Rattle.live_tables.specs.Statements.{IsFreeLive}
-use Rattle.live_tables.specs.BeforeImages.{row_by_inverse, HasTable, LiesBeside, AreBeforeImages, HasBeforeImages, IsToStand, cells_of_each, up_to_before_image, IsStoodAt}
+use Rattle.live_tables.specs.BeforeImages.{HasTable, LiesBeside, AreBeforeImages, HasBeforeImages, IsToStand, cells_of_each, up_to_before_image, IsStoodAt}
 use Rattle.live_tables.specs.UnheldLemmas.{free_by_cells, free_by_first, free_in_table, unheld_row, wipe_of}
 use Rattle.live_tables.specs.BeforeImageLemmas.{beside_over, before_image_more, marks_with, before_image_cut, before_image_put, before_image_same, before_image_gone, slice_next, contains_index}
 use Rattle.live_tables.specs.ReadStatements.{StartKeepsBeforeImages, OpenKeepsBeforeImages, DoneKeepsBeforeImages, SkipKeepsBeforeImages, TouchKeepsBeforeImages, SameKeepsBeforeImages, RollbackKeepsBeforeImages, AbortKeepsBeforeImages, CommitKeepsBeforeImages, StopKeepsBeforeImages}

@@ -1,5 +1,4 @@
 -- What lies beside the cells that transactions hold, so that the committed rows are read by the holds.
---     row_by_inverse      the row that an inverse has for a place
 --     HasTable      an inverse has the committed rows of a table
 --     LiesBeside, AreBeforeImages      what lies beside a cell, and beside each that a transaction holds
 --     HasBeforeImages      that is so for each open transaction
@@ -17,7 +16,7 @@ use Rattle.model.specs.declared.cell.Cell.{Cell}
 use Rattle.model.specs.declared.cell.Cell.TheVariants.{Row, Uniq, Whole}
 use Rattle.model.specs.Rows.{Place, Rows}
 use Rattle.change.specs.declared.inverse.Inverse.{Inverse}
-use Rattle.change.specs.Inverse.{edits_of}
+use Rattle.change.specs.Inverse.{row_by_inverse}
 use Rattle.savepoint.specs.declared.mark.Mark.{Mark}
 use Rattle.savepoint.specs.Savepoints.{mark_at}
 use Rattle.savepoint.specs.Record.{Record}
@@ -27,10 +26,6 @@ use Rattle.live_tables.specs.declared.before_image.CommittedRow.{CommittedRow}
 use Rattle.live_tables.specs.declared.before_image.CommittedRow.TheVariants.{Beside, Emptied, Live}
 use Rattle.live_tables.specs.declared.before_image.BeforeImage.{BeforeImage}
 use Rattle.live_tables.specs.declared.before_image.BeforeImage.TheVariants.{Row as BeforeImageRow, Wiped, Other}
-
--- the row that an inverse puts back at a place, or none
-abbrev pub row_by_inverse : Inverse → Place → Option RecordRow
-row_by_inverse inverse place = unwrap_or (get (edits_of inverse) place) None
 
 -- The inverse with this number has the committed rows of the table, but at the places that were held before.
 pub record HasTable (committed : Rows) (inverses : List Inverse) (before : List Cell) (table count : ℕ) : Type 0 where

@@ -20,7 +20,8 @@ use Rattle.undo.specs.UndoLemmas.{schema_undone}
 use Rattle.world.specs.World.{Opened, Stop, ByClash, ByHold, World, starting, own_rows, holds, IsHeldBy, IsFree}
 use Rattle.world.specs.Live.{Reordered, same}
 use Rattle.world.specs.Steps.{Held, Clashed, opened_with, done_with, wanting, opens, acts, touches, stops_held}
-use Rattle.world.specs.FineLemmas.{IsFine, fine_start, fine_step}
+use Rattle.world.specs.FineLemmas.{fine_start, fine_step}
+use Rattle.world.specs.Fine.{IsFine}
 use Rattle.world.specs.WorldLemmas.{no_entries, live_by, live_alone, footprint_live, outcome_live}
 use Rattle.live_tables.specs.KeptRecords.{Represents}
 use Rattle.live_tables.specs.KeptLemmas.{kept_opened, kept_done, kept_skipped, kept_touched, kept_wanting, kept_refused}

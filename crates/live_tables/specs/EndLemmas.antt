@@ -25,7 +25,8 @@ use Rattle.savepoint.specs.Record.{Record}
 use Rattle.world.specs.World.{Opened, World, work, own_rows, holds}
 use Rattle.world.specs.Live.{IsLive}
 use Rattle.world.specs.Steps.{aborted_with, committed_with}
-use Rattle.world.specs.FineLemmas.{IsFine, committed_valid, fine_aborted, fine_committed}
+use Rattle.world.specs.FineLemmas.{committed_valid, fine_aborted, fine_committed}
+use Rattle.world.specs.Fine.{IsFine}
 use Rattle.world.specs.ListingLemmas.{xid_cases, gone_same, gone_other}
 use Rattle.world.specs.WorldLemmas.{live_aborted, live_committed}
 use Rattle.world.specs.BackLemmas.{valid_back, held_live}

@@ -39,7 +39,8 @@ use Rattle.savepoint.specs.Savepoints.{mark_at}
 use Rattle.savepoint.specs.Record.{Record}
 use Rattle.world.specs.World.{Opened, Past, ByClash, World, starting, own_rows, holds}
 use Rattle.world.specs.Steps.{opened_with, done_with, aborted_with, committed_with}
-use Rattle.world.specs.FineLemmas.{IsFine, fine_put, noted_put, gone_cases, holds_free, same_some}
+use Rattle.world.specs.FineLemmas.{fine_put, noted_put, gone_cases, holds_free, same_some}
+use Rattle.world.specs.Fine.{IsFine}
 use Rattle.world.specs.ListingLemmas.{xid_cases}
 use Rattle.live_tables.specs.declared.live_tables.Live.{Live}
 use Rattle.live_tables.specs.declared.before_image.BeforeImage.{BeforeImage}

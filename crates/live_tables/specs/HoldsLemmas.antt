@@ -22,7 +22,8 @@ use Rattle.change.specs.InverseLemmas.{contains_first, contains_here, contains_l
 use Rattle.keyholds.specs.Holds.{IsFreeCell, IsFirstHeldBy}
 use Rattle.world.specs.World.{Opened, Stop, World, work, own_rows, holds, IsHeldBy, IsFree}
 use Rattle.world.specs.Steps.{opened_with, done_with, aborted_with, committed_with}
-use Rattle.world.specs.FineLemmas.{IsFine, put_cases, gone_cases, holds_stay}
+use Rattle.world.specs.FineLemmas.{put_cases, gone_cases, holds_stay}
+use Rattle.world.specs.Fine.{IsFine}
 use Rattle.world.specs.ListingLemmas.{xid_cases, got_same, got_other, gone_other}
 use Rattle.live_tables.specs.Held.{HasSameCells, AreHolds, IsHeldAt}
 use Rattle.live_tables.specs.Statements.{HoldsTellTheWorld, OpenIsHeld, TakenIsHeld, SameIsHeld, AbortIsHeld, CommitIsHeld}

@@ -40,7 +40,8 @@ use Rattle.std.specs.Prelude.{IsSome, IsTrue, if◌then◌else◌}
 use Rattle.world.specs.World.{Opened, Stop, World, work, own_rows, holds, IsFree}
 use Rattle.world.specs.Live.{IsLive}
 use Rattle.world.specs.Steps.{IsDone, IsSkipped, opened_with, done_with, wanting, acts}
-use Rattle.world.specs.FineLemmas.{IsFine, fine_step, put_cases}
+use Rattle.world.specs.FineLemmas.{fine_step, put_cases}
+use Rattle.world.specs.Fine.{IsFine}
 use Rattle.world.specs.ListingLemmas.{xid_cases, got_same, got_other}
 use Rattle.world.specs.WorldLemmas.{footprint_live, outcome_live, inverse_live, live_opened, live_acted, live_touched, live_wanting}
 use Rattle.world.specs.BackLemmas.{valid_back}

@@ -17,7 +17,7 @@ use Rattle.savepoint.specs.Record.{Record, AllAreNamed}
 use Rattle.savepoint.specs.RecordInside.{marks_of, IsMarked}
 use Rattle.world.specs.World.{Opened, World}
 use Rattle.world.specs.Live.{IsLive}
-use Rattle.world.specs.FineLemmas.{IsFine}
+use Rattle.world.specs.Fine.{IsFine}
 
 -- The inverses of a record take back the changes of its survivors, on the committed rows; and the inverses up to each
 -- savepoint the changes before it.

@@ -31,10 +31,10 @@ pub mod WaitLemmas
 pub mod Journal
 pub mod JournalLemmas
 pub mod CellLemmas
-pub mod KeptRowLemmas
 pub mod StopLemmas
 pub mod Shut
 pub mod ShutLemmas
 pub mod NamedLemmas
 pub mod Merged
+pub mod Released
 pub mod ReleasedLemmas

@@ -19,7 +19,8 @@ use Rattle.live_tables.specs.declared.before_image.BeforeImage.{BeforeImage}
 use Rattle.live_tables.specs.declared.before_image.BeforeImage.TheVariants.{Row as BeforeImageRow, Wiped, Other}
 use Rattle.live_tables.specs.KeptRecords.{Represents}
 use Rattle.live_tables.specs.Held.{AreHolds}
-use Rattle.live_tables.specs.BeforeImages.{row_by_inverse, HasTable, LiesBeside, AreBeforeImages, HasBeforeImages, cells_of_each}
+use Rattle.live_tables.specs.BeforeImages.{HasTable, LiesBeside, AreBeforeImages, HasBeforeImages, cells_of_each}
+use Rattle.change.specs.Inverse.{row_by_inverse}
 use Rattle.live_tables.specs.HoldsLemmas.{share_one}
 use Rattle.live_tables.specs.UnheldLemmas.{free_by_cells, unheld_row, whole_overlaps}
 use Rattle.live_tables.specs.BeforeImageLemmas.{slice_front, front_slice, contains_index, index_contains, same_record, cells_front, index_of_key}

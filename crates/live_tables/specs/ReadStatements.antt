@@ -1,4 +1,4 @@
--- What a store reads, and what its reads rest on, each as one statement. `src/laws_of_reads.rt` names them, so that the check
+-- What a store reads, and what its reads rest on, each as one statement. `src/read_laws.rt` names them, so that the check
 -- proves them.
 use Rattle.std.specs.Prelude.{◌≡◌, ◌⊎◌, ◌↔◌, ◌<◌, ◌≤◌, All, ℕ, List, [], ◌∷◌, Option, Some, None, Ok, length, take, map, slice_get, ◌+◌, true, false, ◌≢◌}
 use Rattle.std.specs.List.{Contains}
@@ -19,7 +19,6 @@ use Rattle.savepoint.specs.declared.mark.Mark.{Mark}
 use Rattle.savepoint.specs.Savepoints.{mark_at}
 use Rattle.indexes.specs.Content.{Content}
 use Rattle.change.specs.declared.inverse.Inverse.{Inverse}
-use Rattle.change.specs.KeptRow.{row_kept}
 use Rattle.savepoint.specs.Record.{Record}
 use Rattle.world.specs.World.{Opened, Past, Entry, Stop, ByHold, World, starting, entry_of, changes_in, journal}
 use Rattle.world.specs.Settled.{WaitsFor}
@@ -35,7 +34,8 @@ use Rattle.keyholds.specs.Holds.{IsFreeCell}
 use Rattle.live_tables.specs.Waits.{IsOneHeldBy, WaitsByHolds, WaitsForNobody, IsSettledLive, IsNotStuck}
 use Rattle.live_tables.specs.declared.before_image.BeforeImage.{BeforeImage}
 use Rattle.live_tables.specs.declared.before_image.BeforeImage.TheVariants.{Row as BeforeImageRow, Wiped}
-use Rattle.live_tables.specs.BeforeImages.{row_by_inverse, HasBeforeImages, BeforeImageFits, HasNoRowBeside, cells_of_each, up_to_before_image, IsStoodAt, TakesBeforeImages}
+use Rattle.live_tables.specs.BeforeImages.{HasBeforeImages, BeforeImageFits, HasNoRowBeside, cells_of_each, up_to_before_image, IsStoodAt, TakesBeforeImages}
+use Rattle.change.specs.Inverse.{row_by_inverse}
 
 -- ---- the committed row at a place
 
@@ -63,10 +63,6 @@ WipedRowIsCommitted =
     → (xid table : ℕ) (key : Key) (count : ℕ) → Contains (held xid) (Whole table, Wiped count)
     → HasNoRowBeside held table key → (r : Record) → records xid ≡ Some r
     → (i : Inverse) × (slice_get r.log.inverses count ≡ Some i) × ReadsCommitted {E = Fault} w (table, key) (Ok (row_by_inverse i (table, key)))
-
--- What an inverse has for a place is what it keeps for it.
-abbrev pub RowIsKept : Type 0
-RowIsKept = (i : Inverse) (table : ℕ) (key : Key) → row_by_inverse i (table, key) ≡ row_kept i table key
 
 -- What lies beside each cell fits it.
 abbrev pub EachFits : Type 0

@@ -9,13 +9,12 @@ use Rattle.model.specs.declared.key.Key.{Key}
 use Rattle.model.specs.declared.row.Row.{Row as RecordRow}
 use Rattle.model.specs.declared.cell.Cell.TheVariants.{Row, Whole}
 use Rattle.change.specs.declared.inverse.Inverse.{Inverse}
-use Rattle.change.specs.KeptRow.{row_kept}
+use Rattle.change.specs.Inverse.{row_by_inverse}
 use Rattle.keyholds.specs.Holds.{holds_of, cells_held}
 use Rattle.savepoint.specs.Record.{Record}
 use Rattle.world.specs.World.{World}
 use Rattle.live_tables.specs.declared.live_tables.Live.{Live}
 use Rattle.live_tables.specs.declared.before_image.BeforeImage.TheVariants.{Row as BeforeImageRow, Wiped}
-use Rattle.live_tables.specs.KeptRowLemmas.{row_is_kept}
 use Rattle.live_tables.specs.ReadLemmas.{free_row_is_committed, held_row_is_committed, wiped_row_is_committed, each_fits, before_image_of}
 use Rattle.live_tables.specs.BeforeImages.{BeforeImageFits, HasNoRowBeside}
 use Rattle.live_tables.specs.BeforeImageCallLemmas.{contains_key}
@@ -39,7 +38,7 @@ module _ (w : World) (l : Live) (tied : Represents w l) where
     -- its table was emptied
     pub committed_emptied : (xid count : ℕ) → Contains (holds_of l.holds xid) (Whole table, Wiped count) → HasNoRowBeside (holds_of l.holds) table key
         → (row : Option RecordRow)
-        → ((r : Record) (i : Inverse) → records_in l.transactions xid ≡ Some r → slice_get r.log.inverses count ≡ Some i → row ≡ row_kept i table key)
+        → ((r : Record) (i : Inverse) → records_in l.transactions xid ≡ Some r → slice_get r.log.inverses count ≡ Some i → row ≡ row_by_inverse i (table, key))
         → row ≡ get w.committed (table, key)
     committed_emptied xid count whole place row is_kept =
         let its =
@@ -47,4 +46,4 @@ module _ (w : World) (l : Live) (tied : Represents w l) where
         (contains_key (holds_of l.holds xid) (Whole table) (Wiped count) whole) in
         let found =
         wiped_row_is_committed l.tables.schema l.tables w (records_in l.transactions) tied.kept (holds_of l.holds) tied.holds tied.before_image xid table key count whole place its.0 its.1 in
-        is_kept its.0 found.0 its.1 found.1 ∙ sym (row_is_kept found.0 table key) ∙ found.2
+        is_kept its.0 found.0 its.1 found.1 ∙ found.2

@@ -1,10 +1,6 @@
--- What is given up of the tables when a transaction lets cells go.
---     IsLetGo      a cell is among those past a mark, and none that was held before it overlaps it
---     HasReleased      such cells go from the room where no row fills them, and no other cell goes
---     IsAlone      it is this one cell, if none of these overlaps it
---     AreReleased      of those past a mark, only cells that a row fills are in the room
+-- That a store represents its world past what was released.
 --     are_released, lets_go_free      that is so; and nobody holds a cell that overlaps one of these
---     released_is_kept, tied_released      a store is kept, and tied to its world, past what was given up
+--     released_is_kept, tied_released      records and live tables represent their world past what was released
 use Rattle.std.proofs.Common.{◌≡◌, ◌≢◌, ℕ, zero, suc, ◌≤◌, ◌⊎◌, false, List, [], ◌∷◌, take, Option, Some, None, refl, sym, ap, subst, ◌∙◌, inl, inr, arith, true≢false}
 use Rattle.std.specs.Prelude.{slice_get}
 use Rattle.std.specs.List.{Contains, list_any}
@@ -31,31 +27,9 @@ use Rattle.live_tables.specs.Held.{AreHolds, IsHeldAt}
 use Rattle.live_tables.specs.HoldsLemmas.{free_of_others, meets_one, share_one, contains_at}
 use Rattle.live_tables.specs.KeptRecords.{IsRecordOf, RecordsRepresent}
 use Rattle.live_tables.specs.KeptLemmas.{log_of_work}
+use Rattle.live_tables.specs.Released.{IsLetGo, IsAlone, HasReleased, AreReleased}
 use Rattle.live_tables.specs.Represents.{records_in, Represents}
 use Rattle.live_tables.specs.BasicLemmas.{tied_by}
-
--- the cell is among those past a mark, and none that was held before it overlaps it
-pub record IsLetGo (mark : ℕ) (cells : List Cell) (cell : Cell) : Type 0 where
-  pub index : ℕ
-  pub past : mark ≤ index
-  pub at : slice_get cells index ≡ Some cell
-  pub alone : list_any (overlaps cell) (take index cells) ≡ false
-
--- it is this one cell, and none of these overlaps it
-abbrev pub IsAlone : List Cell → Cell → Cell → Type 0
-IsAlone cells one cell = (cell ≡ one) × (list_any (overlaps cell) cells ≡ false)
-
--- Cells of a kind go from the room, where no row fills them. No other cell goes, none comes, and no row changes.
-pub record HasReleased (Goes : Cell → Type 0) (old new : Content) : Type 0 where
-  pub schema : new.schema ≡ old.schema
-  pub rows : new.rows ≡ old.rows
-  pub gone : (cell : Cell) → Goes cell → IsEmptyCell old.schema old.rows cell → ¬ Contains new.room cell
-  pub fewer : KeepsCells new.room old.room
-  pub others : (cell : Cell) → StaysInRoom old new cell ⊎ Goes cell
-
--- Of the cells past a mark that none held before overlaps, only those that a row fills are in the room.
-abbrev pub AreReleased : ℕ → List Cell → Content → Type 0
-AreReleased mark cells t = (cell : Cell) → IsLetGo mark cells cell → IsEmptyCell t.schema t.rows cell → ¬ Contains t.room cell
 
 pub are_released : (mark : ℕ) (cells : List Cell) (old new : Content) → HasReleased (IsLetGo mark cells) old new → AreReleased mark cells new
 are_released mark cells old new given cell goes empty =

@@ -20,7 +20,7 @@ use Rattle.undo.specs.Undo.{CanUndo, AreKnownAll}
 use Rattle.savepoint.specs.Record.{Record, inverses_since}
 use Rattle.world.specs.World.{Opened, Stop, ByClash, World, starting, work, changes_in, own_rows, IsHeldBy, IsFree}
 use Rattle.world.specs.Steps.{Fault, StopsHeld, ReadsLive, IsDone, IsSkipped, Held, Clashed, Opens, Acts, Touches, GoesBack, Commits, Aborts, opened_with, done_with, wanting, committed_with, aborted_with}
-use Rattle.world.specs.FineLemmas.{IsFine}
+use Rattle.world.specs.Fine.{IsFine}
 use Rattle.keyholds.specs.Holds.{IsFreeCell, IsFirstHeldBy}
 use Rattle.live_tables.specs.Held.{HasSameCells, AreHolds, IsHeldAt, HasHeldMarks, up_to_held}
 use Rattle.live_tables.specs.KeptRecords.{IsRecordOf, Represents, IsPutAt}

@@ -2,7 +2,7 @@
 ghost use Rattle.std.specs.Prelude.{◌≡◌, ◌≢◌, ℕ, take};
 ghost use Rattle.keyholds.specs.Holds.{holds_of, cells_held};
 ghost use Rattle.undo.specs.Others.{HasRoomForAll};
-ghost use Rattle.live_tables.specs.ReleasedLemmas.{IsLetGo, IsAlone, HasReleased};
+ghost use Rattle.live_tables.specs.Released.{IsLetGo, IsAlone, HasReleased};
 
 use crate::before_image::BeforeImage;
 use indexes::Tables;
@@ -21,8 +21,7 @@ pub(crate) fn let_go(tables: &mut Tables, holds: &mut Holds<BeforeImage>, xid: X
     while let Some(cell) = holds.release_last(xid, mark) {
         release_unless_held(tables, holds, xid, &cell);
     }
-    // What is known of the tables is told here: there is room for each row of theirs.
-    let _tables = tables.len();
+    tables.recall_invariant();
 }
 
 // Gives up a cell that no row fills, unless the transaction holds one that overlaps it.

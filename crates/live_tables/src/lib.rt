@@ -60,7 +60,6 @@
 //   specs/BeforeImageLemmas     the same for the cells of one transaction
 //   specs/UnheldLemmas    rows that nobody holds
 //   specs/ReadLemmas      the committed row at a place
-//   specs/KeptRowLemmas   the row that an inverse keeps for a place
 //   specs/CellLemmas      the cells of what is held, and of changes
 //   specs/WaitLemmas      who waits for whom
 //   specs/StopLemmas      the call that stops a world in which all wait

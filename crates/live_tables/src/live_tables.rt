@@ -15,13 +15,13 @@ ghost use Rattle.model.specs.Effect.{outcome};
 ghost use Rattle.model.specs.Footprint.{footprint};
 ghost use Rattle.change.specs.Applied.{AnswersOutcome};
 ghost use Rattle.change.specs.declared.inverse.Inverse.{Inverse};
-ghost use Rattle.change.specs.KeptRow.{row_kept};
+ghost use Rattle.change.specs.Inverse.{row_by_inverse};
 ghost use Rattle.keyholds.specs.Holds.{cells_held};
 ghost use Rattle.savepoint.specs.declared.mark.Mark.{Mark};
 ghost use Rattle.savepoint.specs.Savepoints.{mark_at};
 ghost use Rattle.savepoint.specs.Record.{Record};
 ghost use Rattle.live_tables.specs.Cells.{IsFreeOf, IsHeldIn};
-ghost use Rattle.live_tables.specs.ReleasedLemmas.{AreReleased};
+ghost use Rattle.live_tables.specs.Released.{AreReleased};
 ghost use Rattle.live_tables.specs.Answers.{after_stop};
 ghost use Rattle.live_tables.specs.Represents.{records_in, Represents};
 ghost use Rattle.live_tables.specs.Tried.{HasActed};
@@ -80,8 +80,7 @@ impl Live {
         ensures tied { Represents (starting tables.rows) result }
         ensures tables { result.tables ≡ tables }
     {
-        // What is known of the tables is told here: they are valid.
-        let _tables = tables.len();
+        tables.recall_invariant();
         Live {
             tables,
             holds: Holds::new(alloc),
@@ -281,8 +280,7 @@ impl Live {
             unreachable!()
         };
         let items = transaction.record.settle(&mut self.tables);
-        // What is known of the tables is told here: there is room for each row of theirs.
-        let _tables = self.tables.len();
+        self.tables.recall_invariant();
         self.holds.release_all(xid);
         items
     }
@@ -329,7 +327,7 @@ impl Live {
     // The row that the inverse with this number of an open transaction keeps for a place.
     fn emptied_row(&self, xid: Xid, count: usize, table: TableId, key: &Key) -> Option<RowView<'_>>
         ensures { (r : Record) (i : Inverse) → records_in self.now.transactions xid ≡ Some r → slice_get r.log.inverses count ≡ Some i
-            → result ≡ row_kept i table key.now }
+            → result ≡ row_by_inverse i (table, key.now) }
     {
         let transaction = self.transactions.get(&xid)?;
         let inverse = transaction.record.inverse_at(count)?;

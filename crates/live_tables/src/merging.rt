@@ -20,9 +20,8 @@ pub(crate) fn merge_rows(
     requires known { table < length tables.now.schema }
     ensures { IfOk result (λ rows. AreMerged tables.now.rows table stands rows.items) }
 {
-    // What is known of the tables and the keys is told here: rows stand at their own keys, and the
-    // keys ascend.
-    let _tables = tables.len();
+    tables.recall_invariant();
+    // That the keys ascend is a clause of their count.
     let _stands = stands.len();
     let mut left = stands;
     let mut rows = Vec::new(alloc);

@@ -1,6 +1,6 @@
 // What a store reads, by its tables, its holds and its journal. Each function does nothing: its
 // contract is a law, and the check of this crate proves it.
-ghost use Rattle.live_tables.specs.ReadStatements.{FreeRowIsCommitted, HeldRowIsCommitted, WipedRowIsCommitted, EachFits, RowIsKept, SharedIsHeld, StartKeepsBeforeImages, OpenKeepsBeforeImages, DoneKeepsBeforeImages, SkipKeepsBeforeImages, TouchKeepsBeforeImages, SameKeepsBeforeImages, RollbackKeepsBeforeImages, AbortKeepsBeforeImages, CommitKeepsBeforeImages, StopKeepsBeforeImages, WaitsLiveTells, PassesLiveTells, WaitingIsLive, StopIsFound, StopIsRefused, RowsAfterAreRead, EntriesAreSerial, EntryComesNext, ChangeComesNext, RefusedChangeHasNoEffect, BeforeImageIsHeld, CellsAreKnown};
+ghost use Rattle.live_tables.specs.ReadStatements.{FreeRowIsCommitted, HeldRowIsCommitted, WipedRowIsCommitted, EachFits, SharedIsHeld, StartKeepsBeforeImages, OpenKeepsBeforeImages, DoneKeepsBeforeImages, SkipKeepsBeforeImages, TouchKeepsBeforeImages, SameKeepsBeforeImages, RollbackKeepsBeforeImages, AbortKeepsBeforeImages, CommitKeepsBeforeImages, StopKeepsBeforeImages, WaitsLiveTells, PassesLiveTells, WaitingIsLive, StopIsFound, StopIsRefused, RowsAfterAreRead, EntriesAreSerial, EntryComesNext, ChangeComesNext, RefusedChangeHasNoEffect, BeforeImageIsHeld, CellsAreKnown};
 
 /// The live row at a place that nobody holds is the committed one.
 pub fn free_row_is_committed()
@@ -16,11 +16,6 @@ pub fn held_row_is_committed()
 /// number has the committed row.
 pub fn wiped_row_is_committed()
     ensures { WipedRowIsCommitted }
-{}
-
-/// What an inverse has for a place is the row that it keeps for it.
-pub fn row_is_kept()
-    ensures { RowIsKept }
 {}
 
 /// What lies beside each cell fits it.

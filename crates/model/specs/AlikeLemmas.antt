@@ -17,9 +17,9 @@ use Rattle.model.specs.declared.change.ColumnPatch.{ColumnPatch}
 use Rattle.model.specs.declared.cell.Cell.{Cell}
 use Rattle.model.specs.declared.cell.Cell.TheVariants.{Row, Uniq, Whole}
 use Rattle.model.specs.ExactLemmas.{key_cmp_exact}
-use Rattle.model.specs.Rows.{Place, Rows, Schema, keys_at, values_in, key_of, is_key, are_taken, IsValid}
+use Rattle.model.specs.Rows.{Place, Rows, Schema, keys_at, values_in, key_of, is_key, are_taken, IsValid, is_place}
 use Rattle.model.specs.Effect.{Edits, overlay, rows_under, one_edit, Outcome, Done, Clashes, Unique, are_taken_unless_null, first_taken, unless_taken, row_outcome_at, row_outcome, patch_row, set_outcome, remove_outcome, wipe_edits, outcome, edits_of, effect, inverse}
-use Rattle.model.specs.EditLemmas.{is_place, same_edits, get_overlay, overlay_empty, get_remove, rows_under_none, rows_under_one, rows_under_two}
+use Rattle.model.specs.EditLemmas.{same_edits, get_overlay, overlay_empty, get_remove, rows_under_none, rows_under_one, rows_under_two}
 use Rattle.model.specs.EffectLemmas.{is_named, cleared_row, row_before_wipe, get_wiped, get_effect_wipe, get_inverse_wipe, not_cleared}
 use Rattle.model.specs.Cells.{row_cell, unique_cell}
 use Rattle.model.specs.Footprint.{moved_cell, new_place, replaced_cells, removed_cells, looked_up, footprint}

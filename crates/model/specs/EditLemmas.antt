@@ -12,15 +12,11 @@ use Rattle.std.specs.FinMap as map_of
 use Rattle.std.specs.FinMap.{get, insert, remove, entries, find, get-entries, get-insert, get-remove, get-from_entries, get-empty, same_map}
 use Rattle.std.proofs.lemmas.Map.Views.{tells_apart}
 use Rattle.model.specs.declared.row.Row.{Row}
-use Rattle.model.specs.Rows.{Place, Rows, place_cmp, place_cmp_total}
+use Rattle.model.specs.Rows.{Place, Rows, place_cmp, place_cmp_total, is_place}
 use Rattle.model.specs.ExactLemmas.{place_cmp_exact}
-use Rattle.model.specs.Effect.{Edits, put_at, put_all, overlay, rows_under, one_edit, back}
+use Rattle.model.specs.Effect.{Edits, AreApart, put_at, put_all, overlay, rows_under, one_edit, back}
 
 -- ---- places that are the same, and places that differ
-
--- the places are equal
-abbrev pub is_place : Place → Place → Bool
-is_place = eq_by_cmp place_cmp
 
 pub same_place : (p : Place) → is_place p p ≡ true
 same_place = (eq_by_cmp_equiv place_cmp_total).refl
@@ -118,10 +114,6 @@ restored rows edits = same_rows _ _ (λ p.
     ∙ ap (λ e. unwrap_or e (get (overlay rows edits) p)) (get_rows_under rows edits p)
     ∙ ap (unwrap_or (was_at (get edits p) (get rows p))) (get_overlay rows edits p)
     ∙ put_and_taken_back (get edits p) (get rows p))
-
--- at each place one of the two has no edit
-abbrev pub AreApart : Edits → Edits → Type 0
-AreApart edits others = (p : Place) → (get edits p ≡ None) ⊎ (get others p ≡ None)
 
 either_order : (row : Option Row) (edit other : Option (Option Row)) → (edit ≡ None) ⊎ (other ≡ None)
     → unwrap_or other (unwrap_or edit row) ≡ unwrap_or edit (unwrap_or other row)

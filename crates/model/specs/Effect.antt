@@ -1,10 +1,11 @@
 -- What a change does to the rows, by looking through all of them, and what takes it back.
 --     Edits      places, and the row that is to stand at each, or none.        overlay, rows_under      the rows after edits; what takes them back
+--     AreApart      edits that share no place
 --     outcome      Done with its edits, or Skip, or a conflict with its cause
 --     effect, inverse, back      the rows after a change; what stood where it edits; the rows with that put back
 --     serial, inverses      the rows after changes, one after another; what takes each of them back
 --     all_back      the rows with inverses put back, the last of them first
-use Rattle.std.specs.Prelude.{ℕ, suc, ◌==◌, Bool, false, List, [], ◌∷◌, Option, Some, None, if◌then◌else◌, map, filter}
+use Rattle.std.specs.Prelude.{◌≡◌, ◌⊎◌, ℕ, suc, ◌==◌, Bool, false, List, [], ◌∷◌, Option, Some, None, if◌then◌else◌, map, filter}
 use Rattle.std.specs.List.{list_any}
 use Rattle.std.specs.FinMap as map
 use Rattle.std.specs.FinMap.{FinMap}
@@ -44,6 +45,10 @@ rows_under rows edits = map.from_entries (map (λ (e : Place × Option Row). (e.
 -- the edit of a single place
 abbrev pub one_edit : Place → Option Row → Edits
 one_edit place row = map.insert map.empty place row
+
+-- at each place one of the two has no edit
+abbrev pub AreApart : Edits → Edits → Type 0
+AreApart edits others = (p : Place) → (map.get edits p ≡ None) ⊎ (map.get others p ≡ None)
 
 -- ---- what a change does
 

@@ -18,9 +18,9 @@ use Rattle.model.specs.declared.cell.Cell.{Cell}
 use Rattle.model.specs.declared.cell.Cell.TheVariants.{Row, Uniq, Whole}
 use Rattle.model.specs.Key.{key_cmp_total}
 use Rattle.model.specs.ExactLemmas.{key_cmp_exact}
-use Rattle.model.specs.Rows.{Place, Rows, Schema, keys_at, values_in, key_of, is_key, are_taken}
+use Rattle.model.specs.Rows.{Place, Rows, Schema, keys_at, values_in, key_of, is_key, are_taken, is_place}
 use Rattle.model.specs.Effect.{overlay, Outcome, edits_of, patch_row, outcome, effect}
-use Rattle.model.specs.EditLemmas.{is_place, place_is, overlay_empty, get_insert_other, get_remove_other}
+use Rattle.model.specs.EditLemmas.{place_is, overlay_empty, get_insert_other, get_remove_other}
 use Rattle.model.specs.TakenLemmas.{taken_by_row, row_of_taken, number_is, same_number, key_is}
 use Rattle.model.specs.EffectLemmas.{is_named, get_effect_wipe}
 use Rattle.model.specs.Cells.{table_of, overlaps, same_key, row_cell, unique_cell, unique_cells}

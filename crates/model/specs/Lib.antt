@@ -35,3 +35,6 @@ pub mod CellStatements
 pub mod CellOrder
 pub mod Hashing
 pub mod HasherInput
+pub mod Limits
+pub mod Beginning
+pub mod BeginningLemmas

@@ -1,5 +1,5 @@
 -- All rows of all tables, as one finite map from places to rows, and when they are valid.
---     Place      a table and a primary key.        Rows      what stands at each place
+--     Place, is_place      a table and a primary key; two of them are one.        Rows      what stands at each place
 --     TableKeys, Schema      the columns of a table's keys, and those of each table
 --     values_in, key_of      a row's values in some columns, none where one of them is null
 --     are_taken      some row of the table has these values in these columns
@@ -27,6 +27,10 @@ place_cmp = then_cmp (on (λ (p : Place). p.0) nat_cmp) (on (λ (p : Place). p.1
 
 pub place_cmp_total : IsTotalOrder place_cmp
 place_cmp_total = then_total (on_total (λ (p : Place). p.0) nat_cmp_total) (on_total (λ (p : Place). p.1) key_cmp_total)
+
+-- the places are equal
+abbrev pub is_place : Place → Place → Bool
+is_place = eq_by_cmp place_cmp
 
 -- all rows of all tables, by their places
 abbrev pub Rows : Type 0

@@ -8,8 +8,7 @@ use Rattle.model.specs.declared.change.Change.{Change}
 use Rattle.model.specs.Value.{value_cmp}
 use Rattle.model.specs.Key.{key_cmp}
 use Rattle.model.specs.Rows.{Place, place_cmp, Rows, Schema, IsValid}
-use Rattle.model.specs.Effect.{Edits, overlay, Skip, Clashes, ClashCause, outcome, effect, inverse, back, serial, inverses, all_back}
-use Rattle.model.specs.EditLemmas.{AreApart}
+use Rattle.model.specs.Effect.{Edits, overlay, Skip, Clashes, ClashCause, outcome, effect, inverse, back, serial, inverses, all_back, AreApart}
 
 -- a total order, whose Equal means equal
 abbrev pub IsExactOrder : {K : Type 0} → (K → K → Ordering) → Type 0

@@ -10,8 +10,8 @@ use Rattle.std.proofs.lemmas.Bool.{cases_Bool}
 use Rattle.model.specs.declared.key.Key.{Key}
 use Rattle.model.specs.declared.row.Row.{Row}
 use Rattle.model.specs.Key.{key_cmp_total}
-use Rattle.model.specs.Rows.{Place, Rows, Schema, values_in, is_key, are_taken, IsValid}
-use Rattle.model.specs.EditLemmas.{is_place, same_place, place_is, place_cases, same_rows, get_insert, get_insert_same, get_insert_other, get_remove, get_remove_same, get_remove_other}
+use Rattle.model.specs.Rows.{Place, Rows, Schema, values_in, is_key, are_taken, IsValid, is_place}
+use Rattle.model.specs.EditLemmas.{same_place, place_is, place_cases, same_rows, get_insert, get_insert_same, get_insert_other, get_remove, get_remove_same, get_remove_other}
 use Rattle.model.specs.TakenLemmas.{taken_by_row, row_of_taken, first_true, second_true, both_true, same_number, number_is, key_is}
 use Rattle.model.specs.ValidLemmas.{not_none}
 use Rattle.model.specs.CellContents.{unique_key}

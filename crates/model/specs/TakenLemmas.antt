@@ -15,10 +15,10 @@ use Rattle.std.proofs.lemmas.Map.Views.{tells_apart}
 use Rattle.model.specs.declared.row.Row.{Row}
 use Rattle.model.specs.declared.key.Key.{Key}
 use Rattle.model.specs.Key.{key_cmp, key_cmp_total}
-use Rattle.model.specs.Rows.{Place, Rows, place_cmp, values_in, is_key, are_taken}
+use Rattle.model.specs.Rows.{Place, Rows, place_cmp, values_in, is_key, are_taken, is_place}
 use Rattle.model.specs.ExactLemmas.{key_cmp_exact}
 use Rattle.model.specs.Effect.{are_taken_unless_null, first_taken}
-use Rattle.model.specs.EditLemmas.{is_place, same_place, place_is}
+use Rattle.model.specs.EditLemmas.{same_place, place_is}
 
 -- ---- tests of an and
 

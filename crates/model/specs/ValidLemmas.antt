@@ -7,9 +7,9 @@ use Rattle.std.proofs.Common.{sym, ◌∙◌, ap, inl, inr}
 use Rattle.std.specs.FinMap.{get, insert, remove}
 use Rattle.model.specs.declared.row.Row.{Row}
 use Rattle.model.specs.declared.key.Key.{Key}
-use Rattle.model.specs.Rows.{Place, Rows, Schema, keys_at, values_in, key_of, are_taken, IsUnique, IsValid}
+use Rattle.model.specs.Rows.{Place, Rows, Schema, keys_at, values_in, key_of, are_taken, IsUnique, IsValid, is_place}
 use Rattle.model.specs.Effect.{are_taken_unless_null, first_taken}
-use Rattle.model.specs.EditLemmas.{is_place, place_cases, get_insert_same, get_insert_other, get_remove}
+use Rattle.model.specs.EditLemmas.{place_cases, get_insert_same, get_insert_other, get_remove}
 use Rattle.std.proofs.lemmas.Bool.{cases_Bool}
 use Rattle.model.specs.TakenLemmas.{not_taken_row, row_of_taken, first_taken_none, first_taken_free}
 

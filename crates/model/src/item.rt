@@ -7,6 +7,9 @@ pub type Xid = u32;
 /// A position in the publisher's write-ahead log.
 pub type Lsn = u64;
 
+/// How many transactions can be open at once.
+pub const MOST_OPEN: usize = 4096;
+
 /// One item of a transaction, in stream order.
 #[derive(Debug, Drop)]
 pub enum Item {

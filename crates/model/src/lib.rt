@@ -51,7 +51,7 @@ pub mod value_ref;
 
 pub use cell::Cell;
 pub use change::{Change, ColumnPatch, Patch, TableIds};
-pub use item::{CommitInfo, Item, Lsn, Xid};
+pub use item::{CommitInfo, Item, Lsn, MOST_OPEN, Xid};
 pub use key::{Key, KeyValues};
 pub use memory::OutOfMemory;
 pub use row::{Row, RowBuilder};

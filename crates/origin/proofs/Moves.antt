@@ -6,7 +6,8 @@ use Rattle.crossbeam_utils.specs.Register.{Turns, Forks, Merges}
 use Rattle.atomic_table.proofs.Lists.{at_set, at_snoc, set_again}
 use Rattle.origin.specs.declared.position.Position.{Position}
 use Rattle.origin.specs.declared.protocol.View.{View}
-use Rattle.origin.specs.Commits.{Begins, position_after}
+use Rattle.origin.specs.Commits.{position_after}
+use Rattle.model.specs.Beginning.{Begins}
 use Rattle.origin.specs.CommitLemmas.{nothing_begins, all_begins, begins_longer, next_position}
 use Rattle.origin.specs.Rule.{Knows, IsInOrder, Publishes, Loads, Compares, first_view, blank_view, published_by, HasPublished, seen_part, met_view}
 

@@ -10,7 +10,8 @@ use mathlib.Core.Option.{some}
 use lib.ListN.{get_elem?}
 use Rattle.origin.specs.declared.position.Position.{Position}
 use Rattle.origin.specs.declared.protocol.View.{View}
-use Rattle.origin.specs.Commits.{Begins, position_after}
+use Rattle.origin.specs.Commits.{position_after}
+use Rattle.model.specs.Beginning.{Begins}
 
 -- What the token `by` knows is true: if it publishes, all that was published; and what it has seen
 -- is a beginning of that.

@@ -1,6 +1,7 @@
 // The cell of a position, and the tokens of those who publish and load it.
 ghost use Rattle.std.specs.Prelude.{◌≡◌, ◌+◌, ◌++◌, [], ◌∷◌, length, IfOk};
-ghost use Rattle.origin.specs.Commits.{Begins, commits_of, position_after};
+ghost use Rattle.origin.specs.Commits.{commits_of, position_after};
+ghost use Rattle.model.specs.Beginning.{Begins};
 
 use crate::position::Position;
 use crate::protocol::{Compare, InOrder, Load, Met, Publish, Seen, View};

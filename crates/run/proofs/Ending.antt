@@ -16,7 +16,9 @@ use Rattle.session.specs.Lawful.{Admits, Refuses}
 use Rattle.run.specs.declared.applier.Applier.{Applier}
 use Rattle.run.specs.declared.end.End.{End}
 use Rattle.run.specs.declared.end.End.TheVariants as ends
-use Rattle.engine.specs.FirstClash.{IsClear, ClashesIn}
+use Rattle.engine.specs.FirstClash.{ClashesIn}
+use Rattle.model.specs.Accepted.{AreAccepted}
+use Rattle.model.specs.SerialLemmas.{accepted_first}
 use Rattle.engine.specs.FirstClashLemmas.{ClashesIn-behind}
 use Rattle.engine.specs.Serial.{rows_now}
 use Rattle.run.specs.Commits.{transaction, changes_in, committed_changes, begun_changes, all_changes}
@@ -26,10 +28,6 @@ use Rattle.run.specs.Cause.{schema_of}
 use Rattle.run.specs.Applier.{HasCommits, Represents, EndsByMessage, TakesMessage}
 use Rattle.run.proofs.Admitted.{not_committed}
 use Rattle.run.proofs.Taking.{rows_at, GoesOn, done_more, commits_one, HasCommits-kept, IsCommitted, done_is}
-
-pub IsClear-front : (schema : Schema) (rows : Rows) (cs ds : List Change) → IsClear schema rows (cs ++ ds) → IsClear schema rows cs
-IsClear-front schema rows [] ds clear = tt
-IsClear-front schema rows (c ∷ cs) ds clear = (clear.0, IsClear-front schema (effect schema rows c) cs ds clear.1)
 
 -- what is kept of the commits stays
 pub record StaysKept (a b : Applier) : Type 0 where
@@ -59,10 +57,10 @@ out_of_memory g rows a b p payload at same = inl (stays g rows a b p.state p.sta
 -- ---- a change clashes
 
 -- none of the changes of the commits clashed, nor do they once a message was taken that commits nothing
-committed_clear : (g : Setting) (rows : Rows) (a : Applier) (p : Progress) (t : State) → Represents g rows a p → t.past ≡ p.state.past → IsClear (schema_of g) rows (committed_changes t)
+committed_clear : (g : Setting) (rows : Rows) (a : Applier) (p : Progress) (t : State) → Represents g rows a p → t.past ≡ p.state.past → AreAccepted (schema_of g) rows (committed_changes t)
 committed_clear g rows a p t at same =
-    subst (IsClear (schema_of g) rows) (ap (λ past. changes_in (map transaction past)) (sym same))
-    (IsClear-front (schema_of g) rows (committed_changes p.state) (begun_changes p.state) at.clear)
+    subst (AreAccepted (schema_of g) rows) (ap (λ past. changes_in (map transaction past)) (sym same))
+    (accepted_first (schema_of g) rows (committed_changes p.state) (begun_changes p.state) at.clear)
 
 -- changes that were refused on the rows now are refused behind all that was done
 refused_behind : (g : Setting) (rows : Rows) (a : Applier) (p : Progress) (cs : List Change) (clash : Clash) → Represents g rows a p → ClashesIn a.work.store.schema (rows_now a.work) cs clash → ClashesIn (schema_of g) rows (all_changes p.state ++ cs) clash

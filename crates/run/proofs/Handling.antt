@@ -8,7 +8,7 @@ use Rattle.session.specs.State.{Setting}
 use Rattle.run.specs.declared.applier.Applier.{Applier}
 use Rattle.run.specs.declared.end.End.{End}
 use Rattle.run.specs.Progress.{Progress, seen_with, Leads, start_progress, due_updates}
-use Rattle.engine.specs.FirstClash.{IsClear}
+use Rattle.model.specs.Accepted.{AreAccepted}
 use Rattle.run.specs.Commits.{all_changes}
 use Rattle.run.specs.Cause.{schema_of}
 use Rattle.run.specs.Handler.{HandlesItem, HasHandled}
@@ -53,7 +53,7 @@ Represents-item g rows a b p item is e at same written =
     Represents-seen g rows a b p (seen_with p.seen is) at same (written ∙ ap (seen_with a.written) e ∙ seen_item is a.written p.seen p.state.position at.seen)
 
 -- a message was taken, or ended the run
-pub handled_wal : (g : Setting) (rows : Rows) (b : Applier) (handled : List CopyItem) (p : Progress) (first last : ℕ) (payload : List ℕ) (result : Result Bool End) → Leads g start_progress handled p → IsClear (schema_of g) rows (all_changes p.state)
+pub handled_wal : (g : Setting) (rows : Rows) (b : Applier) (handled : List CopyItem) (p : Progress) (first last : ℕ) (payload : List ℕ) (result : Result Bool End) → Leads g start_progress handled p → AreAccepted (schema_of g) rows (all_changes p.state)
     → TakesMessage g rows b (with_seen p (max (max p.seen first) last)) payload result → HandlesItem g (Represents g rows) (HasEnded g rows) b handled p (Wal first last payload) result
 handled_wal g rows b handled p first last payload (Ok is_commit) lawful clear taken =
     message_handled g (Represents g rows) b p (HasEnded g rows) first last payload is_commit taken

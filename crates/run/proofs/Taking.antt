@@ -30,10 +30,10 @@ use Rattle.session.specs.StreamEvents.{StreamEvent, NoEvent, TransactionOpens, I
 use Rattle.session.specs.Represents.{SessionRepresents}
 use Rattle.session.specs.Answers.{Says, IsWithin}
 use Rattle.run.specs.declared.applier.Applier.{Applier}
-use Rattle.engine.specs.FirstClash.{IsClear}
-use Rattle.engine.specs.FirstClashLemmas.{IsClear-append}
+use Rattle.model.specs.Accepted.{AreAccepted}
+use Rattle.model.specs.SerialLemmas.{accepted_append}
 use Rattle.engine.specs.Engine.{Engine, IsOtherwiseSame}
-use Rattle.engine.specs.Serial.{Serial, rows_now, with_changes, last_end_in, committed_by as then_committed}
+use Rattle.engine.specs.Serial.{Serial, rows_now, with_changes, committed_by as then_committed}
 use Rattle.engine.specs.SerialLemmas.{rows_with, rows_committed, journal_committed}
 use Rattle.world.specs.World as told_entry
 use Rattle.run.specs.Commits.{Transaction, told_transaction, transaction, changes_in, surviving_changes, commits, committed_changes, begun_changes, all_changes, last_end}
@@ -44,6 +44,8 @@ use Rattle.run.specs.Handler.{HasTaken}
 use Rattle.run.proofs.Admitted.{on_to, one_committed, later_max, by_commit, taken_commit}
 use Rattle.run.proofs.States.{last_end-push, changes_in-append, AreServed-insert, AreServed-remove}
 use Rattle.run.proofs.Begun.{IsSane, direct_begun, begun_stays, begun_opened, begun_beside, begun_given, begun_without, begun_outside, unbegun}
+use Rattle.model.specs.Beginning.{last_end}
+use Rattle.world.specs.World.{ends_of}
 
 -- the rows now are those of all that was done
 pub rows_at : (g : Setting) (rows : Rows) (a : Applier) (p : Progress) → Represents g rows a p → rows_now a.work ≡ serial (schema_of g) rows (all_changes p.state)
@@ -87,7 +89,7 @@ HasCommits-kept g rows a b s t has past store position = record {
 }
 
 pub went_on : (g : Setting) (rows : Rows) (a b : Applier) (p : Progress) (t : State) (cs : List change_type.Change) → Represents g rows a p → GoesOn g p.state t cs → IsKept a b cs → SessionRepresents g b.session t
-    → IsClear (schema_of g) (serial (schema_of g) rows (all_changes p.state)) cs → Represents g rows b (on_to p t)
+    → AreAccepted (schema_of g) (serial (schema_of g) rows (all_changes p.state)) cs → Represents g rows b (on_to p t)
 went_on g rows a b p t cs at on same session clear = record {
   workers = at.workers;
   catalog = at.catalog ∙ rw same.catalog;
@@ -96,7 +98,7 @@ went_on g rows a b p t cs at on same session clear = record {
   commits = HasCommits-kept g rows a b p.state t at.commits on.past (ap (λ (w : Serial). w.store) same.work) same.position;
   reached = on.position ∙ at.reached ∙ rw on.past;
   begun = ap (λ (w : Serial). w.changes) same.work ∙ ap (λ ds. ds ++ cs) at.begun ∙ sym on.begun;
-  clear = subst (IsClear (schema_of g) rows) (sym (done_more g p.state t cs on)) (IsClear-append (schema_of g) rows (all_changes p.state) cs at.clear clear);
+  clear = subst (AreAccepted (schema_of g) rows) (sym (done_more g p.state t cs on)) (accepted_append (schema_of g) rows (all_changes p.state) cs at.clear clear);
   seen = same.written ∙ at.seen ∙ rw on.position;
 }
 
@@ -308,12 +310,12 @@ world_ends line past told =
 
 -- a commit ends above those before it
 pub rises : (g : Setting) (rows : Rows) (a : Applier) (p : Progress) (t : State) (xid commit end : ℕ) (items : List Item) → Represents g rows a p → IsCommitted g p.state t xid commit end items
-    → last_end_in a.work.store.world < end
+    → last_end (ends_of a.work.store.world) < end
 rises g rows a p t xid commit end items at is =
     subst (λ n. n < end) (sym (world_ends a.work.store.world.line p.state.past at.commits.journal ∙ sym at.reached)) is.later
 
 pub commit_taken : (g : Setting) (rows : Rows) (a b : Applier) (p : Progress) (payload : List ℕ) (m : Message) (t : State) (xid commit end : ℕ) (items : List Item) (w : Serial) → Represents g rows a p → Admits g p.state payload m t → IsCommitted g p.state t xid commit end items → SessionRepresents g b.session t
-    → IsClear (schema_of g) (serial (schema_of g) rows (all_changes p.state)) (changes_of items)
+    → AreAccepted (schema_of g) (serial (schema_of g) rows (all_changes p.state)) (changes_of items)
     → w ≡ with_changes a.work (changes_of items) → b.work.store.world ≡ then_committed w.store.schema w.store.world xid w.changes (record { commit = commit; end = end })
     → b.work.changes ≡ [] → IsOtherwiseSame w.store b.work.store
     → b.position ≡ end → b.written ≡ max a.written end → b.catalog ≡ a.catalog
@@ -345,7 +347,7 @@ commit_taken g rows a b p payload m t xid commit end items w at admits is sessio
       };
       reached = is.position ∙ sym (ends_at g p.state t xid commit end items is);
       begun = none ∙ sym is.begun;
-      clear = subst (IsClear (schema_of g) rows) (sym (done_is g p.state t xid commit end items is)) (IsClear-append (schema_of g) rows (all_changes p.state) (changes_of items) at.clear clear);
+      clear = subst (AreAccepted (schema_of g) rows) (sym (done_is g p.state t xid commit end items is)) (accepted_append (schema_of g) rows (all_changes p.state) (changes_of items) at.clear clear);
       seen = written ∙ ap (λ n. max n end) at.seen ∙ ap (max (max p.seen p.state.position)) (sym is.position) ∙ later_max p.seen p.state.position t.position (subst (λ n. p.state.position < n) (sym is.position) is.later);
     })
 
@@ -372,10 +374,10 @@ pub one_counted : (g : Setting) (rows : Rows) (a : Applier) (p : Progress) (item
 one_counted g rows a p item at is = all_counted g rows a p (item ∷ []) at (All-cons (IsOfTables (length g.catalog)) item [] is (All-nil (IsOfTables (length g.catalog))))
 
 -- changes that are clear on the rows now are clear behind all that was done
-pub clear_behind : (g : Setting) (rows : Rows) (a : Applier) (p : Progress) (cs : List change_type.Change) → Represents g rows a p → IsClear a.work.store.schema (rows_now a.work) cs → IsClear (schema_of g) (serial (schema_of g) rows (all_changes p.state)) cs
+pub clear_behind : (g : Setting) (rows : Rows) (a : Applier) (p : Progress) (cs : List change_type.Change) → Represents g rows a p → AreAccepted a.work.store.schema (rows_now a.work) cs → AreAccepted (schema_of g) (serial (schema_of g) rows (all_changes p.state)) cs
 clear_behind g rows a p cs at clear =
-    let here = subst (λ (sch : Schema). IsClear sch (rows_now a.work) cs) at.commits.schema clear in
-    subst (λ (r : Rows). IsClear (schema_of g) r cs) (rows_at g rows a p at) here
+    let here = subst (λ (sch : Schema). AreAccepted sch (rows_now a.work) cs) at.commits.schema clear in
+    subst (λ (r : Rows). AreAccepted (schema_of g) r cs) (rows_at g rows a p at) here
 
 -- a session that represents a state shows that it is sane
 pub sane : (g : Setting) (v : session_type.Session) (s : State) → SessionRepresents g v s → IsSane s

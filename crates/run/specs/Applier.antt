@@ -13,7 +13,7 @@ use Rattle.session.specs.State.{Worker, Open, OpenTransactions, State, Setting}
 use Rattle.session.specs.Represents.{SessionRepresents}
 use Rattle.run.specs.declared.end.End.{End}
 use Rattle.run.specs.declared.applier.Applier.{Applier}
-use Rattle.engine.specs.FirstClash.{IsClear}
+use Rattle.model.specs.Accepted.{AreAccepted}
 use Rattle.world.specs.World.{journal}
 use Rattle.run.specs.Commits.{told_transaction, commits, committed_changes, begun_changes, all_changes, last_end}
 use Rattle.run.specs.Progress.{Progress, commits_from}
@@ -45,7 +45,7 @@ pub record Represents (g : Setting) (rows : Rows) (a : Applier) (p : Progress) :
   pub commits : HasCommits g rows a p.state
   pub reached : p.state.position ≡ last_end p.state.past
   pub begun : a.work.changes ≡ begun_changes p.state
-  pub clear : IsClear (schema_of g) rows (all_changes p.state)
+  pub clear : AreAccepted (schema_of g) rows (all_changes p.state)
   pub seen : a.written ≡ max p.seen p.state.position
 
 -- It is that of some progress.
@@ -60,7 +60,7 @@ EndsByMessage g rows a p payload end =
     (HasCommits g rows a p.state
     × ((first last : ℕ) (more : List CopyItem) → IsNextCause g rows p.state (Wal first last payload ∷ more) end))
     ⊎ ((m : Message) × (s : State) × Admits g p.state payload m s × (commits_from p.state s ≡ false)
-    × HasCommits g rows a s × IsClear (schema_of g) rows (committed_changes s) × IsLastCause g rows s end)
+    × HasCommits g rows a s × AreAccepted (schema_of g) rows (committed_changes s) × IsLastCause g rows s end)
 
 -- The message was taken, or it ended the run.
 abbrev pub TakesMessage : Setting → Rows → Applier → Progress → List ℕ → Result Bool End → Type 0
@@ -72,9 +72,9 @@ TakesMessage g rows a p payload result = MatchResult result (HasTaken g (Represe
 -- brought a change into the transaction that was begun, the first that clashes, and it was not committed.
 abbrev pub IsWhyEnded : Setting → Rows → List CopyItem → Progress → List CopyItem → End → Type 0
 IsWhyEnded g rows handled p rest end =
-    (IsClear (schema_of g) rows (all_changes p.state) × IsNextCause g rows p.state rest end)
-    ⊎ ((last : LastStep g handled p) × IsClear (schema_of g) rows (all_changes last.past.state)
-    × IsClear (schema_of g) rows (committed_changes p.state) × IsLastCause g rows p.state end)
+    (AreAccepted (schema_of g) rows (all_changes p.state) × IsNextCause g rows p.state rest end)
+    ⊎ ((last : LastStep g handled p) × AreAccepted (schema_of g) rows (all_changes last.past.state)
+    × AreAccepted (schema_of g) rows (committed_changes p.state) × IsLastCause g rows p.state end)
 
 -- It ended a run so, and what is kept of the commits is that of this progress.
 abbrev pub HasEnded : Setting → Rows → Applier → List CopyItem → Progress → List CopyItem → End → Type 0

@@ -27,7 +27,8 @@ use Rattle.session.specs.Lawful.{Admits, Refuses}
 use Rattle.messages.specs.declared.message.Message.{Message}
 use Rattle.run.specs.declared.end.End.{End}
 use Rattle.run.specs.declared.end.End.TheVariants as ends
-use Rattle.engine.specs.FirstClash.{IsClear, ClashesIn}
+use Rattle.engine.specs.FirstClash.{ClashesIn}
+use Rattle.model.specs.Accepted.{AreAccepted}
 use Rattle.run.specs.Commits.{committed_changes, all_changes}
 use Rattle.run.specs.Devices.{DeviceState}
 use Rattle.run.specs.Progress.{Progress, start_progress, commits_from, Handles, Leads, Update, status_bytes}
@@ -159,14 +160,14 @@ module _ (g : Setting) (Clear : Type 0) (old new : DeviceState) (handled : List 
 module _ (g : Setting) (rows : Rows) (old new : DeviceState) (handled : List CopyItem) (p : Progress) (times : List ℤ) where
   -- No change clashed.
   abbrev pub HasNotClashed : Type 0
-  HasNotClashed = IsClear (schema_of g) rows (all_changes p.state)
+  HasNotClashed = AreAccepted (schema_of g) rows (all_changes p.state)
 
   -- A change that the last item brought into the transaction that was begun clashed, the first that did; it was not
   -- committed.
   pub record LastClashed (end : End) : Type 0 where
     pub last : LastStep g handled p
-    pub clear : IsClear (schema_of g) rows (all_changes last.past.state)
-    pub committed : IsClear (schema_of g) rows (committed_changes p.state)
+    pub clear : AreAccepted (schema_of g) rows (all_changes last.past.state)
+    pub committed : AreAccepted (schema_of g) rows (committed_changes p.state)
     pub why : IsLastCause g rows p.state end
     pub read : HasWorked old.reader new.reader
     pub sent : AreAllSent g old new handled p times

@@ -2,10 +2,11 @@
 ghost use Rattle.std.specs.Prelude.{◌≡◌, ◌<◌, max, [], map, IfOk, IfErr, OnOk, OnErr};
 ghost use Rattle.model.specs.Rows.{Rows, keys_of};
 ghost use Rattle.engine.specs.Engine.{entry_in, IsOtherwiseSame};
-ghost use Rattle.engine.specs.Serial.{committed_by, last_end_in};
-ghost use Rattle.world.specs.World.{journal as journal_of};
+ghost use Rattle.engine.specs.Serial.{committed_by};
+ghost use Rattle.world.specs.World.{journal as journal_of, ends_of};
 ghost use Rattle.session.specs.State.{Setting, setting};
 ghost use Rattle.run.specs.Progress.{Progress, start_progress};
+ghost use Rattle.model.specs.Beginning.{last_end};
 
 use crate::end::End;
 use crate::handler::{Handler, written_with};
@@ -96,7 +97,7 @@ impl<'a> Applier<'a> {
 
     /// The open work is committed, and the position with it. A refusal leaves both as they were.
     fn commit(&mut self, xid: Xid, info: CommitInfo) -> Result<(), OutOfMemory>
-        requires { last_end_in self.old.work.store.world < info.end }
+        requires { last_end (ends_of self.old.work.store.world) < info.end }
         ensures commits { OnOk result (self.new.work.store.world ≡ committed_by self.old.work.store.schema self.old.work.store.world xid self.old.work.changes info) }
         ensures none { OnOk result (self.new.work.changes ≡ []) }
         ensures same { IsOtherwiseSame self.old.work.store self.new.work.store }

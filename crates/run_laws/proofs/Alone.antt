@@ -17,10 +17,10 @@ use Rattle.model.specs.EffectLemmas.{serial_append}
 use Rattle.model.specs.Footprint.{footprint}
 use Rattle.model.specs.Survivors.{survivors, surviving, after_item, before_savepoint, changes_of}
 use Rattle.model.specs.SurvivorLemmas.{work_with_change, work_with_touch, cut_before}
-use Rattle.change.specs.Refusal.{HasNoClash}
-use Rattle.engine.specs.FirstClash.{IsClear}
+use Rattle.model.specs.Accepted.{HasNoClash, AreAccepted}
 use Rattle.world.specs.World.{Opened, Past, World, OpenOnes, ByClash, changes_in, IsFree}
-use Rattle.world.specs.Steps.{IsDone, IsSkipped, Step, opens, acts, touches, commits, Reaches, by_step, most_open, wanting}
+use Rattle.world.specs.Steps.{IsDone, IsSkipped, Step, opens, acts, touches, commits, Reaches, by_step, wanting}
+use Rattle.model.specs.Limits.{most_open}
 use Rattle.world.specs.ListingLemmas.{xid_cases, got_same, got_other, same_by_xid, removed_again, none_removed}
 
 -- ---- what survives
@@ -79,14 +79,14 @@ survive_again top items = all_survive top [] (survivors top items) (plain_surviv
 -- ---- lists without a clash
 
 pub clear_front : (schema : Schema) (rows : Rows) (cs ds : List change_type.Change)
-    → IsClear schema rows (cs ++ ds)
-    → IsClear schema rows cs
+    → AreAccepted schema rows (cs ++ ds)
+    → AreAccepted schema rows cs
 clear_front schema rows [] ds clear = tt
 clear_front schema rows (c ∷ cs) ds clear = (clear.0, clear_front schema (effect schema rows c) cs ds clear.1)
 
 pub clear_rest : (schema : Schema) (rows : Rows) (cs ds : List change_type.Change)
-    → IsClear schema rows (cs ++ ds)
-    → IsClear schema (serial schema rows cs) ds
+    → AreAccepted schema rows (cs ++ ds)
+    → AreAccepted schema (serial schema rows cs) ds
 clear_rest schema rows [] ds clear = clear
 clear_rest schema rows (c ∷ cs) ds clear = clear_rest schema (effect schema rows c) cs ds clear.1
 
@@ -97,7 +97,7 @@ ClashesFirst schema rows (c ∷ cs) cause =
     (outcome schema rows c ≡ Clashes cause) ⊎ (HasNoClash schema rows c × ClashesFirst schema (effect schema rows c) cs cause)
 
 pub first_of_split : (schema : Schema) (rows : Rows) (before : List change_type.Change) (c : change_type.Change)
-    (after : List change_type.Change) (cause : ClashCause) → IsClear schema rows before
+    (after : List change_type.Change) (cause : ClashCause) → AreAccepted schema rows before
     → outcome schema (serial schema rows before) c ≡ Clashes cause → ClashesFirst schema rows (before ++ c ∷ after) cause
 first_of_split schema rows [] c after cause clear e = inl e
 first_of_split schema rows (b ∷ before) c after cause clear e =
@@ -105,7 +105,7 @@ first_of_split schema rows (b ∷ before) c after cause clear e =
 
 -- behind what is clear
 pub first_behind : (schema : Schema) (rows : Rows) (cs ds : List change_type.Change) (cause : ClashCause)
-    → IsClear schema rows cs → ClashesFirst schema rows (cs ++ ds) cause → ClashesFirst schema (serial schema rows cs) ds cause
+    → AreAccepted schema rows cs → ClashesFirst schema rows (cs ++ ds) cause → ClashesFirst schema (serial schema rows cs) ds cause
 first_behind schema rows [] ds cause clear clash = clash
 first_behind schema rows (c ∷ cs) ds cause clear clash =
     elim clash [
@@ -115,7 +115,7 @@ first_behind schema rows (c ∷ cs) ds cause clear clash =
 
 -- what is clear has none
 pub first_in_clear : (schema : Schema) (rows : Rows) (cs : List change_type.Change) (cause : ClashCause)
-    → IsClear schema rows cs → ClashesFirst schema rows cs cause → ⊥
+    → AreAccepted schema rows cs → ClashesFirst schema rows cs cause → ⊥
 first_in_clear schema rows [] cause clear clash = clash
 first_in_clear schema rows (c ∷ cs) cause clear clash =
     elim clash [
@@ -255,7 +255,7 @@ module _ (schema : Schema) (rows : Rows) where
   module _ (from : World) (line : List Past) (xid : ℕ) where
     -- a transaction that is alone does items of which none clashes
     pub does_all : (done items : List Item) → ArePlain items
-        → IsClear schema (seen line xid done) (changes_of items)
+        → AreAccepted schema (seen line xid done) (changes_of items)
         → Reaches schema from (at line (one xid done))
         → Reaches schema from (at line (one xid (done ++ items)))
     does_all done [] are clear reached =
@@ -263,12 +263,12 @@ module _ (schema : Schema) (rows : Rows) where
     does_all done (Change sub c ∷ items) are clear reached =
         subst (λ is. Reaches schema from (at line (one xid is))) (append_assoc done (Change sub c ∷ []) items)
         (does_all (done ++ Change sub c ∷ []) items are.1
-        (subst (λ r. IsClear schema r (changes_of items)) (sym (seen_with line xid done sub c)) clear.1)
+        (subst (λ r. AreAccepted schema r (changes_of items)) (sym (seen_with line xid done sub c)) clear.1)
         (by_step (at line (one xid done)) (at line (one xid (done ++ Change sub c ∷ []))) reached (step_acts line xid done sub c clear.0)))
     does_all done (Touch sub ∷ items) are clear reached =
         subst (λ is. Reaches schema from (at line (one xid is))) (append_assoc done (Touch sub ∷ []) items)
         (does_all (done ++ Touch sub ∷ []) items are.1
-        (subst (λ cs. IsClear schema (serial schema (serial schema rows (changes_in line)) cs) (changes_of items)) (sym (work_with_touch xid sub done)) clear)
+        (subst (λ cs. AreAccepted schema (serial schema (serial schema rows (changes_in line)) cs) (changes_of items)) (sym (work_with_touch xid sub done)) clear)
         (by_step (at line (one xid done)) (at line (one xid (done ++ Touch sub ∷ []))) reached (step_touches line xid done sub)))
     does_all done (BackTo sub ∷ items) are clear reached = absurd are.0
     does_all done (Last ∷ items) are clear reached = absurd are.0

@@ -11,9 +11,9 @@ use Rattle.model.specs.declared.item.CommitInfo.{CommitInfo}
 use Rattle.model.specs.Rows.{Rows, Schema, IsValid}
 use Rattle.model.specs.Effect.{effect, serial}
 use Rattle.model.specs.SerialLemmas.{accepted_append}
-use Rattle.engine.specs.FirstClash.{IsClear}
 use Rattle.world.specs.CallLemmas.{committed_is_serial}
-use Rattle.world.specs.FineLemmas.{IsFine, fine_reached, refused_stays}
+use Rattle.world.specs.FineLemmas.{fine_reached, refused_stays}
+use Rattle.world.specs.Fine.{IsFine}
 use Rattle.world.specs.Steps.{AlreadyOpen, TooManyOpen, Stopped, OutOfMemory, IsDone, IsSkipped, Held, Clashed, Step, opens, acts, touches, goes_back, commits, aborts, stops_held, Reaches, at_start, by_step}
 use Rattle.world.specs.World.{Opened, World, starting, work, work_behind, changes_in}
 
@@ -67,21 +67,15 @@ module _ (schema : Schema) where
   accepted_prop rows (c ∷ cs) =
       ×_prop (Π_prop λ cause. →_prop ⊥-prop) (accepted_prop (effect schema rows c) cs)
 
-  accepted_clear : (rows : Rows) (cs : List change_type.Change) → AreAccepted schema rows cs → IsClear schema rows cs
-  accepted_clear rows [] are = tt
-  accepted_clear rows (c ∷ cs) are = (are.0, accepted_clear (effect schema rows c) cs are.1)
-
   -- nor does one that an open transaction has done
   pub open_clear : (rows : Rows) (w : World) → IsValid schema rows → ∥ Reaches schema (starting rows) w ∥₁
-      → (xid : ℕ) (o : Opened) → get w.opened xid ≡ Some o → IsClear schema w.committed (work xid o)
+      → (xid : ℕ) (o : Opened) → get w.opened xid ≡ Some o → AreAccepted schema w.committed (work xid o)
   open_clear rows w valid reached xid o at =
-      accepted_clear w.committed (work xid o)
-      (∥∥₁_elim reached (accepted_prop w.committed (work xid o)) (λ (is : Reaches schema (starting rows) w).
-      (fine_reached schema rows valid w is).accepted xid o at))
+      ∥∥₁_elim reached (accepted_prop w.committed (work xid o)) (λ (is : Reaches schema (starting rows) w).
+      (fine_reached schema rows valid w is).accepted xid o at)
 
   pub commits_clear : (rows : Rows) (w : World) → IsValid schema rows → ∥ Reaches schema (starting rows) w ∥₁
-      → IsClear schema rows (changes_in w.line)
+      → AreAccepted schema rows (changes_in w.line)
   commits_clear rows w valid reached =
-      accepted_clear rows (changes_in w.line)
-      (∥∥₁_elim reached (accepted_prop rows (changes_in w.line)) (λ (is : Reaches schema (starting rows) w).
-      subst (λ r. AreAccepted schema r (changes_in w.line)) (committed_is_serial schema rows w (valid, is)).0 (accepted_reached rows valid w is)))
+      ∥∥₁_elim reached (accepted_prop rows (changes_in w.line)) (λ (is : Reaches schema (starting rows) w).
+      subst (λ r. AreAccepted schema r (changes_in w.line)) (committed_is_serial schema rows w (valid, is)).0 (accepted_reached rows valid w is))

@@ -12,8 +12,8 @@ use Rattle.run.specs.declared.outcome.Outcome.{Outcome}
 use Rattle.run.specs.Cause.{schema_of}
 use Rattle.run.specs.Devices.{DeviceState}
 use Rattle.world.specs.FineLemmas.{gone_cases}
-use Rattle.world.specs.ListingLemmas.{is_xid, same_by_xid}
-use Rattle.world.specs.World.{Opened, World, starting, journal}
+use Rattle.world.specs.ListingLemmas.{same_by_xid}
+use Rattle.world.specs.World.{Opened, World, starting, journal, is_xid}
 use Rattle.world.specs.Steps.{Reaches, by_step, aborts, aborted_with, Closes}
 use Rattle.run_laws.specs.Runs.{LeavesWorld}
 use Rattle.run_laws.specs.ThreadedRun.{IsThreadedRun}

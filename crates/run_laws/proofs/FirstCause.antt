@@ -24,7 +24,8 @@ use Rattle.run.specs.Commits.{committed_changes, begun_changes, all_changes}
 use Rattle.run.specs.Devices.{DeviceState}
 use Rattle.run.specs.Progress.{Progress, Handles, Leads, start_progress}
 use Rattle.run.specs.Run.{IsRun}
-use Rattle.engine.specs.FirstClash.{IsClear, ClashesIn}
+use Rattle.engine.specs.FirstClash.{ClashesIn}
+use Rattle.model.specs.Accepted.{AreAccepted}
 use Rattle.world.specs.World.{starting}
 use Rattle.run_laws.specs.Begun.{IsSane, begun}
 use Rattle.run_laws.specs.FirstCause.{IsStreamCause, IsAtFirstCause}
@@ -151,12 +152,12 @@ all_but_last (i ∷ before) item after (j ∷ front) last e =
 
 -- where no change clashed, none had clashed before
 clear_earlier : (schema : Schema) (rows : Rows) (g : Setting) (q p : Progress) (items : List CopyItem) → IsSane q.state
-    → Leads g q items p → IsClear schema rows (all_changes p.state) → IsClear schema rows (all_changes q.state)
+    → Leads g q items p → AreAccepted schema rows (all_changes p.state) → AreAccepted schema rows (all_changes q.state)
 clear_earlier schema rows g q p items sane is clear =
     let more = led_more schema rows (starting rows) g q p items sane is in
-    subst (IsClear schema rows) (sym (all_done q.state))
+    subst (AreAccepted schema rows) (sym (all_done q.state))
     (clear_front schema rows (done_by q.state.past (begun q.state)) more.0
-    (subst (IsClear schema rows) (all_done p.state ∙ more.1) clear))
+    (subst (AreAccepted schema rows) (all_done p.state ∙ more.1) clear))
 
 -- ---- a run
 
@@ -186,7 +187,7 @@ module _ (g : Setting) (rows : Rows) (old new : DeviceState) (o : Outcome) (run 
       (subst (λ items. Leads g start_progress items run.part.progress) split run.part.lawful)
 
   -- what was committed at the end of the run is clear
-  committed : IsClear (schema_of g) rows (committed_changes run.part.progress.state)
+  committed : AreAccepted (schema_of g) rows (committed_changes run.part.progress.state)
   committed =
       elim (clash g rows old new o run) [
         | inl all ↦
@@ -195,7 +196,7 @@ module _ (g : Setting) (rows : Rows) (old new : DeviceState) (o : Outcome) (run 
       ]
 
   -- all that was done by these items is clear
-  clear : IsClear (schema_of g) rows (all_changes q.state)
+  clear : AreAccepted (schema_of g) rows (all_changes q.state)
   clear =
       elim (clash g rows old new o run) [
         | inl all ↦ clear_earlier (schema_of g) rows g q run.part.progress (item ∷ after) sane later all

@@ -11,8 +11,9 @@ use Rattle.model.specs.declared.item.Item.TheVariants.{BackTo}
 use Rattle.model.specs.declared.item.CommitInfo.{CommitInfo}
 use Rattle.model.specs.Rows.{Rows, Schema, IsValid}
 use Rattle.model.specs.Effect.{ClashCause, NullKey, Unique, Edits, Outcome, Done, Skip, Clashes, outcome}
-use Rattle.world.specs.FineLemmas.{IsClashing, StillClashes, put_cases, gone_cases, refused_stays, fine_reached}
-use Rattle.world.specs.Steps.{AlreadyOpen, TooManyOpen, Stopped, OutOfMemory, IsDone, IsSkipped, Held, Clashed, opened_with, done_with, wanting, committed_with, aborted_with, Step, opens, acts, touches, goes_back, commits, aborts, stops_held, Reaches, at_start, by_step}
+use Rattle.world.specs.FineLemmas.{put_cases, gone_cases, refused_stays, fine_reached}
+use Rattle.world.specs.Fine.{StillClashes}
+use Rattle.world.specs.Steps.{AlreadyOpen, TooManyOpen, Stopped, OutOfMemory, IsDone, IsSkipped, Held, Clashed, opened_with, done_with, wanting, committed_with, aborted_with, Step, opens, acts, touches, goes_back, commits, aborts, stops_held, Reaches, at_start, by_step, IsClashing}
 use Rattle.model.specs.declared.item.Item.TheVariants.{Change, Touch}
 use Rattle.world.specs.World.{Opened, Stop, ByClash, ByHold, World, starting, own_rows}
 

@@ -20,7 +20,7 @@ use Rattle.session.specs.Sized.{item_of}
 use Rattle.session.specs.State.{Way, Direct, Worker, Spooled, Open, OpenTransactions, Committed, State, Setting}
 use Rattle.session.specs.StreamEvents.{StreamEvent, NoEvent, TransactionOpens, ItemComes, TransactionCommits, TransactionAborts, Tells, IsChange}
 use Rattle.run.specs.Commits.{changes_in as told_changes, Transaction, transaction, begun_changes, begun_changes_in, all_changes, open_changes}
-use Rattle.engine.specs.FirstClash.{IsClear}
+use Rattle.model.specs.Accepted.{AreAccepted}
 use Rattle.run.specs.Progress.{Progress, Handles, Leads, start_progress}
 use Rattle.world.specs.World.{Past, World, changes_in, starting}
 use Rattle.world.specs.Steps.{Reaches, at_start, by_step}
@@ -105,15 +105,15 @@ module _ (schema : Schema) (rows : Rows) (from : World) where
       subst (Reaches schema from) (sym (ap (λ p. stands p (begun t)) e ∙ ap (stands past) f)) reached
 
   clear_now : (t : State) (past : List Committed) (b : Option (ℕ × List Item)) → t.past ≡ past → begun t ≡ b
-      → IsClear schema rows (done t.past (begun t)) → IsClear schema rows (done past b)
-  clear_now t past b e f clear = subst (IsClear schema rows) (done_at t past b e f) clear
+      → AreAccepted schema rows (done t.past (begun t)) → AreAccepted schema rows (done past b)
+  clear_now t past b e f clear = subst (AreAccepted schema rows) (done_at t past b e f) clear
 
   -- ---- what is told
 
   -- The next state is reached where its changes are clear, and its changes are those before, and more.
   abbrev pub Moved : State → State → Type 0
   Moved s t =
-      (IsClear schema rows (done t.past (begun t)) → IsAt s → IsAt t) × ((cs : List change_type.Change) × (done t.past (begun t) ≡ done s.past (begun s) ++ cs))
+      (AreAccepted schema rows (done t.past (begun t)) → IsAt s → IsAt t) × ((cs : List change_type.Change) × (done t.past (begun t) ≡ done s.past (begun s) ++ cs))
 
   stays : (s t : State) → t.past ≡ s.past → begun t ≡ begun s → Moved s t
   stays s t past same = (
@@ -137,10 +137,10 @@ module _ (schema : Schema) (rows : Rows) (from : World) where
       let before = done s.past (Some (xid, items)) in
       let more = with_change s.past xid sub items c in (
         λ clear reached.
-            let all : IsClear schema rows (before ++ c ∷ []) =
-            subst (IsClear schema rows) more (clear_now t s.past _ past is clear) in
-            let well : IsClear schema (seen schema rows line xid survived) (c ∷ []) =
-            subst (λ r. IsClear schema r (c ∷ [])) (seen_done schema rows s.past xid items) (clear_rest schema rows before (c ∷ []) all) in
+            let all : AreAccepted schema rows (before ++ c ∷ []) =
+            subst (AreAccepted schema rows) more (clear_now t s.past _ past is clear) in
+            let well : AreAccepted schema (seen schema rows line xid survived) (c ∷ []) =
+            subst (λ r. AreAccepted schema r (c ∷ [])) (seen_done schema rows s.past xid items) (clear_rest schema rows before (c ∷ []) all) in
             stands_now t s.past (Some (xid, items ++ Change sub c ∷ [])) past is
             (subst (λ is. Reaches schema from (at schema rows line (one xid is))) (sym (survivors_with xid items (Change sub c)))
             (by_step (at schema rows line (one xid survived)) (at schema rows line (one xid (survived ++ Change sub c ∷ []))) (stood s s.past (Some (xid, items)) refl was reached)
@@ -179,9 +179,9 @@ module _ (schema : Schema) (rows : Rows) (from : World) where
       let survived = survivors c.xid (map item_of c.items) in
       let more = done_with s.past c in (
         λ clear reached.
-            let here : IsClear schema rows (changes_in line ++ changes_of survived) =
-            subst (IsClear schema rows) more (clear_now t (s.past ++ c ∷ []) None past is clear) in
-            let alone : IsClear schema (serial schema rows (changes_in line)) (changes_of survived) =
+            let here : AreAccepted schema rows (changes_in line ++ changes_of survived) =
+            subst (AreAccepted schema rows) more (clear_now t (s.past ++ c ∷ []) None past is clear) in
+            let alone : AreAccepted schema (serial schema rows (changes_in line)) (changes_of survived) =
             clear_rest schema rows (changes_in line) (changes_of survived) here in
             let opened : Reaches schema from (at schema rows line (one c.xid [])) =
             by_step (at schema rows line none) (at schema rows line (one c.xid [])) (stood s s.past None refl was reached) (step_opens schema rows line c.xid) in
@@ -251,7 +251,7 @@ module _ (schema : Schema) (rows : Rows) (from : World) (g : Setting) where
 
   -- and to a world that is reached, where no change clashed
   pub led : (p q : Progress) (items : List CopyItem) → IsSane p.state → Leads g p items q
-      → IsClear schema rows (done q.state.past (begun q.state))
+      → AreAccepted schema rows (done q.state.past (begun q.state))
       → IsAt schema rows from p.state
       → IsAt schema rows from q.state × IsSane q.state
   led p q [] sane is clear reached =
@@ -259,21 +259,21 @@ module _ (schema : Schema) (rows : Rows) (from : World) (g : Setting) where
   led p q (item ∷ items) sane is clear reached =
       let now = handled_told g p is.0 item sane is.1 in
       let rest = led_more is.0 q items now.3 is.2 in
-      let before : IsClear schema rows (done is.0.state.past (begun is.0.state)) =
-      clear_front schema rows (done is.0.state.past (begun is.0.state)) rest.0 (subst (IsClear schema rows) rest.1 clear) in
+      let before : AreAccepted schema rows (done is.0.state.past (begun is.0.state)) =
+      clear_front schema rows (done is.0.state.past (begun is.0.state)) rest.0 (subst (AreAccepted schema rows) rest.1 clear) in
       led is.0 q items now.3 is.2 clear ((moved schema rows from p.state is.0.state now).0 before reached)
 
 -- ---- from the start
 
 pub reached_at : (g : Setting) (schema : Schema) (rows : Rows) (items : List CopyItem) (p : Progress)
-    → Leads g start_progress items p → IsClear schema rows (all_changes p.state)
+    → Leads g start_progress items p → AreAccepted schema rows (all_changes p.state)
     → IsAt schema rows (starting rows) p.state × IsSane p.state
 reached_at g schema rows items p is clear =
     led schema rows (starting rows) g start_progress p items sane_start is
-    (subst (IsClear schema rows) (all_done p.state) clear) at_start
+    (subst (AreAccepted schema rows) (all_done p.state) clear) at_start
 
 pub reached : (g : Setting) (schema : Schema) (rows : Rows) (items : List CopyItem) (p : Progress)
-    → Leads g start_progress items p → IsClear schema rows (all_changes p.state)
+    → Leads g start_progress items p → AreAccepted schema rows (all_changes p.state)
     → Reaches schema (starting rows) (world_at schema rows p.state)
 reached g schema rows items p is clear =
     subst (Reaches schema (starting rows)) (sym (world_is schema rows (starting rows) p.state))

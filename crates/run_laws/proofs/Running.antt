@@ -23,7 +23,8 @@ use Rattle.run.specs.declared.end.End.TheVariants as ends
 use Rattle.run.specs.declared.outcome.Outcome.{Outcome}
 use Rattle.run.specs.Commits.{transaction, committed_changes, all_changes, last_end}
 use Rattle.change.specs.Refusal.{ClashesAs}
-use Rattle.engine.specs.FirstClash.{IsClear, ClashesIn}
+use Rattle.engine.specs.FirstClash.{ClashesIn}
+use Rattle.model.specs.Accepted.{AreAccepted}
 use Rattle.run.specs.Progress.{Progress, Leads, start_progress, commits_from}
 use Rattle.run.specs.Cause.{schema_of, IsCause, HasGoneWell, HasNotClashed, LastClashed, NextClashes, IsNext}
 use Rattle.run.specs.Devices.{DeviceState}
@@ -96,7 +97,7 @@ begun_open (Some b) = one_open b.0 (survivors b.0 b.1)
 
 module _ (g : Setting) (rows : Rows) (old new : DeviceState) (handled : List CopyItem) (p : Progress) (times : List ℤ) (bytes : List ℕ) (rest : List CopyItem) where
   clear_at : (end : End) → IsCause g rows old new handled p times bytes rest end → conflict end ≡ None
-      → IsClear (schema_of g) rows (all_changes p.state)
+      → AreAccepted (schema_of g) rows (all_changes p.state)
   clear_at ends.Clean cause e = cause.well.clear
   clear_at (ends.Frame Device) cause e = elim cause [ inl read ↦ read.clear | inr sent ↦ sent.clear ]
   clear_at (ends.Frame fault) cause e = cause.well.clear
@@ -170,7 +171,7 @@ module _ (schema : Schema) (rows : Rows) (cause : ClashCause) where
 
   -- those of another are clear
   abbrev Clear : State → Type 0
-  Clear s = IsClear schema rows (done s.past (begun s))
+  Clear s = AreAccepted schema rows (done s.past (begun s))
 
   -- ---- the change that came last
 
@@ -200,8 +201,8 @@ module _ (schema : Schema) (rows : Rows) (cause : ClashCause) where
       let survived = survivors xid items in
       let more : done t.past (begun t) ≡ done s.past (Some (xid, items)) ++ c ∷ [] =
       done_at t s.past _ past is ∙ with_change s.past xid sub items c in
-      let before : IsClear schema rows (done s.past (Some (xid, items))) =
-      subst (λ b. IsClear schema rows (done s.past b)) was clear in
+      let before : AreAccepted schema rows (done s.past (Some (xid, items))) =
+      subst (λ b. AreAccepted schema rows (done s.past b)) was clear in
       let behind : ClashesFirst schema (serial schema rows (done s.past (Some (xid, items)))) (c ∷ []) cause =
       first_behind schema rows (done s.past (Some (xid, items))) (c ∷ []) cause before (subst (λ cs. ClashesFirst schema rows cs cause) more clash) in
       let here : ClashesFirst schema (seen schema rows line xid survived) (c ∷ []) cause =
@@ -220,13 +221,13 @@ module _ (schema : Schema) (rows : Rows) (cause : ClashCause) where
         stopped,
       )
 
-  commit_clear : (t : State) → begun t ≡ None → IsClear schema rows (committed_changes t) → Clashing t → ⊥
+  commit_clear : (t : State) → begun t ≡ None → AreAccepted schema rows (committed_changes t) → Clashing t → ⊥
   commit_clear t is clear clash =
       let same : done t.past (begun t) ≡ committed_changes t = ap (done t.past) is ∙ append-nil _ ∙ work_same t.past in
       first_in_clear schema rows (committed_changes t) cause clear (subst (λ cs. ClashesFirst schema rows cs cause) same clash)
 
   last_told : (s t : State) (what : StreamEvent) → Tells s t what → Moves s t what → Clear s
-      → IsClear schema rows (committed_changes t) → Clashing t
+      → AreAccepted schema rows (committed_changes t) → Clashing t
       → IsAt schema rows (starting rows) s → Stops schema rows t.past cause (BegunTurn t)
   last_told s t NoEvent tells moves clear committed clash reached =
       absurd (stays_clear s t tells.past moves clear clash)
@@ -256,8 +257,8 @@ module _ (schema : Schema) (rows : Rows) (cause : ClashCause) where
       let survived = survivors c.xid (map item_of c.items) in
       let more : done t.past (begun t) ≡ changes_in line ++ changes_of survived =
       done_at t (s.past ++ c ∷ []) None past is ∙ done_with schema rows (starting rows) s.past c in
-      let before : IsClear schema rows (changes_in line) =
-      subst (IsClear schema rows) (ap (done s.past) was ∙ append-nil _) clear in
+      let before : AreAccepted schema rows (changes_in line) =
+      subst (AreAccepted schema rows) (ap (done s.past) was ∙ append-nil _) clear in
       let behind : ClashesFirst schema (serial schema rows (changes_in line)) (changes_of survived) cause =
       first_behind schema rows (changes_in line) (changes_of survived) cause before (subst (λ cs. ClashesFirst schema rows cs cause) more clash) in
       let P : World → Type 0 = λ w. Reaches schema (starting rows) w in
@@ -292,8 +293,8 @@ module _ (schema : Schema) (rows : Rows) (cause : ClashCause) where
   clashing s is =
       subst (λ cs. ClashesFirst schema rows cs cause) (all_done s) (first_in schema rows (all_changes s) cause is)
 
-  clear_of : (s : State) → IsClear schema rows (all_changes s) → Clear s
-  clear_of s clear = subst (IsClear schema rows) (all_done s) clear
+  clear_of : (s : State) → AreAccepted schema rows (all_changes s) → Clear s
+  clear_of s clear = subst (AreAccepted schema rows) (all_done s) clear
 
   next_stops : (g : Setting) (s : State) (rest : List CopyItem) → IsSane s → Clear s
       → IsAt schema rows (starting rows) s

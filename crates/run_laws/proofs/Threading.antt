@@ -28,7 +28,7 @@ use Rattle.run.specs.Cause.{schema_of}
 use Rattle.run.specs.Commits.{Transaction, transaction, transaction_of, commits, changes_in as told_changes, last_end}
 use Rattle.run.specs.Devices.{DeviceState}
 use Rattle.run.specs.Progress.{Progress, Leads, start_progress}
-use Rattle.engine.specs.FirstClash.{IsClear}
+use Rattle.model.specs.Accepted.{AreAccepted}
 use Rattle.world.specs.CallLemmas.{committed_is_serial}
 use Rattle.world.specs.World.{Opened, Past, World, starting, entry_of, changes_in}
 use Rattle.world.specs.Steps.{Reaches}
@@ -99,9 +99,9 @@ module _ (g : Setting) (rows : Rows) (old new : DeviceState) (o : Outcome) (run 
   run_changes = changes_told run.world.line ∙ ap told_changes (sym run.left.entries)
 
   pub run_clear : IsValid (schema_of g) rows
-      → IsClear (schema_of g) rows (told_changes (map transaction_of o.journal.items))
+      → AreAccepted (schema_of g) rows (told_changes (map transaction_of o.journal.items))
   run_clear valid =
-      subst (IsClear (schema_of g) rows) run_changes (commits_clear (schema_of g) rows run.world valid run.is_world.reached)
+      subst (AreAccepted (schema_of g) rows) run_changes (commits_clear (schema_of g) rows run.world valid run.is_world.reached)
 
 -- ---- sane states
 

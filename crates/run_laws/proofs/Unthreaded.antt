@@ -27,7 +27,8 @@ use Rattle.run.specs.Commits.{Transaction, transaction, transaction_of, commits,
 use Rattle.run.specs.Devices.{DeviceState}
 use Rattle.run.specs.Progress.{Progress, Handles, Leads, start_progress, due_updates, commits_from}
 use Rattle.run.specs.Run.{IsRun}
-use Rattle.engine.specs.FirstClash.{IsClear, ClashesIn}
+use Rattle.engine.specs.FirstClash.{ClashesIn}
+use Rattle.model.specs.Accepted.{AreAccepted}
 use Rattle.world.specs.World.{starting}
 use Rattle.run_laws.specs.Begun.{IsSane, begun, Moves}
 use Rattle.run_laws.specs.ThreadedRun.{IsCauseOf, IsThreadedRun}
@@ -138,10 +139,10 @@ module _ (schema : Schema) (rows : Rows) (g : Setting) where
       ]
 
   clashes_not : (s : State) (cs all : List change_type.Change) (cause : ClashCause) → all ≡ all_changes s ++ cs
-      → IsClear schema rows all → ClashesIn schema rows (all_changes s) (clash_of cause) → ⊥
+      → AreAccepted schema rows all → ClashesIn schema rows (all_changes s) (clash_of cause) → ⊥
   clashes_not s cs all cause e clear clash =
       first_in_clear schema rows (all_changes s) cause
-      (clear_front schema rows (all_changes s) cs (subst (IsClear schema rows) e clear)) (first_in schema rows (all_changes s) cause clash)
+      (clear_front schema rows (all_changes s) cs (subst (AreAccepted schema rows) e clear)) (first_in schema rows (all_changes s) cause clash)
 
 -- ---- what a message that is admitted is not
 
@@ -157,7 +158,7 @@ module _ (g : Setting) (s t : State) (payload : List ℕ) (m : Message) (admits 
 
 -- ---- the commits of a run without workers
 
-module _ (h : Setting) (rows : Rows) (s q : Progress) (rest : List CopyItem) (sane : IsSane s.state) (more : Leads h s rest q) (clear : IsClear (schema_of h) rows (committed_changes q.state)) where
+module _ (h : Setting) (rows : Rows) (s q : Progress) (rest : List CopyItem) (sane : IsSane s.state) (more : Leads h s rest q) (clear : AreAccepted (schema_of h) rows (committed_changes q.state)) where
   -- The commits are those of all items.
   abbrev IsAll : Type 0
   IsAll = q.state.past ≡ s.state.past
@@ -267,10 +268,10 @@ module _ (g h : Setting) (rows : Rows) (old new before after : DeviceState) (o p
   same_journal : map transaction_of o.journal.items ≡ commits q.state
   same_journal = run_commits g rows old new o run ∙ sym (same_transactions h run.part.progress.state q.state alike)
 
-  clear : IsClear (schema_of h) rows (committed_changes q.state)
+  clear : AreAccepted (schema_of h) rows (committed_changes q.state)
   clear =
-      subst (λ c. IsClear (map keys_of c) rows (committed_changes q.state)) (sym catalog)
-      (subst (λ ts. IsClear (schema_of g) rows (told_changes ts)) same_journal (run_clear g rows old new o run valid))
+      subst (λ c. AreAccepted (map keys_of c) rows (committed_changes q.state)) (sym catalog)
+      (subst (λ ts. AreAccepted (schema_of g) rows (told_changes ts)) same_journal (run_clear g rows old new o run valid))
 
   pub clean_with_room : p.end ≢ ends.OutOfMemory → p.end ≢ ends.Frame Device
       → (map transaction_of p.journal.items ≡ map transaction_of o.journal.items)

@@ -29,9 +29,10 @@ use Rattle.run.specs.Commits.{committed_changes, all_changes, changes_in as told
 use Rattle.run.specs.Devices.{DeviceState}
 use Rattle.run.specs.Progress.{Progress, Handles, Leads, start_progress, commits_from}
 use Rattle.run.specs.Run.{IsRun}
-use Rattle.change.specs.Refusal.{HasNoClash, ClashesAs}
-use Rattle.engine.specs.FirstClash.{IsClear, ClashesIn}
-use Rattle.engine.specs.FirstClashLemmas.{IsClear-append}
+use Rattle.change.specs.Refusal.{ClashesAs}
+use Rattle.model.specs.Accepted.{HasNoClash, AreAccepted}
+use Rattle.engine.specs.FirstClash.{ClashesIn}
+use Rattle.model.specs.SerialLemmas.{accepted_append}
 use Rattle.world.specs.World.{Opened, World, starting, changes_in, work, own_rows}
 use Rattle.run_laws.specs.Begun.{IsSane, open_items, begun_in, begun}
 use Rattle.run_laws.specs.Course.{committed_past}
@@ -87,7 +88,7 @@ clash_cases Skip = inl (λ cause e. cc)
 clash_cases (Clashes cause) = inr (cause, refl)
 
 clear_or_clash : (schema : Schema) (rows : Rows) (cs : List change_type.Change)
-    → IsClear schema rows cs ⊎ AnyClash schema rows cs
+    → AreAccepted schema rows cs ⊎ AnyClash schema rows cs
 clear_or_clash schema rows [] = inl tt
 clear_or_clash schema rows (c ∷ cs) =
     elim (clash_cases (outcome schema rows c)) [
@@ -111,7 +112,7 @@ stream_cause g rows s rest (Unique table key) is = inr is
 stream_cause g rows s rest (NullKey table) is = inr is
 
 clear_without : (g : Setting) (rows : Rows) (s : State) (rest : List CopyItem)
-    → ((end : End) → IsStreamCause g rows s rest end → ⊥) → IsClear (schema_of g) rows (all_changes s)
+    → ((end : End) → IsStreamCause g rows s rest end → ⊥) → AreAccepted (schema_of g) rows (all_changes s)
 clear_without g rows s rest none =
     elim (clear_or_clash (schema_of g) rows (all_changes s)) [
       | inl clear ↦ clear
@@ -168,7 +169,7 @@ begun_is (Block x) m xid o is at = cc
 
 module _ (g : Setting) (rows : Rows) (s : State) (rest : List CopyItem) (w : World) (sane : IsSane s)
     (plain : IsPlain s) (none : NoneWorks s.transactions) (is_world : IsWorldOf g rows s rest w)
-    (valid : IsValid (schema_of g) rows) (clear : IsClear (schema_of g) rows (all_changes s)) where
+    (valid : IsValid (schema_of g) rows) (clear : AreAccepted (schema_of g) rows (all_changes s)) where
   -- the keys' columns
   abbrev schema : Schema
   schema = schema_of g
@@ -231,11 +232,11 @@ module _ (g : Setting) (rows : Rows) (s : State) (rest : List CopyItem) (w : Wor
         ap (λ r. serial schema r (work xid transaction)) committed
         ∙ sym (serial_append schema rows past (work xid transaction))
 
-    clear_before : IsClear schema rows before
+    clear_before : AreAccepted schema rows before
     clear_before =
-        IsClear-append schema rows past (work xid transaction)
-        (subst (λ l. IsClear schema rows (changes_in l)) line (commits_clear schema rows w valid is_world.reached))
-        (subst (λ r. IsClear schema r (work xid transaction)) committed
+        accepted_append schema rows past (work xid transaction)
+        (subst (λ l. AreAccepted schema rows (changes_in l)) line (commits_clear schema rows w valid is_world.reached))
+        (subst (λ r. AreAccepted schema r (work xid transaction)) committed
         (open_clear schema rows w valid is_world.reached xid transaction present))
 
     clashes : (cause : ClashCause) → outcome schema (own_rows schema w xid transaction) c ≡ Clashes cause
@@ -255,7 +256,7 @@ module _ (g : Setting) (rows : Rows) (s : State) (rest : List CopyItem) (w : Wor
     not_begun cause direct is =
         let here = begun_is s.phase s.transactions xid o (sane.alone xid o at direct) at in
         let all : all_changes s ≡ with_items xid items = all_done s ∙ ap (done s.past) here in
-        first_in_clear schema rows (with_items xid items) cause (subst (IsClear schema rows) all clear)
+        first_in_clear schema rows (with_items xid items) cause (subst (AreAccepted schema rows) all clear)
         (first_in schema rows (with_items xid items) cause is)
 
     committed_is : (payload : List ℕ) (by : IsCommitOf g s payload xid)
@@ -326,8 +327,8 @@ module _ (g : Setting) (rows : Rows) (old new : DeviceState) (handled : List Cop
   IsThreaded = IsThreadedCause g old new handled p times bytes rest w
 
   -- a change of the transaction that was begun clashed
-  module _ (last : LastStep g handled p) (clear : IsClear (schema_of g) rows (all_changes last.past.state))
-      (committed : IsClear (schema_of g) rows (committed_changes p.state)) where
+  module _ (last : LastStep g handled p) (clear : AreAccepted (schema_of g) rows (all_changes last.past.state))
+      (committed : AreAccepted (schema_of g) rows (committed_changes p.state)) where
     last_clashed : (end : End) → HasWorkedOn g old new handled p times → IsLastCause g rows p.state end
         → LastClashed g rows old new handled p times end
     last_clashed end is why =
@@ -389,9 +390,9 @@ module _ (g : Setting) (rows : Rows) (old new : DeviceState) (o : Outcome) (run 
   abbrev IsEnd : Type 0
   IsEnd = IsAlone g rows old new run.part.handled run.part.progress run.part.times run.part.bytes run.part.rest run.world o.end
 
-  committed_clear : IsClear (schema_of g) rows (committed_changes s)
+  committed_clear : AreAccepted (schema_of g) rows (committed_changes s)
   committed_clear =
-      subst (λ ts. IsClear (schema_of g) rows (told_changes ts)) (run_commits g rows old new o run)
+      subst (λ ts. AreAccepted (schema_of g) rows (told_changes ts)) (run_commits g rows old new o run)
       (run_clear g rows old new o run valid)
 
   -- a change of the transaction that was begun clashed
@@ -424,7 +425,7 @@ module _ (g : Setting) (rows : Rows) (old new : DeviceState) (o : Outcome) (run 
           | inr last ↦ at_last last
         ]
 
-  no_clash : IsClear (schema_of g) rows (all_changes s) → IsEnd
+  no_clash : AreAccepted (schema_of g) rows (all_changes s) → IsEnd
   no_clash clear =
       let sane = sane_items g start_progress run.part.progress run.part.handled sane_start run.part.lawful in
       let plain = led_plain g zero run.part.progress run.part.handled run.part.lawful in

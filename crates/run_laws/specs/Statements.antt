@@ -17,7 +17,7 @@ use Rattle.run.specs.Commits.{transaction_of, commits, all_changes, changes_in, 
 use Rattle.run.specs.Devices.{DeviceState}
 use Rattle.run.specs.Progress.{Progress, Leads, start_progress}
 use Rattle.run.specs.Run.{IsRun}
-use Rattle.engine.specs.FirstClash.{IsClear}
+use Rattle.model.specs.Accepted.{AreAccepted}
 use Rattle.run.specs.declared.end.End.TheVariants as ends
 use Rattle.run.specs.declared.outcome.Outcome.{Outcome}
 use Rattle.world.specs.Steps.{Reaches, Closes, IsStuck}
@@ -49,7 +49,7 @@ abbrev pub ProgressIsReached : Type 0
 ProgressIsReached =
     (g : Setting) (rows : Rows) (handled : List CopyItem) (p : Progress)
     → Leads g start_progress handled p
-    → IsClear (schema_of g) rows (all_changes p.state)
+    → AreAccepted (schema_of g) rows (all_changes p.state)
     → Reaches (schema_of g) (starting rows) (world_at (schema_of g) rows p.state)
 
 -- ---- runs
@@ -82,7 +82,7 @@ ThreadedIsSerial =
     (run : IsThreadedRun g rows old new o) → IsValid (schema_of g) rows
     → (map transaction_of o.journal.items ≡ commits run.part.progress.state)
     × (o.tables.rows ≡ serial (schema_of g) rows (changes_in (map transaction_of o.journal.items)))
-    × IsClear (schema_of g) rows (changes_in (map transaction_of o.journal.items))
+    × AreAccepted (schema_of g) rows (changes_in (map transaction_of o.journal.items))
     × (o.position ≡ last_end run.part.progress.state.past)
 
 -- what was open at its end has left nothing: calls reach a world in which none is open any more,

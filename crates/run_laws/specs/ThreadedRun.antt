@@ -21,7 +21,7 @@ use Rattle.run.specs.Cause.{schema_of, RefusesNext, HasGoneWell, CouldNotSend, H
 use Rattle.run.specs.Devices.{DeviceState}
 use Rattle.run.specs.Progress.{Progress}
 use Rattle.run.specs.StreamPart.{StreamPart}
-use Rattle.world.specs.FineLemmas.{IsClashing}
+use Rattle.world.specs.Steps.{IsClashing}
 use Rattle.world.specs.World.{Opened, World, own_rows, IsHeldBy}
 use Rattle.run_laws.specs.Runs.{CommitsNext, NextChange, LeavesWorld}
 use Rattle.run_laws.specs.Threads.{work_of, IsWorldOf}

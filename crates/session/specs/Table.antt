@@ -22,6 +22,7 @@ use Rattle.relcache.specs.Published.{Relations, learnt}
 use Rattle.relcache.specs.Mapping.{resolved}
 use Rattle.relcache.specs.Planning.{planned}
 use Rattle.relcache.specs.Steps.{◌>>=◌}
+use Rattle.model.specs.Limits.{most_open}
 use Rattle.session.specs.declared.phase.Phase.{Phase}
 use Rattle.session.specs.declared.phase.Phase.TheVariants.{Outside, Begun, Block}
 use Rattle.session.specs.declared.fault.SessionFault.{SessionFault}
@@ -47,10 +48,6 @@ is_open s xid = map.contains_key s.transactions xid
 -- a transaction of this way as it opens, with no items
 abbrev pub new_open : Way → Open
 new_open way = record { way = way; items = [] }
-
--- how many transactions may be open at once
-abbrev pub most_open : ℕ
-most_open = 4096
 
 -- why the transaction can't be opened: it is open already, or there is no room for it
 abbrev pub room_fault : OpenTransactions → ℕ → Option SessionFault

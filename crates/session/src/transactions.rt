@@ -1,13 +1,10 @@
 // The open transactions.
 use crate::fault::{Refused, SessionFault};
 use crate::spool::Spool;
-use model::OutOfMemory;
+use model::{MOST_OPEN, OutOfMemory};
 use savepoint::{Item, Xid};
 use std::alloc::Global;
 use std::collections::BTreeMap;
-
-/// How many transactions may be open at once.
-pub const MOST_OPEN: usize = 4096;
 
 /// Where the items of an open transaction go.
 #[derive(Debug, Drop)]

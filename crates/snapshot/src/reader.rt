@@ -1,7 +1,8 @@
 // Whoever reads the committed rows while transactions are open.
 ghost use Rattle.std.specs.Prelude.{◌≡◌, ◌<◌, ◌≤◌, IfOk, IfErr, OnOk, length};
 ghost use Rattle.world.specs.Steps.{ReadsCommitted};
-ghost use Rattle.origin.specs.Commits.{Begins, position_after};
+ghost use Rattle.origin.specs.Commits.{position_after};
+ghost use Rattle.model.specs.Beginning.{Begins};
 ghost use Rattle.snapshot.specs.declared.fault.ReadFault.TheVariants.{UnknownTable};
 ghost use Rattle.snapshot.specs.Reads.{world_seen, SeesMore, ReadsTable, ReadsAt, IsRefused, IsRefusedAt};
 
@@ -84,6 +85,7 @@ impl<'a, N: StoreNames> Reader<'a, N> {
         ensures refused { IfErr result (λ fault. IsRefused self.old self.new table fault) }
     {
         let mut store = self.store.lock(rt);
+        store.recall_invariant();
         check_table(table, store.table_count())?;
         let Ok(row) = store.committed(table, key) else {
             return Err(ReadFault::OutOfMemory);
@@ -107,6 +109,7 @@ impl<'a, N: StoreNames> Reader<'a, N> {
         ensures refused { IfErr result (λ fault. IsRefused self.old self.new table fault) }
     {
         let mut store = self.store.lock(rt);
+        store.recall_invariant();
         check_table(table, store.table_count())?;
         let Ok(rows) = store.committed_rows(alloc, table) else {
             return Err(ReadFault::OutOfMemory);
@@ -132,6 +135,7 @@ impl<'a, N: StoreNames> Reader<'a, N> {
         ensures refused { IfErr result (λ fault. IsRefusedAt self.old self.new table position fault) }
     {
         let mut store = self.store.lock(rt);
+        store.recall_invariant();
         check_table(table, store.table_count())?;
         let Some(count) = count_up_to(store.journal(), position) else {
             store.look(&mut self.seen);

@@ -19,8 +19,9 @@ use Rattle.world.specs.Steps.{Fault, Acted, IsDone, IsSkipped, Held, Clashed, Al
 use Rattle.engine.specs.declared.events.Event.{Event}
 use Rattle.engine.specs.declared.events.LineEvent.{LineEvent}
 use Rattle.engine.specs.Engine.{Engine, IsOtherwiseSame}
-use Rattle.engine.specs.Events.{last_end}
+use Rattle.model.specs.Beginning.{last_end}
 use Rattle.store_tests.specs.Scenes.{Tickets, Belong, Know, IsScene}
+use Rattle.engine.specs.Events.{ends_in}
 
 -- the same transactions but one are open
 abbrev pub AreOpenBeside : ℕ → OpenOnes → OpenOnes → Type 0
@@ -112,7 +113,7 @@ know_gone old new was now xid know update gone other there =
 
 -- its transaction has ended, which the line tells
 pub has_ended : (old new : Engine) (line told : Half LineEvent) (tickets later : Tickets) (end behind xid : ℕ) (t : OpenList Event) → IsScene old line tickets end
-    → IsOtherwiseSame old new → told ≡ new.line → last_end told.list ≡ behind → tree.get nat_cmp tickets xid ≡ Some t
+    → IsOtherwiseSame old new → told ≡ new.line → last_end (ends_in told.list) ≡ behind → tree.get nat_cmp tickets xid ≡ Some t
     → tree.Updates nat_cmp tickets later xid None → new.world.opened ≡ finite.remove old.world.opened t.number → IsScene new told later behind
 has_ended old new line told tickets later end behind xid t keeps same is ends at update gone =
     record {

@@ -14,7 +14,8 @@ use Rattle.world.specs.World.{OpenOnes}
 use Rattle.engine.specs.declared.events.Event.{Event}
 use Rattle.engine.specs.declared.events.LineEvent.{LineEvent}
 use Rattle.engine.specs.Engine.{Engine}
-use Rattle.engine.specs.Events.{last_end}
+use Rattle.model.specs.Beginning.{last_end}
+use Rattle.engine.specs.Events.{ends_in}
 
 -- the tickets that a scene has, by their numbers
 abbrev pub Tickets : Type 0
@@ -32,6 +33,6 @@ Know opened tickets = (xid : ℕ) → is_some (finite.get opened xid) ≡ true �
 pub record IsScene (store : Engine) (line : Half LineEvent) (tickets : Tickets) (end : ℕ) : Type 0 where
   pub counted : length store.schema ≡ 2
   pub lined : line.name ≡ store.line.name
-  pub ended : last_end line.list ≡ end
+  pub ended : last_end (ends_in line.list) ≡ end
   pub belong : Belong store.tickets tickets
   pub known : Know store.world.opened tickets

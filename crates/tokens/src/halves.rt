@@ -1,6 +1,6 @@
 // One list that two halves name, and what was seen of it.
 ghost use Rattle.std.specs.Prelude.{◌≡◌, [], ◌∷◌, ◌++◌, IfOk};
-ghost use Rattle.tokens.specs.Half.{Begins};
+ghost use Rattle.model.specs.Beginning.{Begins};
 
 use crate::items::Items;
 use atomic_table::{Badge, Join, Play, Seat, Split, Table, TableRule};

@@ -45,8 +45,8 @@ use Rattle.change.specs.Inverse.{edits_of}
 use Rattle.change.specs.InverseLemmas.{contains_first, contains_here, contains_later, contains_one}
 use Rattle.change.specs.Altered.{cells_altered}
 use Rattle.change.specs.Applied.{IsDone}
-use Rattle.undo.specs.Undo.{content_undone, cells_settled, all_settled}
-use Rattle.undo.specs.Others.{all_altered, cells_needed, all_needed, AreValidBack, IsFilled}
+use Rattle.undo.specs.Undo.{content_undone, cells_settled, all_settled, cells_needed}
+use Rattle.undo.specs.Others.{all_altered, all_needed, AreValidBack, IsFilled}
 use Rattle.undo.specs.OthersLemmas.{in_cells_of}
 use Rattle.undo.specs.LogOf.{IsLogOf, no_change, with_done, with_skipped, IsFilledBy, IsSecured, StandsLive}
 

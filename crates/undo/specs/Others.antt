@@ -1,6 +1,6 @@
 -- What others may do while a log can still be undone.
 --     all_altered      the cells that a list of inverses alters
---     cells_needed, all_needed      the cells that an inverse fills again, for which there has to be room; those of a list
+--     all_needed      the cells that a list of inverses fills again, for which there has to be room
 --     AreValidBack      the rows are valid at each step of the way back
 --     StaysInRoom      a cell that was in the room is in it still
 --     IsFilled, HasRoomForAll      a row of the tables fills the cell; there is room for each row
@@ -16,21 +16,14 @@ use Rattle.indexes.specs.Content.{Content, HasRoom}
 use Rattle.change.specs.declared.inverse.Inverse.{Inverse}
 use Rattle.change.specs.declared.inverse.Inverse.TheVariants.{Take, Put, Replace, Unwipe}
 use Rattle.change.specs.Altered.{cells_altered}
-use Rattle.undo.specs.Undo.{content_undone}
+use Rattle.undo.specs.Undo.{content_undone, cells_needed}
 
 -- the cells that a list of inverses alters
 abbrev pub all_altered : List Inverse → List Cell
 all_altered [] = []
 all_altered (inverse ∷ inverses) = cells_altered inverse ++ all_altered inverses
 
--- the cells that an inverse fills again, for which there has to be room; an emptied table brings its own
-abbrev pub cells_needed : Schema → Inverse → List Cell
-cells_needed schema (Take table key) = []
-cells_needed schema (Put table key row) = cells_of schema table row
-cells_needed schema (Replace table new_key key row) = cells_of schema table row
-cells_needed schema (Unwipe wiped) = []
-
--- those of a list
+-- the cells that a list of inverses fills again
 abbrev pub all_needed : Schema → List Inverse → List Cell
 all_needed schema [] = []
 all_needed schema (inverse ∷ inverses) = cells_needed schema inverse ++ all_needed schema inverses

@@ -27,9 +27,9 @@ use Rattle.model.specs.TakenLemmas.{both_true, same_number}
 use Rattle.std.proofs.lemmas.List.Elements.{Contains-append_left, Contains-append_right, Contains-append_cases}
 use Rattle.model.specs.declared.cell.Cell.{Cell}
 use Rattle.model.specs.declared.cell.Cell.TheVariants.{Row, Uniq, Whole}
-use Rattle.model.specs.Rows.{Place, place_cmp, Rows, Schema, keys_at, key_of, values_in, IsValid}
+use Rattle.model.specs.Rows.{Place, place_cmp, Rows, Schema, keys_at, key_of, values_in, IsValid, is_place}
 use Rattle.model.specs.Effect.{Edits, one_edit, back, all_back}
-use Rattle.model.specs.EditLemmas.{is_place, place_cases, get_overlay, get_remove, get_edit, get_one_edit}
+use Rattle.model.specs.EditLemmas.{place_cases, get_overlay, get_remove, get_edit, get_one_edit}
 use Rattle.model.specs.CellContents.{SameAt, AreSame}
 use Rattle.model.specs.FrameLemmas.{same_at_itself, each_of_first, each_of_second, each_of_both}
 use Rattle.indexes.specs.Content.{Content, KeepsCells}
@@ -38,13 +38,13 @@ use Rattle.change.specs.declared.inverse.Wiped.{Wiped}
 use Rattle.change.specs.declared.inverse.Inverse.{Inverse}
 use Rattle.change.specs.declared.inverse.Inverse.TheVariants.{Take, Put, Replace, Unwipe}
 use Rattle.change.specs.Altered.{cells_altered}
-use Rattle.change.specs.Edits.{laid_together}
-use Rattle.change.specs.EditsLemmas.{or_else, get_over, get_rows_held_other, number_is_not}
+use Rattle.change.specs.Edits.{laid_together, or_else}
+use Rattle.change.specs.EditsLemmas.{get_over, get_rows_held_other, number_is_not}
 use Rattle.change.specs.Inverse.{rows_held, edits_of, is_elsewhere, room_with, room_unwiped, room_back, IsKnown, AreEmpty, AsLeft, HasItsRoom, CanPutBack}
 use Rattle.change.specs.InverseLemmas.{contains_first, contains_one, contains_filter, filter_contains}
-use Rattle.undo.specs.Undo.{content_undone, CanUndo, all_settled}
+use Rattle.undo.specs.Undo.{content_undone, CanUndo, all_settled, cells_needed}
 use Rattle.undo.specs.UndoLemmas.{rows_undone, schema_undone}
-use Rattle.undo.specs.Others.{all_altered, cells_needed, all_needed, AreValidBack, StaysInRoom, IsFilled, HasRoomForAll}
+use Rattle.undo.specs.Others.{all_altered, all_needed, AreValidBack, StaysInRoom, IsFilled, HasRoomForAll}
 
 -- ---- rows
 

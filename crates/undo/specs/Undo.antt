@@ -42,11 +42,18 @@ abbrev pub AreKnownAll : Schema → List Inverse → Type 0
 AreKnownAll schema [] = Unit {0}
 AreKnownAll schema (inverse ∷ inverses) = IsKnown schema inverse × AreKnownAll schema inverses
 
--- of an inverse that puts a row back: its key's, and those that the row fills
+-- the cells that an inverse fills again, for which there has to be room; an emptied table brings its own
+abbrev pub cells_needed : Schema → Inverse → List Cell
+cells_needed schema (Take table key) = []
+cells_needed schema (Put table key row) = cells_of schema table row
+cells_needed schema (Replace table new_key key row) = cells_of schema table row
+cells_needed schema (Unwipe wiped) = []
+
+-- of an inverse that puts a row back: its key's, and those that it fills again
 abbrev pub cells_settled : Schema → Inverse → List Cell
 cells_settled schema (Take table key) = []
-cells_settled schema (Put table key row) = Row table key ∷ cells_of schema table row
-cells_settled schema (Replace table new_key key row) = Row table key ∷ cells_of schema table row
+cells_settled schema (Put table key row) = Row table key ∷ cells_needed schema (Put table key row)
+cells_settled schema (Replace table new_key key row) = Row table key ∷ cells_needed schema (Replace table new_key key row)
 cells_settled schema (Unwipe wiped) = []
 
 -- the cells that settling a list of inverses may give up

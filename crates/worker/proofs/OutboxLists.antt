@@ -2,7 +2,7 @@
 use Rattle.std.proofs.Common.{◌≡◌, ◌↔◌, List, [], ◌∷◌, ◌++◌, Option, Some, None, ap, sym, ◌∙◌}
 use Rattle.std.specs.Prelude.{MatchOption}
 use Rattle.std.proofs.lemmas.List.{append_assoc, append_cancel_left}
-use Rattle.tokens.specs.Half.{Begins}
+use Rattle.model.specs.Beginning.{Begins}
 
 module _ {X : Type 0} where
   -- all of them are those acknowledged, those left and those late

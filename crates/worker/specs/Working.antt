@@ -13,7 +13,7 @@ use Rattle.atomic_table.specs.Seated.{TableId}
 use Rattle.model.specs.declared.change.Change as change_type
 use Rattle.model.specs.declared.item.Item.{Item}
 use Rattle.model.specs.declared.item.Item.TheVariants.{Change, Last}
-use Rattle.tokens.specs.Half.{Begins}
+use Rattle.model.specs.Beginning.{Begins}
 use Rattle.tokens.specs.Lists.{OpenList}
 use Rattle.ring.specs.Ends.{Taking}
 use Rattle.world.specs.World.{Opened}

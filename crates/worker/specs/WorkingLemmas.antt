@@ -8,7 +8,7 @@ use Rattle.std.proofs.lemmas.List.Elements.{All-append, All-cons, All-nil}
 use Rattle.atomic_table.specs.Seated.{TableId}
 use Rattle.model.specs.declared.item.Item.{Item}
 use Rattle.model.specs.declared.item.Item.TheVariants.{Last}
-use Rattle.tokens.specs.Half.{Begins}
+use Rattle.model.specs.Beginning.{Begins}
 use Rattle.tokens.specs.Lists.{OpenList}
 use Rattle.ring.specs.Ends.{Taking, Waited, Acknowledged}
 use Rattle.world.specs.World.{Opened}

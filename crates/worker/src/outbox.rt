@@ -11,7 +11,7 @@ ghost use Rattle.std.specs.Prelude.{◌≡◌, ◌<◌, ◌↔◌, ◌⊎◌, �
 ghost use Rattle.std.specs.VecDeque.{deque_len, deque_capacity};
 ghost use Rattle.std.specs.Sync.Mutex.{mutex_guard_value};
 ghost use Rattle.model.specs.declared.item.Item.TheVariants.{Last};
-ghost use Rattle.tokens.specs.Half.{Begins};
+ghost use Rattle.model.specs.Beginning.{Begins};
 ghost use Rattle.ring.specs.Ends.{AtStart, HasNoRoom};
 ghost use Rattle.worker.specs.declared.outbox.OutboxEvent.TheVariants.{Begun, Given};
 ghost use Rattle.worker.specs.declared.outbox.Collected.TheVariants.{All as WasAll};

@@ -1,6 +1,6 @@
 // One item of a transaction under the store's lock.
 ghost use Rattle.std.specs.Prelude.{◌≡◌, ◌≢◌, Some};
-ghost use Rattle.tokens.specs.Half.{Begins};
+ghost use Rattle.model.specs.Beginning.{Begins};
 ghost use Rattle.model.specs.declared.item.Item.{Item as AnyItem};
 ghost use Rattle.model.specs.declared.item.Item.TheVariants.{Last};
 ghost use Rattle.ring.specs.Ends.{Waited};

@@ -18,7 +18,8 @@ use Rattle.world.specs.World.{Opened, World, work, own_rows, holds}
 use Rattle.world.specs.Live.{in_turn, IsLive}
 use Rattle.world.specs.LiveLemmas.{AreApartFrom, IsFreeOfAll, in_turn_valid}
 use Rattle.world.specs.OpenLemmas.{alone_as_live, cut_back}
-use Rattle.world.specs.FineLemmas.{IsFine, committed_valid, fine_reached}
+use Rattle.world.specs.FineLemmas.{committed_valid, fine_reached}
+use Rattle.world.specs.Fine.{IsFine}
 use Rattle.world.specs.WorldLemmas.{others, from_others, others_apart, live_is}
 use Rattle.world.specs.Statements.{IsReached, BackIsValid, HeldIsLive}
 

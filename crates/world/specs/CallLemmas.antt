@@ -14,7 +14,8 @@ use Rattle.model.specs.SerialLemmas.{held_append, inverses_append, leaves_free_c
 use Rattle.model.specs.CellContents.{SameAt}
 use Rattle.model.specs.SurvivorLemmas.{work_with_change, work_before}
 use Rattle.model.specs.Footprint.{footprint, held_cells}
-use Rattle.world.specs.FineLemmas.{IsFine, fine_reached, fine_step, refused_stays, same_some, holds_stay}
+use Rattle.world.specs.FineLemmas.{fine_reached, fine_step, refused_stays, same_some, holds_stay}
+use Rattle.world.specs.Fine.{IsFine}
 use Rattle.world.specs.WorldLemmas.{one_live, live_valid, live_accepted, live_alone, footprint_live, outcome_live, inverse_live, live_opened, live_acted, live_touched, live_wanting, live_cut, live_aborted, live_committed, inverses_stay, unheld_live}
 use Rattle.world.specs.Statements.{IsReached, SeesNoOthers, ListedInAnyOrder, OneLiveState, LiveIsValid, NoLiveChangeClashes, CommittedIsSerial, AloneIsSerial, NotedClashStands, FootprintOnLive, OutcomeOnLive, LiveAfterOpen, LiveAfterDone, LiveAfterSkip, LiveAfterHeld, LiveAfterClash, LiveAfterTouch, LiveAfterRollback, RollbackLeavesBeginning, DoneComesLast, RollbackKeepsTheRest, LineGrows, LiveAfterAbort, LiveAfterCommit, CommitMovesNoHolds, UnheldIsCommitted, CommitLeavesOtherCells}
 

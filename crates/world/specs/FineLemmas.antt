@@ -1,6 +1,4 @@
--- What every world keeps that calls reach.
---     IsFine      valid start; the commits are serial; no two open transactions share a cell; no change clashes;
---         what clashed does so still
+-- That every world is fine that calls reach.
 --     fine_start, fine_step, fine_reached      the world before the first call is fine, and calls keep it so
 --     committed_valid, own_valid      the committed rows, and each view, are valid
 use Rattle.std.specs.Prelude.{◌≡◌, ◌≢◌, ℕ, false, List, [], ◌∷◌, ◌++◌, Option, Some, None, Ok, Err, refl, ◌⊎◌}
@@ -23,34 +21,13 @@ use Rattle.model.specs.ValidLemmas.{not_none}
 use Rattle.world.specs.World.{Opened, Stop, ByClash, ByHold, World, starting, work, work_behind, changes_in, own_rows, holds, IsFree}
 use Rattle.model.specs.CellContents.{SameAt, AreSame}
 use Rattle.model.specs.Accepted.{AreAccepted}
-use Rattle.world.specs.Steps.{Fault, AlreadyOpen, TooManyOpen, Stopped, OutOfMemory, IsDone, IsSkipped, Held, Clashed, done_with, wanting, opened_with, committed_with, aborted_with, IsRefused, Step, opens, acts, touches, goes_back, commits, aborts, stops_held, tells_stop, reads_live, reads_committed, reads_after, tells_journal, closes, watches, looks, Reaches, at_start, by_step}
+use Rattle.world.specs.Fine.{StillClashes, IsFine}
+use Rattle.world.specs.Steps.{IsClashing, Fault, AlreadyOpen, TooManyOpen, Stopped, OutOfMemory, IsDone, IsSkipped, Held, Clashed, done_with, wanting, opened_with, committed_with, aborted_with, IsRefused, Step, opens, acts, touches, goes_back, commits, aborts, stops_held, tells_stop, reads_live, reads_committed, reads_after, tells_journal, closes, watches, looks, Reaches, at_start, by_step}
 use Rattle.model.specs.OverlapLemmas.{neither, shares_append, shares_either_way, apart_from_first, free_of_each}
 use Rattle.model.specs.AlikeLemmas.{same_footprint, same_outcome}
 use Rattle.model.specs.SerialLemmas.{each_so, held_past, accepted_past, cell_past, held_append, accepted_append, accepted_first}
 use Rattle.world.specs.ListingLemmas.{xid_cases, got_same, got_other, gone_same, gone_other}
 use Rattle.model.specs.SurvivorLemmas.{work_with_change, work_with_touch, work_before}
-
--- the change clashes on the transaction's own view, and meets no cell of another
-abbrev pub IsClashing : Schema → World → ℕ → Opened → change_type.Change → ClashCause → Type 0
-IsClashing schema w xid o c cause =
-    IsFree schema w xid (footprint schema (own_rows schema w xid o) c) ×
-    (outcome schema (own_rows schema w xid o) c ≡ Clashes cause)
-
--- the clash that stopped the world is one still, while its transaction wants the change
-abbrev pub StillClashes : Schema → World → Type 0
-StillClashes schema w =
-    (xid : ℕ) (c : change_type.Change) (cause : ClashCause) → w.stopped ≡ Some (ByClash xid c cause) → (o : Opened) (sub : ℕ)
-    → get w.opened xid ≡ Some o
-    → o.wants ≡ Some (sub, c) → IsClashing schema w xid o c cause
-
--- What every world keeps that calls reach.
-pub record IsFine (schema : Schema) (w : World) : Type 0 where
-  pub valid_start : IsValid schema w.start
-  pub serial_commits : w.committed ≡ serial schema w.start (changes_in w.line)
-  pub apart : (xid other : ℕ) (o p : Opened) → xid ≢ other → get w.opened xid ≡ Some o → get w.opened other ≡ Some p
-      → shares_cell (holds schema w xid o) (holds schema w other p) ≡ false
-  pub accepted : (xid : ℕ) (o : Opened) → get w.opened xid ≡ Some o → AreAccepted schema w.committed (work xid o)
-  pub noted : StillClashes schema w
 
 pub committed_valid : (schema : Schema) (w : World) → IsFine schema w → IsValid schema w.committed
 committed_valid schema w fine =

@@ -2,6 +2,7 @@ pub mod World
 pub mod Settled
 pub mod Live
 pub mod Steps
+pub mod Fine
 pub mod Statements
 pub mod LiveLemmas
 pub mod ListingLemmas

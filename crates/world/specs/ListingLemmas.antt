@@ -14,13 +14,10 @@ use Rattle.std.specs.FinMap.{FinMap, get, insert, remove, entries, find, put, is
 use Rattle.std.specs.FinMap.Entries.{below_all, by_order}
 use Rattle.std.proofs.lemmas.Map.Views.{tells_apart}
 use Rattle.model.specs.TakenLemmas.{first_T, second_T}
+use Rattle.world.specs.World.{is_xid}
 use Rattle.world.specs.Live.{Reordered, same, under, swapped, through}
 
 -- ---- xids
-
--- the two are one xid
-abbrev pub is_xid : ℕ → ℕ → Bool
-is_xid = eq_by_cmp nat_cmp
 
 same_xid : (xid : ℕ) → is_xid xid xid ≡ true
 same_xid = (eq_by_cmp_equiv nat_cmp_total).refl

@@ -1,5 +1,6 @@
 -- What each call does to a world: a relation of the world before, what is asked, what is answered, and the world after.
 --     Opens, Acts, Touches, GoesBack, Commits, Aborts      the calls of a transaction
+--     IsClashing      a change of a transaction clashes, and nobody else holds a cell of it
 --     StopsHeld      the call that stops a world in which all wait
 --     TellsStop, ReadsLive, ReadsCommitted, ReadsAfter, TellsJournal, Closes, Watches, Looks      they alter nothing
 --     Step, Reaches      one call, whichever it is; calls one after another
@@ -15,6 +16,7 @@ use Rattle.model.specs.Rows.{Place, Rows, Schema}
 use Rattle.model.specs.TableRows.{rows_of_table}
 use Rattle.model.specs.Effect.{ClashCause, Edits, Done, Skip, Clashes, outcome, serial}
 use Rattle.model.specs.Footprint.{footprint}
+use Rattle.model.specs.Limits.{most_open}
 use Rattle.world.specs.World.{Opened, Entry, Stop, ByClash, ByHold, World, own_rows, changes_in, journal, IsHeldBy, IsFree}
 use Rattle.world.specs.Settled.{WaitsFor, IsSettled}
 use Rattle.world.specs.Live.{IsListing, live_rows}
@@ -32,10 +34,6 @@ pub data Acted : Type 0 where
   IsSkipped : Acted
   Held : (holder : ℕ) → Acted
   Clashed : (cause : ClashCause) → Acted
-
--- how many transactions can be open
-abbrev pub most_open : ℕ
-most_open = 4096
 
 -- ---- the next world
 
@@ -102,6 +100,12 @@ Acts schema w xid o sub c (Ok (Clashed cause)) new =
     × (outcome schema (own_rows schema w xid o) c ≡ Clashes cause)
     × (new ≡ record (wanting w xid o sub c) { stopped = Some (ByClash xid c cause) })
 Acts schema w xid o sub c (Err fault) new = IsRefused w fault new
+
+-- the change clashes on the transaction's own view, and meets no cell of another
+abbrev pub IsClashing : Schema → World → ℕ → Opened → change_type.Change → ClashCause → Type 0
+IsClashing schema w xid o c cause =
+    IsFree schema w xid (footprint schema (own_rows schema w xid o) c) ×
+    (outcome schema (own_rows schema w xid o) c ≡ Clashes cause)
 
 -- A subtransaction of it is named by an item that changes no row.
 abbrev pub Touches : World → ℕ → Opened → ℕ → Result (Unit {0}) Fault → World → Type 0

@@ -1,12 +1,14 @@
 -- Several open transactions over the committed rows.
+--     is_xid      two xids are one
 --     Opened      what an open transaction has done, and the change that waits or clashed
 --     Past, Entry, journal      a commit with the items done behind it; the commits as they are told, by changes
 --     Stop, World, starting      what can stop a world; the world; the one before the first call
+--     ends_of      where the log goes on behind each commit
 --     work, changes_in      the changes of a transaction, and of commits, that survived their rollbacks
 --     own_rows, holds      the rows as an open transaction sees them, and the cells that its changes hold
 --     IsHeldBy, IsFree      some other open transaction holds one of these cells; none does
-use Rattle.std.specs.Prelude.{◌≡◌, ◌≢◌, ℕ, true, false, List, [], Option, Some, None, map, flat_map}
-use Rattle.std.specs.Ordering.{nat_cmp}
+use Rattle.std.specs.Prelude.{◌≡◌, ◌≢◌, ℕ, Bool, true, false, List, [], Option, Some, None, map, flat_map}
+use Rattle.std.specs.Ordering.{nat_cmp, eq_by_cmp}
 use Rattle.std.specs.FinMap as finite
 use Rattle.std.specs.FinMap.{FinMap, get}
 use Rattle.model.specs.declared.change.Change.{Change}
@@ -17,6 +19,10 @@ use Rattle.model.specs.Rows.{Rows, Schema}
 use Rattle.model.specs.Effect.{ClashCause, serial}
 use Rattle.model.specs.Footprint.{held_cells, shares_cell}
 use Rattle.model.specs.Survivors.{survivors, changes_of}
+
+-- the two are one xid
+abbrev pub is_xid : ℕ → ℕ → Bool
+is_xid = eq_by_cmp nat_cmp
 
 -- an open transaction
 pub record Opened : Type 0 where
@@ -69,6 +75,10 @@ work_behind p = changes_of (survivors p.xid p.items)
 -- those of all commits, in commit order
 abbrev pub changes_in : List Past → List Change
 changes_in line = flat_map work_behind line
+
+-- where the log goes on behind each commit, in order
+abbrev pub ends_of : World → List ℕ
+ends_of w = map (λ (p : Past). p.info.end) w.line
 
 -- a commit as it is told
 pub record Entry : Type 0 where

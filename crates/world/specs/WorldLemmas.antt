@@ -31,7 +31,8 @@ use Rattle.world.specs.LiveLemmas.{AreApartFrom, ArePairwiseApart, reordered_pai
 use Rattle.world.specs.ListingLemmas.{got_same, gone_same, gone_other, removed_again, reordered_back, reordered_map, listed_with, listed_first, KeysDiffer, keys_differ, each_found, xid_cases}
 use Rattle.world.specs.OpenLemmas.{AreFreeOfAll, alone_as_live_each, outcome_on_live, inverse_on_live, live_with_more, still_apart, cut_back}
 use Rattle.model.specs.SurvivorLemmas.{work_with_change, work_with_touch}
-use Rattle.world.specs.FineLemmas.{IsFine, committed_valid, holds_free}
+use Rattle.world.specs.FineLemmas.{committed_valid, holds_free}
+use Rattle.world.specs.Fine.{IsFine}
 
 -- ---- the open ones, of which no two share a cell
 

@@ -10,5 +10,5 @@ returns g c =
     let entries = c.journal.result.now in
     let commits = commits_in c.args.store.now.line.list in
     let as_many : length (map entry_in entries) ≡ length (journal c.args.store.now.world) = ap length c.journal.ensures.journal in
-    let told : length c.args.store.now.world.line ≡ length commits = ap length c.table_count-count.ensures.line in
+    let told : length c.args.store.now.world.line ≡ length commits = ap length c.recall_invariant.ensures.line in
     omega (arith, as_many, told, length-map entries entry_in, length-map c.args.store.now.world.line entry_of, length-map commits (λ (p : Past). p.info.end))

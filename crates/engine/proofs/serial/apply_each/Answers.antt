@@ -6,7 +6,8 @@ use Rattle.model.specs.Effect.{serial}
 use Rattle.model.specs.Rows.{Schema}
 use Rattle.model.specs.Survivors.{changes_of}
 use Rattle.model.specs.declared.item.Item.{Item}
-use Rattle.engine.specs.FirstClash.{IsClear, ClashesIn}
+use Rattle.engine.specs.FirstClash.{ClashesIn}
+use Rattle.model.specs.Accepted.{AreAccepted}
 use Rattle.live_tables.specs.NamedLemmas.{changes_at}
 use Rattle.engine.specs.FirstClashLemmas.{list_done, list_clear, list_refused}
 use Rattle.engine.proofs.SerialSteps.{if_err}
@@ -44,7 +45,7 @@ loop-item-preserved c =
       done = list_done schema rows c.loop-item.tables.rows c.apply_item.new.tables.rows items n item more before.done
           (c.in_ok-apply_item.ensures.ok ∙ ap (λ (s : Schema). serial s c.loop-item.tables.rows (changes_of (item ∷ []))) before.schema);
       clear = list_clear schema rows c.loop-item.tables.rows c.apply_item.new.tables.rows items n item more before.done before.clear
-          (subst (λ (s : Schema). IsClear s c.loop-item.tables.rows (changes_of (item ∷ []))) before.schema c.in_ok-apply_item.ensures.clear);
+          (subst (λ (s : Schema). AreAccepted s c.loop-item.tables.rows (changes_of (item ∷ []))) before.schema c.in_ok-apply_item.ensures.clear);
       base = c.apply_item.ensures.base ∙ before.base;
       can_undo = c.apply_item.ensures.can_undo;
     }

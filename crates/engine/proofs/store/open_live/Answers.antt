@@ -3,7 +3,8 @@ use Rattle.std.specs.FinMap as finite
 use Rattle.std.specs.Result.{IsErrAnd}
 use Rattle.std.specs.BTreeMap.{btree_map_len}
 use Rattle.world.specs.World.{World}
-use Rattle.world.specs.Steps.{Opens, most_open}
+use Rattle.world.specs.Steps.{Opens}
+use Rattle.model.specs.Limits.{most_open}
 use Rattle.live_tables.specs.declared.answers.EngineFault as fault_type
 use Rattle.live_tables.specs.declared.answers.EngineFault.TheVariants.{OutOfMemory as NoMemory}
 use Rattle.live_tables.specs.Answers.{told_fault, told_call, after_open}

@@ -18,9 +18,9 @@ returns-clause-finished g c =
     record {
       world = e.world;
       reached = subst (λ (x : Engine). ∥ Reaches g.N.StoreNames.schema (starting g.N.StoreNames.start) x.world ∥₁) (sym c.meet.ensures.same) c.meet.ensures.reached;
-      commits = c.table_count.ensures.line ∙ ap (λ (l : Half LineEvent). commits_in l.list) line_is;
-      committed = c.table_count.ensures.committed;
-      opened = λ xid. ap (λ (l : Half LineEvent). is_open_in l.list xid) (sym line_is) ∙ c.table_count.ensures.opened xid;
+      commits = c.recall_invariant.ensures.line ∙ ap (λ (l : Half LineEvent). commits_in l.list) line_is;
+      committed = c.recall_invariant.ensures.committed;
+      opened = λ xid. ap (λ (l : Half LineEvent). is_open_in l.list xid) (sym line_is) ∙ c.recall_invariant.ensures.opened xid;
       stood = c.undo_all-noted.ensures.stood;
       decided =
           c.decide.ensures g.N.StoreNames.schema e.world hand c.args.given.now c.stop-stop.ensures

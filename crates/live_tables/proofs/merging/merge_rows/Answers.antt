@@ -11,7 +11,7 @@ use Rattle.live_tables.proofs.merging.merge_rows.Goals.{In_ok-put_up_to_row}
 
 pub loop-row-init : goal.loop-row-init
 loop-row-init c =
-    begins_merging c.args.tables.now.schema c.args.tables.now.rows c.len-tables.ensures.valid c.args.table c.args.stands.entries c.new-rows.result.items c.into_iter-row-iterator.result
+    begins_merging c.args.tables.now.schema c.args.tables.now.rows c.recall_invariant.ensures.valid c.args.table c.args.stands.entries c.new-rows.result.items c.into_iter-row-iterator.result
     c.new-rows.ensures.items (c.into_iter-row-iterator.ensures.into_iter_gives ∙ c.walk-row-items.ensures.rows)
 
 -- the rows behind which the next one was merged go on

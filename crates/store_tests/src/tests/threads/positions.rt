@@ -1,7 +1,8 @@
 // What no clause says of an origin: that two threads load while a third publishes, and that a refused
 // allocation is told.
 ghost use Rattle.std.specs.Prelude.{◌≡◌, ◌≤◌, ◌<◌, []};
-ghost use Rattle.origin.specs.Commits.{Begins, commits_of};
+ghost use Rattle.origin.specs.Commits.{commits_of};
+ghost use Rattle.model.specs.Beginning.{Begins};
 
 use crate::tests::asserts::{assert_holds, assert_same};
 use model::OutOfMemory;

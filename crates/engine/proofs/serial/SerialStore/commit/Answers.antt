@@ -15,14 +15,16 @@ use Rattle.engine.specs.declared.entry.Entry.{Entry}
 use Rattle.engine.specs.declared.events.LineEvent.{LineEvent}
 use Rattle.engine.specs.declared.events.LineEvent.TheVariants.{Opened as WasOpened, Committed as WasCommitted}
 use Rattle.engine.specs.declared.store.Store.TheInside.{Inside}
-use Rattle.engine.specs.FirstClash.{IsClear}
+use Rattle.model.specs.Accepted.{AreAccepted}
 use Rattle.engine.specs.Engine.{entry_in, world_in, Represents}
-use Rattle.engine.specs.Serial.{Serial, committed_by, last_end_in}
+use Rattle.engine.specs.Serial.{Serial, committed_by}
 use Rattle.engine.specs.SerialInside.{idle_in}
 use Rattle.engine.specs.SerialLemmas.{with_commit, idle_committed, reaches_commit}
 use Rattle.engine.proofs.SerialSteps.{known_all, serially_idle, rows_based}
 use Rattle.engine.proofs.serial.SerialStore.commit.Goals as goal
 use Rattle.engine.proofs.serial.SerialStore.commit.Goals.{After-push_reserved}
+use Rattle.model.specs.Beginning.{last_end}
+use Rattle.world.specs.World.{ends_of}
 
 pub settle-requires : goal.settle-requires
 settle-requires c = known_all c.self.inside.live.tables c.self.inside.undo.inverses c.self.invariant.undoable
@@ -47,8 +49,8 @@ module _ (c : After-push_reserved) where
   abbrev before : Inside
   before = idle_in c.self.inside
 
-  clear : IsClear before.live.tables.schema (world_in before).committed changes
-  clear = subst (λ (r : Rows). IsClear before.live.tables.schema r changes) (rows_based c.self.inside c.self.invariant) c.self.invariant.clear
+  clear : AreAccepted before.live.tables.schema (world_in before).committed changes
+  clear = subst (λ (r : Rows). AreAccepted before.live.tables.schema r changes) (rows_based c.self.inside c.self.invariant) c.self.invariant.clear
 
   rows : tables.rows ≡ serial before.live.tables.schema (world_in before).committed changes
   rows = ap (λ (is : List Inverse). all_back c.settle.new.t.rows (map edits_of is)) undone ∙ c.settle.ensures.rows ∙ c.self.invariant.done
@@ -66,8 +68,8 @@ module _ (c : After-push_reserved) where
   tells : entry_in entry ≡ record { xid = c.args.xid; changes = changes; commit = c.args.info.commit; end = c.args.info.end }
   tells = λ i. record { xid = c.args.xid; changes = (c.of_items.ensures ∙ ap (λ v. changes_of v.items) c.replace-items.ensures.value) i; commit = c.args.info.commit; end = c.args.info.end }
 
-  above : last_end_in (world_in before) < c.args.info.end
-  above = subst (λ (s : Serial). last_end_in s.store.world < c.args.info.end) (sym c.self.view_is) c.requires
+  above : last_end (ends_of (world_in before)) < c.args.info.end
+  above = subst (λ (s : Serial). last_end (ends_of s.store.world) < c.args.info.end) (sym c.self.view_is) c.requires
 
   committed : (world_in (with_commit before tables c.push_reserved.new.self c.record_changes.new.kept) ≡ committed_by before.live.tables.schema (world_in before) c.args.xid changes c.args.info)
       × Represents (with_commit before tables c.push_reserved.new.self c.record_changes.new.kept)

@@ -1,6 +1,6 @@
 use Rattle.std.proofs.Common.{◌≡◌}
 use Rattle.model.specs.Survivors.{changes_of}
-use Rattle.engine.specs.FirstClash.{IsClear}
+use Rattle.model.specs.Accepted.{AreAccepted}
 use Rattle.engine.specs.Serial.{rows_now, with_changes}
 use Rattle.engine.proofs.serial.SerialStore.take_all.Given as goal
 
@@ -10,5 +10,5 @@ invariant-loop-item l = record {
   can_next : (goal.iterator-loop-item).can_next l.item-iterator;
   is_finite : (goal.iterator-loop-item).is_finite l.item-iterator;
   done : l.self ≡ with_changes l.fn.self (changes_of l.yielded);
-  clear : IsClear l.fn.self.store.schema (rows_now l.fn.self) (changes_of l.yielded);
+  clear : AreAccepted l.fn.self.store.schema (rows_now l.fn.self) (changes_of l.yielded);
 }

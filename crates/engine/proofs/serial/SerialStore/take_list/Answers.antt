@@ -11,7 +11,7 @@ use Rattle.change.specs.declared.inverse.Inverse.{Inverse}
 use Rattle.change.specs.Inverse.{edits_of}
 use Rattle.undo.specs.Undo.{CanUndo}
 use Rattle.undo.specs.UndoLemmas.{CanUndo_keeps}
-use Rattle.engine.specs.FirstClash.{IsClear}
+use Rattle.model.specs.Accepted.{AreAccepted}
 use Rattle.engine.specs.Serial.{Serial}
 use Rattle.engine.specs.SerialInside.{base_in}
 use Rattle.engine.proofs.SerialSteps.{rows_idle, worked_kept}
@@ -54,6 +54,6 @@ invariant_of-self-2 c =
     (ap (λ (cs : List Change). cs ++ changes_of c.args.items.items) (sym (unchanged at)))
     (c.in_default.ensures.ok ∙ (λ i. serial (c.make_room.ensures.schema i) (c.make_room.ensures.rows i) (changes_of (c.deref-2.ensures.value i)))) c.apply_each.ensures.can_undo
     (subst (λ (s : Serial). All (NamesTables (length s.store.schema)) (changes_of c.args.items.items)) (sym c.self.view_is) c.requires.named)
-    (subst (λ (keys : Schema). IsClear keys c.self.inside.live.tables.rows (changes_of c.args.items.items)) c.make_room.ensures.schema
-    (subst (λ (r : Rows). IsClear c.make_room.new.tables.schema r (changes_of c.args.items.items)) c.make_room.ensures.rows
-    (subst (λ (items : List Item). IsClear c.make_room.new.tables.schema c.make_room.new.tables.rows (changes_of items)) c.deref-2.ensures.value c.in_default.ensures.clear)))
+    (subst (λ (keys : Schema). AreAccepted keys c.self.inside.live.tables.rows (changes_of c.args.items.items)) c.make_room.ensures.schema
+    (subst (λ (r : Rows). AreAccepted c.make_room.new.tables.schema r (changes_of c.args.items.items)) c.make_room.ensures.rows
+    (subst (λ (items : List Item). AreAccepted c.make_room.new.tables.schema c.make_room.new.tables.rows (changes_of items)) c.deref-2.ensures.value c.in_default.ensures.clear)))

@@ -10,7 +10,8 @@ use Rattle.engine.specs.declared.entry.Entry.{Entry}
 use Rattle.engine.specs.declared.events.Event.{Event}
 use Rattle.engine.specs.declared.store.Store.TheInside.{Inside}
 use Rattle.engine.specs.declared.events.LineEvent.{LineEvent}
-use Rattle.engine.specs.Events.{opened_by, last_end}
+use Rattle.engine.specs.Events.{opened_by, ends_in}
+use Rattle.model.specs.Beginning.{last_end}
 use Rattle.engine.specs.Engine.{Engine, entry_in, world_in, Represents}
 use Rattle.engine.specs.StoreLemmas.{has_room, store_committed}
 use Rattle.engine.proofs.StoreTickets.{IsTicket, its_ticket, open_under, may_call, tied_after}
@@ -61,7 +62,7 @@ module _ (c : goal.After-push_reserved) where
       c.record_commit.ensures.kept
       (tied_after c.self.invariant its (λ w n o. committed_with c.self.inside.live.tables.schema w n o c.args.info) c.commit-items.new.self (λ w o. c.commit-items.ensures.tied w o c.args.info))
       c.push_reserved.ensures.items c.push_reserved.ensures.len c.push_reserved.ensures.capacity entry_tells
-      (subst (λ (l : Half LineEvent). last_end l.list < c.args.info.end) (sym c.line.view_is ∙ c.record_commit.ensures.met) c.requires.rising)
+      (subst (λ (l : Half LineEvent). last_end (ends_in l.list) < c.args.info.end) (sym c.line.view_is ∙ c.record_commit.ensures.met) c.requires.rising)
 
 pub invariant_of-self : goal.invariant_of-self
 invariant_of-self c = (moved c).1

@@ -4,7 +4,8 @@ use Rattle.world.specs.Steps.{aborted_with}
 use Rattle.live_tables.specs.declared.live_tables.Live.{Live}
 use Rattle.live_tables.specs.CellLemmas.{before_image_is_held}
 use Rattle.live_tables.specs.BeforeImages.{IsStoodAt}
-use Rattle.live_tables.specs.ReleasedLemmas.{IsLetGo, are_released, lets_go_free, tied_released}
+use Rattle.live_tables.specs.ReleasedLemmas.{are_released, lets_go_free, tied_released}
+use Rattle.live_tables.specs.Released.{IsLetGo}
 use Rattle.live_tables.specs.BasicLemmas.{never_missing, puts_by_update, its_can}
 use Rattle.live_tables.specs.EndedLemmas.{tied_aborted}
 use Rattle.live_tables.proofs.live_tables.Live.abort.Goals as goal

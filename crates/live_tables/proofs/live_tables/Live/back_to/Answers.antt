@@ -12,7 +12,8 @@ use Rattle.live_tables.specs.BackToLemmas.{can_since}
 use Rattle.live_tables.specs.declared.transaction.OpenTransaction.{OpenTransaction}
 use Rattle.live_tables.specs.declared.live_tables.Live.{Live}
 use Rattle.live_tables.specs.CellLemmas.{before_image_is_held}
-use Rattle.live_tables.specs.ReleasedLemmas.{IsLetGo, AreReleased, are_released, lets_go_free, tied_released}
+use Rattle.live_tables.specs.ReleasedLemmas.{are_released, lets_go_free, tied_released}
+use Rattle.live_tables.specs.Released.{IsLetGo, AreReleased}
 use Rattle.live_tables.specs.BasicLemmas.{never_missing, writes_by_borrow, its_names, its_can}
 use Rattle.live_tables.specs.EndedLemmas.{tied_back, before_image_since, before_image_still}
 use Rattle.live_tables.proofs.live_tables.Live.back_to.Goals as goal

@@ -26,4 +26,4 @@ returns-clause-tied c =
     (record { tables = c.settle-items.new.t; holds = c.release_all.new.self; transactions = c.remove.new.self; stopped = store.stopped })
     (puts_by_update c.args.xid _ store.transactions c.remove.new.self c.in-Some.ensures.updates) c.in-Some.ensures.len
     (record { here = c.release_all.ensures.own; beside = c.release_all.ensures.others }) refl
-    info (record { schema_is = given.schema; rows = given.rows; has_room = c.len-tables.ensures.room; others = given.others })
+    info (record { schema_is = given.schema; rows = given.rows; has_room = c.recall_invariant.ensures.room; others = given.others })

@@ -5,7 +5,7 @@ use Rattle.session.specs.State.{Setting}
 use Rattle.session.specs.Answers.{AdmitsPayload}
 use Rattle.session.specs.declared.step.Step.TheVariants as steps
 use Rattle.engine.specs.Engine.{Engine}
-use Rattle.engine.specs.Serial.{Serial, last_end_in}
+use Rattle.engine.specs.Serial.{Serial}
 use Rattle.run.specs.Progress.{Progress}
 use Rattle.run.specs.Applier.{Represents}
 use Rattle.run.proofs.Admitted.{taken_on}
@@ -13,6 +13,8 @@ use Rattle.run.proofs.Taking.{given, committed_by, quiet, is_quiet, no_change, s
 use Rattle.run.proofs.Ending.{ends_with, turned_away, out_of_memory, clashed_on, clashed_at_commit}
 use Rattle.run.proofs.applier.Applier.take_message.Goals as goal
 use Rattle.run.proofs.applier.Applier.take_message.Goals.{In-Item, In-Commit}
+use Rattle.model.specs.Beginning.{last_end}
+use Rattle.world.specs.World.{ends_of}
 
 -- the session answered this
 taken : (c : In-Item) (g : Setting) (rows : Rows) (p : Progress) → Represents g rows c.args.self.now p → AdmitsPayload g c.admit.new.self p.state c.args.payload.now (steps.Item c.in-Item.field-0 c.in-Item.item)
@@ -62,7 +64,7 @@ commit-requires c =
     let at = c.requires.3 in
     let t = taken_commit (goal.at.commit-requires c).In-Commit c.requires.0 c.requires.1 c.requires.2 at in
     let is = committed_by c.requires.0 c.requires.2.state t.state t.told c.in-Commit.xid c.in-Commit.info.commit c.in-Commit.info.end c.in-Commit.items (sane _ _ _ at.session) (sane _ _ _ t.represents) at.served t.tells t.says in
-    subst (λ (e : Engine). last_end_in e.world < c.in-Commit.info.end) (sym c.take_all.ensures.store)
+    subst (λ (e : Engine). last_end (ends_of e.world) < c.in-Commit.info.end) (sym c.take_all.ensures.store)
     (rises c.requires.0 c.requires.1 c.args.self.now c.requires.2 t.state c.in-Commit.xid c.in-Commit.info.commit c.in-Commit.info.end c.in-Commit.items.items at is)
 
 pub returns-in_err-take_all-in-Commit : goal.returns-in_err-take_all-in-Commit

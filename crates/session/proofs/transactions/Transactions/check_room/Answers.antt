@@ -2,7 +2,7 @@ use Rattle.std.proofs.Common.{◌≡◌, sym, ◌∙◌, arith, true, false}
 use Rattle.std.specs.Prelude.{nat_le}
 use Rattle.std.specs.FinMap as map
 use Rattle.std.proofs.lemmas.Bool.{le-leb, lt-leb}
-use Rattle.session.specs.Table.{most_open}
+use Rattle.model.specs.Limits.{most_open}
 use Rattle.session.proofs.transactions.Transactions.check_room.Goals as goal
 
 pub returns-then-contains : goal.returns-then-contains

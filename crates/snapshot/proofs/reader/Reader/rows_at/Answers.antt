@@ -15,13 +15,13 @@ pub returns-in_default-clause-refused : goal.returns-in_default-clause-refused
 returns-in_default-clause-refused g c =
     let entries = c.journal.result.now in
     let seen = c.look.new.seen in
-    let told = subst (λ (s : Engine). s.world.line ≡ commits_in s.line.list) c.deref.ensures c.table_count.ensures.line in
+    let told = subst (λ (s : Engine). s.world.line ≡ commits_in s.line.list) c.deref.ensures c.recall_invariant.ensures.line in
     let is = subst (λ (s : Engine). map entry_in entries ≡ journal s.world) c.deref-2.ensures c.journal.ensures.journal in
     let looked = subst (λ (s : Engine). seen ≡ s.line) c.deref_mut.ensures.value c.look.ensures.seen in
     let positions = positions_told c.lock-store.result.value told seen looked entries is in
     rw (← c.self.view_is) (
-      omega (arith, c.in_ok-check_table.ensures.known, c.table_count.ensures.count),
-      sees_looked refl c.self.invariant.0 c.look.ensures.name c.look.ensures.begins c.look.ensures.seen (c.deref.ensures ∙ sym c.deref_mut.ensures.value) c.table_count.ensures.rising,
+      omega (arith, c.in_ok-check_table.ensures.known, c.table_count.ensures),
+      sees_looked refl c.self.invariant.0 c.look.ensures.name c.look.ensures.begins c.look.ensures.seen (c.deref.ensures ∙ sym c.deref_mut.ensures.value) c.recall_invariant.ensures.rising,
       λ has. c.in_default.ensures (subst (λ (ns : List ℕ). Contains ns c.args.position) (sym positions) has),
     )
 
@@ -37,8 +37,8 @@ returns-clause-rows g c =
     let s = c.lock-store.result.value in
     let entries = c.journal.result.now in
     let seen = c.look-2.new.seen in
-    let told = subst (λ (t : Engine). t.world.line ≡ commits_in t.line.list) c.deref.ensures c.table_count.ensures.line in
-    let starts = subst (λ (t : Engine). t.world.start ≡ g.N.StoreNames.start) c.deref.ensures c.table_count.ensures.start in
+    let told = subst (λ (t : Engine). t.world.line ≡ commits_in t.line.list) c.deref.ensures c.recall_invariant.ensures.line in
+    let starts = subst (λ (t : Engine). t.world.start ≡ g.N.StoreNames.start) c.deref.ensures c.recall_invariant.ensures.start in
     let is = subst (λ (t : Engine). map entry_in entries ≡ journal t.world) c.deref-2.ensures c.journal.ensures.journal in
     let looked = subst (λ (t : Engine). seen ≡ t.line) c.deref_mut-2.ensures.value c.look-2.ensures.seen in
     let positions = positions_told s told seen looked entries is in (
@@ -51,4 +51,4 @@ returns-clause-rows g c =
 
 pub returns-clause-seen : goal.returns-clause-seen
 returns-clause-seen g c =
-    sees_looked c.self.view_is c.self.invariant.0 c.look-2.ensures.name c.look-2.ensures.begins c.look-2.ensures.seen (c.deref.ensures ∙ sym c.deref_mut-2.ensures.value) c.table_count.ensures.rising
+    sees_looked c.self.view_is c.self.invariant.0 c.look-2.ensures.name c.look-2.ensures.begins c.look-2.ensures.seen (c.deref.ensures ∙ sym c.deref_mut-2.ensures.value) c.recall_invariant.ensures.rising

@@ -1,6 +1,7 @@
 // A store whose transactions come one at a time.
 ghost use Rattle.std.specs.Prelude.{◌≡◌, [], length, IfOk, OnOk};
-ghost use Rattle.engine.specs.Serial.{last_end_in};
+ghost use Rattle.model.specs.Beginning.{last_end};
+ghost use Rattle.world.specs.World.{ends_of};
 
 use super::scene::{ACCOUNTS, SAME_EMAIL, WORKED};
 use crate::tests::asserts::assert_same;
@@ -22,7 +23,7 @@ const COMMIT: CommitInfo = CommitInfo {
 /// A store of the accounts, without rows.
 fn accounts(rt: &impl Abort, alloc: Global) -> Result<SerialStore, OutOfMemory>
     ensures count { IfOk result (λ serial. length serial.store.schema ≡ 1) }
-    ensures none { IfOk result (λ serial. last_end_in serial.store.world ≡ 0) }
+    ensures none { IfOk result (λ serial. last_end (ends_of serial.store.world) ≡ 0) }
 {
     let start = empty_tables(alloc, &[&[1]])?;
     assert!(rt; start.len() == 1);
@@ -50,7 +51,7 @@ fn take_two(rt: &impl Abort, alloc: Global, serial: &mut SerialStore) -> Result<
 /// They are committed.
 fn commit_two(rt: &impl Abort, alloc: Global, serial: &mut SerialStore) -> Result<(), Clash>
     requires count { length serial.old.store.schema ≡ 1 }
-    requires none { last_end_in serial.old.store.world ≡ 0 }
+    requires none { last_end (ends_of serial.old.store.world) ≡ 0 }
     ensures schema { serial.new.store.schema ≡ serial.old.store.schema }
     ensures start { serial.new.store.world.start ≡ serial.old.store.world.start }
     ensures committed { OnOk result (serial.new.changes ≡ []) }

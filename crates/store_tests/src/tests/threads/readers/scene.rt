@@ -4,7 +4,7 @@ ghost use Rattle.std.specs.Coded.{Coded-set};
 ghost use Rattle.model.specs.Named.{NamesTables};
 ghost use Rattle.world.specs.World.{starting};
 ghost use Rattle.engine.specs.EngineCode.{world_code};
-ghost use Rattle.engine.specs.Events.{last_end};
+ghost use Rattle.model.specs.Beginning.{last_end};
 ghost use Rattle.origin.specs.Commits.{commits_of};
 
 use crate::tests::asserts::assert_same;
@@ -99,7 +99,7 @@ pub(super) struct Scene<'a, N: StoreNames> {
     end: Lsn,
     ghost counted: { length N.schema ≡ 1 },
     ghost named: { line.name ≡ N.line },
-    ghost ended: { last_end line.list ≡ end },
+    ghost ended: { last_end (ends_in line.list) ≡ end },
 }
 
 /// A row goes.

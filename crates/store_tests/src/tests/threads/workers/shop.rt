@@ -1,7 +1,7 @@
 // A store that workers share, and the hand that opens and ends their transactions.
 ghost use Rattle.std.specs.Prelude.{◌≡◌, [], length};
 ghost use Rattle.world.specs.World.{starting};
-ghost use Rattle.engine.specs.Events.{last_end};
+ghost use Rattle.model.specs.Beginning.{last_end};
 
 use super::steps::{Step, int_at, item_of};
 use crate::tests::asserts::assert_same;
@@ -29,7 +29,7 @@ pub(super) struct Hand<'a, N: StoreNames, R> {
     line: Line,
     end: Lsn,
     ghost lined: { line.name ≡ N.line },
-    ghost ended: { last_end line.list ≡ end },
+    ghost ended: { last_end (ends_in line.list) ≡ end },
 }
 
 impl<'a, N: StoreNames, R: Wait + Abort> Hand<'a, N, R> {

@@ -1,5 +1,5 @@
 use Rattle.std.proofs.Common.{◌≡◌}
-use Rattle.origin.specs.Commits.{Begins}
+use Rattle.model.specs.Beginning.{Begins}
 use Rattle.store_tests.proofs.tests.threads.positions.load_all.Given as goal
 
 abbrev pub invariant-loop : goal.invariant-loop

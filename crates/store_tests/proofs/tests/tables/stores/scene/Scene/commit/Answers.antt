@@ -1,15 +1,16 @@
 use Rattle.std.proofs.Common.{ap, sym, ◌∙◌, List}
 use Rattle.world.specs.World.{World}
 use Rattle.engine.specs.declared.events.LineEvent.{LineEvent}
-use Rattle.engine.specs.Events.{last_end}
+use Rattle.model.specs.Beginning.{last_end}
 use Rattle.engine.specs.EventLemmas.{last_more}
 use Rattle.store_tests.proofs.Scenes.{has_ended}
 use Rattle.store_tests.proofs.tests.tables.stores.scene.Scene.commit.Goals as goal
+use Rattle.engine.specs.Events.{ends_in}
 
 pub invariant_of-self : goal.invariant_of-self
 invariant_of-self g c =
     let given = c.commit.ensures in
-    let ends = ap (λ (events : List LineEvent). last_end events) given.appended ∙ last_more c.args.self.now.line.list _ _ _ in
+    let ends = ap (λ (events : List LineEvent). last_end (ends_in events)) given.appended ∙ last_more c.args.self.now.line.list _ _ _ in
     record {
       keeps = has_ended _ _ _ _ _ c.remove.new.self _ _ _ _ c.args.self.now.keeps given.same given.line_told ends (sym c.in-Some.ensures.value) c.in-Some.ensures.updates
           (ap (λ (w : World). w.opened) given.commits);

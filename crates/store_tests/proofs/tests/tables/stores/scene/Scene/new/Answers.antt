@@ -2,7 +2,7 @@ use Rattle.std.proofs.Common.{ap, List, rules}
 use Rattle.world.specs.World.{World}
 use Rattle.tokens.specs.Half.{Half}
 use Rattle.engine.specs.declared.events.LineEvent.{LineEvent}
-use Rattle.engine.specs.Events.{last_end}
+use Rattle.model.specs.Beginning.{last_end}
 use Rattle.store_tests.proofs.Scenes.{belong_none, know_none}
 use Rattle.store_tests.proofs.tests.tables.stores.scene.Scene.new.Goals as goal
 
@@ -13,7 +13,7 @@ invariant_of-result g c =
       keeps = record {
         counted = search rules;
         lined = ap (λ (l : Half LineEvent). l.name) given.line.0;
-        ended = ap (λ (events : List LineEvent). last_end events) given.line.1;
+        ended = ap (λ (events : List LineEvent). last_end (ends_in events)) given.line.1;
         belong = belong_none c.new-2.result c.in_ok-store.store.tickets c.new-2.ensures.empty;
         known = know_none c.new-2.result c.in_ok-store.store.world.opened (ap (λ (w : World). w.opened) given.world);
       };

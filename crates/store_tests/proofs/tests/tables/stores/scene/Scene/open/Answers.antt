@@ -8,7 +8,7 @@ use Rattle.live_tables.specs.Answers.{told_call}
 use Rattle.engine.specs.declared.events.Event.{Event}
 use Rattle.engine.specs.declared.events.LineEvent.{LineEvent}
 use Rattle.engine.specs.declared.events.LineEvent.TheVariants.{Opened as WasOpened, Aborted as WasAborted}
-use Rattle.engine.specs.Events.{last_end}
+use Rattle.model.specs.Beginning.{last_end}
 use Rattle.engine.specs.EventLemmas.{last_same}
 use Rattle.store_tests.proofs.Scenes.{belong_put, know_put, belong_again, know_again, opens_alike}
 use Rattle.store_tests.proofs.tests.tables.stores.scene.Scene.open.Goals as goal
@@ -22,7 +22,7 @@ invariant_of-self-in-Ok-keep c =
       keeps = record {
         counted = ap (λ (s : Schema). length s) given.same.schema ∙ old.keeps.counted;
         lined = ap (λ (l : Half LineEvent). l.name) given.line;
-        ended = ap (λ (events : List LineEvent). last_end events) given.ok ∙ last_same old.line.list (WasOpened c.args.xid) refl ∙ old.keeps.ended;
+        ended = ap (λ (events : List LineEvent). last_end (ends_in events)) given.ok ∙ last_same old.line.list (WasOpened c.args.xid) refl ∙ old.keeps.ended;
         belong = belong_put old.tickets c.keep.new.tickets old.store.tickets c.open.new.self.tickets c.args.xid ticket old.keeps.belong given.same.tickets c.in-Ok-keep.ensures.ok
             (ap (λ (t : OpenList Event). t.name) given.ticket ∙ sym given.same.tickets) (ap (λ (t : OpenList Event). t.number) given.ticket);
         known = know_put old.tickets c.keep.new.tickets old.store.world.opened c.open.new.self.world.opened c.args.xid ticket old.keeps.known c.in-Ok-keep.ensures.ok
@@ -40,8 +40,8 @@ invariant_of-self-in-Err-keep c =
       keeps = record {
         counted = ap (λ (s : Schema). length s) (gone.same.schema ∙ given.same.schema) ∙ old.keeps.counted;
         lined = ap (λ (l : Half LineEvent). l.name) gone.line_told;
-        ended = ap (λ (events : List LineEvent). last_end events) gone.appended ∙ last_same c.open.new.line.list (WasAborted c.in-Err-keep.ticket.number) refl
-            ∙ ap (λ (events : List LineEvent). last_end events) given.ok ∙ last_same old.line.list (WasOpened c.args.xid) refl ∙ old.keeps.ended;
+        ended = ap (λ (events : List LineEvent). last_end (ends_in events)) gone.appended ∙ last_same c.open.new.line.list (WasAborted c.in-Err-keep.ticket.number) refl
+            ∙ ap (λ (events : List LineEvent). last_end (ends_in events)) given.ok ∙ last_same old.line.list (WasOpened c.args.xid) refl ∙ old.keeps.ended;
         belong = belong_again old.tickets c.keep.new.tickets old.store.tickets c.abort.new.self.tickets old.keeps.belong (gone.same.tickets ∙ given.same.tickets)
             c.in-Err-keep.ensures.unchanged;
         known = know_again old.tickets c.keep.new.tickets old.store.world.opened c.open.new.self.world.opened c.abort.new.self.world.opened c.args.xid old.keeps.known

@@ -1,6 +1,6 @@
 use Rattle.std.proofs.Common.{List, ap, ◌∙◌}
 use Rattle.engine.specs.declared.events.LineEvent.{LineEvent}
-use Rattle.engine.specs.Events.{last_end}
+use Rattle.model.specs.Beginning.{last_end}
 use Rattle.engine.specs.EventLemmas.{last_more}
 use Rattle.store_tests.proofs.Names.{named_still}
 use Rattle.store_tests.proofs.tests.threads.readers.scene.Scene.commit.Goals as goal
@@ -11,5 +11,5 @@ invariant_of-self g c =
     record {
       counted = c.args.self.now.counted;
       named = named_still _ _ _ _ given.met given.line_told given.same ∙ c.args.self.now.named;
-      ended = ap (λ (events : List LineEvent). last_end events) given.appended ∙ last_more c.args.self.now.line.list _ _ _;
+      ended = ap (λ (events : List LineEvent). last_end (ends_in events)) given.appended ∙ last_more c.args.self.now.line.list _ _ _;
     }

@@ -2,15 +2,16 @@ use Rattle.std.proofs.Common.{◌≡◌, ℕ, List, [], ◌∷◌, ◌++◌, Res
 use Rattle.std.specs.Prelude.{OnOk, OnErr}
 use Rattle.engine.specs.declared.events.LineEvent.{LineEvent}
 use Rattle.engine.specs.declared.events.LineEvent.TheVariants.{Opened as WasOpened}
-use Rattle.engine.specs.Events.{last_end}
+use Rattle.model.specs.Beginning.{last_end}
 use Rattle.engine.specs.EventLemmas.{last_same}
 use Rattle.store_tests.proofs.tests.threads.workers.shop.Hand.open.Goals as goal
+use Rattle.engine.specs.Events.{ends_in}
 
 -- no commit comes with a transaction that opens, nor where none does
 same_end : {T E : Type 0} (r : Result T E) (old new : List LineEvent) (xid : ℕ) → OnOk r (new ≡ old ++ WasOpened xid ∷ []) → OnErr r (new ≡ old)
-    → last_end new ≡ last_end old
-same_end (Ok t) old new xid more same = ap (λ (events : List LineEvent). last_end events) more ∙ last_same old (WasOpened xid) refl
-same_end (Err e) old new xid more same = ap (λ (events : List LineEvent). last_end events) same
+    → last_end (ends_in new) ≡ last_end (ends_in old)
+same_end (Ok t) old new xid more same = ap (λ (events : List LineEvent). last_end (ends_in events)) more ∙ last_same old (WasOpened xid) refl
+same_end (Err e) old new xid more same = ap (λ (events : List LineEvent). last_end (ends_in events)) same
 
 pub invariant_of-self-clause-ended : goal.invariant_of-self-clause-ended
 invariant_of-self-clause-ended g c =

@@ -6,7 +6,7 @@ use Rattle.engine.specs.declared.store.Store.TheInside.{Inside}
 use Rattle.engine.specs.Engine.{Engine, Represents, world_in}
 use Rattle.engine.specs.EventLemmas.{get_values}
 use Rattle.engine.specs.Events.{opened_by, ends_in, is_open_in}
-use Rattle.engine.proofs.store.Store.table_count.Goals as goal
+use Rattle.engine.proofs.store.Store.recall_invariant.Goals as goal
 
 pub returns-clause-rising : goal.returns-clause-rising
 returns-clause-rising c = subst (λ (s : Engine). IsStrictlyIncreasing (0 ∷ ends_in s.line.list)) c.self.view_is c.self.invariant.rising

@@ -1,4 +1,4 @@
--- The row that an inverse has for a place, by what it keeps.
+-- The row that an inverse puts back at a place is the one that it keeps for it.
 use Rattle.std.proofs.Common.{◌≡◌, ℕ, ◌==◌, Bool, true, false, cond, List, [], ◌∷◌, map, Option, Some, None, refl, sym, ap, ◌∙◌, inl, inr}
 use Rattle.std.specs.Prelude.{if◌then◌else◌, unwrap_or}
 use Rattle.std.specs.Ordering.{eq_by_cmp}
@@ -7,16 +7,16 @@ use Rattle.model.specs.Key.{key_cmp}
 use Rattle.std.proofs.lemmas.Bool.{cases_Bool, eqb-true}
 use Rattle.model.specs.declared.key.Key.{Key}
 use Rattle.model.specs.declared.row.Row.{Row}
-use Rattle.model.specs.Rows.{place_cmp, place_cmp_total}
+use Rattle.model.specs.Rows.{place_cmp, place_cmp_total, is_place}
 use Rattle.model.specs.Effect.{one_edit}
-use Rattle.model.specs.EditLemmas.{is_place, get_edit, get_one_edit}
+use Rattle.model.specs.EditLemmas.{get_edit, get_one_edit}
 use Rattle.change.specs.declared.inverse.Wiped.{Wiped}
+use Rattle.change.specs.declared.inverse.Inverse.{Inverse}
 use Rattle.change.specs.declared.inverse.Inverse.TheVariants.{Take, Put, Replace, Unwipe}
-use Rattle.change.specs.Inverse.{rows_held}
-use Rattle.change.specs.Edits.{laid_together}
-use Rattle.change.specs.KeptRow.{first_emptied}
-use Rattle.change.specs.EditsLemmas.{or_else, get_over, get_rows_held_other, place_in_table}
-use Rattle.live_tables.specs.ReadStatements.{RowIsKept}
+use Rattle.change.specs.Inverse.{rows_held, row_by_inverse}
+use Rattle.change.specs.Edits.{laid_together, or_else}
+use Rattle.change.specs.KeptRow.{first_emptied, row_kept}
+use Rattle.change.specs.EditsLemmas.{get_over, get_rows_held_other, place_in_table}
 
 abbrev as_none : Option Row
 as_none = None
@@ -79,7 +79,7 @@ emptied (w ∷ wiped) table key =
           ∙ sym (ap (λ b. if b then or_else (get w.contents.rows key) (first_emptied wiped table key) else first_emptied wiped table key) other)
     ]
 
-pub row_is_kept : RowIsKept
+pub row_is_kept : (i : Inverse) (table : ℕ) (key : Key) → row_by_inverse i (table, key) ≡ row_kept i table key
 row_is_kept (Take other values) table key =
     ap (λ e. unwrap_or e None) (get_one_edit (other, values) None (table, key)) ∙ no_row_at (is_place (table, key) (other, values))
 row_is_kept (Put other values row) table key =

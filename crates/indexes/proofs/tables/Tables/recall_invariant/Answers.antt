@@ -1,5 +1,5 @@
 use Rattle.indexes.proofs.Seen as seen
-use Rattle.indexes.proofs.tables.Tables.len.Goals as goal
+use Rattle.indexes.proofs.tables.Tables.recall_invariant.Goals as goal
 
 pub returns-clause-valid : goal.returns-clause-valid
 returns-clause-valid c = seen.seen_valid c.self.inside.tables.items c.args.self.now c.self.view_is c.self.invariant
