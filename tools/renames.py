@@ -226,12 +226,17 @@ def whole(pattern):
     return re.compile(rf"(?<!{LETTER})(?:{pattern})(?!{LETTER})")
 
 
+def unqualified(name):
+    """The name where no other module's alias stands before it (steps.Nothing)."""
+    return re.compile(rf"(?<![A-Za-z0-9_'.]){re.escape(name)}(?!{LETTER})")
+
+
 class Checkout:
     def __init__(self, top):
         self.top = top
         self.files = {}
         for folder, _, names in os.walk(os.path.join(top, "crates")):
-            if "/out" in folder:
+            if "/out/" in folder + "/":
                 continue
             for name in names:
                 if name.endswith((".rt", ".antt", ".edit")):
@@ -290,7 +295,7 @@ def rename_in_import(text, module, name, new):
 
 def outside_imports(text, pattern, new):
     """Replaces a name but in the lists of imports of other modules."""
-    parts = re.split(r"(Rattle\.[\w.]+(?:\.\{[^}]*\}| as \w+)?)", text)
+    parts = re.split(r"(Rattle(?:\.\w+)+(?:\.\{[^}]*\}| as \w+)?)", text)
     return "".join(part if i % 2 else pattern.sub(new, part) for i, part in enumerate(parts))
 
 
@@ -300,7 +305,7 @@ def rename_names(tree):
         home = f"crates/{crate}/specs/{module}.antt"
         if home not in tree.files:
             sys.exit(f"no {home}")
-        pattern = whole(re.escape(name))
+        pattern = unqualified(name)
         for path, text in tree.files.items():
             how, alias = imported(text, at, name)
             if alias:
@@ -336,7 +341,7 @@ def rename_representing(tree):
             else:
                 word = beside
             if home or how == "plain":
-                text = outside_imports(text, whole(re.escape(name)), "\0" + word)
+                text = outside_imports(text, unqualified(name), "\0" + word)
                 text = rename_in_import(text, at, name, f"\0{name}" if word == "Represents" else f"\0{name} as {word}")
                 text = text.replace(f"\0{name} as", "\0Represents as").replace(f"\0{name}", "\0Represents")
         text = text.replace("\0", "")

@@ -165,11 +165,11 @@ impl<N: StoreNames, L: OutboxNames> Lane<N, L> {
     // compared.
     fn own_job<R: Wait>(&self, rt: &R, job: Job<N, L>) -> Job<N, L>
         ensures same { result ≡ job }
-        ensures lane { result.lane ≡ self.now.number }
+        ensures worker { result.worker ≡ self.now.number }
         ensures goes { (given : Given) × (self.now.goes ≡ Some given) × (result.xid ≡ given.xid) }
         ensures away { self.now.back ≡ None }
     {
-        if self.is_away() && job.lane() == self.number && job.xid() == self.xid {
+        if self.is_away() && job.worker() == self.number && job.xid() == self.xid {
             return job;
         }
         for _ in rt.forever() {}

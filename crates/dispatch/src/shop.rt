@@ -94,7 +94,7 @@ impl<N: StoreNames, L: OutboxNames, G: Gate + Drop> Work<Job<N, L>> for Shop<N, 
     ghost keeps = { GoesOn };
 
     fn work<R: Wait>(&self, rt: &R, job: &mut Job<N, L>) {
-        let Some(seat) = self.seats.get(job.lane()) else {
+        let Some(seat) = self.seats.get(job.worker()) else {
             return;
         };
         let mut gate = seat.gate.lock(rt);

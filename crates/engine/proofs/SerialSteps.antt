@@ -33,7 +33,7 @@ use Rattle.model.specs.Accepted.{AreAccepted}
 use Rattle.engine.specs.FirstClashLemmas.{ClashesIn-behind, ClashesIn-before}
 use Rattle.model.specs.SerialLemmas.{accepted_append}
 use Rattle.live_tables.specs.Answers.{told_stop}
-use Rattle.engine.specs.Engine.{engine_in, world_in, StoreRepresents}
+use Rattle.engine.specs.Engine.{engine_in, world_in, Represents as StoreRepresents}
 use Rattle.engine.specs.Serial.{Serial, rows_now, with_changes}
 use Rattle.engine.specs.SerialInside.{base_in, idle_in, serial_in, Represents}
 use Rattle.engine.specs.SerialLemmas.{idle_rows, rows_with}

@@ -19,7 +19,7 @@ use Rattle.engine.specs.declared.store.Store.TheInside.{Inside}
 use Rattle.engine.specs.Events.{opened_by}
 use Rattle.engine.specs.Engine.{Engine, world_in, engine_in, Represents}
 use Rattle.engine.specs.StoreLemmas.{stands, with_parts, store_done}
-use Rattle.live_tables.specs.Represents.{LiveRepresents}
+use Rattle.live_tables.specs.Represents.{Represents as LiveRepresents}
 
 -- The number is the ticket's, and the store's book has the ticket's list under it.
 pub record IsTicket (s : Inside) (t : OpenList Event) (n : ℕ) : Type 0 where

@@ -18,7 +18,7 @@ use Rattle.engine.specs.declared.events.LineEvent.{LineEvent}
 use Rattle.engine.specs.declared.store.Store.TheInside.{Inside}
 use Rattle.live_tables.specs.Answers.{told_stop}
 use Rattle.engine.specs.Events.{ends_in, is_open_in, world_of}
-use Rattle.live_tables.specs.Represents.{LiveRepresents}
+use Rattle.live_tables.specs.Represents.{Represents as LiveRepresents}
 
 -- a store as its callers see it
 pub record Engine : Type 0 where

@@ -16,7 +16,7 @@ use Rattle.engine.specs.declared.serial.SerialStore.TheInside.{Inside}
 use Rattle.engine.specs.declared.store.Store.TheInside as store_inside
 use Rattle.live_tables.specs.Answers.{told_stop}
 use Rattle.model.specs.Accepted.{AreAccepted}
-use Rattle.engine.specs.Engine.{engine_in, StoreRepresents}
+use Rattle.engine.specs.Engine.{engine_in, Represents as StoreRepresents}
 use Rattle.engine.specs.Serial.{Serial, rows_now}
 
 -- the rows without the open work are those that are left once all of it is undone

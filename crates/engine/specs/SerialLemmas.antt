@@ -52,11 +52,11 @@ use Rattle.engine.specs.Engine.{entry_in, world_in, Represents}
 use Rattle.engine.specs.Events.{opened_by, opened_in, commits_in, ends_in, is_open_in, open_after, world_of}
 use Rattle.model.specs.Beginning.{last_end}
 use Rattle.engine.specs.EventLemmas.{values_empty, same_commits, more_commits, more_committed, rise_more, ends_same, ends_more}
-use Rattle.live_tables.specs.KeptRecords.{RecordsRepresent}
+use Rattle.live_tables.specs.KeptRecords.{Represents as RecordsRepresent}
 use Rattle.engine.specs.EntryLemmas.{entries_named}
 use Rattle.engine.specs.Serial.{Serial, rows_now, with_changes, having_made, with_work, committed_by}
 use Rattle.engine.specs.StoreLemmas.{still_rising}
-use Rattle.live_tables.specs.Represents.{records_in, LiveRepresents}
+use Rattle.live_tables.specs.Represents.{records_in, Represents as LiveRepresents}
 
 -- ---- a transaction that has made changes and nothing else
 

@@ -21,13 +21,13 @@ use Rattle.world.specs.Steps.{Closes, aborted_with, aborts, Reaches, at_start, b
 use Rattle.live_tables.specs.declared.live_tables.Live.{Live}
 use Rattle.engine.specs.declared.store.Store.TheInside.{Inside}
 use Rattle.live_tables.specs.declared.transaction.OpenTransaction.{OpenTransaction}
-use Rattle.engine.specs.Engine.{Engine, entry_in, world_in, StoreRepresents}
+use Rattle.engine.specs.Engine.{Engine, entry_in, world_in, Represents as StoreRepresents}
 use Rattle.engine.specs.Events.{commits_in}
 use Rattle.live_tables.specs.Journal.{rows_after}
 use Rattle.live_tables.specs.JournalLemmas.{entries_are_serial}
 use Rattle.engine.specs.Shared.{Represents}
 use Rattle.live_tables.specs.Shut.{IsAborted, IsShut}
-use Rattle.live_tables.specs.Represents.{LiveRepresents}
+use Rattle.live_tables.specs.Represents.{Represents as LiveRepresents}
 
 -- ---- the tables and the journal then
 

@@ -63,7 +63,7 @@ use Rattle.live_tables.specs.JournalLemmas.{entries_are_serial, rows_after_are_r
 use Rattle.engine.specs.Engine.{entry_in, world_in, AreNamed, Represents}
 use Rattle.live_tables.specs.NamedLemmas.{work_named}
 use Rattle.engine.specs.EntryLemmas.{entries_named}
-use Rattle.live_tables.specs.Represents.{LiveRepresents}
+use Rattle.live_tables.specs.Represents.{Represents as LiveRepresents}
 
 -- a record that is there is kept of a transaction
 kept_there : (found : Option OpenTransaction) (r : Record) → option_map (λ (k : OpenTransaction). k.record) found ≡ Some r → IsSome found

@@ -21,7 +21,7 @@ ghost use Rattle.engine.specs.Events.{opened_by, commits_in, ends_in, is_open_in
 ghost use Rattle.live_tables.specs.Journal.{rows_after as rows_behind};
 ghost use Rattle.engine.specs.declared.entry.Entry.{Entry as AnyEntry};
 ghost use Rattle.engine.specs.Engine.{entry_in, IsOtherwiseSame};
-ghost use Rattle.live_tables.specs.Represents.{LiveRepresents};
+ghost use Rattle.live_tables.specs.Represents.{Represents as LiveRepresents};
 
 use crate::entry::{Changes, Entry};
 use crate::events::{Event, LineEvent};

@@ -23,7 +23,7 @@ use Rattle.run.specs.Devices.{DeviceState}
 use Rattle.run.specs.Handler.{IsRunOver}
 use Rattle.run.specs.Progress.{Progress}
 use Rattle.run.proofs.Running.{clear_at_send, clear_at_input}
-use Rattle.run_laws.specs.Leading.{Lane, InStep, IsAgreed, AreInStep, AreCounts}
+use Rattle.run_laws.specs.Leading.{Outbox, InStep, IsAgreed, AreInStep, AreCounts}
 use Rattle.run_laws.specs.Threads.{work_of, IsWorldOf}
 use Rattle.run_laws.specs.ThreadedRun.{HasConflict, IsStuckBy, Clear, HasWorkedOn, IsThreadedCause, IsCauseOf}
 use Rattle.run_laws.proofs.Books.{is_world, noted_conflict, stuck_by}
@@ -31,20 +31,20 @@ use Rattle.dispatch.specs.Standing.{Own}
 use Rattle.leader.specs.Threads.{KeepsToWork, HasTurn, MayEndBy}
 use Rattle.leader.specs.Ending.{Hand, IsNoted, end_for, EndsAsNoted, IsDecided, HasFinished, AreInHand, AreGiven}
 
--- ---- lanes that the world and the state show
+-- ---- outboxes that the world and the state show
 
--- a lane to which all work of a transaction was sent
-abbrev pub whole_lane : ℕ → Open → Lane
-whole_lane xid o = record { sent = work_of xid o.way o.items; queued = [] }
+-- an outbox of which all work of a transaction was sent
+abbrev pub whole_outbox : ℕ → Open → Outbox
+whole_outbox xid o = record { sent = work_of xid o.way o.items; queued = [] }
 
-abbrev pub lane_at : ℕ → Option Open → Option Opened → Option Lane
-lane_at xid (Some o) (Some done) = Some (whole_lane xid o)
-lane_at xid (Some o) None = None
-lane_at xid None there = None
+abbrev pub outbox_at : ℕ → Option Open → Option Opened → Option Outbox
+outbox_at xid (Some o) (Some done) = Some (whole_outbox xid o)
+outbox_at xid (Some o) None = None
+outbox_at xid None there = None
 
--- each transaction that is open in both has such a lane
-abbrev pub lanes_at : State → World → ℕ → Option Lane
-lanes_at s w xid = lane_at xid (get s.transactions xid) (get w.opened xid)
+-- each transaction that is open in both has such an outbox
+abbrev pub outboxes_at : State → World → ℕ → Option Outbox
+outboxes_at s w xid = outbox_at xid (get s.transactions xid) (get w.opened xid)
 
 same_open : (o p : Open) → Some o ≡ Some p → o ≡ p
 same_open o p e = cc
@@ -52,8 +52,8 @@ same_open o p e = cc
 same_opened : (d e : Opened) → Some d ≡ Some e → d ≡ e
 same_opened d e is = cc
 
-same_lane : (l k : Lane) → Some l ≡ Some k → l ≡ k
-same_lane l k e = cc
+same_outbox : (l k : Outbox) → Some l ≡ Some k → l ≡ k
+same_outbox l k e = cc
 
 none_is : {X : Type 0} (x : X) → None ≡ Some x → ⊥
 none_is x e = cc
@@ -75,7 +75,7 @@ wanted_next (Some p) left is sub c e =
     same a b is = cc
 
 module _ (g : Setting) (s : State) (rest : List CopyItem) (xid : ℕ) where
-  in_step : (o : Open) (done : Opened) → KeepsToWork g s rest xid o done → InStep g s rest xid o (whole_lane xid o) done
+  in_step : (o : Open) (done : Opened) → KeepsToWork g s rest xid o done → InStep g s rest xid o (whole_outbox xid o) done
   in_step o done (doing, next) = record {
     all_work = append-nil (work_of xid o.way o.items);
     left = doing.left;
@@ -85,17 +85,17 @@ module _ (g : Setting) (s : State) (rest : List CopyItem) (xid : ℕ) where
   }
 
   agrees : (o : Option Open) (d : Option Opened) → ((done : Opened) → d ≡ Some done → (p : Open) × (o ≡ Some p) × KeepsToWork g s rest xid p done)
-      → ((p : Open) → o ≡ Some p → p.way ≢ Spooled → is_some d ≡ true) → IsAgreed g s rest xid o (lane_at xid o d) d
+      → ((p : Open) → o ≡ Some p → p.way ≢ Spooled → is_some d ≡ true) → IsAgreed g s rest xid o (outbox_at xid o d) d
   agrees None None held streamed = tt
   agrees (Some o) None held streamed = is_spooled o.way (λ not. let no : false ≡ true = streamed o refl not in cc)
   agrees None (Some done) held streamed = let is = held done refl in absurd (none_is is.0 is.1)
   agrees (Some o) (Some done) held streamed =
       let is = held done refl in in_step o done (subst (λ p. KeepsToWork g s rest xid p done) (sym (same_open o is.0 is.1)) is.2)
 
-  lane_is : (o : Option Open) (d : Option Opened) (lane : Lane) → lane_at xid o d ≡ Some lane → (p : Open) × (o ≡ Some p) × (whole_lane xid p ≡ lane)
-  lane_is None d lane e = absurd (none_is lane e)
-  lane_is (Some o) None lane e = absurd (none_is lane e)
-  lane_is (Some o) (Some done) lane e = (o, refl, same_lane (whole_lane xid o) lane e)
+  outbox_is : (o : Option Open) (d : Option Opened) (outbox : Outbox) → outbox_at xid o d ≡ Some outbox → (p : Open) × (o ≡ Some p) × (whole_outbox xid p ≡ outbox)
+  outbox_is None d outbox e = absurd (none_is outbox e)
+  outbox_is (Some o) None outbox e = absurd (none_is outbox e)
+  outbox_is (Some o) (Some done) outbox e = (o, refl, same_outbox (whole_outbox xid o) outbox e)
 
 -- ---- the world at which a run ended
 
@@ -120,7 +120,7 @@ module _ (g : Setting) (rows : Rows) (s : State) (rest : List CopyItem) (line : 
         subst (λ (n : ℕ). KeepsToWork g s rest n is.0 done) there.2 (subst (λ (d : Opened). KeepsToWork g s rest there.0.xid is.0 d) same is.2),
       )
 
-  pub are_in_step : AreInStep g rows s rest (lanes_at s f.world) f.world
+  pub are_in_step : AreInStep g rows s rest (outboxes_at s f.world) f.world
   are_in_step = record {
     reached = f.reached;
     line = f.commits ∙ are.commits;
@@ -129,13 +129,13 @@ module _ (g : Setting) (rows : Rows) (s : State) (rest : List CopyItem) (line : 
   }
 
   pub ends_in_world : IsWorldOf g rows s rest f.world
-  ends_in_world = is_world g rows s rest (lanes_at s f.world) f.world are_in_step
+  ends_in_world = is_world g rows s rest (outboxes_at s f.world) f.world are_in_step
 
-  are_counts : AreGiven s given → AreCounts (lanes_at s f.world) given
-  are_counts counts xid count lane named short at =
-      let is = lane_is g s rest xid (get s.transactions xid) (get f.world.opened xid) lane at in
+  are_counts : AreGiven s given → AreCounts (outboxes_at s f.world) given
+  are_counts counts xid count outbox named short at =
+      let is = outbox_is g s rest xid (get s.transactions xid) (get f.world.opened xid) outbox at in
       counts xid count is.0 named short is.1
-      ∙ ap length (sym (append-nil (work_of xid is.0.way is.0.items)) ∙ ap (λ (l : Lane). l.sent ++ l.queued) is.2)
+      ∙ ap length (sym (append-nil (work_of xid is.0.way is.0.items)) ∙ ap (λ (l : Outbox). l.sent ++ l.queued) is.2)
 
   -- ---- why it ended
 
@@ -147,12 +147,12 @@ module _ (g : Setting) (rows : Rows) (s : State) (rest : List CopyItem) (line : 
   conflicts : IsValid (schema_of g) rows → (cause : ClashCause) → IsNoted f.world hand cause → HasConflict g s f.world cause
   conflicts valid cause (h, c, among, stopped, wants) =
       let want = wanted h.done.wants wants in
-      noted_conflict g rows s rest (lanes_at s f.world) f.world are_in_step valid h.xid c cause stopped h.done (stands h among) want.0 want.1 want.2
+      noted_conflict g rows s rest (outboxes_at s f.world) f.world are_in_step valid h.xid c cause stopped h.done (stands h among) want.0 want.1 want.2
 
   stuck : AreGiven s given → (xid : ℕ) → HasTurn g s rest xid → (other : ℕ) → IsStuck (schema_of g) f.world given xid other
       → IsStuckBy g s rest f.world xid other
   stuck counts xid turn other is =
-      stuck_by g rows s rest (lanes_at s f.world) f.world are_in_step given xid other (are_counts counts) turn is
+      stuck_by g rows s rest (outboxes_at s f.world) f.world are_in_step given xid other (are_counts counts) turn is
 
 -- with the devices, at the progress that the items handled led to
 module _ (g : Setting) (rows : Rows) (rest : List CopyItem) (line : List LineEvent) (hand : Hand) (given : List (ℕ × ℕ)) (proposed end : End)

@@ -5,6 +5,7 @@ use Rattle.std.specs.Result.{IsErrAnd}
 use Rattle.std.proofs.lemmas.Bool.{cases_eq}
 use Rattle.std.proofs.lemmas.Grind.{flat_map-append}
 use Rattle.std.proofs.lemmas.List.{map-append}
+use Rattle.std.proofs.lemmas.Simd.{map-map}
 use Rattle.std.proofs.lemmas.List.Elements.{All-append, All-cons, All-nil}
 use Rattle.std.specs.declared.vec.Vec.{Vec}
 use Rattle.std.specs.declared.alloc.Global.{Global}
@@ -18,8 +19,8 @@ use Rattle.frames.specs.declared.item.CopyItem.TheVariants.{Wal, Keepalive}
 use Rattle.world.specs.World.{Past}
 use Rattle.engine.specs.declared.events.LineEvent.{LineEvent}
 use Rattle.engine.specs.declared.events.LineEvent.TheVariants.{Aborted as WasAborted}
-use Rattle.engine.specs.Events.{past_of, commits_in}
-use Rattle.model.specs.Beginning.{last_end as last_end_of}
+use Rattle.engine.specs.Events.{past_of, commits_in, ends_in}
+use Rattle.model.specs.Beginning.{last_end}
 use Rattle.session.specs.declared.fault.Refused.{Refused}
 use Rattle.session.specs.declared.fault.Refused.TheVariants as refusals
 use Rattle.session.specs.declared.session.Session.{Session}
@@ -30,11 +31,10 @@ use Rattle.session.specs.State.{Way, Direct, Worker, Spooled, Open, OpenTransact
 use Rattle.session.specs.Lawful.{Admits, Refuses}
 use Rattle.session.specs.Table.{new_open}
 use Rattle.session.specs.StreamEvents.{StreamEvent, NoEvent, TransactionOpens, ItemComes, TransactionCommits, TransactionAborts, Tells, IsGiving, IsCommitting, items_handed_out}
-use Rattle.session.specs.Represents.{SessionRepresents}
+use Rattle.session.specs.Represents.{Represents as SessionRepresents}
 use Rattle.session.specs.Answers.{IsOfTables, Says, IsWithin, AdmitsPayload}
 use Rattle.run.specs.declared.end.End.{End}
 use Rattle.run.specs.declared.end.End.TheVariants as ends
-use Rattle.run.specs.Commits.{last_end}
 use Rattle.run.specs.Ends.{end_of_refusal}
 use Rattle.run.specs.Handler.{HasTaken, HandlesItem, HasHandled}
 use Rattle.run.specs.Progress.{Progress, seen_with, due_updates}
@@ -48,6 +48,7 @@ use Rattle.leader.specs.declared.lead.Stream.{Stream}
 use Rattle.dispatch.specs.Standing.{Standing, IsStoreEnd, IsStopEnd, IsBegun, IsHandedOut, IsTaken, IsMet, IsCommitted, HasTried, IsAborted}
 use Rattle.leader.specs.Threads.{Numbered, numbered, numbered_past, Led, led, AreNamed, AreAssigned, HasCommitted, Represents, HasLedTo, LeadTakes, AreOpenAtEnd, HasTurn, MayEndBy, HasStopped, Stops}
 use Rattle.leader.proofs.Serving.{Committing, begun_agreed, handed_out_agreed, spooled_agreed, given_agreed, applied_agreed, kept_agreed, aborted_agreed, dropped_agreed, worker_commit, direct_commit, spooled_commit, unopened, all_held, met_held, tried_held}
+use Rattle.run.specs.Commits.{commit_ends}
 
 -- ---- names
 
@@ -72,7 +73,7 @@ module _ (count : ℕ) (m : OpenTransactions) (xid : ℕ) (named : AreNamed coun
 
 -- no commit is asked for
 abbrev pub IsNoCommit : Step → Type 0
-IsNoCommit steps.NoEvent = Unit {0}
+IsNoCommit steps.Nothing = Unit {0}
 IsNoCommit (steps.Begin xid) = Unit {0}
 IsNoCommit (steps.Open xid) = Unit {0}
 IsNoCommit (steps.Item xid item) = Unit {0}
@@ -120,7 +121,7 @@ item_named g told x i within says = absurd cc
 -- ---- what is there of all transactions
 
 -- a message that asks for nothing
-pub nothing_agreed : (g : Setting) (s t : State) (told : StreamEvent) (st : Standing) → AreAssigned s.transactions st → Tells s t told → IsWithin g told → Says told steps.NoEvent → AreAssigned t.transactions st
+pub nothing_agreed : (g : Setting) (s t : State) (told : StreamEvent) (st : Standing) → AreAssigned s.transactions st → Tells s t told → IsWithin g told → Says told steps.Nothing → AreAssigned t.transactions st
 nothing_agreed g s t NoEvent st agreed tells within says = subst (λ m. AreAssigned m st) (sym tells.transactions) agreed
 nothing_agreed g s t (TransactionOpens xid Spooled) st agreed tells within says = spooled_agreed s t st xid agreed tells
 nothing_agreed g s t (ItemComes xid Spooled item size) st agreed tells within says = kept_agreed s t st xid item size tells.0 agreed tells.1 tells.2
@@ -202,7 +203,7 @@ kept_commits : (b : Led) (s t : State) → t.past ≡ s.past → HasCommitted b 
 kept_commits b s t e has = record {
   commits = has.commits ∙ ap (map numbered) (sym e);
   done = has.done ∙ ap (map done_by_commit) (sym e);
-  position = has.position ∙ ap last_end (sym e);
+  position = has.position ∙ ap (λ (past : List Committed). last_end (commit_ends past)) (sym e);
 }
 
 pub led_on : (g : Setting) (rows : Rows) (a b : Led) (p : Progress) (payload : List ℕ) (m : Message) (t : State) → Represents g rows a p → Admits g p.state payload m t → KeepsOn g p.state t → IsSameLed a b → AreAssigned t.transactions b.standing
@@ -215,7 +216,7 @@ led_on g rows a b p payload m t at admits on same agreed session =
       named = on.named;
       agreed = agreed;
       committed = kept_commits b p.state t on.past (same_commits a b p.state same at.committed);
-      reached = on.position ∙ at.reached ∙ ap last_end (sym on.past);
+      reached = on.position ∙ at.reached ∙ ap (λ (past : List Committed). last_end (commit_ends past)) (sym on.past);
       seen = same.written ∙ at.seen ∙ ap (max p.seen) (sym on.position);
     })
 
@@ -362,13 +363,8 @@ led_commit g s t (TransactionAborts x Direct) xid info items named tells says = 
 led_commit g s t told xid info items named tells says = absurd cc
 
 -- a commit ends above those of the line
-line_ends : (line : List LineEvent) (past : List Committed) → commits_in line ≡ map done_by_commit past → last_end_of line ≡ last_end past
-line_ends line past e = ap (λ (ps : List Past). fold (λ (before end : ℕ). end) 0 (map (λ (p : Past). p.info.end) ps)) e ∙ ends_of past
-  where
-    ends_of : (past : List Committed) → fold (λ (before end : ℕ). end) 0 (map (λ (p : Past). p.info.end) (map done_by_commit past)) ≡ last_end past
-    ends_of [] = refl
-    ends_of (c ∷ []) = refl
-    ends_of (c ∷ d ∷ past) = ends_of (d ∷ past)
+line_ends : (line : List LineEvent) (past : List Committed) → commits_in line ≡ map done_by_commit past → last_end (ends_in line) ≡ last_end (commit_ends past)
+line_ends line past e = ap last_end (ap (map (λ (p : Past). p.info.end)) e ∙ map-map (λ (p : Past). p.info.end) done_by_commit past)
 
 pub rises : (g : Setting) (rows : Rows) (l : Led) (p : Progress) (t : State) (xid : ℕ) (info : CommitInfo) (handed : List Item) → Represents g rows l p → IsLedCommit g p.state t xid info handed → last_end_of l.standing.line < info.end
 rises g rows l p t xid info handed at is =
@@ -395,7 +391,7 @@ led_to_commit g rows a b p payload m t xid info handed at admits is made catalog
     let done : commits_in b.standing.line ≡ map done_by_commit t.past =
     to.line ∙ ap (λ (ps : List Past). ps ++ done_by_commit c ∷ []) at.committed.done ∙ sym (ap (map done_by_commit) is.commits.past ∙ map-append done_by_commit p.state.past (c ∷ []))
     in
-    let ends : last_end t.past ≡ info.end = ap last_end is.commits.past ∙ last_end-push p.state.past c ∙ ap (λ (i : CommitInfo). i.end) is.info_is in
+    let ends : last_end (commit_ends t.past) ≡ info.end = ap (λ (past : List Committed). last_end (commit_ends past)) is.commits.past ∙ last_end-push p.state.past c ∙ ap (λ (i : CommitInfo). i.end) is.info_is in
     let reaches : t.position ≡ info.end = is.commits.position ∙ ap (λ (i : CommitInfo). i.end) is.info_is in
     taken_commit g (Represents g rows b) p payload m t admits (one_committed p.state t c is.commits.past) (record {
       catalog = at.catalog ∙ sym catalog;

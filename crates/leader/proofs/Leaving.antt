@@ -31,12 +31,13 @@ use Rattle.run.specs.declared.end.End.TheVariants as ends
 use Rattle.run.specs.declared.outcome.Config.{Config}
 use Rattle.run.specs.declared.outcome.Outcome.{Outcome}
 use Rattle.run.specs.Cause.{schema_of, IsSendCause, IsInputCause}
-use Rattle.run.specs.Commits.{transaction_of, commits, changes_in, committed_changes, last_end}
+use Rattle.run.specs.Commits.{transaction_of, commits, changes_in, committed_changes, commit_ends}
+use Rattle.model.specs.Beginning.{last_end}
 use Rattle.run.specs.Devices.{DeviceState}
 use Rattle.run.specs.Handler.{IsEnded, IsRunOver}
 use Rattle.run.specs.Progress.{Progress, start_progress}
 use Rattle.run.proofs.Running.{nothing_handled}
-use Rattle.run_laws.specs.Runs.{told_of, end_of}
+use Rattle.run_laws.specs.Runs.{told_of}
 use Rattle.run_laws.specs.Threads.{done_by_commit}
 use Rattle.run_laws.specs.ThreadedRun.{IsThreadedCause, IsCauseOf}
 use Rattle.run_laws.proofs.Threading.{entries_done, ends_done, changes_told}
@@ -185,7 +186,7 @@ module _ (g : Setting) (rows : Rows) where
       let shut : IsShutSo (schema_of g) rows line o = subst (λ (k : Schema). IsShutSo k rows line o) same shut_by in
       let so = leaves g rows old new left.led over.part.handled over.part.progress over.part.times over.part.bytes over.part.rest left.proposed over.why in
       let done : commits_in line ≡ map done_by_commit over.part.progress.state.past = left.told ∙ left.is_world.line in
-      let at : o.position ≡ last_end over.part.progress.state.past = reached ∙ left.reached ∙ so.0.position in
+      let at : o.position ≡ last_end (commit_ends over.part.progress.state.past) = reached ∙ left.reached ∙ so.0.position in
       let serial_rows : o.tables.rows ≡ serial (schema_of g) rows (changes_of (commits_in line)) =
       shut.tables ∙ ap (rows_after (schema_of g) rows) shut.journal ∙ entries_are_serial (schema_of g) rows (commits_in line) in
       record {
@@ -196,7 +197,7 @@ module _ (g : Setting) (rows : Rows) where
           cause = subst (IsCauseOf g old new over.part left.world) (sym ended) left.cause;
           left = record {
             entries = told_alike o.journal.items ∙ ap (map told_of) (shut.journal ∙ ap (map entry_of) left.told);
-            position = at ∙ sym (ap end_of left.is_world.line ∙ ends_done over.part.progress.state.past);
+            position = at ∙ sym (ap (λ (line : List Past). last_end (map (λ (p : Past). p.info.end) line)) left.is_world.line ∙ ends_done over.part.progress.state.past);
             tables = serial_rows ∙ ap (λ (ps : List Past). serial (schema_of g) rows (changes_of ps)) left.told ∙ sym left.committed;
           };
           schema = shut.schema;

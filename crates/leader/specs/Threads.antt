@@ -27,18 +27,19 @@ use Rattle.session.specs.Answers.{IsOfTables}
 use Rattle.session.specs.Sized.{item_of}
 use Rattle.session.specs.State.{Direct, Worker, Spooled, Open, OpenTransactions, Committed, State, Setting, begun_at}
 use Rattle.session.specs.Lawful.{Admits}
-use Rattle.session.specs.Represents.{SessionRepresents}
+use Rattle.session.specs.Represents.{Represents as SessionRepresents}
 use Rattle.run.specs.declared.end.End.{End}
 use Rattle.run.specs.declared.end.End.TheVariants as ends
 use Rattle.run.specs.Cause.{RefusesNext}
 use Rattle.run.specs.Handler.{HasTaken}
-use Rattle.run.specs.Commits.{last_end}
+use Rattle.model.specs.Beginning.{last_end}
 use Rattle.run.specs.Progress.{Progress, start_progress, commits_from}
 use Rattle.run_laws.specs.Runs.{CommitsNext}
 use Rattle.run_laws.specs.Threads.{work_of, done_by_commit}
 use Rattle.leader.specs.declared.lead.Stream.{Stream}
 use Rattle.dispatch.specs.Lanes.{IsDoing}
 use Rattle.dispatch.specs.Standing.{Standing, items_by, own_of}
+use Rattle.run.specs.Commits.{commit_ends}
 
 -- a commit, without what it made final: the number of its transaction, and where it stands in the log
 pub record Numbered : Type 0 where
@@ -100,7 +101,7 @@ AreAssigned transactions t =
 pub record HasCommitted (l : Led) (s : State) : Type 0 where
   pub commits : numbers_in l.standing.line ≡ map numbered s.past
   pub done : commits_in l.standing.line ≡ map done_by_commit s.past
-  pub position : l.position ≡ last_end s.past
+  pub position : l.position ≡ last_end (commit_ends s.past)
 
 -- All that it knows is that of a progress.
 pub record Represents (g : Setting) (rows : Rows) (l : Led) (p : Progress) : Type 0 where
@@ -110,7 +111,7 @@ pub record Represents (g : Setting) (rows : Rows) (l : Led) (p : Progress) : Typ
   pub named : AreNamed (length g.catalog) p.state.transactions
   pub agreed : AreAssigned p.state.transactions l.standing
   pub committed : HasCommitted l p.state
-  pub reached : p.state.position ≡ last_end p.state.past
+  pub reached : p.state.position ≡ last_end (commit_ends p.state.past)
   pub seen : l.written ≡ max p.seen p.state.position
 
 -- It is that of some progress.

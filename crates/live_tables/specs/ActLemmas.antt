@@ -43,7 +43,7 @@ use Rattle.live_tables.specs.Answers.{cause_of, told_clash, told_stop, after_act
 use Rattle.live_tables.specs.Cells.{IsFreeOf, IsHeldIn}
 use Rattle.live_tables.specs.Held.{AreHolds, HasHeldMarks}
 use Rattle.live_tables.specs.CallResults.{HasSameRows, HasTheSame}
-use Rattle.live_tables.specs.KeptRecords.{IsReady, RecordsRepresent, IsPutAt}
+use Rattle.live_tables.specs.KeptRecords.{IsReady, Represents as RecordsRepresent, IsPutAt}
 use Rattle.live_tables.specs.Statements.{IsFreeLive}
 use Rattle.live_tables.specs.CallLemmas.{done_is_kept, skip_is_kept, held_is_kept, clash_is_kept, refusal_is_kept}
 use Rattle.live_tables.specs.HoldsLemmas.{holds_tell_the_world, taken_is_held, same_is_held}

@@ -33,7 +33,7 @@ use Rattle.live_tables.specs.declared.transaction.OpenTransaction.{OpenTransacti
 use Rattle.live_tables.specs.Answers.{told_stop, HasCause}
 use Rattle.live_tables.specs.Held.{AreHolds, HasHeldMarks}
 use Rattle.live_tables.specs.CellLemmas.{before_image_is_held}
-use Rattle.live_tables.specs.KeptRecords.{IsRecordOf, RecordsRepresent, IsPutAt}
+use Rattle.live_tables.specs.KeptRecords.{IsRecordOf, Represents as RecordsRepresent, IsPutAt}
 use Rattle.live_tables.specs.BeforeImages.{HasBeforeImages, TakesBeforeImages, cells_of_each}
 use Rattle.live_tables.specs.Represents.{records_in, IsBeside, Represents}
 use Rattle.live_tables.specs.Transactions.{PutsTransaction, WritesTransaction, HasTaken}

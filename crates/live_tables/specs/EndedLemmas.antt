@@ -49,7 +49,7 @@ use Rattle.live_tables.specs.Answers.{told_stop}
 use Rattle.live_tables.specs.CellLemmas.{before_image_is_held}
 use Rattle.live_tables.specs.Held.{AreHolds, IsHeldAt, HasHeldMarks}
 use Rattle.live_tables.specs.HoldsLemmas.{holds_opened, holds_touched, abort_is_held, commit_is_held}
-use Rattle.live_tables.specs.KeptRecords.{IsRecordOf, RecordsRepresent, IsPutAt}
+use Rattle.live_tables.specs.KeptRecords.{IsRecordOf, Represents as RecordsRepresent, IsPutAt}
 use Rattle.live_tables.specs.KeptLemmas.{kept_opened, kept_touched}
 use Rattle.live_tables.specs.CallLemmas.{start_is_kept, rollback_is_kept, abort_is_kept, commit_is_kept}
 use Rattle.live_tables.specs.NamedLemmas.{changes_item}

@@ -25,7 +25,7 @@ use Rattle.world.specs.World.{Opened, World, work, own_rows, holds}
 use Rattle.live_tables.specs.declared.live_tables.Live.{Live}
 use Rattle.live_tables.specs.Held.{AreHolds, IsHeldAt}
 use Rattle.live_tables.specs.HoldsLemmas.{free_of_others, meets_one, share_one, contains_at}
-use Rattle.live_tables.specs.KeptRecords.{IsRecordOf, RecordsRepresent}
+use Rattle.live_tables.specs.KeptRecords.{IsRecordOf, Represents as RecordsRepresent}
 use Rattle.live_tables.specs.KeptLemmas.{log_of_work}
 use Rattle.live_tables.specs.Released.{IsLetGo, IsAlone, HasReleased, AreReleased}
 use Rattle.live_tables.specs.Represents.{records_in, Represents}

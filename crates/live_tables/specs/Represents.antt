@@ -18,7 +18,7 @@ use Rattle.live_tables.specs.declared.live_tables.Live.{Live}
 use Rattle.live_tables.specs.declared.transaction.OpenTransaction.{OpenTransaction}
 use Rattle.live_tables.specs.Answers.{told_stop, HasCause}
 use Rattle.live_tables.specs.Held.{AreHolds, HasHeldMarks}
-use Rattle.live_tables.specs.KeptRecords.{RecordsRepresent}
+use Rattle.live_tables.specs.KeptRecords.{Represents as RecordsRepresent}
 use Rattle.live_tables.specs.BeforeImages.{HasBeforeImages}
 
 -- the record of each open transaction

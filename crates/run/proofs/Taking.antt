@@ -27,7 +27,7 @@ use Rattle.session.specs.State.{Way, Direct, Worker, Spooled, Open, Committed, S
 use Rattle.session.specs.Lawful.{Admits}
 use Rattle.session.specs.Table.{new_open}
 use Rattle.session.specs.StreamEvents.{StreamEvent, NoEvent, TransactionOpens, ItemComes, TransactionCommits, TransactionAborts, Tells, items_handed_out}
-use Rattle.session.specs.Represents.{SessionRepresents}
+use Rattle.session.specs.Represents.{Represents as SessionRepresents}
 use Rattle.session.specs.Answers.{Says, IsWithin}
 use Rattle.run.specs.declared.applier.Applier.{Applier}
 use Rattle.model.specs.Accepted.{AreAccepted}
@@ -36,7 +36,7 @@ use Rattle.engine.specs.Engine.{Engine, IsOtherwiseSame}
 use Rattle.engine.specs.Serial.{Serial, rows_now, with_changes, committed_by as then_committed}
 use Rattle.engine.specs.SerialLemmas.{rows_with, rows_committed, journal_committed}
 use Rattle.world.specs.World as told_entry
-use Rattle.run.specs.Commits.{Transaction, told_transaction, transaction, changes_in, surviving_changes, commits, committed_changes, begun_changes, all_changes, last_end}
+use Rattle.run.specs.Commits.{Transaction, told_transaction, transaction, changes_in, surviving_changes, commits, committed_changes, begun_changes, all_changes, commit_ends}
 use Rattle.run.specs.Progress.{Progress, commits_from}
 use Rattle.run.specs.Cause.{schema_of}
 use Rattle.run.specs.Applier.{AreServed, HasCommits, Represents}
@@ -106,14 +106,14 @@ went_on g rows a b p t cs at on same session clear = record {
 
 -- an answer that asks for nothing to be applied
 abbrev pub IsQuiet : Step → Type 0
-IsQuiet steps.NoEvent = Unit {0}
+IsQuiet steps.Nothing = Unit {0}
 IsQuiet (steps.Begin xid) = Unit {0}
 IsQuiet (steps.Open xid) = Unit {0}
 IsQuiet (steps.Item xid item) = ⊥
 IsQuiet (steps.Commit xid info items) = ⊥
 IsQuiet (steps.Abort xid) = Unit {0}
 
-pub is_quiet : (step : Step) → (step ≡ steps.NoEvent) ⊎ (((x : ℕ) × (step ≡ steps.Begin x)) ⊎ (((x : ℕ) × (step ≡ steps.Open x)) ⊎ ((x : ℕ) × (step ≡ steps.Abort x)))) → IsQuiet step
+pub is_quiet : (step : Step) → (step ≡ steps.Nothing) ⊎ (((x : ℕ) × (step ≡ steps.Begin x)) ⊎ (((x : ℕ) × (step ≡ steps.Open x)) ⊎ ((x : ℕ) × (step ≡ steps.Abort x)))) → IsQuiet step
 is_quiet step (inl e) = subst IsQuiet (sym e) tt
 is_quiet step (inr (inl e)) = subst IsQuiet (sym e.1) tt
 is_quiet step (inr (inr (inl e))) = subst IsQuiet (sym e.1) tt
@@ -288,25 +288,19 @@ module _ (g : Setting) (s t : State) (xid commit end : ℕ) (items : List Item) 
   pub done_is : all_changes t ≡ all_changes s ++ changes_of items
   done_is = ap (λ cs. committed_changes t ++ cs) is.begun ∙ append-nil (committed_changes t) ∙ committed_is
 
-  ends_at : last_end t.past ≡ end
-  ends_at = ap last_end is.past ∙ last_end-push s.past is.transaction ∙ ap (λ (i : CommitInfo). i.end) is.info_is
+  ends_at : last_end (commit_ends t.past) ≡ end
+  ends_at = ap (λ (past : List Committed). last_end (commit_ends past)) is.past ∙ last_end-push s.past is.transaction ∙ ap (λ (i : CommitInfo). i.end) is.info_is
 
   pub commits_one : commits_from s t ≡ true
   commits_one = one_committed s t is.transaction is.past
 
 -- where the log goes on behind the last commit of the world is where it does so behind that of the past
 world_ends : (line : List told_entry.Past) (past : List Committed) → map told_transaction (map told_entry.entry_of line) ≡ map transaction past
-    → fold (λ (before end : ℕ). end) 0 (map (λ (p : told_entry.Past). p.info.end) line) ≡ last_end past
+    → last_end (map (λ (p : told_entry.Past). p.info.end) line) ≡ last_end (commit_ends past)
 world_ends line past told =
-    ap (fold (λ (before end : ℕ). end) 0)
+    ap last_end
     (sym (map-map (λ (e : told_entry.Entry). e.end) told_entry.entry_of line) ∙ sym (map-map (λ (t : Transaction). t.end) told_transaction (map told_entry.entry_of line))
     ∙ ap (map (λ (t : Transaction). t.end)) told ∙ map-map (λ (t : Transaction). t.end) transaction past)
-    ∙ ends_of past
-  where
-    ends_of : (past : List Committed) → fold (λ (before end : ℕ). end) 0 (map (λ (c : Committed). c.info.end) past) ≡ last_end past
-    ends_of [] = refl
-    ends_of (c ∷ []) = refl
-    ends_of (c ∷ d ∷ past) = ends_of (d ∷ past)
 
 -- a commit ends above those before it
 pub rises : (g : Setting) (rows : Rows) (a : Applier) (p : Progress) (t : State) (xid commit end : ℕ) (items : List Item) → Represents g rows a p → IsCommitted g p.state t xid commit end items

@@ -10,12 +10,13 @@ use Rattle.session.specs.Lawful.{Admits}
 use Rattle.session.specs.Answers.{IsOfTables}
 use Rattle.session.specs.Sized.{item_of}
 use Rattle.session.specs.State.{Worker, Open, OpenTransactions, State, Setting}
-use Rattle.session.specs.Represents.{SessionRepresents}
+use Rattle.session.specs.Represents.{Represents as SessionRepresents}
 use Rattle.run.specs.declared.end.End.{End}
 use Rattle.run.specs.declared.applier.Applier.{Applier}
 use Rattle.model.specs.Accepted.{AreAccepted}
 use Rattle.world.specs.World.{journal}
-use Rattle.run.specs.Commits.{told_transaction, commits, committed_changes, begun_changes, all_changes, last_end}
+use Rattle.run.specs.Commits.{told_transaction, commits, committed_changes, begun_changes, all_changes, commit_ends}
+use Rattle.model.specs.Beginning.{last_end}
 use Rattle.run.specs.Progress.{Progress, commits_from}
 use Rattle.run.specs.Handler.{HasTaken}
 use Rattle.run.specs.Cause.{LastStep, schema_of, IsNextCause, IsLastCause}
@@ -34,7 +35,7 @@ pub record HasCommits (g : Setting) (rows : Rows) (a : Applier) (s : State) : Ty
   pub schema : a.work.store.schema ≡ schema_of g
   pub base : a.work.store.world.committed ≡ serial (schema_of g) rows (committed_changes s)
   pub journal : map told_transaction (journal a.work.store.world) ≡ commits s
-  pub position : a.position ≡ last_end s.past
+  pub position : a.position ≡ last_end (commit_ends s.past)
 
 -- All that is kept is that of a progress.
 pub record Represents (g : Setting) (rows : Rows) (a : Applier) (p : Progress) : Type 0 where
@@ -43,7 +44,7 @@ pub record Represents (g : Setting) (rows : Rows) (a : Applier) (p : Progress) :
   pub session : SessionRepresents g a.session p.state
   pub served : AreServed (length g.catalog) p.state.transactions
   pub commits : HasCommits g rows a p.state
-  pub reached : p.state.position ≡ last_end p.state.past
+  pub reached : p.state.position ≡ last_end (commit_ends p.state.past)
   pub begun : a.work.changes ≡ begun_changes p.state
   pub clear : AreAccepted (schema_of g) rows (all_changes p.state)
   pub seen : a.written ≡ max p.seen p.state.position

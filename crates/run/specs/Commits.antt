@@ -2,7 +2,7 @@
 --     Transaction, commits      each commit of the past, with the changes of its items that survived
 --     transaction_of, told_transaction      the same of an entry of a journal, and of one as a world tells it
 --     committed_changes      the changes of all commits, in commit order
---     last_end      the position that they reach
+--     commit_ends      where the log goes on behind each of them
 --     begun_changes, all_changes      the changes so far of the transaction that was begun; all changes
 use Rattle.std.specs.Prelude.{ℕ, List, [], ◌∷◌, ◌++◌, map, flat_map, Option, Some, None}
 use Rattle.std.specs.FinMap as finite
@@ -70,8 +70,6 @@ begun_changes s = begun_changes_in s.phase s.transactions
 abbrev pub all_changes : State → List Change
 all_changes s = committed_changes s ++ begun_changes s
 
--- the end of the last commit, or 0 before the first
-abbrev pub last_end : List Committed → ℕ
-last_end [] = 0
-last_end (c ∷ []) = c.info.end
-last_end (c ∷ d ∷ past) = last_end (d ∷ past)
+-- where the log goes on behind each of these commits, in order
+abbrev pub commit_ends : List Committed → List ℕ
+commit_ends past = map (λ (c : Committed). c.info.end) past

@@ -25,7 +25,8 @@ use Rattle.session.specs.StreamEvents.{StreamEvent, NoEvent, TransactionOpens, I
 use Rattle.run.specs.declared.end.End.TheVariants as ends
 use Rattle.run.specs.declared.outcome.Outcome.{Outcome}
 use Rattle.run.specs.Cause.{schema_of}
-use Rattle.run.specs.Commits.{Transaction, transaction, transaction_of, commits, changes_in as told_changes, last_end}
+use Rattle.run.specs.Commits.{Transaction, transaction, transaction_of, commits, changes_in as told_changes, commit_ends}
+use Rattle.model.specs.Beginning.{last_end}
 use Rattle.run.specs.Devices.{DeviceState}
 use Rattle.run.specs.Progress.{Progress, Leads, start_progress}
 use Rattle.model.specs.Accepted.{AreAccepted}
@@ -34,7 +35,7 @@ use Rattle.world.specs.World.{Opened, Past, World, starting, entry_of, changes_i
 use Rattle.world.specs.Steps.{Reaches}
 use Rattle.run_laws.specs.Begun.{IsSane, begun, begun_in, if_direct, Moves}
 use Rattle.run_laws.specs.Statements.{WorkersAlterNothing, CleanIsWithoutThreads}
-use Rattle.run_laws.specs.Runs.{told_of, end_of, IsAtMostOne, IsCommitOf, CommitsNext}
+use Rattle.run_laws.specs.Runs.{told_of, IsAtMostOne, IsCommitOf, CommitsNext}
 use Rattle.run_laws.specs.Threads.{work_of, done_by_commit, Does, IsWorldOf}
 use Rattle.run_laws.specs.ThreadedRun.{IsStuckBy, IsCauseOf, IsThreadedRun}
 use Rattle.run_laws.proofs.Alone.{survive_again}
@@ -42,6 +43,7 @@ use Rattle.run_laws.proofs.Clear.{commits_clear}
 use Rattle.run_laws.proofs.Reaching.{handled_told}
 use Rattle.run_laws.proofs.Telling.{told, ok_is, sane_start}
 use Rattle.run_laws.proofs.Ways.{NoneWorks, Alike, without_way, led, start_alike, same_transactions}
+use Rattle.std.proofs.lemmas.Simd.{map-map}
 
 -- ---- commits
 
@@ -58,10 +60,8 @@ entries_done (c ∷ past) =
     ap (λ is. record { xid = c.xid; changes = changes_of is; commit = c.info.commit; end = c.info.end } ∷ map told_of (map entry_of (map done_by_commit past))) (work_survives c.xid c.way c.items)
     ∙ ap (λ ts. transaction c ∷ ts) (entries_done past)
 
-pub ends_done : (past : List Committed) → end_of (map done_by_commit past) ≡ last_end past
-ends_done [] = refl
-ends_done (c ∷ []) = refl
-ends_done (c ∷ d ∷ past) = ends_done (d ∷ past)
+pub ends_done : (past : List Committed) → last_end (map (λ (p : Past). p.info.end) (map done_by_commit past)) ≡ last_end (commit_ends past)
+ends_done past = ap last_end (map-map (λ (p : Past). p.info.end) done_by_commit past)
 
 pub changes_told : (line : List Past) → changes_in line ≡ told_changes (map told_of (map entry_of line))
 changes_told [] = refl
@@ -85,8 +85,8 @@ module _ (g : Setting) (rows : Rows) (old new : DeviceState) (o : Outcome) (run 
   run_commits =
       run.left.entries ∙ ap (λ line. map told_of (map entry_of line)) run.is_world.line ∙ entries_done run.part.progress.state.past
 
-  pub run_position : o.position ≡ last_end run.part.progress.state.past
-  run_position = run.left.position ∙ ap end_of run.is_world.line ∙ ends_done run.part.progress.state.past
+  pub run_position : o.position ≡ last_end (commit_ends run.part.progress.state.past)
+  run_position = run.left.position ∙ ap (λ (line : List Past). last_end (map (λ (p : Past). p.info.end) line)) run.is_world.line ∙ ends_done run.part.progress.state.past
 
   pub run_tables : IsValid (schema_of g) rows
       → o.tables.rows ≡ serial (schema_of g) rows (told_changes (map transaction_of o.journal.items))
@@ -269,13 +269,11 @@ workers_alter g h items p q catalog is there =
     let same = led g h start_progress start_progress p q items catalog (start_alike h) is there in
     (same_transactions h p.state q.state same.state, same.state.position, same.seen, same.updates)
 
-pub same_ends : (h : Setting) (s t : State) → Alike h s t → last_end t.past ≡ last_end s.past
-same_ends h s t alike = ends_without t.past ∙ ap last_end alike.past ∙ sym (ends_without s.past)
+pub same_ends : (h : Setting) (s t : State) → Alike h s t → last_end (commit_ends t.past) ≡ last_end (commit_ends s.past)
+same_ends h s t alike = ends_without t.past ∙ ap (λ (past : List Committed). last_end (commit_ends past)) alike.past ∙ sym (ends_without s.past)
   where
-    ends_without : (past : List Committed) → last_end past ≡ last_end (map without_way past)
-    ends_without [] = refl
-    ends_without (c ∷ []) = refl
-    ends_without (c ∷ d ∷ past) = ends_without (d ∷ past)
+    ends_without : (past : List Committed) → last_end (commit_ends past) ≡ last_end (commit_ends (map without_way past))
+    ends_without past = ap last_end (sym (map-map (λ (c : Committed). c.info.end) without_way past))
 
 pub all_items : (handled rest items : List CopyItem) → handled ++ rest ≡ items → rest ≡ [] → handled ≡ items
 all_items handled rest items all none = sym (append-nil handled) ∙ ap (λ more. handled ++ more) (sym none) ∙ all

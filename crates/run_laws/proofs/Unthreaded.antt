@@ -23,7 +23,8 @@ use Rattle.run.specs.declared.end.End.{End}
 use Rattle.run.specs.declared.end.End.TheVariants as ends
 use Rattle.run.specs.declared.outcome.Outcome.{Outcome}
 use Rattle.run.specs.Cause.{schema_of, IsCause, RefusesNext, NextClashes}
-use Rattle.run.specs.Commits.{Transaction, transaction, transaction_of, commits, committed_changes, all_changes, changes_in as told_changes, last_end}
+use Rattle.run.specs.Commits.{Transaction, transaction, transaction_of, commits, committed_changes, all_changes, changes_in as told_changes, commit_ends}
+use Rattle.model.specs.Beginning.{last_end}
 use Rattle.run.specs.Devices.{DeviceState}
 use Rattle.run.specs.Progress.{Progress, Handles, Leads, start_progress, due_updates, commits_from}
 use Rattle.run.specs.Run.{IsRun}
@@ -284,7 +285,7 @@ module _ (g h : Setting) (rows : Rows) (old new before after : DeviceState) (o p
       let journal : map transaction_of p.journal.items ≡ map transaction_of o.journal.items =
       alone.journal ∙ ap (map transaction) (sym past) ∙ sym same_journal in (
         journal,
-        alone.position ∙ ap last_end (sym past) ∙ same_ends h run.part.progress.state q.state alike ∙ sym (run_position g rows old new o run),
+        alone.position ∙ ap (λ (past : List Committed). last_end (commit_ends past)) (sym past) ∙ same_ends h run.part.progress.state q.state alike ∙ sym (run_position g rows old new o run),
         alone.tables ∙ ap (λ c. serial (map keys_of c) rows (told_changes (commits alone.part.progress.state))) catalog
             ∙ ap (λ ts. serial (schema_of g) rows (told_changes ts)) (sym alone.journal ∙ journal) ∙ sym (run_tables g rows old new o run valid),
       )

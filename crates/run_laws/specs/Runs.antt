@@ -1,5 +1,5 @@
 -- A run in the words of a world.
---     told_of, end_of      a world's commit in the words of a journal; where its commits end
+--     told_of      a world's commit in the words of a journal
 --     LeavesWorld      a run leaves just the commits of a world
 --     IsAtMostOne, TellsRun      no two transactions are open; the world has just what the run leaves
 --     conflict      the conflict that ended a run
@@ -25,20 +25,15 @@ use Rattle.run.specs.declared.end.End.TheVariants as ends
 use Rattle.run.specs.declared.outcome.Outcome.{Outcome}
 use Rattle.run.specs.Commits.{Transaction, transaction_of}
 use Rattle.run.specs.Cause.{schema_of, IsNext}
-use Rattle.world.specs.World.{Opened, OpenOnes, Past, Entry, World, starting, journal}
+use Rattle.world.specs.World.{Opened, OpenOnes, Past, Entry, World, starting, journal, ends_of}
 use Rattle.world.specs.Steps.{Clashed, Acts, Reaches}
 use Rattle.run_laws.specs.Begun.{begun}
 use Rattle.run_laws.specs.Course.{committed_past}
+use Rattle.model.specs.Beginning.{last_end}
 
 -- a commit of a world, as a run's journal has it
 abbrev pub told_of : Entry → Transaction
 told_of e = record { xid = e.xid; changes = e.changes; commit = e.commit; end = e.end }
-
--- the end of the last commit, or 0 before the first
-abbrev pub end_of : List Past → ℕ
-end_of [] = 0
-end_of (p ∷ []) = p.info.end
-end_of (p ∷ q ∷ line) = end_of (q ∷ line)
 
 -- No two of these transactions are open.
 abbrev pub IsAtMostOne : OpenOnes → Type 0
@@ -50,7 +45,7 @@ IsAtMostOne opened =
 -- committed rows are the tables.
 pub record LeavesWorld (o : Outcome) (w : World) : Type 0 where
   pub entries : map transaction_of o.journal.items ≡ map told_of (journal w)
-  pub position : o.position ≡ end_of w.line
+  pub position : o.position ≡ last_end (ends_of w)
   pub tables : o.tables.rows ≡ w.committed
 
 -- Calls reach the world from these rows; it has the commits that the state tells of, which the run

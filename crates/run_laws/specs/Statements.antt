@@ -13,7 +13,8 @@ use Rattle.session.specs.Lawful.{IsLawful}
 use Rattle.session.specs.State.{State, Setting, begun_at}
 use Rattle.session.specs.Table.{step}
 use Rattle.run.specs.Cause.{schema_of}
-use Rattle.run.specs.Commits.{transaction_of, commits, all_changes, changes_in, last_end}
+use Rattle.run.specs.Commits.{transaction_of, commits, all_changes, changes_in, commit_ends}
+use Rattle.model.specs.Beginning.{last_end}
 use Rattle.run.specs.Devices.{DeviceState}
 use Rattle.run.specs.Progress.{Progress, Leads, start_progress}
 use Rattle.run.specs.Run.{IsRun}
@@ -83,7 +84,7 @@ ThreadedIsSerial =
     → (map transaction_of o.journal.items ≡ commits run.part.progress.state)
     × (o.tables.rows ≡ serial (schema_of g) rows (changes_in (map transaction_of o.journal.items)))
     × AreAccepted (schema_of g) rows (changes_in (map transaction_of o.journal.items))
-    × (o.position ≡ last_end run.part.progress.state.past)
+    × (o.position ≡ last_end (commit_ends run.part.progress.state.past))
 
 -- what was open at its end has left nothing: calls reach a world in which none is open any more,
 -- and the run leaves what closing that world gives

@@ -17,7 +17,7 @@ use Rattle.session.specs.Lawful.{Admits}
 use Rattle.session.specs.State.{Direct, Worker, Spooled, Open, State, Setting, start}
 use Rattle.session.specs.StreamEvents.{StreamEvent, NoEvent, TransactionOpens, ItemComes, TransactionCommits, TransactionAborts, Tells}
 use Rattle.run.specs.Cause.{schema_of}
-use Rattle.world.specs.Steps.{TransactionOpens as OpensIn, Step, done_with, wanting, committed_with, aborted_with}
+use Rattle.world.specs.Steps.{Opens as OpensIn, Step, done_with, wanting, committed_with, aborted_with}
 use Rattle.world.specs.World.{Opened, Stop, World, starting}
 use Rattle.run_laws.specs.Leading.{Outbox, AreInStep, IsWith}
 use Rattle.run_laws.specs.Runs.{CommitsNext}

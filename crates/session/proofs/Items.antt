@@ -29,9 +29,9 @@ use Rattle.session.specs.State.{Way, Direct, Worker, Spooled, Open, OpenTransact
 use Rattle.session.specs.Kept.{is_spooled}
 use Rattle.session.specs.Table.{Next, refuse, at, of_open, gives, has_room, touches, plans, changes, change_line, subtransaction_named, learns, goes_on, aborts, aborts_open}
 use Rattle.session.specs.StreamEvents.{StreamEvent, NoEvent, TransactionOpens, ItemComes, TransactionCommits, TransactionAborts, Tells, IsChange}
-use Rattle.session.specs.KeptTransactions.{TransactionsRepresent, spool_fault, with_item, item_back, Survives}
+use Rattle.session.specs.KeptTransactions.{Represents as TransactionsRepresent, spool_fault, with_item, item_back, Survives}
 use Rattle.session.specs.KnownRelations.{Represents}
-use Rattle.session.specs.Represents.{SessionRepresents}
+use Rattle.session.specs.Represents.{Represents as SessionRepresents}
 use Rattle.session.specs.Answers.{Says, NextRefuses, IsOfTables, IsWithin, AnswersMessage, AdmitsMessage, RefusesMessage, IsChangeOf}
 use Rattle.session.proofs.Totals.{same_key}
 use Rattle.session.proofs.Steps.{alone_insert, alone_remove, alone_at, none_begun, nothing_begun, moves-admitted, stays}
@@ -78,7 +78,7 @@ here_still (Block x) m xid o p some way here = goes_still (λ w. w ≢ Direct) m
 
 -- what is answered to an item that is given back, or kept
 abbrev pub step_given : ℕ → Option Item → Step
-step_given xid None = steps.NoEvent
+step_given xid None = steps.Nothing
 step_given xid (Some item) = steps.Item xid item
 
 says_given : (xid : ℕ) (way : Way) (item : Item) (size : ℕ) (back : Option Item) → back ≡ item_back way item → Says (ItemComes xid way item size) (step_given xid back)
@@ -241,7 +241,7 @@ at_rest phase next block is =
     is
 
 pub learns-admitted : (g : Setting) (v w : session_type.Session) (h : State) (r : Relation) (next : Next) → SessionRepresents g v h → next ≡ Ok (learns h r) → Represents g w.relations (learnt h.relations r)
-    → w.phase ≡ v.phase → w.transactions ≡ v.transactions → w.position ≡ v.position → AdmitsMessage g w h next steps.NoEvent
+    → w.phase ≡ v.phase → w.transactions ≡ v.transactions → w.position ≡ v.position → AdmitsMessage g w h next steps.Nothing
 learns-admitted g v w h r next represents e known phase transactions position = record {
   state = learns h r;
   told = NoEvent;
@@ -345,12 +345,12 @@ aborts_found : (h : State) (m : StreamAbort) (found : Option Open) → map.get h
 aborts_found h m found e = ap (aborts_open h m) e
 
 -- the abort of an unknown transaction
-pub aborts-unknown : (g : Setting) (v : session_type.Session) (h : State) (m : StreamAbort) → SessionRepresents g v h → map.get h.transactions m.xid ≡ None → AdmitsMessage g v h (Ok (aborts h m)) steps.NoEvent
+pub aborts-unknown : (g : Setting) (v : session_type.Session) (h : State) (m : StreamAbort) → SessionRepresents g v h → map.get h.transactions m.xid ≡ None → AdmitsMessage g v h (Ok (aborts h m)) steps.Nothing
 aborts-unknown g v h m represents none = stays g v h (Ok (aborts h m)) represents (ap Ok (aborts_found h m None none))
 
 -- what is answered to the abort of a whole transaction
 abbrev pub step_dropped : ℕ → Bool → Step
-step_dropped xid true = steps.NoEvent
+step_dropped xid true = steps.Nothing
 step_dropped xid false = steps.Abort xid
 
 says_dropped : (xid : ℕ) (way : Way) → Says (TransactionAborts xid way) (step_dropped xid (is_spooled way))
@@ -395,7 +395,7 @@ item_back-free Spooled item e = cc
 -- ---- further blocks
 
 pub goes_on-admitted : (g : Setting) (v w : session_type.Session) (h : State) (xid : ℕ) → SessionRepresents g v h → h.phase ≡ Outside → map.contains_key h.transactions xid ≡ true
-    → w.phase ≡ Block xid → w.transactions ≡ v.transactions → w.relations ≡ v.relations → w.position ≡ v.position → AdmitsMessage g w h (goes_on h xid) steps.NoEvent
+    → w.phase ≡ Block xid → w.transactions ≡ v.transactions → w.relations ≡ v.relations → w.position ≡ v.position → AdmitsMessage g w h (goes_on h xid) steps.Nothing
 goes_on-admitted g v w h xid represents outside is_open phase transactions relations position =
     let o = present h.transactions xid is_open in
     let streamed : o.0.way ≢ Direct = λ direct. let no : None ≡ Some xid = sym (none_begun h.phase outside) ∙ represents.alone xid o.0 o.1 direct in cc in

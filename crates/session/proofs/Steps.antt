@@ -19,7 +19,7 @@ use Rattle.session.specs.Table.{Next, refuse, at, begins, new_open, room_fault, 
 use Rattle.std.proofs.lemmas.Bool.{ltb-true}
 use Rattle.session.specs.StreamEvents.{NoEvent, TransactionOpens, TransactionCommits, items_handed_out}
 use Rattle.session.specs.KeptTransactions.{way_if, kept_part, Represents, IsFault}
-use Rattle.session.specs.Represents.{SessionRepresents}
+use Rattle.session.specs.Represents.{Represents as SessionRepresents}
 use Rattle.session.specs.Answers.{Says, HandsOut, NextRefuses, IsWithin, AnswersMessage, AdmitsMessage}
 use Rattle.session.specs.Kept.{items_kept}
 use Rattle.session.specs.Sized.{SizedItems}
@@ -107,7 +107,7 @@ stands_moved g v w h phase m represents here alone kept is relations position = 
 
 -- a message that changes no more than the phase, by which the same transaction is begun: nothing is told
 pub moves-admitted : (g : Setting) (v w : session_type.Session) (h : State) (phase : Phase) (next : Next) → SessionRepresents g v h → IsHere phase h.transactions → begun_at h.phase ≡ begun_at phase → next ≡ Ok (record h { phase = phase })
-    → w.phase ≡ phase → w.transactions ≡ v.transactions → w.relations ≡ v.relations → w.position ≡ v.position → AdmitsMessage g w h next steps.NoEvent
+    → w.phase ≡ phase → w.transactions ≡ v.transactions → w.relations ≡ v.relations → w.position ≡ v.position → AdmitsMessage g w h next steps.Nothing
 moves-admitted g v w h phase next represents here same stepped is transactions relations position = record {
   state = record h { phase = phase };
   told = NoEvent;
@@ -170,7 +170,7 @@ begins-refused g v w h m b c result r represents outside kept phase relations po
 
 pub stops-admitted : (g : Setting) (v w : session_type.Session) (h : State) (xid : ℕ) (a : Next) (b : ℕ → ℕ → Next) → SessionRepresents g v h → v.phase ≡ Block xid
     → w.phase ≡ Outside → w.transactions ≡ v.transactions → w.relations ≡ v.relations → w.position ≡ v.position
-    → AdmitsMessage g w h (at h.phase a b (λ _. Ok (leaves_block h))) steps.NoEvent
+    → AdmitsMessage g w h (at h.phase a b (λ _. Ok (leaves_block h))) steps.Nothing
 stops-admitted g v w h xid a b represents block phase transactions relations position =
     let was : h.phase ≡ Block xid = sym represents.phase ∙ block in
     moves-admitted g v w h Outside (at h.phase a b (λ _. Ok (leaves_block h))) represents tt (ap begun_at was) (ap (λ p. at p a b (λ _. Ok (leaves_block h))) was) phase transactions relations position
@@ -180,7 +180,7 @@ stops-admitted g v w h xid a b represents block phase transactions relations pos
 -- what is answered once it is open
 abbrev pub step_if : ℕ → Bool → Step
 step_if xid true = steps.Open xid
-step_if xid false = steps.NoEvent
+step_if xid false = steps.Nothing
 
 chosen : (b : Bool) → (if b then Worker else Spooled) ≡ way_if b
 chosen true = refl
@@ -290,7 +290,7 @@ pub follows_same : (g : Setting) (v : session_type.Session) (h : State) (next ot
 follows_same g v h next other result e follows = let P : Next → Type 0 = λ n. AnswersMessage g v h n result in subst P (sym e) follows
 
 -- a message without effect
-pub stays : (g : Setting) (v : session_type.Session) (h : State) (next : Next) → SessionRepresents g v h → next ≡ Ok h → AdmitsMessage g v h next steps.NoEvent
+pub stays : (g : Setting) (v : session_type.Session) (h : State) (next : Next) → SessionRepresents g v h → next ≡ Ok h → AdmitsMessage g v h next steps.Nothing
 stays g v h next represents e = record { state = h; told = NoEvent; stepped = e; represents = represents; tells = record { transactions = refl; position = refl; past = refl }; says = refl; within = tt }
 
 -- what is the same in each phase

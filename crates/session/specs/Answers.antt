@@ -21,7 +21,7 @@ use Rattle.session.specs.Represents.{Represents}
 
 -- a commit hands out the transaction's number, what the commit says, and the items
 abbrev pub HandsOut : Committed → Step → Type 0
-HandsOut c steps.NoEvent = ⊥
+HandsOut c steps.Nothing = ⊥
 HandsOut c (steps.Begin xid) = ⊥
 HandsOut c (steps.Open xid) = ⊥
 HandsOut c (steps.Item xid item) = ⊥
@@ -30,17 +30,17 @@ HandsOut c (steps.Abort xid) = ⊥
 
 -- The answer says what the message tells; of a spooled transaction it says nothing but the commit.
 abbrev pub Says : StreamEvent → Step → Type 0
-Says NoEvent step = step ≡ steps.NoEvent
+Says NoEvent step = step ≡ steps.Nothing
 Says (TransactionOpens xid Direct) step = step ≡ steps.Begin xid
 Says (TransactionOpens xid Worker) step = step ≡ steps.Open xid
-Says (TransactionOpens xid Spooled) step = step ≡ steps.NoEvent
+Says (TransactionOpens xid Spooled) step = step ≡ steps.Nothing
 Says (ItemComes xid Direct item size) step = step ≡ steps.Item xid item
 Says (ItemComes xid Worker item size) step = step ≡ steps.Item xid item
-Says (ItemComes xid Spooled item size) step = step ≡ steps.NoEvent
+Says (ItemComes xid Spooled item size) step = step ≡ steps.Nothing
 Says (TransactionCommits c) step = HandsOut c step
 Says (TransactionAborts xid Direct) step = step ≡ steps.Abort xid
 Says (TransactionAborts xid Worker) step = step ≡ steps.Abort xid
-Says (TransactionAborts xid Spooled) step = step ≡ steps.NoEvent
+Says (TransactionAborts xid Spooled) step = step ≡ steps.Nothing
 
 -- the item's change, if it has one, names tables among the first so many
 abbrev pub IsOfTables : ℕ → Item → Type 0

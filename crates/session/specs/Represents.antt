@@ -2,8 +2,8 @@
 use Rattle.std.specs.Prelude.{◌≡◌}
 use Rattle.session.specs.declared.session.Session as session_type
 use Rattle.session.specs.State.{State, Setting, IsHere, GoesAlone}
-use Rattle.session.specs.KeptTransactions.{TransactionsRepresent}
-use Rattle.session.specs.KnownRelations.{RelationsRepresent}
+use Rattle.session.specs.KeptTransactions.{Represents as TransactionsRepresent}
+use Rattle.session.specs.KnownRelations.{Represents as RelationsRepresent}
 
 -- The session represents the state that the messages so far have left.
 pub record Represents (g : Setting) (v : session_type.Session) (h : State) : Type 0 where

@@ -1,4 +1,4 @@
-// What goes through a lane's ring.
+// What goes through a worker's ring.
 ghost use Rattle.std.specs.Prelude.{◌≡◌, All, length, [], ◌∷◌};
 ghost use Rattle.model.specs.Named.{NamesTables};
 ghost use Rattle.model.specs.Survivors.{changes_of};

@@ -17,7 +17,7 @@ use std::alloc::Global;
 use std::marker::{Model, PhantomData};
 use std::sync::{Condvar, Mutex, Wait};
 
-/// A transaction's ticket, and the end of its lane's ring from which its items come.
+/// A transaction's ticket, and the end of its worker's ring from which its items come.
 ///
 /// What the transaction has done are the items that were acknowledged, and a change of it that waits
 /// or clashed is the first item after them (`IsInStep`). So whoever brings the two ends of the ring
@@ -73,7 +73,7 @@ impl<N: StoreNames, L: RingNames> Job<N, L> {
         (ticket, taker)
     }
 
-    /// The number of its lane.
+    /// The number of its worker.
     pub fn worker(&self) -> usize
         ensures { result ≡ self.now.worker }
     {

@@ -2,7 +2,7 @@
 
 // A worker: it applies one transaction while its items come.
 //
-// It is given a `Job`, the ticket of an open transaction and the end of a lane's ring from which the
+// It is given a `Job`, the ticket of an open transaction and the end of a worker's ring from which the
 // transaction's items come. It does each item in the store and then acknowledges it. The type of a
 // job keeps that what the transaction has done are the items acknowledged, in order, and that a
 // change of it that waits or clashed is the first item after them. So when the job comes back and
@@ -38,13 +38,13 @@
 //   progress   `work`, `work_on`
 //   tries      one item under the lock
 //   ended      why a worker came back
-//   outbox       `Outbox`, where the leader gives the items of a lane's transaction
+//   outbox       `Outbox`, where the leader gives the items of a worker's transaction
 //   names      `RingNames`, which rings, and `OutboxNames`, which lists; with the store's names they
 //              stand in the types of all of these
 //
 // `specs/Working` says what a job knows and what work makes of it, `specs/WorkingLemmas` what follows of
-// its items and events; `specs/Outbox` says what is known of a post. It stands on `engine` for the
-// store, on `ring` for the lane, on `tokens` for what the leader knows of a post, and on `model`.
+// its items and events; `specs/Outbox` says what is known of an outbox. It stands on `engine` for the
+// store, on `ring` for the items, on `tokens` for what the leader knows of an outbox, and on `model`.
 mod ended;
 mod gate;
 mod item;

@@ -5,7 +5,7 @@ ghost use Rattle.atomic_table.specs.Seated.{TableId};
 
 use std::marker::Brand;
 
-/// The names of the rings of the lanes to a store's workers: a lane has a number, and one ring.
+/// The names of the rings to a store's workers: a worker has a number, and one ring.
 ///
 /// They stand apart from the names of the store: what goes through a ring has those in its type, so
 /// they are picked before a ring is made, and its own name after it.
@@ -17,7 +17,7 @@ impl RingNames for Brand {
     ghost ring = { λ _. no_name };
 }
 
-/// The names of a run's lanes: of their rings, and of the lists of what was given to them.
+/// The names of a run's workers: of their rings, and of the lists of what was given to them.
 pub trait OutboxNames: RingNames {
     ghost outbox: { ℕ → Name };
 }

@@ -1,8 +1,8 @@
-// The leader's side of a lane.
+// Where the leader gives a worker its items.
 //
-// A ring has few slots, and the leader is not to wait for room in it. So what finds no room is late: it
-// lies behind the ring, and whoever comes by sends on. `give` and `send_on` each leave nothing late, or
-// a full ring. Then an item before the late ones is not acknowledged, and the worker, which calls
+// A ring has few slots, and the leader is not to wait for room in it. So what finds no room is queued: it
+// lies behind the ring, and whoever comes by sends on. `give` and `send_on` each leave nothing queued, or
+// a full ring. Then an item before the queued ones is not acknowledged, and the worker, which calls
 // `send_on` behind each acknowledgement, sends them on; so none stays behind while the worker goes on.
 //
 // Both are under a lock, of which only its type is known. What the leader knows over its releases is
@@ -28,7 +28,7 @@ use std::marker::{Brand, Model, PhantomData};
 use std::sync::{Mutex, MutexGuard, Wait};
 use tokens::{Items, Kept, Token, grow, grow_by};
 
-/// What the leader did with a lane. Proofs alone know the list of it.
+/// What the leader did with an outbox. Proofs alone know the list of it.
 #[derive(Debug, Drop)]
 pub enum OutboxEvent {
     /// A transaction begins, of which nothing was given yet.
@@ -46,12 +46,12 @@ pub enum Collected {
     Left,
 }
 
-/// Where the leader gives the items of a lane's transaction: the end of its ring that sends, and behind
+/// Where the leader gives the items of a worker's transaction: the end of its ring that sends, and behind
 /// it those for which the ring had no room yet.
 ///
 /// It lies under a lock, since the worker sends on from it too. What the leader knows of it then is
 /// what its `Token` lists: the items given since the transaction began are those sent and those that
-/// are late, in this order.
+/// are queued, in this order.
 #[derive(Debug, Drop)]
 pub struct Outbox<N: StoreNames, L: OutboxNames> {
     worker: usize,
@@ -73,7 +73,7 @@ impl<N: StoreNames, L: OutboxNames> Model for Outbox<N, L> {
 }
 
 impl<N: StoreNames, L: OutboxNames> Outbox<N, L> {
-    /// A post of a lane to which nothing was given yet.
+    /// An outbox to which nothing was given yet.
     pub fn new(
         alloc: Global,
         worker: usize,
@@ -95,21 +95,21 @@ impl<N: StoreNames, L: OutboxNames> Outbox<N, L> {
         }
     }
 
-    /// The number of its lane.
+    /// The number of its worker.
     pub fn worker(&self) -> usize
         ensures { result ≡ self.now.worker }
     {
         self.worker
     }
 
-    /// How many items are late.
+    /// How many items are queued.
     pub fn queued_len(&self) -> usize
         ensures { result ≡ length self.now.queued }
     {
         self.queued.len()
     }
 
-    /// Gives an item. It is sent behind those that are late, while the ring has room, and is late
+    /// Gives an item. It is sent behind those that are queued, while the ring has room, and is queued
     /// itself where it hasn't. Refused, it is dropped, and nothing was given.
     pub fn give(
         &mut self,
@@ -135,7 +135,7 @@ impl<N: StoreNames, L: OutboxNames> Outbox<N, L> {
         Ok(())
     }
 
-    /// Sends late items, oldest first, while the ring has room. It takes no memory.
+    /// Sends queued items, oldest first, while the ring has room. It takes no memory.
     pub fn send_on(&mut self)
         ensures items { self.new.sending.sent ++ self.new.queued ≡ self.old.sending.sent ++ self.old.queued }
         ensures room { (self.new.queued ≡ []) ⊎ HasNoRoom self.new.sending }
@@ -173,7 +173,7 @@ impl<N: StoreNames, L: OutboxNames> Outbox<N, L> {
     }
 
     /// Ends a transaction, whose worker has given its end of the ring back, and answers whether all its
-    /// items are done. What is left of them is dropped, and the lane is ready for the next one.
+    /// items are done. What is left of them is dropped, and the outbox is ready for the next one.
     pub fn collect(
         &mut self,
         token: &mut Token<OutboxEvent>,
@@ -203,7 +203,7 @@ impl<N: StoreNames, L: OutboxNames> Outbox<N, L> {
     }
 }
 
-/// The post of a lane, under its lock. Nothing ties a lock to a lane, so it is compared.
+/// The outbox of a worker, under its lock. Nothing ties a lock to a worker, so it is compared.
 pub fn lock_outbox<'a, N: StoreNames, L: OutboxNames, R: Wait>(
     rt: &R,
     outbox: &'a Mutex<Outbox<N, L>>,
@@ -233,7 +233,7 @@ fn send_queued<T: Drop>(sender: &mut Sender<T>, queued: &mut VecDeque<T>)
     }
 }
 
-// Sends the item behind those that are late, or lays it there.
+// Sends the item behind those that are queued, or lays it there.
 fn send_or_keep<T: Drop>(sender: &mut Sender<T>, queued: &mut VecDeque<T>, item: T)
     requires { deque_len queued.old < deque_capacity queued.old }
     ensures items { sender.new.sent ++ queued.new.items ≡ (sender.old.sent ++ queued.old.items) ++ item ∷ [] }
@@ -250,7 +250,7 @@ fn send_or_keep<T: Drop>(sender: &mut Sender<T>, queued: &mut VecDeque<T>, item:
     send_queued(sender, queued);
 }
 
-// The first item that isn't done: of those left in the ring, and then of those that are late.
+// The first item that isn't done: of those left in the ring, and then of those that are queued.
 fn next_rest<T>(ends: &mut Ends<T>, queued: &mut VecDeque<T>) -> Option<T>
     ensures first { HandsOn (ends.old.left ++ queued.old.items) result (ends.new.left ++ queued.new.items) }
     ensures none { IfNone result ((ends.new.left ≡ []) × (queued.new.items ≡ [])) }

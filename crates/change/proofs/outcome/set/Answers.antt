@@ -3,7 +3,7 @@ use Rattle.std.proofs.lemmas.Result.{err_from_is_err_and}
 use Rattle.std.specs.FinMap.{remove}
 use Rattle.model.specs.declared.change.Change.TheVariants.{Set}
 use Rattle.model.specs.Effect.{one_edit, patch_row, set_outcome}
-use Rattle.model.specs.EffectLaws.{row_outcome_taken}
+use Rattle.model.specs.EffectLemmas.{row_outcome_taken}
 use Rattle.change.proofs.Outcomes.{set_as_placed, placed_held, none_of, same_there, set_leaves, skipped_leaves, refused_leaves}
 use Rattle.change.proofs.outcome.set.Goals as goal
 

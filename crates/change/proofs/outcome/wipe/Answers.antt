@@ -1,5 +1,5 @@
 use Rattle.std.proofs.Common.{rules, ◌+◌, ◌<◌, length, take, [], sym, subst, arith, get_or}
-use Rattle.indexes.specs.Content.{Content, Keeps}
+use Rattle.indexes.specs.Content.{Content, KeepsCells}
 use Rattle.model.specs.Rows.{Schema}
 use Rattle.change.specs.Inverse.{room_unwiped}
 use Rattle.change.proofs.Wiping.{IsWiped, nothing_wiped, read_again, one_more_wiped, wipe_leaves}
@@ -19,7 +19,7 @@ returns-in-Err c =
     refused_leaves c.args.t.now c.unwipe_all.new.t (Wipe c.args.tables.now) _ (search rules) (search rules)
     (λ cell is.
     c.unwipe_all.ensures.room cell
-    (subst (λ (t : Content). Keeps c.args.t.now.room (room_unwiped t.room c.loop-table.wiped.items)) (sym c.in-Err.ensures.err) c.loop-table.invariant.far.room cell is))
+    (subst (λ (t : Content). KeepsCells c.args.t.now.room (room_unwiped t.room c.loop-table.wiped.items)) (sym c.in-Err.ensures.err) c.loop-table.invariant.far.room cell is))
     (search rules)
 
 pub loop-table-preserved : goal.loop-table-preserved

@@ -11,7 +11,7 @@ invariant_of-self g c =
     let l = c.self.inside in
     let job = c.own_job-job.result in
     let met = c.collect-collected in
-    let number : job.lane ≡ l.number = c.own_job-job.ensures.lane ∙ sym (ap (λ (s : Laned). s.number) c.self.view_is) in
+    let number : job.worker ≡ l.number = c.own_job-job.ensures.worker ∙ sym (ap (λ (s : Laned). s.number) c.self.view_is) in
     let given = c.own_job-job.ensures.goes in (
       home_lane (g.L.RingNames.ring l.number) g.N.StoreNames.tickets l.token c.split-ticket.result.1 job c.split-ticket.result.0 c.split-ticket.ensures.ticket c.split-ticket.ensures.taker
           (subst (λ n. IsInStep (g.L.RingNames.ring n) job) number c.split-ticket.ensures.step)
@@ -28,7 +28,7 @@ returns g c =
     let l = c.self.inside in
     let job = c.own_job-job.result in
     let met = c.collect-collected in
-    let number : job.lane ≡ l.number = c.own_job-job.ensures.lane ∙ sym (ap (λ (s : Laned). s.number) c.self.view_is) in
+    let number : job.worker ≡ l.number = c.own_job-job.ensures.worker ∙ sym (ap (λ (s : Laned). s.number) c.self.view_is) in
     let given = c.own_job-job.ensures.goes in
     subst (λ events. ComesBack c.args.self.now met.result.0 (laned l.number l.xid events (Some met.result.1) (Some c.split-ticket.result.0) met.result.0)) (sym (ap (λ (h : Half OutboxEvent). h.list) met.ensures.begun))
     (came_back l.number l.xid l.token.list l.taker l.back l.collected c.args.self.now c.self.view_is met.result.1 c.split-ticket.result.0 met.result.0 given.0 given.1 c.own_job-job.ensures.away

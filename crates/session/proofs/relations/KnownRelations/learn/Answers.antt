@@ -1,5 +1,5 @@
-use Rattle.session.proofs.Mappings.{Knows-learnt}
+use Rattle.session.proofs.Mappings.{Represents-learnt}
 use Rattle.session.proofs.relations.KnownRelations.learn.Goals as goal
 
 pub returns : goal.returns
-returns c = λ g relations known. Knows-learnt g c.args.self.now _ relations c.args.relation.now known c.in_ok-learn.ensures.learnt c.remove.ensures.updates
+returns c = λ g relations known. Represents-learnt g c.args.self.now _ relations c.args.relation.now known c.in_ok-learn.ensures.learnt c.remove.ensures.updates

@@ -1,7 +1,7 @@
 use Rattle.std.proofs.Common.{◌≡◌, cond, ap, ◌∙◌, arith, refl, true, false}
 use Rattle.session.specs.Kept.{kept_more, back_of, is_spooled}
 use Rattle.session.specs.KeptTransactions.{kept_part, item_back, with_item}
-use Rattle.session.proofs.Kept.{found_is, keeping_more, back_of-keeping, spool_bytes_of-taken, kept_if_none, room_within, Keeps-written}
+use Rattle.session.proofs.Kept.{found_is, keeping_more, back_of-keeping, spool_bytes_of-taken, kept_if_none, room_within, Represents-written}
 use Rattle.session.proofs.transactions.Transactions.add_item.Goals as goal
 use Rattle.session.proofs.transactions.Transactions.add_item.Goals.{then-is_none, else-is_none}
 
@@ -20,10 +20,10 @@ returns c = λ g m o kept some room survives.
             let one : cond (is_spooled o.way) c.args.size 0 ≡ c.args.size = rw spools in
             let within = room_within g m c.args.size o.way room spools in
             let sum = w.saturating_add-self.ensures in
-            rw w.self-is (Keeps-written g c.args.self.now _ m xid o (with_item o c.args.item c.args.size) c.keep.new.self kept some refl (c.get_mut.follows.holds c.keep.new.self) is refl refl refl (omega (arith, more, one, sum, within, kept.spooled, kept.room, kept.limit)) (omega (arith, sum, within, kept.spooled, kept.room, kept.limit)))
+            rw w.self-is (Represents-written g c.args.self.now _ m xid o (with_item o c.args.item c.args.size) c.keep.new.self kept some refl (c.get_mut.follows.holds c.keep.new.self) is refl refl refl (omega (arith, more, one, sum, within, kept.spooled, kept.room, kept.limit)) (omega (arith, sum, within, kept.spooled, kept.room, kept.limit)))
         | else-is_none w ↦
             let spools : is_spooled o.way ≡ false = keeps ∙ w.if-is_none.false in
             let one : cond (is_spooled o.way) c.args.size 0 ≡ 0 = rw spools in
-            rw w.self-is (Keeps-written g c.args.self.now _ m xid o (with_item o c.args.item c.args.size) c.keep.new.self kept some refl (c.get_mut.follows.holds c.keep.new.self) is refl refl refl (omega (arith, more, one)) kept.fits)
+            rw w.self-is (Represents-written g c.args.self.now _ m xid o (with_item o c.args.item c.args.size) c.keep.new.self kept some refl (c.get_mut.follows.holds c.keep.new.self) is refl refl refl (omega (arith, more, one)) kept.fits)
       ],
     )

@@ -4,7 +4,7 @@ use Rattle.session.specs.State.{Open, spool_bytes_of}
 use Rattle.session.specs.Kept.{without_last, bytes_kept}
 use Rattle.session.specs.KeptTransactions.{kept_part, with_item}
 use Rattle.session.proofs.Totals.{get-insert_same}
-use Rattle.session.proofs.Kept.{found_is, kept_value, keeping_less, bytes_kept-keeping, spool_bytes-remove, Keeps-undone}
+use Rattle.session.proofs.Kept.{found_is, kept_value, keeping_less, bytes_kept-keeping, spool_bytes-remove, Represents-undone}
 use Rattle.session.proofs.transactions.Transactions.drop_last.Goals as goal
 
 pub returns-in-Some : goal.returns-in-Some
@@ -21,7 +21,7 @@ returns-in-Some c = λ g m o item size some survives kept.
     let less = c.saturating_sub-self.ensures in
     let sums : c.saturating_sub-self.result + spool_bytes_of xid p.items p.way ≡ c.args.self.now.spooled + spool_bytes_of xid o.items o.way = omega (arith, less, freed, before, after, all, kept.spooled) in
     let fits : c.saturating_sub-self.result < 2 ^ 64 = omega (arith, less, kept.fits) in
-    Keeps-undone g c.args.self.now _ m xid o p c.drop_last-freed.new.self kept some refl (c.get_mut.follows.holds c.drop_last-freed.new.self) is refl refl refl sums fits
+    Represents-undone g c.args.self.now _ m xid o p c.drop_last-freed.new.self kept some refl (c.get_mut.follows.holds c.drop_last-freed.new.self) is refl refl refl sums fits
 
 pub returns-in_default : goal.returns-in_default
 returns-in_default c = λ g m o item size some survives kept.

@@ -3,7 +3,7 @@ use Rattle.model.specs.declared.item.Item.TheVariants.{BackTo}
 use Rattle.session.specs.State.{Open, spool_bytes_of}
 use Rattle.session.specs.Kept.{cut_back, bytes_kept, is_spool, is_spooled}
 use Rattle.session.specs.KeptTransactions.{kept_part, with_item}
-use Rattle.session.proofs.Kept.{found_is, keeping_cut, bytes_kept-keeping, is_spool-keeping, spool_bytes-remove, nothing_spooled, Keeps-written}
+use Rattle.session.proofs.Kept.{found_is, keeping_cut, bytes_kept-keeping, is_spool-keeping, spool_bytes-remove, nothing_spooled, Represents-written}
 use Rattle.session.proofs.transactions.Transactions.roll_back.Goals as goal
 
 pub returns-in-Some-cut : goal.returns-in-Some-cut
@@ -20,7 +20,7 @@ returns-in-Some-cut c = λ g m o kept some apart.
     let spools : is_spool c.in-Some.way.now ≡ is_spooled o.way = ap is_spool was ∙ is_spool-keeping xid o.items o.way in
     let less = c.saturating_sub-self.ensures in (
       sym freed.0 ∙ spools,
-      Keeps-written g c.args.self.now _ m xid o p c.cut.new.self kept some refl (c.get_mut.follows.holds c.cut.new.self) is refl refl refl (omega (arith, less, freed.1, before, after, all, kept.spooled)) (omega (arith, less, kept.fits)),
+      Represents-written g c.args.self.now _ m xid o p c.cut.new.self kept some refl (c.get_mut.follows.holds c.cut.new.self) is refl refl refl (omega (arith, less, freed.1, before, after, all, kept.spooled)) (omega (arith, less, kept.fits)),
     )
 
 -- nothing is kept, so no bytes are freed
@@ -37,5 +37,5 @@ returns-in-None c = λ g m o kept some apart.
     let spools : is_spool c.in-Some.way.now ≡ is_spooled o.way = ap is_spool was ∙ is_spool-keeping xid o.items o.way in
     let direct : false ≡ is_spooled o.way = sym none ∙ spools in (
       direct,
-      Keeps-written g c.args.self.now _ m xid o p c.cut.new.self kept some refl (c.get_mut.follows.holds c.cut.new.self) is refl refl refl (ap (λ n. c.args.self.now.spooled + n) (nothing_spooled xid o.items p.items o.way (sym direct))) kept.fits,
+      Represents-written g c.args.self.now _ m xid o p c.cut.new.self kept some refl (c.get_mut.follows.holds c.cut.new.self) is refl refl refl (ap (λ n. c.args.self.now.spooled + n) (nothing_spooled xid o.items p.items o.way (sym direct))) kept.fits,
     )

@@ -4,7 +4,7 @@ use Rattle.std.specs.BTreeMap.{btree_map_len}
 use Rattle.std.proofs.lemmas.Bool.{lt-ltb, le-ltb}
 use Rattle.session.specs.State.{Worker, Spooled, worker_count}
 use Rattle.session.specs.declared.transactions.OpenTransaction.{OpenTransaction}
-use Rattle.session.proofs.Kept.{absent_from_room, kept_absent, Keeps-insert, IsStreamed-refused}
+use Rattle.session.proofs.Kept.{absent_from_room, kept_absent, Represents-insert, IsStreamed-refused}
 use Rattle.session.proofs.transactions.Transactions.stream.Goals as goal
 
 pub returns-in_err-check_room : goal.returns-in_err-check_room
@@ -17,7 +17,7 @@ returns-in_ok-insert c = λ g m kept.
     let fresh = c.in_ok-insert.ensures.old ∙ kept_absent c.args.self.now.ways m c.args.xid kept.ways none in
     let more = c.in_ok-insert.ensures.len ∙ ap (λ (o : Option OpenTransaction). btree_map_len c.args.self.now.ways + cond (is_some o) 0 1) fresh in
     let free : nat_lt (worker_count m) g.workers ≡ true = lt-ltb (worker_count m) g.workers (omega (arith, c.if-self.true, kept.working, kept.workers)) in
-    (room, sym free, Keeps-insert g c.args.self.now _ m c.args.xid Worker kept none c.in_ok-insert.ensures.updates more refl (omega arith) refl refl refl)
+    (room, sym free, Represents-insert g c.args.self.now _ m c.args.xid Worker kept none c.in_ok-insert.ensures.updates more refl (omega arith) refl refl refl)
 
 pub returns-in_ok-insert-2 : goal.returns-in_ok-insert-2
 returns-in_ok-insert-2 c = λ g m kept.
@@ -27,4 +27,4 @@ returns-in_ok-insert-2 c = λ g m kept.
     let more = c.in_ok-insert-2.ensures.len ∙ ap (λ (o : Option OpenTransaction). btree_map_len c.args.self.now.ways + cond (is_some o) 0 1) fresh in
     let full : nat_lt (worker_count m) g.workers ≡ false = le-ltb (worker_count m) g.workers (omega (arith, c.if-self.false, kept.working, kept.workers)) in
     let step = rw c.new.ensures at c.in_ok-insert-2.ensures.updates in
-    (room, sym full, Keeps-insert g c.args.self.now _ m c.args.xid Spooled kept none step more refl (omega arith) refl refl refl)
+    (room, sym full, Represents-insert g c.args.self.now _ m c.args.xid Spooled kept none step more refl (omega arith) refl refl refl)

@@ -5,7 +5,7 @@ use Rattle.model.specs.Effect.{are_taken_unless_null}
 use Rattle.indexes.specs.Content.{unique_columns}
 use Rattle.change.specs.Clashing.{without, KeepsValues}
 use Rattle.change.proofs.Clashes.{kept_is_free, taken_in_rest, free_without, not_found}
-use Rattle.change.proofs.outcome.has_twin.Goals as goal
+use Rattle.change.proofs.outcome.has_duplicate.Goals as goal
 
 pub returns-then-keeps_values : goal.returns-then-keeps_values
 returns-then-keeps_values c =
@@ -16,12 +16,12 @@ pub returns-in-None : goal.returns-in-None
 returns-in-None c =
     let columns = unique_columns c.args.t.now.schema c.args.table c.args.number in
     sym (free_without c.args.t.now.rows c.args.table columns (values_in columns c.args.row.now) c.args.stood
-    (not_found _ _ c.find_twin.ensures.taken c.in-None.is))
+    (not_found _ _ c.find_duplicate.ensures.taken c.in-None.is))
 
 pub returns-in-Some-stood : goal.returns-in-Some-stood
 returns-in-Some-stood c =
     let columns = unique_columns c.args.t.now.schema c.args.table c.args.number in
-    let twin = c.in-Some.ensures.key in
-    c.ne.ensures ∙ sym (taken_in_rest c.args.t.now.schema c.args.t.now.rows c.requires.sound.valid c.args.table c.args.number twin.0 c.in-Some.holder.now c.in-Some-stood.old.key.now twin.2 c.requires.number twin.3 twin.4)
-    ∙ ap (are_taken_unless_null (without c.args.t.now.rows c.args.table (Some c.in-Some-stood.old)) c.args.table columns) (sym twin.1)
+    let duplicate = c.in-Some.ensures.key in
+    c.ne.ensures ∙ sym (taken_in_rest c.args.t.now.schema c.args.t.now.rows c.requires.sound.valid c.args.table c.args.number duplicate.0 c.in-Some.holder.now c.in-Some-stood.old.key.now duplicate.2 c.requires.number duplicate.3 duplicate.4)
+    ∙ ap (are_taken_unless_null (without c.args.t.now.rows c.args.table (Some c.in-Some-stood.old)) c.args.table columns) (sym duplicate.1)
     ∙ ap (λ e. are_taken_unless_null (without c.args.t.now.rows c.args.table e) c.args.table columns (values_in columns c.args.row.now)) (sym c.in-Some-stood.is)
