@@ -22,11 +22,11 @@
 //   rows_after          the rows of a table after entries of the journal
 //
 //   specs/Engine, EngineCode      a store as its callers see it; what its type keeps
-//   specs/Shared, SharedLaws      what the type of a store under a lock keeps
+//   specs/Shared, SharedLemmas      what the type of a store under a lock keeps
 //   specs/ShutLemmas                a store that is given up while transactions are open
-//   specs/Serial, SerialInside, SerialLaws    a store whose transactions come one at a time
-//   specs/FirstClash, ClearLaws        changes one after another, and the first that clashes
-//   specs/Events, EventLaws       the world that tickets and line tell
+//   specs/Serial, SerialInside, SerialLemmas    a store whose transactions come one at a time
+//   specs/FirstClash, FirstClashLemmas        changes one after another, and the first that clashes
+//   specs/Events, EventLemmas       the world that tickets and line tell
 //   specs/StoreLemmas               what the type keeps, once a call has altered the parts
 //   specs/EntryLemmas               the tables that the journal's entries name
 //   specs/RowsAfterLemmas           the steps of the loops that make their changes

@@ -28,14 +28,14 @@
 //   let_go              cells are let go, and given up where no row fills them
 //   cells, stood, waits who is in the way of a change; what stood at a cell; who waits for whom
 //   committed_rows      the committed rows of a table; `merging` them from two lists
-//   laws, laws_of_reads the laws
+//   laws, read_laws the laws
 //
 //   specs/Represents, Transactions      what ties the live part to a world; what a call does to a transaction
-//   specs/BasicLemmas, MadeRoom    what the calls of one transaction have in common
-//   specs/ActLemmas, TiedEnds      a change; an opening, a touch, a rollback and both ends
+//   specs/BasicLemmas, MadeRoomLemmas    what the calls of one transaction have in common
+//   specs/ActLemmas, EndedLemmas      a change; an opening, a touch, a rollback and both ends
 //   specs/Tried                   what a change that is tried comes to
 //   specs/ReadingLemmas               what is read of committed rows
-//   specs/Shut, ShutLaws          all open transactions are aborted
+//   specs/Shut, ShutLemmas          all open transactions are aborted
 //   specs/Answers                 what the answers tell of a world
 //   specs/Cells                   who is in the way, by the holds
 //   specs/KeptRecords          what is kept of a world
@@ -55,7 +55,7 @@
 //   specs/Merged        two lists of rows in the order of their keys, merged
 //   specs/Waits         who waits for whom, by the live tables and the holds
 //   specs/Journal       the rows after entries of a journal
-//   specs/ReadStatements   the laws of these as statements, which `laws_of_reads` promises
+//   specs/ReadStatements   the laws of these as statements, which `read_laws` promises
 //   specs/BeforeImageCallLemmas    what lies beside the cells, through each call
 //   specs/BeforeImageLemmas     the same for the cells of one transaction
 //   specs/UnheldLemmas    rows that nobody holds

@@ -1,4 +1,4 @@
--- The laws of cells and changes, each as one statement. `src/laws_of_cells.rt` names them, and the check proves them.
+-- The laws of cells and changes, each as one statement. `src/cell_laws.rt` names them, and the check proves them.
 use Rattle.std.specs.Prelude.{◌≡◌, ◌≢◌, ℕ, true, false, List, [], ◌∷◌, ◌++◌, Some}
 use Rattle.std.specs.List.{list_any}
 use Rattle.std.specs.FinMap.{get}

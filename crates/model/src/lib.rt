@@ -33,7 +33,7 @@
 //   specs/AlikeLemmas      where rows are the same in its footprint, it does the same
 //   specs/SerialLemmas     lists of changes that share no cell come in any order
 //   specs/SurvivorLemmas   what one more item does to the changes that survive
-//   specs/Statements, LawsOfCells   the main ones as statements, which `laws`, `laws_of_cells` promise
+//   specs/Statements, CellStatements   the main ones as statements, which `laws`, `cell_laws` promise
 pub mod cell;
 pub mod cell_laws;
 pub mod change;

@@ -28,7 +28,7 @@ impl OpenTransaction {
         matches!(self, OpenTransaction::Spooled(_))
     }
 
-    /// Represents an item of a spooled transaction, and gives any other back. Refused for memory, it
+    /// Keeps an item of a spooled transaction, and gives any other back. Refused for memory, it
     /// changes nothing.
     fn keep(&mut self, item: Item, size: u64) -> Result<Option<Item>, OutOfMemory>
         ensures ok { IfOk result (λ back. (self.new ≡ kept_more self.old item size) × (back ≡ back_of self.old item)) }

@@ -166,7 +166,7 @@ impl<X> Book<X> {
         Ok(Book { table, seat })
     }
 
-    /// OpensList a number, with an empty list, and gives its one slip.
+    /// Opens a number, with an empty list, and gives its one slip.
     pub fn open(&mut self, number: u32) -> Slip<X>
         requires { map.get self.old.lists number ≡ None }
         ensures book { self.new ≡ with_list self.old number [] }
