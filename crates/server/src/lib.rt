@@ -4,7 +4,7 @@
 // (`fault`). Whoever takes a stream is handed whole frames alone (`specs/Frames.antt`, `relay::Output`).
 //
 // How it works. `wire` has the messages of the frontend/backend protocol as bytes, `line` a socket and a
-// clock, `tcp` whole messages within a time limit; `scram` and `auth` say who connects, and `host`
+// clock, `connection` whole messages within a time limit; `scram` and `auth` say who connects, and `host`
 // opens a connection that has logged in. `query` asks for rows, and `quoting` spells the names in a question.
 // `stream` starts replication and says what a frame is; `relay` hands the frames to whoever takes them:
 // `capture` to a file or to standard output, `serve` to one follower after another.
@@ -12,7 +12,7 @@
 // There is no TLS: a password in clear text and the rows go over the wire as they are.
 //
 // It stands on `md5`, `sha2` and `base64` for the ways to log in, `thiserror` for the texts of faults, and
-// std's sockets. What needs no socket is tried by scripted servers, in the crate `publisher`.
+// std's sockets. What needs no socket is tried by scripted servers, in the crate `server_tests`.
 #![tactic(auto)]
 
 pub mod auth;
