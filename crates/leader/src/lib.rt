@@ -3,21 +3,8 @@
 // A run whose streamed transactions have workers.
 //
 // A leader takes each item of the stream and never waits for a worker but at its commit, its abort and
-// the end of the run; a worker waits for nobody but those that hold a cell, and for its items.
-//
-//   who waits                             for what                    and is woken by
-//   the leader, at a change of its own    a cell that another holds   the bell: a worker's gate, behind each item and
-//                                                                     before it waits itself; a job that came back
-//   the leader, at a commit               the worker's job            the same
-//   the leader, at an abort and the end   the worker's job            its desk; the worker was doomed before, and was
-//                                                                     notified under the store's lock
-//   a worker, at its ring                 its next item               whoever sends: the leader, or itself behind an item
-//   a worker, at a cell                   whoever holds it            a commit, an abort, a stop or a doom, each notified
-//                                                                     under the store's lock
-//   a watcher that wants no turn          the end of the run          the leader, once it has left
-//
-// A worker that lags, with items late still, rings behind each 64th item alone: it has more to do, so it
-// rings again.
+// the end of the run; a worker waits for nobody but those that hold a cell, and for its items. Who
+// waits for whom, who wakes it, and in which order locks are taken: docs/architecture.md.
 //
 // Before the leader waits it notes how often the bell was rung, and looks at all that may have moved. It
 // looks too whether the store was stopped, whether nothing more can come, and whether memory was refused
@@ -34,8 +21,8 @@
 //
 // It stands on `dispatch` for which transaction is open and where, `run` for the loop over a stream and
 // the ends of a run, `run_laws` for what a run with workers is, `session` for what messages ask for,
-// `engine`'s store, `worker_threads` for threads, and `snapshot` and `origin` for those who watch. All that a caller of a run needs stands here, as in
-// `run`.
+// `engine`'s store, `worker_threads` for threads, and `snapshot` and `origin` for those who watch. All
+// that a caller of a run needs stands here, as in `run`.
 mod chief;
 mod ending;
 mod lead;

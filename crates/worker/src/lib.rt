@@ -17,20 +17,12 @@
 //
 // It says which, and the job shows it. An item that was not done stays the one taken.
 //
-// Who waits for what, and who wakes it:
-//
-//   a worker waits                      it is woken by
-//   for an item, at its ring            `try_send`, and `doom`
-//   for a cell that another             `notify_all` under the store's lock, by whoever commits or
-//   transaction holds, at `changed`     aborts a transaction, stops the store, or doomed a worker; of
-//                                       the workers, one that rolls back or whose change clashes
-//   for the store's lock                whoever has it, which nobody keeps while they wait
-//   at a gate                           the gate; it holds no lock there
-//
-// A wake that comes early is kept: a ring keeps it, and at `changed` a worker looks for a doom and
-// tries its change under the lock that it gives back only as it waits. An ordinary item lets no cell
-// go, so it wakes nobody. A worker that goes to wait tells its gate first, so that the leader of a run
-// can look whether all wait.
+// A worker waits for its next item, for a cell that another transaction holds, for the store's lock,
+// and where its gate holds it: who wakes it stands in docs/architecture.md, with the order of the
+// locks. A wake that comes early is kept: a ring keeps it, and at `changed` a worker looks for a doom
+// and tries its change under the lock that it gives back only as it waits. An ordinary item lets no
+// cell go, so it wakes nobody. A worker that goes to wait tells its gate first, so that the leader of
+// a run can look whether all wait.
 //
 //   job        `Job`
 //   item       `WorkItem`, what goes through the ring

@@ -16,23 +16,13 @@
 //   - Of a job that comes back nothing is known but its type. Whoever has to know which one it is lets
 //     it carry a number and compares it.
 //
-// Who waits for whom, and who wakes it:
-//
-//   who                  waits for                          in                 and is woken by
-//   a worker             a job, or that its desk closes     `Mailbox::serve`      `give`, `close`
-//   the leader           a job that its worker has          `Mailbox::wait_back`  `serve`, once it laid it back
-//   the leader           anything that moves                `Bell::wait_past`  `Bell::ring`: `came_back`, and
-//                                                                              whatever else the caller's work rings for
-//   whoever closes       a job that its worker has          `Mailbox::close`      `serve`, once it laid it back
-//   `with_workers`       the end of all threads             `thread::scope`    `serve`, which returns once its desk
-//                                                                              is closed
-//
-// So a thread ends if each job that is in work does, and `with_workers` returns if the leader does.
-// What a job waits for while it is in work is the caller's: before the leader returns it must see to
-// it that no job waits for the leader any more.
+// Who waits for whom, and who wakes it, stands in docs/architecture.md. A thread ends if each job
+// that is in work does, and `with_workers` returns if the leader does. What a job waits for while it
+// is in work is the caller's: before the leader returns it must see to it that no job waits for the
+// leader any more.
 //
 // No clause says that a thread ends or that a job comes back. With the loop that closes the desks left
-// out, all would still be proved, and a run would hang: for that stand the table above and tests.
+// out, all would still be proved, and a run would hang: for that stand that table and tests.
 //
 //   mailbox       `Mailbox`, `make_mailboxes`
 //   bell       `Bell`
