@@ -1,6 +1,6 @@
 // The files, and what each tests or gives the others.
 //
-//   desks       `worker_threads`
+//   mailboxes   `worker_threads`
 //   halves      `tokens`
 //   positions   `origin`
 //   posts       `worker`, what a lane is given
@@ -8,8 +8,8 @@
 //   rings       `ring`
 //   table       the table of the stores, and its rows
 //   workers     `worker`
-mod desks;
 mod halves;
+mod mailboxes;
 mod outboxes;
 mod positions;
 mod readers;

@@ -8,7 +8,7 @@ use std::alloc::Global;
 use std::sync::{Arc, Condvar, Mutex, Wait};
 use std::test::Fail;
 use std::thread::Threads;
-use worker_threads::{Bell, Desk, Work, make_desks, with_workers};
+use worker_threads::{Bell, Mailbox, Work, make_mailboxes, with_workers};
 
 #[derive(Drop)]
 struct Job {
@@ -57,7 +57,7 @@ impl Work<Job> for Shop {
     }
 }
 
-// A new job for each desk.
+// A new job for each mailbox.
 fn jobs(alloc: Global, count: usize, held: &Arc<u8, Global>) -> Result<Vec<Job>, OutOfMemory> {
     let mut jobs = Vec::new(alloc);
     for number in 0..count {
@@ -71,20 +71,20 @@ fn jobs(alloc: Global, count: usize, held: &Arc<u8, Global>) -> Result<Vec<Job>,
     Ok(jobs)
 }
 
-// Lays a job on each desk. Says whether all desks took theirs.
-fn give_all<R: Wait>(rt: &R, desks: &[Desk<Job>], jobs: Vec<Job>) -> bool {
+// Lays a job on each mailbox. Says whether all mailboxes took theirs.
+fn give_all<R: Wait>(rt: &R, mailboxes: &[Mailbox<Job>], jobs: Vec<Job>) -> bool {
     let mut all = true;
-    for (desk, job) in desks.iter().zip(jobs) {
-        all = desk.give(rt, job).is_ok() && all;
+    for (mailbox, job) in mailboxes.iter().zip(jobs) {
+        all = mailbox.give(rt, job).is_ok() && all;
     }
     all
 }
 
-// The job of a desk, once the bell has told that something moved and it was done.
-fn wait_for<R: Wait>(rt: &R, desk: &Desk<Job>, bell: &Bell) -> Job {
+// The job of a mailbox, once the bell has told that something moved and it was done.
+fn wait_for<R: Wait>(rt: &R, mailbox: &Mailbox<Job>, bell: &Bell) -> Job {
     for _ in rt.forever() {
         let seen = bell.rung(rt);
-        if let Some(job) = desk.try_back(rt) {
+        if let Some(job) = mailbox.try_back(rt) {
             return job;
         }
         bell.wait_past(rt, seen);
@@ -92,11 +92,11 @@ fn wait_for<R: Wait>(rt: &R, desk: &Desk<Job>, bell: &Bell) -> Job {
     unreachable!()
 }
 
-// How many of the desks' jobs came back, each to its own desk and done once.
-fn count_back<R: Wait>(rt: &R, desks: &[Desk<Job>], bell: &Bell) -> u64 {
+// How many of the mailboxes' jobs came back, each to its own mailbox and done once.
+fn count_back<R: Wait>(rt: &R, mailboxes: &[Mailbox<Job>], bell: &Bell) -> u64 {
     let mut count = 0u64;
-    for (number, desk) in desks.iter().enumerate() {
-        let job = wait_for(rt, desk, bell);
+    for (number, mailbox) in mailboxes.iter().enumerate() {
+        let job = wait_for(rt, mailbox, bell);
         if job.number == number && job.done == 1 {
             count = count.saturating_add(1);
         }
@@ -109,19 +109,19 @@ fn count_back<R: Wait>(rt: &R, desks: &[Desk<Job>], bell: &Bell) -> u64 {
 fn all_at_once(rt: HostRuntime) -> Result<(), Fail> {
     let held = Arc::new(rt.alloc(), 0u8)?;
     for workers in [1u64, 2, 3, 4, 16] {
-        let desks = make_desks(rt.alloc(), workers as usize)?;
+        let mailboxes = make_mailboxes(rt.alloc(), workers as usize)?;
         let shop = Shop::new(workers);
         let mut laid = Some(jobs(rt.alloc(), workers as usize, &held)?);
         let back = with_workers(
             &rt,
-            &desks,
+            &mailboxes,
             &shop,
             &mut |serving| {
                 let Some(jobs) = laid.take() else { return 0 };
-                if serving < desks.len() || !give_all(&rt, &desks, jobs) {
+                if serving < mailboxes.len() || !give_all(&rt, &mailboxes, jobs) {
                     return 0;
                 }
-                count_back(&rt, &desks, &shop.bell)
+                count_back(&rt, &mailboxes, &shop.bell)
             },
         );
         assert_same(&rt, back, workers, "back");
@@ -135,7 +135,7 @@ fn all_at_once(rt: HostRuntime) -> Result<(), Fail> {
 fn leave_at<R: Wait>(
     rt: &R,
     turn: u64,
-    desks: &[Desk<Job>],
+    mailboxes: &[Mailbox<Job>],
     bell: &Bell,
     first: Vec<Job>,
     second: Vec<Job>,
@@ -143,16 +143,16 @@ fn leave_at<R: Wait>(
     if turn == 0 {
         return 0;
     }
-    give_all(rt, desks, first);
+    give_all(rt, mailboxes, first);
     if turn == 1 {
         return 0;
     }
     if turn == 2 {
-        return count_back(rt, desks.get(..1).unwrap_or(&[]), bell);
+        return count_back(rt, mailboxes.get(..1).unwrap_or(&[]), bell);
     }
-    let back = count_back(rt, desks, bell);
+    let back = count_back(rt, mailboxes, bell);
     if turn == 4 {
-        give_all(rt, desks, second);
+        give_all(rt, mailboxes, second);
     }
     back
 }
@@ -172,20 +172,20 @@ fn the_leader_leaves_at_each_turn(rt: HostRuntime) -> Result<(), Fail> {
     let held = Arc::new(rt.alloc(), 0u8)?;
     for workers in 0..5u64 {
         for turn in 0..5u64 {
-            let desks = make_desks(rt.alloc(), workers as usize)?;
+            let mailboxes = make_mailboxes(rt.alloc(), workers as usize)?;
             let shop = Shop::new(1);
             let first = jobs(rt.alloc(), workers as usize, &held)?;
             let second = jobs(rt.alloc(), workers as usize, &held)?;
             let mut laid = Some((first, second));
             let back = with_workers(
                 &rt,
-                &desks,
+                &mailboxes,
                 &shop,
                 &mut |_| {
                     let Some((first, second)) = laid.take() else {
                         return 0;
                     };
-                    leave_at(&rt, turn, &desks, &shop.bell, first, second)
+                    leave_at(&rt, turn, &mailboxes, &shop.bell, first, second)
                 },
             );
             assert_same(&rt, back, expected(turn, workers), turn);
@@ -203,46 +203,46 @@ fn seen(job: Option<Job>) -> Option<(usize, u64)> {
     }
 }
 
-// A desk on one thread: a second job is handed back while one is there, the first where the desk
-// closes, and a closed desk takes none and starts none.
+// A mailbox on one thread: a second job is handed back while one is there, the first where the mailbox
+// closes, and a closed mailbox takes none and starts none.
 #[test]
-fn a_desk_on_one_thread(rt: HostRuntime) -> Result<(), Fail> {
+fn a_mailbox_on_one_thread(rt: HostRuntime) -> Result<(), Fail> {
     let held = Arc::new(rt.alloc(), 0u8)?;
-    let desks = make_desks(rt.alloc(), 1)?;
-    let [desk] = desks.as_slice() else {
-        panic!(rt; "one desk was made")
+    let mailboxes = make_mailboxes(rt.alloc(), 1)?;
+    let [mailbox] = mailboxes.as_slice() else {
+        panic!(rt; "one mailbox was made")
     };
     let shop = Shop::new(1);
-    assert_same(&rt, seen(desk.wait_back(&rt)), None, "no job");
+    assert_same(&rt, seen(mailbox.wait_back(&rt)), None, "no job");
     let mut jobs = jobs(rt.alloc(), 3, &held)?.into_iter();
     let (Some(first), Some(second), Some(third)) = (jobs.next(), jobs.next(), jobs.next()) else {
         panic!(rt; "a job is missing")
     };
-    assert_same(&rt, seen(desk.give(&rt, first).err()), None, "the first");
+    assert_same(&rt, seen(mailbox.give(&rt, first).err()), None, "the first");
     assert_same(
         &rt,
-        seen(desk.give(&rt, second).err()),
+        seen(mailbox.give(&rt, second).err()),
         Some((1, 0)),
         "the second",
     );
-    assert_same(&rt, seen(desk.try_back(&rt)), None, "not done");
-    assert_same(&rt, seen(desk.close(&rt)), Some((0, 0)), "closed");
+    assert_same(&rt, seen(mailbox.try_back(&rt)), None, "not done");
+    assert_same(&rt, seen(mailbox.close(&rt)), Some((0, 0)), "closed");
     assert_same(
         &rt,
-        seen(desk.give(&rt, third).err()),
+        seen(mailbox.give(&rt, third).err()),
         Some((2, 0)),
         "the third",
     );
-    desk.serve(&rt, &shop);
-    assert_same(&rt, seen(desk.close(&rt)), None, "closed again");
+    mailbox.serve(&rt, &shop);
+    assert_same(&rt, seen(mailbox.close(&rt)), None, "closed again");
     Ok(())
 }
 
 // A refused allocation is told.
 #[test]
-fn desks_where_memory_is_refused(rt: HostRuntime) {
-    match make_desks::<Job>(rt.alloc(), 16) {
-        Ok(desks) => assert_same(&rt, desks.len(), 16, "desks"),
+fn mailboxes_where_memory_is_refused(rt: HostRuntime) {
+    match make_mailboxes::<Job>(rt.alloc(), 16) {
+        Ok(mailboxes) => assert_same(&rt, mailboxes.len(), 16, "mailboxes"),
         Err(refused) => assert_same(&rt, refused, OutOfMemory, "refused"),
     }
 }
