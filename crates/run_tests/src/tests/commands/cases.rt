@@ -1,9 +1,9 @@
 // Streams and what is printed of them. Each payload stands in an XLogData frame whose positions and clock are 0.
 //
 // In the comments: `B` Begin, `R` the relation, `I` `U` `D` `T` changes, `C` Commit, `S` `E` a block of a streamed
-// transaction, `c` Stream Commit, `A` Stream Abort; `P` commits the rows 1 and 2 at 0/140.
+// transaction, `c` Stream Commit, `A` Stream Abort; `P` is `ROWS`.
 
-use crate::tests::commands::runs::{CONFIG, framed, printed};
+use crate::tests::commands::runs::{CONFIG, printed, push_frames};
 use leader::Config;
 use std::alloc::Global;
 use std::random::RandomSource;
@@ -15,6 +15,8 @@ use testing::asserts::assert_same;
 /// A stream and its report.
 struct Case {
     name: &'static str,
+    /// Whether `ROWS` come first.
+    has_rows: bool,
     payloads: &'static [&'static str],
     spool: u64,
     /// Workers, or their schedule, may make it another one.
@@ -29,10 +31,20 @@ const SPOOL: u64 = 1 << 30;
 const ACCOUNTS: &str =
     "52000040017075626c6963006163636f756e7473006400030169640000000017ffffffff00656d61696c0000000019ffffffff006e6f74650000000019ffffffff";
 
+/// The rows 1 and 2 are committed at 0/140.
+static ROWS: [&str; 5] = [
+    "4200000000000001000000000000000000000001f4",
+    ACCOUNTS,
+    "49000040014e000374000000013174000000016174000000016e",
+    "49000040014e000374000000013274000000016274000000016e",
+    "4300000000000000010000000000000001400000000000000000",
+];
+
 static CASES: [Case; 28] = [
     // B(900,0/100) R I(1,a,n) I(2,b,NULL) I(3,NULL,) C(0/100,0/120)
     Case {
         name: "nulls and empty texts",
+        has_rows: false,
         payloads: &[
             "420000000000000100000000000000000000000384",
             ACCOUNTS,
@@ -49,12 +61,8 @@ static CASES: [Case; 28] = [
     // P B(600,0/130) C(0/130,0/140)
     Case {
         name: "a commit that is not newer",
+        has_rows: true,
         payloads: &[
-            "4200000000000001000000000000000000000001f4",
-            ACCOUNTS,
-            "49000040014e000374000000013174000000016174000000016e",
-            "49000040014e000374000000013274000000016274000000016e",
-            "4300000000000000010000000000000001400000000000000000",
             "420000000000000130000000000000000000000258",
             "4300000000000000013000000000000001400000000000000000",
         ],
@@ -66,12 +74,8 @@ static CASES: [Case; 28] = [
     // P B(600,0/200) I(3,NULL,n) I(4,NULL,n) C(0/200,0/220) B(601,0/300) I(5,b,n) C(0/300,0/320)
     Case {
         name: "two nulls in a unique key, then a clash",
+        has_rows: true,
         payloads: &[
-            "4200000000000001000000000000000000000001f4",
-            ACCOUNTS,
-            "49000040014e000374000000013174000000016174000000016e",
-            "49000040014e000374000000013274000000016274000000016e",
-            "4300000000000000010000000000000001400000000000000000",
             "420000000000000200000000000000000000000258",
             "49000040014e00037400000001336e74000000016e",
             "49000040014e00037400000001346e74000000016e",
@@ -88,12 +92,8 @@ static CASES: [Case; 28] = [
     // P B(600,0/200) U(K:1;9,a,u) C(0/200,0/220)
     Case {
         name: "an update that moves a key",
+        has_rows: true,
         payloads: &[
-            "4200000000000001000000000000000000000001f4",
-            ACCOUNTS,
-            "49000040014e000374000000013174000000016174000000016e",
-            "49000040014e000374000000013274000000016274000000016e",
-            "4300000000000000010000000000000001400000000000000000",
             "420000000000000200000000000000000000000258",
             "55000040014b00037400000001316e6e4e000374000000013974000000016175",
             "4300000000000000020000000000000002200000000000000000",
@@ -106,6 +106,7 @@ static CASES: [Case; 28] = [
     // w:62
     Case {
         name: "a two-phase message",
+        has_rows: false,
         payloads: &["62"],
         spool: SPOOL,
         without_workers: false,
@@ -115,12 +116,8 @@ static CASES: [Case; 28] = [
     // P B(600,0/200) U(7,g,v) C(0/200,0/220)
     Case {
         name: "an update of a missing row",
+        has_rows: true,
         payloads: &[
-            "4200000000000001000000000000000000000001f4",
-            ACCOUNTS,
-            "49000040014e000374000000013174000000016174000000016e",
-            "49000040014e000374000000013274000000016274000000016e",
-            "4300000000000000010000000000000001400000000000000000",
             "420000000000000200000000000000000000000258",
             "55000040014e0003740000000137740000000167740000000176",
             "4300000000000000020000000000000002200000000000000000",
@@ -133,12 +130,8 @@ static CASES: [Case; 28] = [
     // P B(600,0/200) I(+07,\N,) C(0/200,0/220)
     Case {
         name: "an insert with escapes",
+        has_rows: true,
         payloads: &[
-            "4200000000000001000000000000000000000001f4",
-            ACCOUNTS,
-            "49000040014e000374000000013174000000016174000000016e",
-            "49000040014e000374000000013274000000016274000000016e",
-            "4300000000000000010000000000000001400000000000000000",
             "420000000000000200000000000000000000000258",
             "49000040014e000374000000032b303774000000025c4e7400000000",
             "4300000000000000020000000000000002200000000000000000",
@@ -151,12 +144,8 @@ static CASES: [Case; 28] = [
     // P B(600,0/200) I(NULL,g,n) C(0/200,0/220)
     Case {
         name: "a null in the primary key",
+        has_rows: true,
         payloads: &[
-            "4200000000000001000000000000000000000001f4",
-            ACCOUNTS,
-            "49000040014e000374000000013174000000016174000000016e",
-            "49000040014e000374000000013274000000016274000000016e",
-            "4300000000000000010000000000000001400000000000000000",
             "420000000000000200000000000000000000000258",
             "49000040014e00036e74000000016774000000016e",
             "4300000000000000020000000000000002200000000000000000",
@@ -169,6 +158,7 @@ static CASES: [Case; 28] = [
     // S(700,0)
     Case {
         name: "a block of an unknown transaction",
+        has_rows: false,
         payloads: &["53000002bc00"],
         spool: SPOOL,
         without_workers: false,
@@ -178,6 +168,7 @@ static CASES: [Case; 28] = [
     // A(700,700)
     Case {
         name: "an abort of an unknown transaction",
+        has_rows: false,
         payloads: &["41000002bc000002bc00000000000000000000000000000000"],
         spool: SPOOL,
         without_workers: false,
@@ -187,6 +178,7 @@ static CASES: [Case; 28] = [
     // B(600,0/200) Ra I(a,1) C(0/200,0/220)
     Case {
         name: "columns in another order, the third by its default",
+        has_rows: false,
         payloads: &[
             "420000000000000200000000000000000000000258",
             "52000040017075626c6963006163636f756e74730064000200656d61696c0000000019ffffffff0169640000000017ffffffff",
@@ -201,6 +193,7 @@ static CASES: [Case; 28] = [
     // B(600,0/200) Rb C(0/200,0/220)
     Case {
         name: "a column that the table lacks, unused",
+        has_rows: false,
         payloads: &[
             "420000000000000200000000000000000000000258",
             "52000040017075626c6963006163636f756e7473006400040169640000000017ffffffff00656d61696c0000000019ffffffff006e6f74650000000019ffffffff007a69700000000019ffffffff",
@@ -214,6 +207,7 @@ static CASES: [Case; 28] = [
     // B(600,0/200) Rb I(1,a,n,z) C(0/200,0/220)
     Case {
         name: "a column that the table lacks",
+        has_rows: false,
         payloads: &[
             "420000000000000200000000000000000000000258",
             "52000040017075626c6963006163636f756e7473006400040169640000000017ffffffff00656d61696c0000000019ffffffff006e6f74650000000019ffffffff007a69700000000019ffffffff",
@@ -228,6 +222,7 @@ static CASES: [Case; 28] = [
     // B(600,0/200) Rn U(1,a,n) C(0/200,0/220)
     Case {
         name: "a key that is not flagged",
+        has_rows: false,
         payloads: &[
             "420000000000000200000000000000000000000258",
             "52000040017075626c6963006163636f756e7473006400030069640000000017ffffffff00656d61696c0000000019ffffffff006e6f74650000000019ffffffff",
@@ -242,6 +237,7 @@ static CASES: [Case; 28] = [
     // S(700,1) 700:R 700:I(1,a,n) 711:I(2,b,n) 700:I(3,c,n) E A(700,711) c(700,0/200,0/220)
     Case {
         name: "a rolled back subtransaction",
+        has_rows: false,
         payloads: &[
             "53000002bc01",
             "52000002bc000040017075626c6963006163636f756e7473006400030169640000000017ffffffff00656d61696c0000000019ffffffff006e6f74650000000019ffffffff",
@@ -260,6 +256,7 @@ static CASES: [Case; 28] = [
     // S(700,1) 700:R 700:I(1,a,n) 711:I(2,b,n) 700:I(3,c,n) E A(700,712) c(700,0/200,0/220)
     Case {
         name: "the rollback of an unknown subtransaction",
+        has_rows: false,
         payloads: &[
             "53000002bc01",
             "52000002bc000040017075626c6963006163636f756e7473006400030169640000000017ffffffff00656d61696c0000000019ffffffff006e6f74650000000019ffffffff",
@@ -278,6 +275,7 @@ static CASES: [Case; 28] = [
     // S(700,1) 700:R 700:I(1,a,n) 711:I(2,b,n) E A(700,711) S(700,0) 711:I(4,d,n) E c(700,0/200,0/220)
     Case {
         name: "a subtransaction named again after its rollback",
+        has_rows: false,
         payloads: &[
             "53000002bc01",
             "52000002bc000040017075626c6963006163636f756e7473006400030169640000000017ffffffff00656d61696c0000000019ffffffff006e6f74650000000019ffffffff",
@@ -298,12 +296,8 @@ static CASES: [Case; 28] = [
     // P S(700,1) 711:U(1,a,v) E A(700,711) B(900,0/200) U(1,a,w) C(0/200,0/220) S(700,0) 700:I(3,c,n) E c(700,0/300,0/320)
     Case {
         name: "a row let go by a rollback",
+        has_rows: true,
         payloads: &[
-            "4200000000000001000000000000000000000001f4",
-            ACCOUNTS,
-            "49000040014e000374000000013174000000016174000000016e",
-            "49000040014e000374000000013274000000016274000000016e",
-            "4300000000000000010000000000000001400000000000000000",
             "53000002bc01",
             "55000002c7000040014e0003740000000131740000000161740000000176",
             "45",
@@ -324,12 +318,8 @@ static CASES: [Case; 28] = [
     // P S(700,1) 700:U(7,g,v) E B(900,0/200) I(7,g,n) C(0/200,0/220)
     Case {
         name: "two open transactions at one key",
+        has_rows: true,
         payloads: &[
-            "4200000000000001000000000000000000000001f4",
-            ACCOUNTS,
-            "49000040014e000374000000013174000000016174000000016e",
-            "49000040014e000374000000013274000000016274000000016e",
-            "4300000000000000010000000000000001400000000000000000",
             "53000002bc01",
             "55000002bc000040014e0003740000000137740000000167740000000176",
             "45",
@@ -345,12 +335,8 @@ static CASES: [Case; 28] = [
     // P S(700,1) 700:D(1) E S(701,1) 701:I(3,a,n) E c(700,0/200,0/220) c(701,0/300,0/320)
     Case {
         name: "commits in the order of their messages",
+        has_rows: true,
         payloads: &[
-            "4200000000000001000000000000000000000001f4",
-            ACCOUNTS,
-            "49000040014e000374000000013174000000016174000000016e",
-            "49000040014e000374000000013274000000016274000000016e",
-            "4300000000000000010000000000000001400000000000000000",
             "53000002bc01",
             "44000002bc000040014b00037400000001316e6e",
             "45",
@@ -368,12 +354,8 @@ static CASES: [Case; 28] = [
     // P S(700,1) 700:D(1) E S(701,1) 701:I(3,a,n) E c(701,0/200,0/220) c(700,0/300,0/320)
     Case {
         name: "a conflict by the order of commits",
+        has_rows: true,
         payloads: &[
-            "4200000000000001000000000000000000000001f4",
-            ACCOUNTS,
-            "49000040014e000374000000013174000000016174000000016e",
-            "49000040014e000374000000013274000000016274000000016e",
-            "4300000000000000010000000000000001400000000000000000",
             "53000002bc01",
             "44000002bc000040014b00037400000001316e6e",
             "45",
@@ -391,12 +373,8 @@ static CASES: [Case; 28] = [
     // P S(700,1) 711:T 711:I(5,a,n) E A(700,711) c(700,0/200,0/220) B(600,0/300) I(6,a,n) C(0/300,0/320)
     Case {
         name: "an index entry that comes back",
+        has_rows: true,
         payloads: &[
-            "4200000000000001000000000000000000000001f4",
-            ACCOUNTS,
-            "49000040014e000374000000013174000000016174000000016e",
-            "49000040014e000374000000013274000000016274000000016e",
-            "4300000000000000010000000000000001400000000000000000",
             "53000002bc01",
             "54000002c7000000010000004001",
             "49000002c7000040014e000374000000013574000000016174000000016e",
@@ -415,12 +393,8 @@ static CASES: [Case; 28] = [
     // P S(700,1) 711:I(3,b,n) E A(700,711) c(700,0/200,0/220)
     Case {
         name: "a conflict that was rolled back",
+        has_rows: true,
         payloads: &[
-            "4200000000000001000000000000000000000001f4",
-            ACCOUNTS,
-            "49000040014e000374000000013174000000016174000000016e",
-            "49000040014e000374000000013274000000016274000000016e",
-            "4300000000000000010000000000000001400000000000000000",
             "53000002bc01",
             "49000002c7000040014e000374000000013374000000016274000000016e",
             "45",
@@ -435,12 +409,8 @@ static CASES: [Case; 28] = [
     // P S(700,1) 700:I(3,b,n) E
     Case {
         name: "a conflict of a transaction that is still open at the end",
+        has_rows: true,
         payloads: &[
-            "4200000000000001000000000000000000000001f4",
-            ACCOUNTS,
-            "49000040014e000374000000013174000000016174000000016e",
-            "49000040014e000374000000013274000000016274000000016e",
-            "4300000000000000010000000000000001400000000000000000",
             "53000002bc01",
             "49000002bc000040014e000374000000013374000000016274000000016e",
             "45",
@@ -453,6 +423,7 @@ static CASES: [Case; 28] = [
     // S(700,1) 700:R 700:I(1,a,n) 711:I(2,b,n) E A(700,711) S(700,0) 700:I(3,c,n) E c(700,0/200,0/220)
     Case {
         name: "a spool just large enough",
+        has_rows: false,
         payloads: &[
             "53000002bc01",
             "52000002bc000040017075626c6963006163636f756e7473006400030169640000000017ffffffff00656d61696c0000000019ffffffff006e6f74650000000019ffffffff",
@@ -473,6 +444,7 @@ static CASES: [Case; 28] = [
     // S(700,1) 700:R 700:I(1,a,n) 711:I(2,b,n) E A(700,711) S(700,0) 700:I(3,c,n) E c(700,0/200,0/220)
     Case {
         name: "a spool that is full",
+        has_rows: false,
         payloads: &[
             "53000002bc01",
             "52000002bc000040017075626c6963006163636f756e7473006400030169640000000017ffffffff00656d61696c0000000019ffffffff006e6f74650000000019ffffffff",
@@ -493,6 +465,7 @@ static CASES: [Case; 28] = [
     // S(700,1) 711:R 711:I(1,a,n) E A(700,711) S(700,0) 700:I(2,b,n) E c(700,0/200,0/220)
     Case {
         name: "a relation that first names a subtransaction, which is rolled back",
+        has_rows: false,
         payloads: &[
             "53000002bc01",
             "52000002c7000040017075626c6963006163636f756e7473006400030169640000000017ffffffff00656d61696c0000000019ffffffff006e6f74650000000019ffffffff",
@@ -512,6 +485,7 @@ static CASES: [Case; 28] = [
     // S(700,1) E A(700,712) S(700,0) 700:R 700:I(1,a,n) E c(700,0/200,0/220)
     Case {
         name: "an empty block, and the rollback of a subtransaction that was never named",
+        has_rows: false,
         payloads: &[
             "53000002bc01",
             "45",
@@ -529,13 +503,23 @@ static CASES: [Case; 28] = [
     },
 ];
 
+/// The stream of a case.
+fn stream_of(alloc: Global, case: &Case) -> Result<Vec<u8>, Fail> {
+    let mut stream = Vec::new(alloc);
+    if case.has_rows {
+        push_frames(&mut stream, alloc, &ROWS)?;
+    }
+    push_frames(&mut stream, alloc, case.payloads)?;
+    Ok(stream)
+}
+
 /// A case ends in its report, by any number of workers.
 fn assert_report<R: Threads + Wait + RandomSource + Sync>(
     rt: &R,
     alloc: Global,
     case: &Case,
 ) -> Result<(), Fail> {
-    let stream = framed(alloc, case.payloads)?;
+    let stream = stream_of(alloc, case)?;
     for workers in 0..if case.without_workers { 1 } else { 4 } {
         let config = Config {
             workers,

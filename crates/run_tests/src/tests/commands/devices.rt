@@ -1,11 +1,11 @@
 // How streams come: in pieces, cut short, from a source or to a sink that fails; and catalogs that are refused.
+use crate::tests::reports::thousand_rows;
 use crate::tests::commands::runs::{
     CONFIG, Stopped, framed, printed, printed_from, push_frame, push_frames, spelled,
 };
 use leader::Config;
 use pgapply_command::execute::{Ended, execute};
 use std::alloc::Global;
-use std::fmt::Write;
 use std::ops::Range;
 use std::random::RandomSource;
 use std::sync::Wait;
@@ -186,21 +186,10 @@ fn a_thousand_inserts(alloc: Global) -> Result<Vec<u8>, Fail> {
     Ok(stream)
 }
 
-/// The rows stand in key order.
-fn a_thousand_rows(alloc: Global) -> Result<String, Fail> {
-    let mut report = String::new(alloc);
-    report.push_str("table public.accounts 1000\n")?;
-    for key in 1..1001u32 {
-        write!(report, "{key}|\\N|n\n")?;
-    }
-    report.push_str("position 0/320\nend 0 Clean\n")?;
-    Ok(report)
-}
-
 #[test]
 fn a_thousand_items_of_two_streamed_transactions(rt: HostRuntime) -> Result<(), Fail> {
     let stream = a_thousand_inserts(rt.alloc())?;
-    let want = a_thousand_rows(rt.alloc())?;
+    let want = thousand_rows(rt.alloc())?;
     let (ended, out, _) = printed(&rt, rt.alloc(), stream.as_slice(), 4096, &CONFIG);
     assert_same(out.as_slice(), want.as_bytes(), "out")?;
     assert_same(ended.status, 0, "status")

@@ -2,9 +2,9 @@
 use super::runs::{reports, same_by_all};
 use super::streams::{ACCOUNTS, Column, Message, Stream};
 use super::worked::NOTE;
+use crate::tests::reports::thousand_rows;
 use leader::{OutOfMemory, Xid};
 use std::alloc::Global;
-use std::fmt::Write;
 
 // A block of rows, each with a null and a note: their keys begin at one number and end before another.
 fn push_block(stream: &mut Stream, xid: Xid, first: u32, behind: u32) -> Result<(), OutOfMemory> {
@@ -26,21 +26,10 @@ fn two_large(alloc: Global) -> Result<Stream, OutOfMemory> {
     Ok(stream)
 }
 
-// What is reported of it.
-fn thousand(alloc: Global) -> Result<String, OutOfMemory> {
-    let mut text = String::new(alloc);
-    text.push_str("table public.accounts 1000\n")?;
-    for key in 1..1001u32 {
-        write!(text, "{key}|\\N|n\n")?;
-    }
-    text.push_str("position 0/320\nend 0 Clean\n")?;
-    Ok(text)
-}
-
 #[test]
 fn a_thousand_items_through_rings_of_few_slots(rt: HostRuntime) -> Result<(), OutOfMemory> {
     let stream = two_large(rt.alloc())?;
-    let want = thousand(rt.alloc())?;
+    let want = thousand_rows(rt.alloc())?;
     let ran = same_by_all(&rt, rt.alloc(), stream.bytes(), 1, "a thousand")?;
     reports(&rt, &ran, want.as_bytes(), "a thousand");
     Ok(())

@@ -314,34 +314,24 @@ pub(super) fn play<R: Abort + Threads + Wait + Sync>(
     play_named::<Brand, R>(rt, alloc, parts, which)
 }
 
+// Plays a scenario over parts that are made for it.
+fn play_new(rt: &HostRuntime, which: Scenario) -> Result<(), Fail> {
+    play(rt, rt.alloc(), Parts::new(rt, rt.alloc())?, which)
+}
+
 #[test]
 fn a_reader_sees_committed_rows_alone(rt: HostRuntime) -> Result<(), Fail> {
-    play(
-        &rt,
-        rt.alloc(),
-        Parts::new(&rt, rt.alloc())?,
-        Scenario::Between,
-    )
+    play_new(&rt, Scenario::Between)
 }
 
 #[test]
 fn a_reader_sees_the_rows_at_each_position(rt: HostRuntime) -> Result<(), Fail> {
-    play(
-        &rt,
-        rt.alloc(),
-        Parts::new(&rt, rt.alloc())?,
-        Scenario::Positions,
-    )
+    play_new(&rt, Scenario::Positions)
 }
 
 #[test]
 fn a_reader_loads_what_was_published(rt: HostRuntime) -> Result<(), Fail> {
-    play(
-        &rt,
-        rt.alloc(),
-        Parts::new(&rt, rt.alloc())?,
-        Scenario::Published,
-    )
+    play_new(&rt, Scenario::Published)
 }
 
 #[test]
