@@ -1,5 +1,5 @@
 // A source that is watched.
-ghost use Rattle.std.specs.Prelude.{◌<◌, ◌≤◌};
+ghost use Rattle.std.specs.Prelude.{◌≡◌, ◌<◌, ◌≤◌};
 
 use crate::trace::Trace;
 use frames::{Failed, Source};
@@ -21,13 +21,19 @@ pub struct Watched<'a, R: Source, V: Watcher> {
 }
 
 impl<'a, R: Source, V: Watcher> Watched<'a, R, V> {
-    /// A source that gives what `source` gives. Where it `stops` at frames, no read goes past a frame's edge.
+    /// A source that gives what `source` gives, from where that is. Where it `stops` at frames, no read
+    /// goes past a frame's edge.
     pub fn new(
         source: R,
         trace: &'a mut Trace,
         watcher: &'a mut V,
         stops: bool,
-    ) -> Watched<'a, R, V> {
+    ) -> Watched<'a, R, V>
+        ensures bytes { ⟦<Watched<'a, R, V> as Source>⟧.remaining result ≡ R.remaining source }
+        ensures reads { ⟦<Watched<'a, R, V> as Source>⟧.reads_left result ≡ R.reads_left source }
+        ensures failures { ⟦<Watched<'a, R, V> as Source>⟧.failures result ≡ R.failures source }
+        ensures last { ⟦<Watched<'a, R, V> as Source>⟧.failed_last result ≡ R.failed_last source }
+    {
         Watched {
             source,
             trace,
