@@ -5,7 +5,7 @@
 --     having_made, with_work      a transaction that has made these changes and nothing else; the world in which it is open
 --     committed_by      the world once it is committed
 --     serial_code      the code of all this
-use Rattle.std.specs.Prelude.{◌≡◌, ℕ, List, ◌++◌, None, fold, map, refl}
+use Rattle.std.specs.Prelude.{◌≡◌, ℕ, List, ◌++◌, None, map, refl}
 use Rattle.std.specs.Coded.{Coded, code_by, coded×, coded_list}
 use Rattle.std.specs.FinMap as finite
 use Rattle.model.specs.contracts.change.Change as change_type
@@ -14,7 +14,7 @@ use Rattle.model.specs.declared.item.Item.TheVariants.{Change as ChangeItem}
 use Rattle.model.specs.declared.item.CommitInfo.{CommitInfo}
 use Rattle.model.specs.Rows.{Rows, Schema}
 use Rattle.model.specs.Effect.{serial}
-use Rattle.world.specs.World.{Opened, Past, World}
+use Rattle.world.specs.World.{Opened, World}
 use Rattle.world.specs.Steps.{committed_with}
 use Rattle.engine.specs.Engine.{Engine}
 use Rattle.engine.specs.EngineCode.{engine_code}

@@ -3,31 +3,22 @@
 --     closed_alone      the same of one in which none was open
 --     reaches_on      calls after calls
 --     shared_ended, shared_shut, shared_serial      the same of a store under a lock
-use Rattle.std.proofs.Common.{◌≡◌, ℕ, zero, suc, ◌-◌, ◌<◌, List, Option, Some, None, true, false, refl, sym, ap, subst, ◌∙◌, arith}
-use Rattle.std.specs.Prelude.{cond, is_some, map, option_map}
-use Rattle.std.specs.Ordering.{nat_cmp}
-use Rattle.std.specs.Cmp.{nat_cmp_total}
+use Rattle.std.proofs.Common.{◌≡◌, ℕ, ◌-◌, ◌<◌, List, sym, ap, subst, ◌∙◌}
+use Rattle.std.specs.Prelude.{map}
 use Rattle.std.specs.BTreeMap as tree
-use Rattle.std.specs.BTreeMap.{btree_map_len}
 use Rattle.std.specs.FinMap as finite
-use Rattle.std.specs.FinMap.{get}
-use Rattle.std.proofs.lemmas.Bool.{false≢true}
 use mathlib.Core.Logic.{∥∥₁_map}
 use Rattle.model.specs.Rows.{Rows, Schema}
-use Rattle.model.specs.ValidLemmas.{not_none}
 use Rattle.tokens.specs.Half.{Name}
-use Rattle.world.specs.World.{Opened, Entry, World, starting, entry_of}
-use Rattle.world.specs.Steps.{Closes, aborted_with, aborts, Reaches, at_start, by_step}
-use Rattle.live_tables.specs.declared.live_tables.Live.{Live}
+use Rattle.world.specs.World.{Entry, World, starting, entry_of}
+use Rattle.world.specs.Steps.{Closes, Reaches, at_start, by_step}
 use Rattle.engine.specs.declared.store.Store.TheInside.{Inside}
-use Rattle.live_tables.specs.declared.transaction.OpenTransaction.{OpenTransaction}
 use Rattle.engine.specs.Engine.{Engine, entry_in, world_in, Represents as StoreRepresents}
 use Rattle.engine.specs.Events.{commits_in}
 use Rattle.live_tables.specs.Journal.{rows_after}
 use Rattle.live_tables.specs.JournalLemmas.{entries_are_serial}
 use Rattle.engine.specs.Shared.{Represents}
-use Rattle.live_tables.specs.Shut.{IsAborted, IsShut}
-use Rattle.live_tables.specs.Represents.{Represents as LiveRepresents}
+use Rattle.live_tables.specs.Shut.{IsShut}
 
 -- ---- the tables and the journal then
 

@@ -14,7 +14,7 @@ use Rattle.rows.specs.Kept.{Kept, KeepsSlots, IsNumbered}
 use Rattle.rows.specs.KeyLemmas.{one_or_apart, get_inserted, get_beside_insert, get_removed, get_beside_remove, same_at_and_beside}
 use Rattle.indexes.specs.declared.unique.Unique.{Unique}
 use Rattle.indexes.specs.Unique as step
-use Rattle.indexes.specs.Unique.{Entries, entry_at, held, held_by, with_number, number_in, HasEntry, SetsEntry, Sets, Puts, EachStep, EachHasSlot, EachAgrees}
+use Rattle.indexes.specs.Unique.{Entries, entry_at, held, held_by, with_number, number_in, Sets, Puts, EachStep, EachHasSlot, EachAgrees}
 use Rattle.indexes.specs.Table.{Spot, spots_of, KeepsSpots, TableContent, NoClash, HasValues, IsDuplicate, IsSound, unique_at}
 use Rattle.indexes.specs.Indexed.{IsIndex, IsIndexed, room_of, columns_of}
 use Rattle.indexes.proofs.Entries.{sets_keep}

@@ -1,6 +1,6 @@
 -- What a message that was taken leaves of a run with workers.
 use Rattle.std.proofs.Common.{◌≡◌, ◌≢◌, ℕ, ◌<◌, Bool, true, false, List, [], ◌∷◌, ◌++◌, length, Option, Some, None, refl, sym, ap, subst, ◌∙◌, append-nil, ⊎_elim, inl, inr}
-use Rattle.std.specs.Prelude.{map, fold, All, max, Result, Ok, Err, ◌⊎◌}
+use Rattle.std.specs.Prelude.{map, All, max, Result, Ok, Err, ◌⊎◌}
 use Rattle.std.specs.Result.{IsErrAnd}
 use Rattle.std.proofs.lemmas.Bool.{cases_eq}
 use Rattle.std.proofs.lemmas.Grind.{flat_map-append}

@@ -10,7 +10,7 @@
 --     IsLessOpen      the same world, in which no more is open
 --     HasFinished      at which world a run ended
 --     AreInHand, AreGiven      what a leader has of its transactions as the run ends; how many items were given to each
-use Rattle.std.specs.Prelude.{◌≡◌, ◌≢◌, ℕ, true, ◌-◌, ◌^◌, ◌<◌, List, length, map, All, Contains, Option, Some, None, MatchOption, IsSome, IfSome, is_some, ◌⊎◌}
+use Rattle.std.specs.Prelude.{◌≡◌, ◌≢◌, ℕ, true, ◌-◌, ◌^◌, ◌<◌, List, length, map, All, Contains, Option, Some, None, IsSome, IfSome, is_some, ◌⊎◌}
 use Rattle.std.specs.FinMap.{get}
 use Rattle.model.specs.declared.change.Change as change_type
 use Rattle.model.specs.Rows.{Rows, Schema}

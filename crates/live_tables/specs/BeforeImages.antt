@@ -6,7 +6,7 @@
 --     cells_of_each, up_to_before_image, IsStoodAt      the cells alone; those held at a mark; with other ones for a transaction
 --     TakesBeforeImages      a transaction holds the cells of a change too
 --     BeforeImageFits, HasNoRowBeside, TellsCommitted      what a look-up of a place and of its table tells
-use Rattle.std.specs.Prelude.{◌≡◌, ◌≢◌, ℕ, ◌<◌, ◌⊎◌, List, Option, Some, None, take, slice_get, unwrap_or}
+use Rattle.std.specs.Prelude.{◌≡◌, ◌≢◌, ℕ, ◌<◌, ◌⊎◌, List, Option, Some, None, take, slice_get}
 use Rattle.std.specs.List.{Contains}
 use Rattle.std.specs.Map.{keys_of}
 use Rattle.std.specs.FinMap.{get}
@@ -14,7 +14,7 @@ use Rattle.model.specs.declared.key.Key.{Key}
 use Rattle.model.specs.declared.row.Row.{Row as RecordRow}
 use Rattle.model.specs.declared.cell.Cell.{Cell}
 use Rattle.model.specs.declared.cell.Cell.TheVariants.{Row, Uniq, Whole}
-use Rattle.model.specs.Rows.{Place, Rows}
+use Rattle.model.specs.Rows.{Rows}
 use Rattle.change.specs.declared.inverse.Inverse.{Inverse}
 use Rattle.change.specs.Inverse.{row_by_inverse}
 use Rattle.savepoint.specs.declared.mark.Mark.{Mark}

@@ -1,7 +1,7 @@
 -- The committed row at a place, as a store that is tied finds it.
 --     tied_fits      what lies beside each cell fits it
 --     committed_live, committed_beside, committed_emptied      the row in the tables, beside the place, in an inverse
-use Rattle.std.proofs.Common.{◌≡◌, ℕ, Option, Some, sym, ◌∙◌}
+use Rattle.std.proofs.Common.{◌≡◌, ℕ, Option, Some, ◌∙◌}
 use Rattle.std.specs.Prelude.{slice_get}
 use Rattle.std.specs.List.{Contains}
 use Rattle.std.specs.FinMap.{get}

@@ -2,7 +2,6 @@
 --     are_released, lets_go_free      that is so; and nobody holds a cell that overlaps one of these
 --     released_is_kept, tied_released      records and live tables represent their world past what was released
 use Rattle.std.proofs.Common.{◌≡◌, ◌≢◌, ℕ, zero, suc, ◌≤◌, ◌⊎◌, false, List, [], ◌∷◌, take, Option, Some, None, refl, sym, ap, subst, ◌∙◌, inl, inr, arith, true≢false}
-use Rattle.std.specs.Prelude.{slice_get}
 use Rattle.std.specs.List.{Contains, list_any}
 use Rattle.std.specs.FinMap.{get}
 use Rattle.std.proofs.lemmas.Bool.{cases_Bool}
@@ -10,7 +9,7 @@ use Rattle.model.specs.declared.cell.Cell.{Cell}
 use Rattle.model.specs.Cells.{overlaps}
 use Rattle.model.specs.Rows.{Rows, Schema}
 use Rattle.change.specs.InverseLemmas.{contains_first, contains_here, contains_later}
-use Rattle.indexes.specs.Content.{Content, KeepsCells, IsEmptyCell}
+use Rattle.indexes.specs.Content.{Content, IsEmptyCell}
 use Rattle.keyholds.specs.Holds.{cells_held}
 use Rattle.savepoint.specs.Record.{Record}
 use Rattle.undo.specs.LogLemmas.{secured, needed_settled, filled_live}
@@ -27,7 +26,7 @@ use Rattle.live_tables.specs.Held.{AreHolds, IsHeldAt}
 use Rattle.live_tables.specs.HoldsLemmas.{free_of_others, meets_one, share_one, contains_at}
 use Rattle.live_tables.specs.KeptRecords.{IsRecordOf, Represents as RecordsRepresent}
 use Rattle.live_tables.specs.KeptLemmas.{log_of_work}
-use Rattle.live_tables.specs.Released.{IsLetGo, IsAlone, HasReleased, AreReleased}
+use Rattle.live_tables.specs.Released.{IsLetGo, HasReleased, AreReleased}
 use Rattle.live_tables.specs.Represents.{records_in, Represents}
 use Rattle.live_tables.specs.BasicLemmas.{tied_by}
 

@@ -20,6 +20,7 @@ ghost use Rattle.keyholds.specs.Holds.{cells_held};
 ghost use Rattle.savepoint.specs.declared.mark.Mark.{Mark};
 ghost use Rattle.savepoint.specs.Savepoints.{mark_at};
 ghost use Rattle.savepoint.specs.Record.{Record};
+ghost use Rattle.undo.specs.Undo.{AreSettled};
 ghost use Rattle.live_tables.specs.Cells.{IsFreeOf, IsHeldIn};
 ghost use Rattle.live_tables.specs.Released.{AreReleased};
 ghost use Rattle.live_tables.specs.Answers.{after_stop};
@@ -274,6 +275,9 @@ impl Live {
             → result.items ≡ survivors xid o.items }
         ensures tied { (w : World) (o : Opened) (info : CommitInfo) → Represents w self.old → finite.get w.opened xid ≡ Some o
             → Represents (committed_with self.old.tables.schema w xid o info) self.new }
+        // The slots and entries by which its changes could be undone go, where nothing fills them.
+        ensures settled { (r : Record) → records_in self.old.transactions xid ≡ Some r
+            → AreSettled self.old.tables.schema self.new.tables.rows self.new.tables.room r.log.inverses }
         ensures schema { self.new.tables.schema ≡ self.old.tables.schema }
     {
         let Some(transaction) = self.transactions.remove(&xid) else {

@@ -2,7 +2,6 @@
 use Rattle.std.proofs.Common.{◌≡◌, ℕ, List, [], ◌∷◌, ◌++◌, refl, sym, ap, subst, inl, inr}
 use Rattle.std.specs.Prelude.{Result, Ok, Err, IsErrAnd, map}
 use Rattle.model.specs.Rows.{Rows, Schema}
-use Rattle.model.specs.Effect.{effect}
 use Rattle.model.specs.declared.change.Change.{Change}
 use Rattle.change.specs.declared.outcome.Clash.{Clash}
 use Rattle.change.specs.declared.outcome.Clash.TheVariants as clashes

@@ -1,6 +1,6 @@
 -- What a message that was taken leaves of a run.
 use Rattle.std.proofs.Common.{◌≡◌, ◌≢◌, ℕ, ◌<◌, Bool, true, false, List, [], ◌∷◌, ◌++◌, length, Some, None, refl, sym, ap, subst, ◌∙◌, append_assoc, append-nil, arith, inl, inr, ◌==◌, if◌then◌else◌}
-use Rattle.std.specs.Prelude.{map, fold, All, ◌⊎◌, max}
+use Rattle.std.specs.Prelude.{map, All, ◌⊎◌, max}
 use Rattle.std.proofs.lemmas.List.{map-append, length-map}
 use Rattle.std.proofs.lemmas.Simd.{map-map}
 use Rattle.std.proofs.lemmas.List.Elements.{All-append, All-cons, All-nil, All-head, All-tail, All-take}

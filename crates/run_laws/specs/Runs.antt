@@ -25,7 +25,7 @@ use Rattle.run.specs.declared.end.End.TheVariants as ends
 use Rattle.run.specs.declared.outcome.Outcome.{Outcome}
 use Rattle.run.specs.Commits.{Transaction, transaction_of}
 use Rattle.run.specs.Cause.{schema_of, IsNext}
-use Rattle.world.specs.World.{Opened, OpenOnes, Past, Entry, World, starting, journal, ends_of}
+use Rattle.world.specs.World.{Opened, OpenOnes, Entry, World, starting, journal, ends_of}
 use Rattle.world.specs.Steps.{Clashed, Acts, Reaches}
 use Rattle.run_laws.specs.Begun.{begun}
 use Rattle.run_laws.specs.Course.{committed_past}

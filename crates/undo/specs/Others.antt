@@ -14,7 +14,6 @@ use Rattle.model.specs.Rows.{Rows, Schema, IsValid}
 use Rattle.model.specs.Cells.{cells_of, table_of}
 use Rattle.indexes.specs.Content.{Content, HasRoom}
 use Rattle.change.specs.declared.inverse.Inverse.{Inverse}
-use Rattle.change.specs.declared.inverse.Inverse.TheVariants.{Take, Put, Replace, Unwipe}
 use Rattle.change.specs.Altered.{cells_altered}
 use Rattle.undo.specs.Undo.{content_undone, cells_needed}
 

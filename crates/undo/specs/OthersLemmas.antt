@@ -8,14 +8,14 @@
 --     among      a cell is among a list, or not
 --     CanUndo_past_gone      past cells that went from the room
 --     CanUndo_past_settle      past the cells that another gave up
-use Rattle.std.specs.Prelude.{◌≡◌, ℕ, zero, suc, ◌⊎◌, ◌==◌, ◌&&◌, Bool, true, false, cond, not, filter, List, [], ◌∷◌, ◌++◌, Option, Some, None, map, unwrap_or, is_some, refl}
+use Rattle.std.specs.Prelude.{◌≡◌, ℕ, zero, suc, ◌⊎◌, ◌==◌, ◌&&◌, true, false, cond, not, filter, List, [], ◌∷◌, ◌++◌, Option, Some, None, map, unwrap_or, is_some, refl}
 use Rattle.std.proofs.Common.{sym, ◌∙◌, ap, subst, inl, inr, true≢false, arith}
 use Rattle.std.specs.List.{Contains, list_any, AllByRecursion}
 use Rattle.std.specs.Ordering.{eq_by_cmp}
 use Rattle.std.specs.Cmp.{eq_by_cmp_equiv}
 use Rattle.std.proofs.lemmas.Map.Views.{tells_apart, Contains-from_any, list_any-from_Contains}
 use Rattle.model.specs.CellOrder.{cell_cmp, cell_cmp_total, cell_cmp_exact}
-use Rattle.std.specs.FinMap.{get, remove, get-empty}
+use Rattle.std.specs.FinMap.{get, get-empty}
 use Rattle.std.proofs.lemmas.List.Folds.{list_any-append}
 use Rattle.model.specs.declared.key.Key.{Key}
 use Rattle.model.specs.declared.row.Row.{Row as Record}

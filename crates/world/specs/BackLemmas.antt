@@ -1,9 +1,9 @@
 -- The way back: the live rows with the last changes of one transaction undone, and what it holds on them.
 --     valid_back      they are valid at each step
 --     held_live      a row whose place it holds stands on the live rows as on its own view
-use Rattle.std.specs.Prelude.{◌≡◌, ℕ, true, false, List, [], ◌∷◌, ◌++◌, Some, refl}
+use Rattle.std.specs.Prelude.{◌≡◌, ℕ, true, false, List, [], ◌∷◌, ◌++◌, Some}
 use Rattle.std.proofs.Common.{sym, ◌∙◌, ap, subst, inl, inr, true≢false}
-use Rattle.std.specs.List.{AllByRecursion, list_any}
+use Rattle.std.specs.List.{list_any}
 use Rattle.std.specs.FinMap.{get}
 use Rattle.model.specs.declared.key.Key.{Key}
 use Rattle.model.specs.declared.change.Change.{Change}
@@ -21,7 +21,7 @@ use Rattle.world.specs.OpenLemmas.{alone_as_live, cut_back}
 use Rattle.world.specs.FineLemmas.{committed_valid, fine_reached}
 use Rattle.world.specs.Fine.{IsFine}
 use Rattle.world.specs.WorldLemmas.{others, from_others, others_apart, live_is}
-use Rattle.world.specs.Statements.{IsReached, BackIsValid, HeldIsLive}
+use Rattle.world.specs.Statements.{BackIsValid, HeldIsLive}
 
 module _ (schema : Schema) (w : World) (fine : IsFine schema w) (xid : ℕ) (o : Opened) (is : get w.opened xid ≡ Some o) (rows : Rows) (live : IsLive schema w rows) where
   -- the live rows with its last changes undone are valid

@@ -3,12 +3,12 @@
 --     reordered_back, reordered_map      lists in another order, the other way round and item by item
 --     listed_with, listed_without      a listing once a transaction is there, and once it is gone
 --     each_found, keys_differ      each item of the entries is in the map, and no two have one xid
-use Rattle.std.specs.Prelude.{◌≡◌, ◌≢◌, ℕ, Bool, true, false, cond, T, List, [], ◌∷◌, map, Some, None, refl, ◌⊎◌}
+use Rattle.std.specs.Prelude.{◌≡◌, ◌≢◌, ℕ, true, false, cond, T, List, [], ◌∷◌, map, Some, None, refl, ◌⊎◌}
 use Rattle.std.proofs.Common.{sym, ◌∙◌, ap, subst, inl, inr, true≢false}
 use Rattle.std.specs.List.{AllByRecursion}
 use Rattle.std.specs.declared.cmp.Ordering.{Ordering}
 use Rattle.std.specs.declared.cmp.Ordering.TheVariants.{Less, Equal, Greater}
-use Rattle.std.specs.Ordering.{nat_cmp, eq_by_cmp, is_lt, is_eq}
+use Rattle.std.specs.Ordering.{nat_cmp, is_lt, is_eq}
 use Rattle.std.specs.Cmp.{nat_cmp_total, eq_by_cmp_equiv}
 use Rattle.std.specs.FinMap.{FinMap, get, insert, remove, entries, find, put, is_sorted, entries_sorted, entries-insert, get-entries, get-insert, get-remove, same_map, nat_cmp-IsAntisymmetric}
 use Rattle.std.specs.FinMap.Entries.{below_all, by_order}

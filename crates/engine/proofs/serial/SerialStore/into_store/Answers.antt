@@ -4,7 +4,6 @@ use Rattle.engine.specs.SerialInside.{idle_in}
 use Rattle.engine.specs.SerialLemmas.{idle_with, started_alike}
 use Rattle.engine.proofs.SerialSteps.{rows_idle}
 use Rattle.engine.proofs.serial.SerialStore.into_store.Goals as goal
-use Rattle.engine.proofs.serial.SerialStore.into_store.Goals.{Start}
 
 pub invariant_of-store : goal.invariant_of-store
 invariant_of-store c =

@@ -1,4 +1,9 @@
-use Rattle.std.proofs.Common.{refl, sym, ◌∙◌}
+use Rattle.std.proofs.Common.{◌≡◌, ℕ, Some, refl, sym, ap, subst, ◌∙◌}
+use Rattle.std.specs.Prelude.{option_map}
+use Rattle.model.specs.Rows.{Rows}
+use Rattle.savepoint.specs.Record.{Record}
+use Rattle.undo.specs.Undo.{AreSettled}
+use Rattle.live_tables.specs.declared.transaction.OpenTransaction.{OpenTransaction}
 use Rattle.live_tables.specs.BasicLemmas.{never_missing, puts_by_update, its_can, its_tells}
 use Rattle.live_tables.specs.EndedLemmas.{tied_committed}
 use Rattle.live_tables.specs.CallLemmas.{known_all}
@@ -27,3 +32,14 @@ returns-clause-tied c =
     (puts_by_update c.args.xid _ store.transactions c.remove.new.self c.in-Some.ensures.updates) c.in-Some.ensures.len
     (record { here = c.release_all.ensures.own; beside = c.release_all.ensures.others }) refl
     info (record { schema_is = given.schema; rows = given.rows; has_room = c.recall_invariant.ensures.room; others = given.others })
+
+pub returns-clause-settled : goal.returns-clause-settled
+returns-clause-settled c = λ r at.
+    let store = c.args.self.now in
+    let own : OpenTransaction = c.in-Some.transaction in
+    let given = c.settle-items.ensures in
+    let after = c.settle-items.new.t in
+    let its : Some own.record ≡ Some r = ap (option_map (λ (kept : OpenTransaction). kept.record)) c.in-Some.ensures.value ∙ at in
+    let same : own.record ≡ r = cc in
+    subst (λ (s : Record). AreSettled store.tables.schema after.rows after.room s.log.inverses) same
+    (subst (λ (rows : Rows). AreSettled store.tables.schema rows after.room own.record.log.inverses) (sym given.rows) given.gone)
