@@ -3,7 +3,7 @@
 //   mailboxes   `worker_threads`
 //   halves      `tokens`
 //   positions   `origin`
-//   posts       `worker`, what a lane is given
+//   outboxes    `worker`, what a worker is given
 //   readers     `snapshot`
 //   rings       `ring`
 //   table       the table of the stores, and its rows

@@ -19,16 +19,16 @@ struct Job {
 
 // Where a job is done once so many have been in work.
 #[derive(Drop)]
-struct Shop {
+struct Shared {
     wanted: u64,
     begun: Mutex<u64>,
     changed: Condvar,
     bell: Bell,
 }
 
-impl Shop {
-    fn new(wanted: u64) -> Shop {
-        Shop {
+impl Shared {
+    fn new(wanted: u64) -> Shared {
+        Shared {
             wanted,
             begun: Mutex::new(0),
             changed: Condvar::new(),
@@ -37,7 +37,7 @@ impl Shop {
     }
 }
 
-impl Work<Job> for Shop {
+impl Work<Job> for Shared {
     ghost use Rattle.std.specs.Prelude.{◌≡◌};
 
     ghost keeps = { λ old new. new.number ≡ old.number };
@@ -110,18 +110,18 @@ fn all_at_once(rt: HostRuntime) -> Result<(), Fail> {
     let held = Arc::new(rt.alloc(), 0u8)?;
     for workers in [1u64, 2, 3, 4, 16] {
         let mailboxes = make_mailboxes(rt.alloc(), workers as usize)?;
-        let shop = Shop::new(workers);
+        let shared = Shared::new(workers);
         let mut laid = Some(jobs(rt.alloc(), workers as usize, &held)?);
         let back = with_workers(
             &rt,
             &mailboxes,
-            &shop,
+            &shared,
             &mut |serving| {
                 let Some(jobs) = laid.take() else { return 0 };
                 if serving < mailboxes.len() || !give_all(&rt, &mailboxes, jobs) {
                     return 0;
                 }
-                count_back(&rt, &mailboxes, &shop.bell)
+                count_back(&rt, &mailboxes, &shared.bell)
             },
         );
         assert_same(&rt, back, workers, "back");
@@ -173,19 +173,19 @@ fn the_leader_leaves_at_each_turn(rt: HostRuntime) -> Result<(), Fail> {
     for workers in 0..5u64 {
         for turn in 0..5u64 {
             let mailboxes = make_mailboxes(rt.alloc(), workers as usize)?;
-            let shop = Shop::new(1);
+            let shared = Shared::new(1);
             let first = jobs(rt.alloc(), workers as usize, &held)?;
             let second = jobs(rt.alloc(), workers as usize, &held)?;
             let mut laid = Some((first, second));
             let back = with_workers(
                 &rt,
                 &mailboxes,
-                &shop,
+                &shared,
                 &mut |_| {
                     let Some((first, second)) = laid.take() else {
                         return 0;
                     };
-                    leave_at(&rt, turn, &mailboxes, &shop.bell, first, second)
+                    leave_at(&rt, turn, &mailboxes, &shared.bell, first, second)
                 },
             );
             assert_same(&rt, back, expected(turn, workers), turn);
@@ -212,7 +212,7 @@ fn a_mailbox_on_one_thread(rt: HostRuntime) -> Result<(), Fail> {
     let [mailbox] = mailboxes.as_slice() else {
         panic!(rt; "one mailbox was made")
     };
-    let shop = Shop::new(1);
+    let shared = Shared::new(1);
     assert_same(&rt, seen(mailbox.wait_back(&rt)), None, "no job");
     let mut jobs = jobs(rt.alloc(), 3, &held)?.into_iter();
     let (Some(first), Some(second), Some(third)) = (jobs.next(), jobs.next(), jobs.next()) else {
@@ -233,7 +233,7 @@ fn a_mailbox_on_one_thread(rt: HostRuntime) -> Result<(), Fail> {
         Some((2, 0)),
         "the third",
     );
-    mailbox.serve(&rt, &shop);
+    mailbox.serve(&rt, &shared);
     assert_same(&rt, seen(mailbox.close(&rt)), None, "closed again");
     Ok(())
 }

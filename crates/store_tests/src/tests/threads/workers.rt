@@ -3,8 +3,8 @@
 // back with just the items that it did not acknowledge.
 mod flags;
 mod held;
-mod lane;
+mod one_worker;
 mod plays;
-mod shop;
+mod shared;
 mod steps;
 mod together;

@@ -3,9 +3,9 @@
 ghost use Rattle.std.specs.Prelude.{◌≡◌, []};
 
 use super::flags::{Flag, Plan};
-use super::lane::{Came, Doom, run_worker};
+use super::one_worker::{Came, Doom, run_worker};
 use super::plays::{Scenario, play};
-use super::shop::Hand;
+use super::shared::Hand;
 use super::steps::Step;
 use crate::tests::asserts::{assert_holds, assert_same};
 use engine::{Acted, Stop, StoreNames, Ticket};
@@ -85,7 +85,7 @@ impl<N: StoreNames + Send + Sync, R: Threads + Wait + Abort + Clock + Sync> Hand
         requires holder { holder.name ≡ N.tickets }
         requires ticket { (ticket.name ≡ N.tickets) × (ticket.list ≡ []) }
     {
-        let (rt, alloc, shop) = (self.rt, self.alloc, self.shop);
+        let (rt, alloc, shared) = (self.rt, self.alloc, self.shared);
         thread::join(
             rt,
             move ||
@@ -93,7 +93,7 @@ impl<N: StoreNames + Send + Sync, R: Threads + Wait + Abort + Clock + Sync> Hand
             { self.end_holder(holder, held, commits) },
             move ||
                 requires { (ticket.name ≡ N.tickets) × (ticket.list ≡ []) }
-            { run_worker(rt, alloc, shop, ticket, &HELD, Plan::nowhere(held), None) },
+            { run_worker(rt, alloc, shared, ticket, &HELD, Plan::nowhere(held), None) },
         )
     }
 
@@ -116,8 +116,8 @@ impl<N: StoreNames + Send + Sync, R: Threads + Wait + Abort + Clock + Sync> Hand
         let ticket = self.open(700);
         let (held, told) = (Flag::new(), Flag::new());
         let (plan, doom) = (Plan::nowhere(&held), Doom(&held, &told));
-        let (rt, alloc, shop) = (self.rt, self.alloc, self.shop);
-        let came = run_worker(rt, alloc, shop, ticket, &HELD, plan, Some(doom));
+        let (rt, alloc, shared) = (self.rt, self.alloc, self.shared);
+        let came = run_worker(rt, alloc, shared, ticket, &HELD, plan, Some(doom));
         assert_holds(rt, came.is(Ended::Doomed, 0, 3), "came");
         self.abort(came.into_ticket());
         self.abort(holder);

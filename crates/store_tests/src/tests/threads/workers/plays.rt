@@ -2,7 +2,7 @@
 ghost use Rattle.std.specs.Prelude.{◌≡◌, [], length};
 ghost use Rattle.world.specs.World.{starting};
 
-use super::shop::{Hand, empty_store, share};
+use super::shared::{Hand, empty_store, share};
 use engine::{Line, Store, StoreNames};
 use std::alloc::Global;
 use std::marker::Brand;
@@ -48,8 +48,8 @@ fn play_once<N: StoreNames + Send + Sync, R: Threads + Wait + Abort + Clock + Sy
     requires nothing { line.list ≡ [] }
     requires rows { (store.schema ≡ N.schema) × (length N.schema ≡ 1) × (store.world ≡ starting N.start) }
 {
-    let shop = share::<N>(store);
-    let hand = Hand::new(rt, alloc, &shop, line);
+    let shared = share::<N>(store);
+    let hand = Hand::new(rt, alloc, &shared, line);
     match scenario {
         Scenario::HolderEnds { commits } => hand.holder_ends(commits),
         Scenario::DoomedWhileHeld => hand.doomed_while_held(),

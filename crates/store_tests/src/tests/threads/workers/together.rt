@@ -2,9 +2,9 @@
 ghost use Rattle.std.specs.Prelude.{◌≡◌, []};
 
 use super::flags::{Flag, Plan};
-use super::lane::{Came, Doom, run_worker};
+use super::one_worker::{Came, Doom, run_worker};
 use super::plays::{Scenario, play};
-use super::shop::{Hand, Shop};
+use super::shared::{Hand, Shared};
 use super::steps::{Step, put_key};
 use crate::tests::asserts::{assert_holds, assert_same};
 use engine::{StoreNames, Ticket};
@@ -71,7 +71,7 @@ impl<N: StoreNames> Meeting<N> {
 fn one_of_many<N: StoreNames + Send + Sync, R: Threads + Wait + Abort + Clock + Sync>(
     rt: &R,
     alloc: Global,
-    shop: &Shop<N>,
+    shared: &Shared<N>,
     meeting: &Meeting<N>,
     ticket: Ticket,
     number: u32,
@@ -87,7 +87,7 @@ fn one_of_many<N: StoreNames + Send + Sync, R: Threads + Wait + Abort + Clock + 
         count: WORKERS as u64,
         held: &meeting.held,
     };
-    let came = run_worker(rt, alloc, shop, ticket, &steps, plan, None);
+    let came = run_worker(rt, alloc, shared, ticket, &steps, plan, None);
     assert_holds(rt, meeting.back.lock(rt).push(came).is_ok(), "push");
 }
 
@@ -101,17 +101,17 @@ impl<N: StoreNames + Send + Sync, R: Threads + Wait + Abort + Clock + Sync> Hand
         requires one { (one.0.name ≡ N.tickets) × (one.0.list ≡ []) }
         requires two { (two.0.name ≡ N.tickets) × (two.0.list ≡ []) }
     {
-        let (rt, alloc, shop) = (self.rt, self.alloc, self.shop);
+        let (rt, alloc, shared) = (self.rt, self.alloc, self.shared);
         let (ticket, steps, plan) = one;
         let (other, other_steps, other_plan) = two;
         thread::join(
             rt,
             move ||
                 requires { (ticket.name ≡ N.tickets) × (ticket.list ≡ []) }
-            { run_worker(rt, alloc, shop, ticket, steps, plan, None) },
+            { run_worker(rt, alloc, shared, ticket, steps, plan, None) },
             move ||
                 requires { (other.name ≡ N.tickets) × (other.list ≡ []) }
-            { run_worker(rt, alloc, shop, other, other_steps, other_plan, None) },
+            { run_worker(rt, alloc, shared, other, other_steps, other_plan, None) },
         )
     }
 
@@ -141,8 +141,8 @@ impl<N: StoreNames + Send + Sync, R: Threads + Wait + Abort + Clock + Sync> Hand
         let ticket = self.open(700);
         let (come, told, held) = (Flag::new(), Flag::new(), Flag::new());
         let (plan, doom) = (Plan::new(at, &come, &told, &held), Doom(&come, &told));
-        let (rt, alloc, shop) = (self.rt, self.alloc, self.shop);
-        let came = run_worker(rt, alloc, shop, ticket, &LOW, plan, Some(doom));
+        let (rt, alloc, shared) = (self.rt, self.alloc, self.shared);
+        let came = run_worker(rt, alloc, shared, ticket, &LOW, plan, Some(doom));
         assert_same(rt, came.ended, Ended::Doomed, "ended");
         assert_same(rt, came.acked, number, "acked");
         assert_holds(rt, are_left(&came, number), "what is left");
@@ -156,13 +156,13 @@ impl<N: StoreNames + Send + Sync, R: Threads + Wait + Abort + Clock + Sync> Hand
 
     // All workers start, each with a transaction of its own.
     fn start_all(&mut self, meeting: &Meeting<N>) {
-        let (rt, alloc, shop) = (self.rt, self.alloc, self.shop);
+        let (rt, alloc, shared) = (self.rt, self.alloc, self.shared);
         thread::scope(thread::scope_env(), rt, move |scope| {
             for number in 0..WORKERS {
                 let ticket = self.open(700 + number);
                 let worker = move ||
                     requires { (ticket.name ≡ N.tickets) × (ticket.list ≡ []) }
-                { one_of_many(rt, alloc, shop, meeting, ticket, number) };
+                { one_of_many(rt, alloc, shared, meeting, ticket, number) };
                 assert_holds(rt, scope.spawn(worker).is_ok(), "spawn");
             }
         });
@@ -181,7 +181,7 @@ impl<N: StoreNames + Send + Sync, R: Threads + Wait + Abort + Clock + Sync> Hand
             assert_holds(self.rt, came.is(Ended::Last, 2, 1), "came");
             self.commit(came.into_ticket());
         }
-        let journal = self.shop.store.lock(self.rt).journal().len();
+        let journal = self.shared.store.lock(self.rt).journal().len();
         assert_same(self.rt, journal, WORKERS as usize, "journal");
     }
 }

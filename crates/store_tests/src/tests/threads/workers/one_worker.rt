@@ -1,9 +1,9 @@
-// One worker with its lane.
+// One worker with its ring.
 ghost use Rattle.std.specs.Prelude.{◌≡◌, []};
 ghost use Rattle.worker.specs.Working.{GoesOn};
 
 use super::flags::{Flag, Plan, Stops};
-use super::shop::Shop;
+use super::shared::Shared;
 use super::steps::{Step, item_of};
 use engine::{StoreNames, Ticket};
 use model::Item;
@@ -60,13 +60,13 @@ pub(super) struct Doom<'a>(pub(super) &'a Flag, pub(super) &'a Flag);
 fn send_all<N: StoreNames, R: Abort>(
     rt: &R,
     alloc: Global,
-    shop: &Shop<N>,
+    shared: &Shared<N>,
     mut sender: Sender<WorkItem<N>>,
     steps: &[Step],
 ) -> Sender<WorkItem<N>>
     ensures { result.ring ≡ sender.ring }
 {
-    let _ = &shop.changed;
+    let _ = &shared.changed;
     for step in steps {
         let Ok(item) = item_of(alloc, *step) else {
             panic!(rt; "no memory")
@@ -79,7 +79,7 @@ fn send_all<N: StoreNames, R: Abort>(
 // Dooms the worker when it is time, and tells it under the lock.
 fn lead<N: StoreNames, R: Wait + Abort + Clock>(
     rt: &R,
-    shop: &Shop<N>,
+    shared: &Shared<N>,
     mut sender: Sender<WorkItem<N>>,
     doom: Option<Doom<'_>>,
 ) -> Sender<WorkItem<N>>
@@ -88,8 +88,8 @@ fn lead<N: StoreNames, R: Wait + Abort + Clock>(
     if let Some(Doom(seen, told)) = doom {
         seen.wait(rt, 1);
         sender.doom();
-        let store = shop.store.lock(rt);
-        shop.changed.notify_all();
+        let store = shared.store.lock(rt);
+        shared.changed.notify_all();
         drop(store);
         told.raise();
     }
@@ -100,14 +100,21 @@ fn lead<N: StoreNames, R: Wait + Abort + Clock>(
 fn work_alone<N: StoreNames, L: RingNames, R: Wait + Abort + Clock>(
     rt: &R,
     alloc: Global,
-    shop: &Shop<N>,
+    shared: &Shared<N>,
     mut job: Job<N, L>,
     plan: Plan<'_>,
 ) -> (Job<N, L>, Ended)
     ensures { GoesOn job result.0 }
 {
     let mut gate = Stops::new(rt, plan);
-    let ended = work_on(rt, alloc, &shop.store, &shop.changed, &mut job, &mut gate);
+    let ended = work_on(
+        rt,
+        alloc,
+        &shared.store,
+        &shared.changed,
+        &mut job,
+        &mut gate,
+    );
     (job, ended)
 }
 
@@ -119,7 +126,7 @@ fn bring_together<N: StoreNames, L: RingNames, R: Abort>(
     job: Job<N, L>,
     ended: Ended,
 ) -> Came<N>
-    requires { (job.lane ≡ 0) × (sender.ring ≡ L.ring 0) }
+    requires { (job.worker ≡ 0) × (sender.ring ≡ L.ring 0) }
 {
     let (ticket, taker) = job.split();
     let mut ends = meet(sender, taker);
@@ -147,7 +154,7 @@ fn run_named<
 >(
     rt: &R,
     alloc: Global,
-    shop: &Shop<N>,
+    shared: &Shared<N>,
     sender: Sender<WorkItem<N>>,
     taker: Taker<WorkItem<N>>,
     ticket: Ticket,
@@ -161,8 +168,8 @@ fn run_named<
     let job: Job<N, L> = Job::new(ticket, taker, 0);
     let (sender, (job, ended)) = thread::join(
         rt,
-        move || lead(rt, shop, sender, doom),
-        move || work_alone(rt, alloc, shop, job, plan),
+        move || lead(rt, shared, sender, doom),
+        move || work_alone(rt, alloc, shared, job, plan),
     );
     bring_together(rt, alloc, sender, job, ended)
 }
@@ -171,7 +178,7 @@ fn run_named<
 pub(super) fn run_worker<N: StoreNames + Send + Sync, R: Threads + Wait + Abort + Clock + Sync>(
     rt: &R,
     alloc: Global,
-    shop: &Shop<N>,
+    shared: &Shared<N>,
     ticket: Ticket,
     steps: &[Step],
     plan: Plan<'_>,
@@ -182,6 +189,6 @@ pub(super) fn run_worker<N: StoreNames + Send + Sync, R: Threads + Wait + Abort 
     let Ok((sender, taker)) = Ring::new::<WorkItem<N>>(alloc, SLOTS) else {
         panic!(rt; "no memory")
     };
-    let sender = send_all(rt, alloc, shop, sender, steps);
-    run_named::<N, Brand, R>(rt, alloc, shop, sender, taker, ticket, plan, doom)
+    let sender = send_all(rt, alloc, shared, sender, steps);
+    run_named::<N, Brand, R>(rt, alloc, shared, sender, taker, ticket, plan, doom)
 }

@@ -4,7 +4,7 @@ use Rattle.engine.specs.declared.events.LineEvent.{LineEvent}
 use Rattle.engine.specs.declared.events.LineEvent.TheVariants.{Opened as WasOpened}
 use Rattle.model.specs.Beginning.{last_end}
 use Rattle.engine.specs.EventLemmas.{last_same}
-use Rattle.store_tests.proofs.tests.threads.workers.shop.Hand.open.Goals as goal
+use Rattle.store_tests.proofs.tests.threads.workers.shared.Hand.open.Goals as goal
 use Rattle.engine.specs.Events.{ends_in}
 
 -- no commit comes with a transaction that opens, nor where none does

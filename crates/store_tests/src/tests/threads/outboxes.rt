@@ -1,4 +1,4 @@
-// What no clause says of a post: what its calls answer on one thread, and that items given while the
+// What no clause says of an outbox: what its calls answer on one thread, and that items given while the
 // worker sends on come in order, through rings of few slots, and none stays behind.
 ghost use Rattle.std.specs.Prelude.{◌≡◌, [], false};
 
@@ -23,7 +23,7 @@ fn number<N: StoreNames>(item: Option<&WorkItem<N>>) -> Option<u32> {
     }
 }
 
-// What the calls on a post of a ring of two slots answered.
+// What the calls on an outbox of a ring of two slots answered.
 #[derive(Clone, Copy, Debug, PartialEq, Eq)]
 struct Answers {
     queued: usize,

@@ -14,7 +14,7 @@ use std::sync::{Condvar, Mutex, Wait};
 
 /// The store under its lock.
 #[derive(Drop)]
-pub(super) struct Shop<N: StoreNames> {
+pub(super) struct Shared<N: StoreNames> {
     pub(super) store: Mutex<SharedStore<N>>,
     pub(super) changed: Condvar,
     ghost counted: { length N.schema ≡ 1 },
@@ -25,7 +25,7 @@ pub(super) struct Shop<N: StoreNames> {
 pub(super) struct Hand<'a, N: StoreNames, R> {
     pub(super) rt: &'a R,
     pub(super) alloc: Global,
-    pub(super) shop: &'a Shop<N>,
+    pub(super) shared: &'a Shared<N>,
     line: Line,
     end: Lsn,
     ghost lined: { line.name ≡ N.line },
@@ -34,13 +34,13 @@ pub(super) struct Hand<'a, N: StoreNames, R> {
 
 impl<'a, N: StoreNames, R: Wait + Abort> Hand<'a, N, R> {
     /// The hand that has the line of the store.
-    pub(super) fn new(rt: &'a R, alloc: Global, shop: &'a Shop<N>, line: Line) -> Hand<'a, N, R>
+    pub(super) fn new(rt: &'a R, alloc: Global, shared: &'a Shared<N>, line: Line) -> Hand<'a, N, R>
         requires { (line.name ≡ N.line) × (line.list ≡ []) }
     {
         Hand {
             rt,
             alloc,
-            shop,
+            shared,
             line,
             end: 0,
         }
@@ -49,7 +49,7 @@ impl<'a, N: StoreNames, R: Wait + Abort> Hand<'a, N, R> {
     pub(super) fn open(&mut self, xid: Xid) -> Ticket
         ensures { (result.name ≡ N.tickets) × (result.list ≡ []) }
     {
-        let mut store = self.shop.store.lock(self.rt);
+        let mut store = self.shared.store.lock(self.rt);
         let Ok(ticket) = store.open(self.alloc, &mut self.line, xid) else {
             panic!(self.rt; "{xid} does not open")
         };
@@ -66,19 +66,19 @@ impl<'a, N: StoreNames, R: Wait + Abort> Hand<'a, N, R> {
             commit: end - 8,
             end,
         };
-        let mut store = self.shop.store.lock(self.rt);
+        let mut store = self.shared.store.lock(self.rt);
         store.commit(&mut self.line, ticket, info);
         self.end = end;
-        self.shop.changed.notify_all();
+        self.shared.changed.notify_all();
     }
 
     /// Aborts a transaction, and tells those that wait.
     pub(super) fn abort(&mut self, ticket: Ticket)
         requires { ticket.name ≡ N.tickets }
     {
-        let mut store = self.shop.store.lock(self.rt);
+        let mut store = self.shared.store.lock(self.rt);
         store.abort(&mut self.line, ticket);
-        self.shop.changed.notify_all();
+        self.shared.changed.notify_all();
     }
 
     /// Tries a change.
@@ -88,7 +88,7 @@ impl<'a, N: StoreNames, R: Wait + Abort> Hand<'a, N, R> {
     {
         match item_of(self.alloc, step) {
             Ok(Item::Change { sub, change }) => {
-                let mut store = self.shop.store.lock(self.rt);
+                let mut store = self.shared.store.lock(self.rt);
                 store.act(self.alloc, ticket, sub, &change)
             }
             Ok(_) => panic!(self.rt; "no change"),
@@ -108,7 +108,7 @@ impl<'a, N: StoreNames, R: Wait + Abort> Hand<'a, N, R> {
 
     /// What stopped the store.
     pub(super) fn stop(&self) -> Option<Stop> {
-        self.shop.store.lock(self.rt).stop()
+        self.shared.store.lock(self.rt).stop()
     }
 
     /// The note of the row at a key, with the work of all open transactions.
@@ -116,7 +116,7 @@ impl<'a, N: StoreNames, R: Wait + Abort> Hand<'a, N, R> {
         let Ok(key) = key(self.alloc, id) else {
             panic!(self.rt; "no memory")
         };
-        match self.shop.store.lock(self.rt).live(TABLE, &key) {
+        match self.shared.store.lock(self.rt).live(TABLE, &key) {
             Ok(Some(row)) => int_at(&row, 1),
             Ok(None) => None,
             Err(_) => panic!(self.rt; "no memory"),
@@ -141,11 +141,11 @@ pub(super) fn empty_store<R: Abort>(rt: &R, alloc: Global) -> (Store, Line)
 }
 
 /// The store is put under its lock.
-pub(super) fn share<N: StoreNames>(store: Store) -> Shop<N>
+pub(super) fn share<N: StoreNames>(store: Store) -> Shared<N>
     requires names { (store.tickets ≡ N.tickets) × (store.line.name ≡ N.line) }
     requires rows { (store.schema ≡ N.schema) × (length N.schema ≡ 1) × (store.world ≡ starting N.start) }
 {
-    Shop {
+    Shared {
         store: Mutex::new(SharedStore::new(store)),
         changed: Condvar::new(),
     }

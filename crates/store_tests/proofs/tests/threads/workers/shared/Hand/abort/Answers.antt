@@ -3,7 +3,7 @@ use Rattle.engine.specs.declared.events.LineEvent.{LineEvent}
 use Rattle.engine.specs.declared.events.LineEvent.TheVariants.{Aborted as WasAborted}
 use Rattle.model.specs.Beginning.{last_end}
 use Rattle.engine.specs.EventLemmas.{last_same}
-use Rattle.store_tests.proofs.tests.threads.workers.shop.Hand.abort.Goals as goal
+use Rattle.store_tests.proofs.tests.threads.workers.shared.Hand.abort.Goals as goal
 use Rattle.engine.specs.Events.{ends_in}
 
 pub invariant_of-self-clause-ended : goal.invariant_of-self-clause-ended

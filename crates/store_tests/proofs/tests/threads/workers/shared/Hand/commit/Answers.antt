@@ -2,7 +2,7 @@ use Rattle.std.proofs.Common.{List, ap, ◌∙◌}
 use Rattle.engine.specs.declared.events.LineEvent.{LineEvent}
 use Rattle.model.specs.Beginning.{last_end}
 use Rattle.engine.specs.EventLemmas.{last_more}
-use Rattle.store_tests.proofs.tests.threads.workers.shop.Hand.commit.Goals as goal
+use Rattle.store_tests.proofs.tests.threads.workers.shared.Hand.commit.Goals as goal
 use Rattle.engine.specs.Events.{ends_in}
 
 pub invariant_of-self-clause-ended : goal.invariant_of-self-clause-ended
