@@ -1,7 +1,7 @@
 // A program that keeps a cache exact: accounts, which a publisher changes and this program looks up.
 //
-//     embed < FILE          the stream's bytes on standard input
-//     embed HOST:PORT       from whoever listens there: `publisher serve`, for one
+//     cache_example < FILE          the stream's bytes on standard input
+//     cache_example HOST:PORT       from whoever listens there: `publisher serve`, for one
 //
 // It is what a program of your own would be. `leader` has all that a caller of a run needs: the catalog,
 // the tables, keys and values, sources, sinks and the clock, those who hold a worker or watch the run. A
