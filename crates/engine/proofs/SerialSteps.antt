@@ -21,6 +21,8 @@ use Rattle.model.specs.Rows.{Rows, Schema}
 use Rattle.model.specs.Effect.{all_back, serial}
 use Rattle.model.specs.Survivors.{changes_of}
 use Rattle.model.specs.SurvivorLemmas.{changes_of_both}
+use Rattle.model.specs.Accepted.{AreAccepted}
+use Rattle.model.specs.SerialLemmas.{accepted_append}
 use Rattle.indexes.specs.Content.{Content}
 use Rattle.change.specs.declared.inverse.Inverse.{Inverse}
 use Rattle.change.specs.Inverse.{edits_of, IsKnown}
@@ -29,14 +31,12 @@ use Rattle.undo.specs.Undo.{Log, CanUndo, AreKnownAll}
 use Rattle.undo.specs.UndoLemmas.{schema_undone}
 use Rattle.engine.specs.declared.serial.SerialStore.TheInside.{Inside}
 use Rattle.engine.specs.FirstClash.{ClashesIn}
-use Rattle.model.specs.Accepted.{AreAccepted}
 use Rattle.engine.specs.FirstClashLemmas.{ClashesIn-behind, ClashesIn-before}
-use Rattle.model.specs.SerialLemmas.{accepted_append}
-use Rattle.live_tables.specs.Answers.{told_stop}
 use Rattle.engine.specs.Engine.{engine_in, world_in, Represents as StoreRepresents}
 use Rattle.engine.specs.Serial.{Serial, rows_now, with_changes}
 use Rattle.engine.specs.SerialInside.{base_in, idle_in, serial_in, Represents}
 use Rattle.engine.specs.SerialLemmas.{idle_rows, rows_with}
+use Rattle.live_tables.specs.Answers.{told_stop}
 
 -- what can be undone is of tables that are there
 pub known_all : (t : Content) (is : List Inverse) → CanUndo t is → AreKnownAll t.schema is

@@ -14,11 +14,11 @@ use Rattle.world.specs.World.{Opened, World}
 use Rattle.world.specs.Steps.{done_with}
 use Rattle.engine.specs.declared.events.Event.{Event}
 use Rattle.engine.specs.declared.events.Event.TheVariants.{Done}
-use Rattle.live_tables.specs.declared.live_tables.Live.{Live}
 use Rattle.engine.specs.declared.store.Store.TheInside.{Inside}
 use Rattle.engine.specs.Events.{opened_by}
 use Rattle.engine.specs.Engine.{Engine, world_in, engine_in, Represents}
 use Rattle.engine.specs.StoreLemmas.{stands, with_parts, store_done}
+use Rattle.live_tables.specs.declared.live_tables.Live.{Live}
 use Rattle.live_tables.specs.Represents.{Represents as LiveRepresents}
 
 -- The number is the ticket's, and the store's book has the ticket's list under it.

@@ -16,8 +16,8 @@ use Rattle.world.specs.World.{World, Entry, journal}
 use Rattle.engine.specs.declared.entry.Entry as entry_type
 use Rattle.engine.specs.declared.events.LineEvent.{LineEvent}
 use Rattle.engine.specs.declared.store.Store.TheInside.{Inside}
-use Rattle.live_tables.specs.Answers.{told_stop}
 use Rattle.engine.specs.Events.{ends_in, is_open_in, world_of}
+use Rattle.live_tables.specs.Answers.{told_stop}
 use Rattle.live_tables.specs.Represents.{Represents as LiveRepresents}
 
 -- a store as its callers see it

@@ -26,6 +26,7 @@ use Rattle.model.specs.Effect.{serial}
 use Rattle.model.specs.EffectLemmas.{serial_append}
 use Rattle.model.specs.Survivors.{before_savepoint, survivors, changes_of}
 use Rattle.model.specs.SurvivorLemmas.{survivors_with}
+use Rattle.model.specs.Beginning.{last_end}
 use Rattle.tokens.specs.ListLemmas.{grown_by_nothing}
 use Rattle.tokens.specs.Lists.{ListMap}
 use Rattle.world.specs.World.{Past, OpenOnes, Stop, work, changes_in, work_behind}
@@ -35,9 +36,8 @@ use Rattle.engine.specs.declared.events.Event.{Event}
 use Rattle.engine.specs.declared.events.Event.TheVariants.{Done, Wants}
 use Rattle.engine.specs.declared.events.LineEvent.{LineEvent}
 use Rattle.engine.specs.declared.events.LineEvent.TheVariants.{Opened as WasOpened, Committed as WasCommitted, Aborted as WasAborted}
-use Rattle.live_tables.specs.Answers.{after_act}
 use Rattle.engine.specs.Events.{after_event, opened_by, map_values, opened_in, past_of, commits_in, ends_in, world_of, events_of}
-use Rattle.model.specs.Beginning.{last_end}
+use Rattle.live_tables.specs.Answers.{after_act}
 
 -- ---- a finite map whose values are altered
 

@@ -4,9 +4,9 @@ use Rattle.std.specs.Prelude.{◌≡◌, List, ◌∷◌, ◌++◌}
 use Rattle.model.specs.Rows.{Schema, Rows}
 use Rattle.model.specs.Effect.{serial}
 use Rattle.model.specs.declared.change.Change.{Change}
+use Rattle.model.specs.Accepted.{AreAccepted}
 use Rattle.change.specs.declared.outcome.Clash.{Clash}
 use Rattle.change.specs.Refusal.{ClashesAs}
-use Rattle.model.specs.Accepted.{AreAccepted}
 
 -- one of the changes is the first that clashes, and it clashes so; or memory was refused
 pub record ClashesIn (schema : Schema) (rows : Rows) (cs : List Change) (clash : Clash) : Type 0 where

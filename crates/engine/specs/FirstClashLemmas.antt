@@ -14,10 +14,10 @@ use Rattle.model.specs.EffectLemmas.{serial_append}
 use Rattle.model.specs.SerialLemmas.{accepted_append}
 use Rattle.model.specs.Survivors.{changes_of}
 use Rattle.model.specs.SurvivorLemmas.{changes_of_both}
+use Rattle.model.specs.Accepted.{AreAccepted}
 use Rattle.change.specs.declared.outcome.Clash.{Clash}
 use Rattle.change.specs.Refusal.{ClashesAs}
 use Rattle.engine.specs.FirstClash.{ClashesIn}
-use Rattle.model.specs.Accepted.{AreAccepted}
 
 -- one change more
 pub serial_last : (schema : Schema) (rows : Rows) (cs : List Change) (c : Change) → serial schema rows (cs ++ c ∷ []) ≡ effect schema (serial schema rows cs) c

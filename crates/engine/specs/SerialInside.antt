@@ -9,15 +9,15 @@ use Rattle.model.specs.Named.{NamesTables}
 use Rattle.model.specs.Rows.{Rows}
 use Rattle.model.specs.Effect.{all_back}
 use Rattle.model.specs.Survivors.{changes_of}
+use Rattle.model.specs.Accepted.{AreAccepted}
 use Rattle.change.specs.Inverse.{edits_of}
 use Rattle.indexes.specs.Content.{Content}
 use Rattle.undo.specs.Undo.{CanUndo}
 use Rattle.engine.specs.declared.serial.SerialStore.TheInside.{Inside}
 use Rattle.engine.specs.declared.store.Store.TheInside as store_inside
-use Rattle.live_tables.specs.Answers.{told_stop}
-use Rattle.model.specs.Accepted.{AreAccepted}
 use Rattle.engine.specs.Engine.{engine_in, Represents as StoreRepresents}
 use Rattle.engine.specs.Serial.{Serial, rows_now}
+use Rattle.live_tables.specs.Answers.{told_stop}
 
 -- the rows without the open work are those that are left once all of it is undone
 abbrev pub base_in : Inside → Rows

@@ -28,6 +28,7 @@ use Rattle.model.specs.EffectLemmas.{serial_append}
 use Rattle.model.specs.Survivors.{surviving, changes_of}
 use Rattle.model.specs.ValidLemmas.{not_none}
 use Rattle.model.specs.Accepted.{HasNoClash, AreAccepted}
+use Rattle.model.specs.Beginning.{last_end}
 use Rattle.indexes.specs.Content.{Content}
 use Rattle.savepoint.specs.Record.{Record}
 use Rattle.tokens.specs.Half.{Half}
@@ -44,18 +45,17 @@ use Rattle.engine.specs.declared.entry.Entry.{Entry}
 use Rattle.engine.specs.declared.events.Event.{Event}
 use Rattle.engine.specs.declared.events.LineEvent.{LineEvent}
 use Rattle.engine.specs.declared.events.LineEvent.TheVariants.{Opened as WasOpened, Committed as WasCommitted}
-use Rattle.live_tables.specs.declared.live_tables.Live.{Live}
 use Rattle.engine.specs.declared.store.Store.TheInside.{Inside}
-use Rattle.live_tables.specs.Answers.{told_stop}
 use Rattle.engine.specs.FirstClashLemmas.{serial_last}
 use Rattle.engine.specs.Engine.{entry_in, world_in, Represents}
 use Rattle.engine.specs.Events.{opened_by, opened_in, commits_in, ends_in, is_open_in, open_after, world_of}
-use Rattle.model.specs.Beginning.{last_end}
 use Rattle.engine.specs.EventLemmas.{values_empty, same_commits, more_commits, more_committed, rise_more, ends_same, ends_more}
-use Rattle.live_tables.specs.KeptRecords.{Represents as RecordsRepresent}
 use Rattle.engine.specs.EntryLemmas.{entries_named}
 use Rattle.engine.specs.Serial.{Serial, rows_now, with_changes, having_made, with_work, committed_by}
 use Rattle.engine.specs.StoreLemmas.{still_rising}
+use Rattle.live_tables.specs.declared.live_tables.Live.{Live}
+use Rattle.live_tables.specs.Answers.{told_stop}
+use Rattle.live_tables.specs.KeptRecords.{Represents as RecordsRepresent}
 use Rattle.live_tables.specs.Represents.{records_in, Represents as LiveRepresents}
 
 -- ---- a transaction that has made changes and nothing else

@@ -15,9 +15,9 @@ use Rattle.world.specs.Steps.{Closes, Reaches, at_start, by_step}
 use Rattle.engine.specs.declared.store.Store.TheInside.{Inside}
 use Rattle.engine.specs.Engine.{Engine, entry_in, world_in, Represents as StoreRepresents}
 use Rattle.engine.specs.Events.{commits_in}
+use Rattle.engine.specs.Shared.{Represents}
 use Rattle.live_tables.specs.Journal.{rows_after}
 use Rattle.live_tables.specs.JournalLemmas.{entries_are_serial}
-use Rattle.engine.specs.Shared.{Represents}
 use Rattle.live_tables.specs.Shut.{IsShut}
 
 -- ---- the tables and the journal then

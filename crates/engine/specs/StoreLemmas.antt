@@ -27,7 +27,6 @@ use Rattle.std.proofs.lemmas.List.{map-append, take-map}
 use Rattle.std.proofs.lemmas.List.Elements.{All-nil}
 use Rattle.std.proofs.lemmas.Simd.{map-map}
 use Rattle.model.specs.declared.change.Change as change_type
-use Rattle.change.specs.declared.outcome.Clash as clash_type
 use Rattle.model.specs.declared.item.Item.{Item}
 use Rattle.model.specs.declared.item.CommitInfo.{CommitInfo}
 use Rattle.model.specs.ValidLemmas.{not_none}
@@ -36,6 +35,8 @@ use Rattle.model.specs.Rows.{Rows, Schema}
 use Rattle.model.specs.Survivors.{survivors, changes_of}
 use Rattle.model.specs.Effect.{ClashCause, serial}
 use Rattle.model.specs.TableRows.{rows_of_table}
+use Rattle.model.specs.Beginning.{last_end}
+use Rattle.change.specs.declared.outcome.Clash as clash_type
 use Rattle.savepoint.specs.Record.{Record}
 use Rattle.tokens.specs.Half.{Half}
 use Rattle.tokens.specs.ListLemmas.{grown_by_nothing}
@@ -49,20 +50,19 @@ use Rattle.engine.specs.declared.events.Event.TheVariants.{Done}
 use Rattle.engine.specs.declared.events.LineEvent.{LineEvent}
 use Rattle.engine.specs.declared.events.LineEvent.TheVariants.{Opened as WasOpened, Committed as WasCommitted, Aborted as WasAborted}
 use Rattle.engine.specs.declared.entry.Entry.{Entry}
+use Rattle.engine.specs.declared.store.Store.TheInside.{Inside}
+use Rattle.engine.specs.Events.{opened_by, opened_in, commits_in, ends_in, open_after, is_open_in, world_of, events_of}
+use Rattle.engine.specs.EventLemmas.{get_values, values_empty, opened_stands, rise_more, ends_same, ends_more, world_done, world_acted, world_opened, world_aborted, world_committed}
+use Rattle.engine.specs.Engine.{entry_in, world_in, AreNamed, Represents}
+use Rattle.engine.specs.EntryLemmas.{entries_named}
 use Rattle.live_tables.specs.declared.live_tables.Live.{Live}
 use Rattle.live_tables.specs.declared.live_tables.Stopped as stopped_type
 use Rattle.live_tables.specs.declared.live_tables.Stopped.TheVariants.{Clash as StoppedByClash, Held as StoppedByHold}
-use Rattle.engine.specs.declared.store.Store.TheInside.{Inside}
 use Rattle.live_tables.specs.declared.transaction.OpenTransaction.{OpenTransaction}
 use Rattle.live_tables.specs.Answers.{cause_of, stop_for, told_stop, after_act, stop_of, TellsWhatStopped, HasCause}
-use Rattle.engine.specs.Events.{opened_by, opened_in, commits_in, ends_in, open_after, is_open_in, world_of, events_of}
-use Rattle.model.specs.Beginning.{last_end}
-use Rattle.engine.specs.EventLemmas.{get_values, values_empty, opened_stands, rise_more, ends_same, ends_more, world_done, world_acted, world_opened, world_aborted, world_committed}
 use Rattle.live_tables.specs.Journal.{rows_after}
 use Rattle.live_tables.specs.JournalLemmas.{entries_are_serial, rows_after_are_read}
-use Rattle.engine.specs.Engine.{entry_in, world_in, AreNamed, Represents}
 use Rattle.live_tables.specs.NamedLemmas.{work_named}
-use Rattle.engine.specs.EntryLemmas.{entries_named}
 use Rattle.live_tables.specs.Represents.{Represents as LiveRepresents}
 
 -- a record that is there is kept of a transaction

@@ -4,9 +4,10 @@ ghost use Rattle.model.specs.declared.item.Item.TheVariants.{Change as ChangeIte
 ghost use Rattle.model.specs.Effect.{all_back, serial};
 ghost use Rattle.model.specs.Named.{NamesTables};
 ghost use Rattle.model.specs.Survivors.{changes_of};
+ghost use Rattle.model.specs.Accepted.{HasNoClash, AreAccepted};
+ghost use Rattle.model.specs.Beginning.{last_end};
 ghost use Rattle.change.specs.Inverse.{edits_of};
 ghost use Rattle.change.specs.Refusal.{ClashesAs};
-ghost use Rattle.model.specs.Accepted.{HasNoClash, AreAccepted};
 ghost use Rattle.indexes.specs.Content.{KeepsCells};
 ghost use Rattle.undo.specs.Undo.{CanUndo};
 ghost use Rattle.world.specs.World.{starting, ends_of};
@@ -14,9 +15,8 @@ ghost use Rattle.world.specs.Steps.{Closes, Reaches};
 ghost use Rattle.engine.specs.declared.events.LineEvent.TheVariants.{Opened as WasOpened, Committed as WasCommitted};
 ghost use Rattle.engine.specs.FirstClash.{ClashesIn};
 ghost use Rattle.engine.specs.Engine.{entry_in, IsOtherwiseSame};
-ghost use Rattle.live_tables.specs.Journal.{rows_after};
 ghost use Rattle.engine.specs.Serial.{rows_now, with_changes, HasBegun, committed_by};
-ghost use Rattle.model.specs.Beginning.{last_end};
+ghost use Rattle.live_tables.specs.Journal.{rows_after};
 
 use crate::entry::{Changes, Entry};
 use crate::events::{Event, LineEvent};

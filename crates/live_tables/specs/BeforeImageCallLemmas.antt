@@ -5,8 +5,8 @@ use Rattle.std.specs.List.{Contains, list_any}
 use Rattle.std.specs.Map.{keys_of}
 use Rattle.std.specs.Ordering.{nat_cmp}
 use Rattle.std.specs.FinMap.{get, get-empty}
-use Rattle.model.specs.ValidLemmas.{not_none}
 use Rattle.std.proofs.lemmas.Map.Entries.{length-keys_of}
+use Rattle.model.specs.ValidLemmas.{not_none}
 use Rattle.model.specs.declared.key.Key.{Key}
 use Rattle.model.specs.declared.row.Row.{Row as RecordRow}
 use Rattle.model.specs.declared.change.Change as change_type
@@ -25,14 +25,14 @@ use Rattle.model.specs.SerialLemmas.{leaves_free_cell}
 use Rattle.indexes.specs.Content.{Content}
 use Rattle.change.specs.declared.inverse.Inverse.{Inverse}
 use Rattle.change.specs.Inverse.{edits_of, row_by_inverse}
-use Rattle.savepoint.specs.declared.mark.Mark.{Mark}
 use Rattle.change.specs.InverseLemmas.{contains_first, contains_here, contains_later}
+use Rattle.savepoint.specs.declared.mark.Mark.{Mark}
 use Rattle.savepoint.specs.Savepoints.{mark_at, before_mark}
 use Rattle.savepoint.specs.Record.{Record}
 use Rattle.world.specs.World.{Opened, World, work, own_rows, holds}
-use Rattle.keyholds.specs.Holds.{with_holds}
 use Rattle.world.specs.Steps.{done_with, aborted_with, committed_with}
 use Rattle.world.specs.ListingLemmas.{xid_cases}
+use Rattle.keyholds.specs.Holds.{with_holds}
 use Rattle.live_tables.specs.declared.before_image.BeforeImage.{BeforeImage}
 use Rattle.live_tables.specs.declared.before_image.BeforeImage.TheVariants.{Row as BeforeImageRow, Wiped, Other}
 use Rattle.live_tables.specs.KeptRecords.{Represents, IsPutAt}

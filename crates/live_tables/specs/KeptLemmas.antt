@@ -8,6 +8,8 @@ use Rattle.std.specs.Prelude.{Ok}
 use Rattle.std.specs.List.{list_any}
 use Rattle.std.specs.FinMap as finite
 use Rattle.std.specs.FinMap.{get}
+use Rattle.std.proofs.lemmas.Bool.{cases_eq, eq-eqb, ne_eqb}
+use Rattle.std.specs.Prelude.{IsSome, IsTrue, if◌then◌else◌}
 use Rattle.model.specs.declared.change.Change as change_type
 use Rattle.model.specs.declared.cell.Cell.{Cell}
 use Rattle.model.specs.declared.item.Item.{Item}
@@ -35,8 +37,6 @@ use Rattle.savepoint.specs.declared.mark.Mark.{Mark}
 use Rattle.savepoint.specs.Savepoints.{mark_at, with_mark}
 use Rattle.savepoint.specs.Record.{Record, with_mark_unless_top, AllAreNamed}
 use Rattle.savepoint.proofs.Marked.{marked-marks_of, with_mark-marks_of}
-use Rattle.std.proofs.lemmas.Bool.{cases_eq, eq-eqb, ne_eqb}
-use Rattle.std.specs.Prelude.{IsSome, IsTrue, if◌then◌else◌}
 use Rattle.world.specs.World.{Opened, Stop, World, work, own_rows, holds, IsFree}
 use Rattle.world.specs.Live.{IsLive}
 use Rattle.world.specs.Steps.{IsDone, IsSkipped, opened_with, done_with, wanting, acts}

@@ -11,6 +11,7 @@ use Rattle.model.specs.Rows.{Rows, Schema}
 use Rattle.model.specs.Cells.{overlaps}
 use Rattle.indexes.specs.Content.{Content}
 use Rattle.change.specs.declared.inverse.Inverse.{Inverse}
+use Rattle.change.specs.Inverse.{row_by_inverse}
 use Rattle.savepoint.specs.declared.mark.Mark.{Mark}
 use Rattle.savepoint.specs.Record.{Record}
 use Rattle.world.specs.World.{Opened, World, holds}
@@ -20,7 +21,6 @@ use Rattle.live_tables.specs.declared.before_image.BeforeImage.TheVariants.{Row 
 use Rattle.live_tables.specs.KeptRecords.{Represents}
 use Rattle.live_tables.specs.Held.{AreHolds}
 use Rattle.live_tables.specs.BeforeImages.{HasTable, LiesBeside, AreBeforeImages, HasBeforeImages, cells_of_each}
-use Rattle.change.specs.Inverse.{row_by_inverse}
 use Rattle.live_tables.specs.HoldsLemmas.{share_one}
 use Rattle.live_tables.specs.UnheldLemmas.{free_by_cells, unheld_row, whole_overlaps}
 use Rattle.live_tables.specs.BeforeImageLemmas.{slice_front, front_slice, contains_index, index_contains, same_record, cells_front, index_of_key}

@@ -15,11 +15,14 @@ use Rattle.model.specs.Rows.{Rows, Schema}
 use Rattle.model.specs.Effect.{ClashCause, Skip, Clashes, outcome, effect, serial}
 use Rattle.model.specs.TableRows.{rows_of_table}
 use Rattle.model.specs.Footprint.{footprint, shares_cell}
+use Rattle.model.specs.Named.{NamesTables}
+use Rattle.model.specs.Cells.{table_of}
 use Rattle.savepoint.specs.declared.mark.Mark.{Mark}
 use Rattle.savepoint.specs.Savepoints.{mark_at}
+use Rattle.savepoint.specs.Record.{Record}
 use Rattle.indexes.specs.Content.{Content}
 use Rattle.change.specs.declared.inverse.Inverse.{Inverse}
-use Rattle.savepoint.specs.Record.{Record}
+use Rattle.change.specs.Inverse.{row_by_inverse}
 use Rattle.world.specs.World.{Opened, Past, Entry, Stop, ByHold, World, starting, entry_of, changes_in, journal}
 use Rattle.world.specs.Settled.{WaitsFor}
 use Rattle.world.specs.Steps.{Fault, ReadsCommitted, ReadsAfter, StopsHeld, opened_with, done_with, wanting, committed_with, aborted_with}
@@ -27,15 +30,12 @@ use Rattle.live_tables.specs.KeptRecords.{Represents, IsPutAt}
 use Rattle.live_tables.specs.Held.{AreHolds, HasHeldMarks, IsHeldAt, up_to_held}
 use Rattle.live_tables.specs.CallResults.{IsApplied, IsRolledBack, HasItem, HasTheSame}
 use Rattle.live_tables.specs.Statements.{IsFreeLive}
-use Rattle.model.specs.Named.{NamesTables}
-use Rattle.model.specs.Cells.{table_of}
 use Rattle.live_tables.specs.Journal.{rows_after}
-use Rattle.keyholds.specs.Holds.{IsFreeCell}
 use Rattle.live_tables.specs.Waits.{IsOneHeldBy, WaitsByHolds, WaitsForNobody, IsSettledLive, IsNotStuck}
 use Rattle.live_tables.specs.declared.before_image.BeforeImage.{BeforeImage}
 use Rattle.live_tables.specs.declared.before_image.BeforeImage.TheVariants.{Row as BeforeImageRow, Wiped}
 use Rattle.live_tables.specs.BeforeImages.{HasBeforeImages, BeforeImageFits, HasNoRowBeside, cells_of_each, up_to_before_image, IsStoodAt, TakesBeforeImages}
-use Rattle.change.specs.Inverse.{row_by_inverse}
+use Rattle.keyholds.specs.Holds.{IsFreeCell}
 
 -- ---- the committed row at a place
 

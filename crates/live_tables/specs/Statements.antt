@@ -3,21 +3,21 @@
 use Rattle.std.specs.Prelude.{◌≡◌, ◌≢◌, ◌⊎◌, ◌↔◌, ◌==◌, ◌≤◌, ℕ, List, length, take, All, [], ◌∷◌, Option, Some, None, Ok}
 use Rattle.std.specs.FinMap as finite
 use Rattle.std.specs.FinMap.{get}
-use Rattle.model.specs.declared.change.Change as change_type
 use Rattle.std.specs.List.{Contains}
+use Rattle.model.specs.declared.change.Change as change_type
 use Rattle.model.specs.declared.cell.Cell.{Cell}
 use Rattle.model.specs.declared.item.Item.{Item}
 use Rattle.model.specs.declared.item.Item.TheVariants.{Change, Touch, BackTo}
 use Rattle.model.specs.Survivors.{is_of, after_item}
-use Rattle.savepoint.specs.Savepoints.{mark_at, before_mark}
 use Rattle.model.specs.declared.item.CommitInfo.{CommitInfo}
 use Rattle.model.specs.Rows.{Place, Schema, IsValid}
 use Rattle.model.specs.Effect.{ClashCause, Skip, Clashes, outcome, serial}
 use Rattle.model.specs.Footprint.{looked_up, footprint, held_cells}
+use Rattle.savepoint.specs.Savepoints.{mark_at, before_mark}
+use Rattle.savepoint.specs.Record.{Record, inverses_since}
 use Rattle.indexes.specs.Content.{Content}
 use Rattle.change.specs.declared.inverse.Inverse.{Inverse}
 use Rattle.undo.specs.Undo.{CanUndo, AreKnownAll}
-use Rattle.savepoint.specs.Record.{Record, inverses_since}
 use Rattle.world.specs.World.{Opened, Stop, ByClash, World, starting, work, changes_in, own_rows, IsHeldBy, IsFree}
 use Rattle.world.specs.Steps.{Fault, StopsHeld, ReadsLive, IsDone, IsSkipped, Held, Clashed, Opens, Acts, Touches, GoesBack, Commits, Aborts, opened_with, done_with, wanting, committed_with, aborted_with}
 use Rattle.world.specs.Fine.{IsFine}

@@ -15,7 +15,7 @@
 use frames::{ReadSource, WriteSink};
 use leader::Devices;
 use pgapply_command::account::Account;
-use pgapply_command::execute::{execute_heard_on, execute_on};
+use pgapply_command::execute::{Nobody, execute_on};
 use pgapply_command::options::{Input, Options, parse};
 use pgapply_command::output::{Failure, print, say_failure};
 use pgapply_command::progress::Progress;
@@ -103,6 +103,7 @@ fn run_stream<T: Threads + Wait + RandomSource + Sync>(
         &options.config,
         catalog,
         &mut devices,
+        &mut Nobody,
         &mut out,
     );
     print(rt, options.verbose, &mut rt.stdout(), out.as_slice(), ended)
@@ -124,7 +125,7 @@ fn run_watched<T: Threads + Wait + RandomSource + Sync>(
     let source = ReadSource::new(BufReader::new(rt.alloc(), stream)?);
     let watched = Watched::new(source, &mut trace, &mut progress, options.verbose);
     let mut devices = Devices::new(watched, WriteSink::new(updates), SystemClock::new(rt));
-    let ended = execute_heard_on(
+    let ended = execute_on(
         threads,
         rt.alloc(),
         options.spooled,

@@ -37,7 +37,7 @@ const OUT_OF_MEMORY: Ended = Ended {
 /// `execute_on` with devices of its own: what it sends is said there.
 ///
 /// Streamed transactions are applied while they come, by as many workers as `config` says; where
-/// `run` asks for it, each at its commit.
+/// `spooled` asks for it, each at its commit.
 pub fn execute<H, R, W, C>(
     rt: &H,
     alloc: Global,
@@ -60,33 +60,13 @@ where
         left out.old.items out.new.items result }
 {
     let mut devices = Devices::new(reader, writer, clock);
-    execute_on(rt, alloc, spooled, config, catalog, &mut devices, out)
-}
-
-/// `execute` over devices that are looked at afterwards: what was read and sent.
-pub fn execute_on<H, R, W, C>(
-    rt: &H,
-    alloc: Global,
-    spooled: bool,
-    config: &Config,
-    catalog: &[u8],
-    devices: &mut Devices<R, W, C>,
-    out: &mut Vec<u8>,
-) -> Ended
-where
-    H: Threads + Wait + RandomSource + Sync,
-    R: Source,
-    W: Sink,
-    C: Clock,
-    ensures { Executes (workers_of spooled config.now) catalog.now config.now devices.old devices.new out.old.items out.new.items result }
-{
-    execute_heard_on(
+    execute_on(
         rt,
         alloc,
         spooled,
         config,
         catalog,
-        devices,
+        &mut devices,
         &mut Nobody,
         out,
     )
@@ -102,8 +82,8 @@ pub trait Hearer {
 }
 
 /// Nobody hears.
-#[derive(Drop)]
-struct Nobody;
+#[derive(Debug, Drop)]
+pub struct Nobody;
 
 impl Hearer for Nobody {
     fn hear_refusal(&mut self, _fault: CatalogFault) {}
@@ -111,8 +91,9 @@ impl Hearer for Nobody {
     fn hear_end(&mut self, _catalog: &Catalog, _outcome: &Outcome) {}
 }
 
-/// `execute_on`, and somebody hears why it ends.
-pub fn execute_heard_on<H, R, W, C, L>(
+/// `execute` over devices that are looked at afterwards: what was read and sent. Somebody may hear why it
+/// ends.
+pub fn execute_on<H, R, W, C, L>(
     rt: &H,
     alloc: Global,
     spooled: bool,

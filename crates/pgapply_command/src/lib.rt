@@ -6,8 +6,7 @@
 // what a command ends with: a catalog that is refused has its line and status, and nothing was read or
 // printed; else the stream was run by as many workers as the command has, and the report of what the run
 // left was appended with the status of its end; or memory was refused. `execute_on` says what was read
-// and sent too, and `execute_heard_on` says the same of a run that somebody hears: the hearer is shown why
-// the command ended, and changes nothing of the answer.
+// and sent too. Somebody may hear why the command ended (`Hearer`), and changes nothing of the answer.
 //
 // The command line and what is said on standard error are safe, total and tested: no clause says a text.
 //

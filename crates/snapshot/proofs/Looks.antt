@@ -3,8 +3,8 @@
 use Rattle.std.proofs.Common.{◌≡◌, ◌∷◌, subst}
 use Rattle.std.specs.List.Sorted.{IsStrictlyIncreasing}
 use Rattle.model.specs.Rows.{Rows, Schema}
-use Rattle.tokens.specs.Half.{Name, Half}
 use Rattle.model.specs.Beginning.{Begins}
+use Rattle.tokens.specs.Half.{Name, Half}
 use Rattle.origin.specs.Commits.{PublishedCommits}
 use Rattle.engine.specs.declared.events.LineEvent.{LineEvent}
 use Rattle.engine.specs.Engine.{Engine}

@@ -17,8 +17,8 @@ use Rattle.std.proofs.lemmas.Option.{slice_get-map, slice_get_read, slice_get_wi
 use Rattle.std.proofs.lemmas.List.Elements.{Contains-push_cases}
 use Rattle.model.specs.Rows.{Rows, Schema}
 use Rattle.model.specs.Effect.{serial}
-use Rattle.tokens.specs.Half.{Name, Half}
 use Rattle.model.specs.Beginning.{Begins}
+use Rattle.tokens.specs.Half.{Name, Half}
 use Rattle.origin.specs.Commits.{PublishedCommits}
 use Rattle.world.specs.World.{Past, Entry, World, entry_of, journal, changes_in}
 use Rattle.engine.specs.declared.entry.Entry as entry_type

@@ -12,8 +12,8 @@ use Rattle.std.specs.FinMap as finite
 use Rattle.model.specs.declared.row.Row.{Row}
 use Rattle.model.specs.Rows.{Rows, Schema}
 use Rattle.model.specs.TableRows.{rows_of_table}
-use Rattle.tokens.specs.Half.{Half}
 use Rattle.model.specs.Beginning.{Begins}
+use Rattle.tokens.specs.Half.{Half}
 use Rattle.world.specs.World.{Past, World}
 use Rattle.world.specs.Steps.{Fault, ReadsAfter}
 use Rattle.engine.specs.declared.events.LineEvent.{LineEvent}

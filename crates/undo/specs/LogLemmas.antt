@@ -18,6 +18,7 @@ use Rattle.std.specs.FinMap.{get}
 use Rattle.std.proofs.lemmas.Bool.{cases_Bool}
 use Rattle.std.proofs.lemmas.List.Folds.{list_any-append}
 use Rattle.std.proofs.lemmas.List.Elements.{Contains-append_left, Contains-append_right, Contains-append_cases}
+use Rattle.std.proofs.lemmas.Map.Views.{tells_apart}
 use Rattle.model.specs.declared.key.Key.{Key}
 use Rattle.model.specs.declared.row.Row.{Row as Record}
 use Rattle.model.specs.declared.change.Change.{Change}
@@ -25,7 +26,6 @@ use Rattle.model.specs.declared.cell.Cell.{Cell}
 use Rattle.model.specs.declared.cell.Cell.TheVariants.{Row, Uniq, Whole}
 use Rattle.model.specs.Key.{key_cmp_total}
 use Rattle.model.specs.ExactLemmas.{key_cmp_exact}
-use Rattle.std.proofs.lemmas.Map.Views.{tells_apart}
 use Rattle.model.specs.Rows.{Place, Rows, Schema, keys_at, key_of, values_in, are_taken, IsValid}
 use Rattle.model.specs.Effect.{Skip, one_edit, outcome, effect, inverse, back, serial, inverses, all_back, edits_of as edits_of_outcome}
 use Rattle.model.specs.EditLemmas.{same_place, was_at, get_rows_under, get_edit, get_one_edit, overlay_empty}

@@ -14,9 +14,10 @@ use Rattle.std.specs.List.{Contains, list_any, AllByRecursion}
 use Rattle.std.specs.Ordering.{eq_by_cmp}
 use Rattle.std.specs.Cmp.{eq_by_cmp_equiv}
 use Rattle.std.proofs.lemmas.Map.Views.{tells_apart, Contains-from_any, list_any-from_Contains}
-use Rattle.model.specs.CellOrder.{cell_cmp, cell_cmp_total, cell_cmp_exact}
 use Rattle.std.specs.FinMap.{get, get-empty}
 use Rattle.std.proofs.lemmas.List.Folds.{list_any-append}
+use Rattle.std.proofs.lemmas.List.Elements.{Contains-append_left, Contains-append_right, Contains-append_cases}
+use Rattle.model.specs.CellOrder.{cell_cmp, cell_cmp_total, cell_cmp_exact}
 use Rattle.model.specs.declared.key.Key.{Key}
 use Rattle.model.specs.declared.row.Row.{Row as Record}
 use Rattle.model.specs.Key.{key_cmp_total}
@@ -24,7 +25,6 @@ use Rattle.model.specs.Cells.{table_of, overlaps, same_key, row_cell, unique_cel
 use Rattle.model.specs.Footprint.{shares_cell}
 use Rattle.model.specs.OverlapLemmas.{neither_first, neither_second, neither, shares_append}
 use Rattle.model.specs.TakenLemmas.{both_true, same_number}
-use Rattle.std.proofs.lemmas.List.Elements.{Contains-append_left, Contains-append_right, Contains-append_cases}
 use Rattle.model.specs.declared.cell.Cell.{Cell}
 use Rattle.model.specs.declared.cell.Cell.TheVariants.{Row, Uniq, Whole}
 use Rattle.model.specs.Rows.{Place, place_cmp, Rows, Schema, keys_at, key_of, values_in, IsValid, is_place}

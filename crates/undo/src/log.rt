@@ -4,10 +4,10 @@ ghost use Rattle.std.specs.Option.{option_map};
 ghost use Rattle.model.specs.declared.cell.Cell.{Cell};
 ghost use Rattle.model.specs.Effect.{effect, all_back};
 ghost use Rattle.model.specs.Named.{NamesTables};
+ghost use Rattle.model.specs.Accepted.{HasNoClash};
 ghost use Rattle.indexes.specs.Content.{KeepsCells};
 ghost use Rattle.change.specs.Inverse.{edits_of, IsKnown};
 ghost use Rattle.change.specs.Refusal.{ClashesAs};
-ghost use Rattle.model.specs.Accepted.{HasNoClash};
 ghost use Rattle.undo.specs.Undo.{content_undone, CanUndo, AreKnownAll, cells_settled, all_settled, IsSettled, AreSettled};
 
 use change::{Applied, Clash, Inverse, apply, put_back};

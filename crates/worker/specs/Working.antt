@@ -19,9 +19,9 @@ use Rattle.ring.specs.Ends.{Taking}
 use Rattle.world.specs.World.{Opened}
 use Rattle.engine.specs.declared.events.Event.{Event}
 use Rattle.engine.specs.declared.events.Event.TheVariants.{Done, Wants}
+use Rattle.engine.specs.Events.{opened_by}
 use Rattle.live_tables.specs.declared.answers.EngineFault.{EngineFault}
 use Rattle.live_tables.specs.declared.answers.EngineFault.TheVariants.{AlreadyOpen, TooManyOpen, Clash as ClashFault, Stopped as StoppedFault, OutOfMemory as NoMemory}
-use Rattle.engine.specs.Events.{opened_by}
 use Rattle.worker.specs.declared.ended.Ended.{Ended}
 use Rattle.worker.specs.declared.ended.Ended.TheVariants.{Last as AtLast, Doomed, Clashed, Stopped, OutOfMemory}
 use Rattle.worker.specs.declared.ended.Tried.{Tried}

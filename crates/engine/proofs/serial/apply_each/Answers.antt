@@ -6,13 +6,13 @@ use Rattle.model.specs.Effect.{serial}
 use Rattle.model.specs.Rows.{Schema}
 use Rattle.model.specs.Survivors.{changes_of}
 use Rattle.model.specs.declared.item.Item.{Item}
-use Rattle.engine.specs.FirstClash.{ClashesIn}
 use Rattle.model.specs.Accepted.{AreAccepted}
-use Rattle.live_tables.specs.NamedLemmas.{changes_at}
+use Rattle.engine.specs.FirstClash.{ClashesIn}
 use Rattle.engine.specs.FirstClashLemmas.{list_done, list_clear, list_refused}
 use Rattle.engine.proofs.SerialSteps.{if_err}
 use Rattle.engine.proofs.serial.apply_each.Goals as goal
 use Rattle.engine.proofs.serial.apply_each.Goals.{After-apply_item}
+use Rattle.live_tables.specs.NamedLemmas.{changes_at}
 
 -- the items up to this one are those before it and it
 up_to_item : (c : After-apply_item) → take (c.loop-item.item-index + 1) c.args.items.now ≡ take c.loop-item.item-index c.args.items.now ++ c.item-item.result ∷ []

@@ -1,9 +1,9 @@
 use Rattle.std.proofs.Common.{◌≡◌, map, take}
 use Rattle.model.specs.Effect.{all_back, serial}
 use Rattle.model.specs.Survivors.{changes_of}
+use Rattle.model.specs.Accepted.{AreAccepted}
 use Rattle.change.specs.Inverse.{edits_of}
 use Rattle.undo.specs.Undo.{CanUndo}
-use Rattle.model.specs.Accepted.{AreAccepted}
 use Rattle.engine.proofs.serial.apply_each.Given as goal
 
 -- the items so far were applied, and can be undone

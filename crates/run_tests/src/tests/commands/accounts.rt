@@ -5,7 +5,7 @@ use frames::{ReadSource, WriteSink};
 use indexes::Tables;
 use leader::{Config, Devices, End, Outcome};
 use pgapply_command::account::Account;
-use pgapply_command::execute::{Hearer, execute_heard_on};
+use pgapply_command::execute::{Hearer, execute_on};
 use pgapply_command::stream::Updates;
 use std::alloc::Global;
 use std::io::Cursor;
@@ -40,7 +40,7 @@ fn said<R: Threads + Wait + RandomSource + Sync>(
     let watched = Watched::new(source, &mut trace, &mut quiet, true);
     let mut devices = Devices::new(watched, WriteSink::new(Updates::Nowhere), Stopped(5));
     let config = Config { workers, ..CONFIG };
-    let ended = execute_heard_on(
+    let ended = execute_on(
         rt,
         alloc,
         workers == 0,

@@ -1,8 +1,8 @@
 // How streams come: in pieces, cut short, from a source or to a sink that fails; and catalogs that are refused.
-use crate::tests::reports::thousand_rows;
 use crate::tests::commands::runs::{
     CONFIG, Stopped, framed, printed, printed_from, push_frame, push_frames, spelled,
 };
+use crate::tests::reports::thousand_rows;
 use leader::Config;
 use pgapply_command::execute::{Ended, execute};
 use std::alloc::Global;

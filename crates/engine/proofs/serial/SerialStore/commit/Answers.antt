@@ -5,17 +5,19 @@ use Rattle.model.specs.declared.item.Item.TheVariants.{Change as ChangeItem}
 use Rattle.model.specs.Rows.{Rows}
 use Rattle.model.specs.Effect.{all_back, serial}
 use Rattle.model.specs.Survivors.{changes_of}
+use Rattle.model.specs.Accepted.{AreAccepted}
+use Rattle.model.specs.Beginning.{last_end}
 use Rattle.change.specs.declared.inverse.Inverse.{Inverse}
 use Rattle.change.specs.Inverse.{edits_of}
 use Rattle.indexes.specs.Content.{Content}
 use Rattle.undo.specs.Undo.{Log}
 use Rattle.tokens.specs.Half.{Half}
 use Rattle.world.specs.Steps.{Reaches}
+use Rattle.world.specs.World.{ends_of}
 use Rattle.engine.specs.declared.entry.Entry.{Entry}
 use Rattle.engine.specs.declared.events.LineEvent.{LineEvent}
 use Rattle.engine.specs.declared.events.LineEvent.TheVariants.{Opened as WasOpened, Committed as WasCommitted}
 use Rattle.engine.specs.declared.store.Store.TheInside.{Inside}
-use Rattle.model.specs.Accepted.{AreAccepted}
 use Rattle.engine.specs.Engine.{entry_in, world_in, Represents}
 use Rattle.engine.specs.Serial.{Serial, committed_by}
 use Rattle.engine.specs.SerialInside.{idle_in}
@@ -23,8 +25,6 @@ use Rattle.engine.specs.SerialLemmas.{with_commit, idle_committed, reaches_commi
 use Rattle.engine.proofs.SerialSteps.{known_all, serially_idle, rows_based}
 use Rattle.engine.proofs.serial.SerialStore.commit.Goals as goal
 use Rattle.engine.proofs.serial.SerialStore.commit.Goals.{After-push_reserved}
-use Rattle.model.specs.Beginning.{last_end}
-use Rattle.world.specs.World.{ends_of}
 
 pub settle-requires : goal.settle-requires
 settle-requires c = known_all c.self.inside.live.tables c.self.inside.undo.inverses c.self.invariant.undoable

@@ -7,11 +7,11 @@ use Rattle.model.specs.Effect.{all_back, serial}
 use Rattle.model.specs.Named.{NamesTables}
 use Rattle.model.specs.Rows.{Rows, Schema}
 use Rattle.model.specs.Survivors.{changes_of}
+use Rattle.model.specs.Accepted.{AreAccepted}
 use Rattle.change.specs.declared.inverse.Inverse.{Inverse}
 use Rattle.change.specs.Inverse.{edits_of}
 use Rattle.undo.specs.Undo.{CanUndo}
 use Rattle.undo.specs.UndoLemmas.{CanUndo_keeps}
-use Rattle.model.specs.Accepted.{AreAccepted}
 use Rattle.engine.specs.Serial.{Serial}
 use Rattle.engine.specs.SerialInside.{base_in}
 use Rattle.engine.proofs.SerialSteps.{rows_idle, worked_kept}

@@ -2,6 +2,7 @@ use Rattle.std.proofs.Common.{◌≡◌, ◌<◌, List, sym, ap, subst, ◌∙�
 use Rattle.std.specs.FinMap.{get}
 use Rattle.model.specs.declared.item.Item.{Item}
 use Rattle.model.specs.Survivors.{survivors, changes_of}
+use Rattle.model.specs.Beginning.{last_end}
 use Rattle.tokens.specs.Half.{Half}
 use Rattle.tokens.specs.Lists.{OpenList, without_list}
 use Rattle.world.specs.World.{Past, entry_of}
@@ -11,7 +12,6 @@ use Rattle.engine.specs.declared.events.Event.{Event}
 use Rattle.engine.specs.declared.store.Store.TheInside.{Inside}
 use Rattle.engine.specs.declared.events.LineEvent.{LineEvent}
 use Rattle.engine.specs.Events.{opened_by, ends_in}
-use Rattle.model.specs.Beginning.{last_end}
 use Rattle.engine.specs.Engine.{Engine, entry_in, world_in, Represents}
 use Rattle.engine.specs.StoreLemmas.{has_room, store_committed}
 use Rattle.engine.proofs.StoreTickets.{IsTicket, its_ticket, open_under, may_call, tied_after}

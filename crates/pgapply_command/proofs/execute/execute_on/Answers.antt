@@ -7,8 +7,8 @@ use Rattle.run.specs.declared.outcome.Outcome.{Outcome}
 use Rattle.run.specs.Devices.{DeviceState}
 use Rattle.leader.specs.WithWorkers.{RunsBy}
 use Rattle.pgapply_command.specs.Ending.{HasRun, workers_of}
-use Rattle.pgapply_command.proofs.execute.execute_heard_on.Goals as goal
-use Rattle.pgapply_command.proofs.execute.execute_heard_on.Goals.{then-spooled, else-spooled}
+use Rattle.pgapply_command.proofs.execute.execute_on.Goals as goal
+use Rattle.pgapply_command.proofs.execute.execute_on.Goals.{then-spooled, else-spooled}
 
 -- a run by as many workers from the same rows, over the same devices, that nobody watched
 same_run : (n m v : ℕ) (catalog : List Definition) (config : Config) (rows first : Rows) (old new left : DeviceState) (o outcome : Outcome) → m ≡ n → v ≡ 0 → rows ≡ first → left ≡ new → outcome ≡ o
