@@ -218,14 +218,15 @@ impl<N: StoreNames> SharedStore<N> {
     }
 
     /// Tells a proof what its type keeps: its world has the commits that its line tells, each of which
-    /// ends above the ones before it, the committed rows are their changes on the start rows, and the
-    /// line tells which transactions are open. It does nothing.
+    /// ends above the ones before it, the committed rows are their changes on the start rows, the line
+    /// tells which transactions are open, and calls lead from the start to its world. It does nothing.
     pub fn recall_invariant(&self)
         ensures start { self.now.world.start ≡ N.start }
         ensures line { self.now.world.line ≡ commits_in self.now.line.list }
         ensures rising { IsStrictlyIncreasing (0 ∷ ends_in self.now.line.list) }
         ensures committed { self.now.world.committed ≡ serial N.schema N.start (changes_in self.now.world.line) }
         ensures opened { (xid : ℕ) → is_open_in self.now.line.list xid ≡ is_some (finite.get self.now.world.opened xid) }
+        ensures reached { ∥ Reaches N.schema (starting N.start) self.now.world ∥₁ }
     {
         self.store.recall_invariant();
     }
