@@ -252,7 +252,9 @@ impl Store {
         ensures rising { IsStrictlyIncreasing (0 ∷ ends_in self.now.line.list) }
         ensures committed { self.now.world.committed ≡ serial self.now.schema self.now.world.start (changes_in self.now.world.line) }
         ensures opened { (xid : ℕ) → is_open_in self.now.line.list xid ≡ is_some (finite.get self.now.world.opened xid) }
-    {}
+    {
+        let _count = self.live.tables.len();
+    }
 
     /// What stopped the store, if anything did. It takes no memory.
     pub fn stop(&self) -> Option<Stop>

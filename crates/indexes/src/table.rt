@@ -147,7 +147,9 @@ impl Table {
     /// and there is room for what they fill. It does nothing.
     pub fn recall_invariant(&self)
         ensures { IsSound self.now }
-    {}
+    {
+        let _count = self.uniques.len();
+    }
 
     /// The row at a key.
     pub fn get(&self, key: &Key) -> Option<RowView<'_>>

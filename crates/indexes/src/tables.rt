@@ -102,7 +102,9 @@ impl Tables {
         ensures valid { IsValid self.now.schema self.now.rows }
         ensures known { (table : ℕ) (key : AnyKey) (row : AnyRow) → finite.get self.now.rows (table, key) ≡ Some row → table < length self.now.schema }
         ensures room { (table : ℕ) (key : AnyKey) (row : AnyRow) → finite.get self.now.rows (table, key) ≡ Some row → HasRoom self.now.room self.now.schema table row }
-    {}
+    {
+        let _count = self.tables.len();
+    }
 
     /// How many unique keys a table has.
     pub fn unique_count(&self, table: usize) -> usize
