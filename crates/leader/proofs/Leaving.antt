@@ -31,13 +31,12 @@ use Rattle.run.specs.declared.end.End.TheVariants as ends
 use Rattle.run.specs.declared.outcome.Config.{Config}
 use Rattle.run.specs.declared.outcome.Outcome.{Outcome}
 use Rattle.run.specs.Cause.{schema_of, IsSendCause, IsInputCause}
-use Rattle.run.specs.Commits.{transaction_of, commits, changes_in, committed_changes, commit_ends}
+use Rattle.run.specs.Commits.{commits, changes_of_entries, committed_changes, commit_ends}
 use Rattle.model.specs.Beginning.{last_end}
 use Rattle.run.specs.Devices.{DeviceState}
 use Rattle.run.specs.Handler.{IsEnded, IsRunOver}
 use Rattle.run.specs.Progress.{Progress, start_progress}
 use Rattle.run.proofs.Running.{nothing_handled}
-use Rattle.run_laws.specs.Runs.{told_of}
 use Rattle.run_laws.specs.Threads.{done_by_commit}
 use Rattle.run_laws.specs.ThreadedRun.{IsThreadedCause, IsCauseOf}
 use Rattle.run_laws.proofs.Threading.{entries_done, ends_done, changes_told}
@@ -139,24 +138,20 @@ module _ (g : Setting) (rows : Rows) (old new : DeviceState) (l : Led) (proposed
 
 -- ---- the store
 
-told_alike : (entries : List Entry) → map transaction_of entries ≡ map told_of (map entry_in entries)
-told_alike [] = refl
-told_alike (e ∷ entries) = ap (λ ts. transaction_of e ∷ ts) (told_alike entries)
-
 module _ (keys : Schema) (rows : Rows) (line : List LineEvent) (s : State) (done : commits_in line ≡ map done_by_commit s.past) where
-  told_past : map told_of (map entry_of (commits_in line)) ≡ commits s
-  told_past = ap (λ (ps : List Past). map told_of (map entry_of ps)) done ∙ entries_done s.past
+  told_past : map entry_of (commits_in line) ≡ commits s
+  told_past = ap (map entry_of) done ∙ entries_done s.past
 
   -- the journal has the commits of the line, with the changes that survived
-  journal_told : (entries : List Entry) → map entry_in entries ≡ map entry_of (commits_in line) → map transaction_of entries ≡ commits s
-  journal_told entries same = told_alike entries ∙ ap (map told_of) same ∙ told_past
+  journal_told : (entries : List Entry) → map entry_in entries ≡ map entry_of (commits_in line) → map entry_in entries ≡ commits s
+  journal_told entries same = same ∙ told_past
 
   -- the rows after the journal are those of these changes
   rows_told : (entries : List Entry) → map entry_in entries ≡ map entry_of (commits_in line)
       → rows_after keys rows (map entry_in entries) ≡ serial keys rows (committed_changes s)
   rows_told entries same =
       ap (rows_after keys rows) same ∙ entries_are_serial keys rows (commits_in line)
-      ∙ ap (serial keys rows) (changes_told (commits_in line) ∙ ap changes_in told_past)
+      ∙ ap (serial keys rows) (changes_told (commits_in line) ∙ ap changes_of_entries told_past)
 
 -- the start tables and no entry are what is left of a store before its first call
 pub shut_at_start : (keys : Schema) (rows : Rows) (o : Outcome) → o.journal.items ≡ [] → o.tables.rows ≡ rows → o.tables.schema ≡ keys → IsShutSo keys rows [] o
@@ -196,7 +191,7 @@ module _ (g : Setting) (rows : Rows) where
           is_world = left.is_world;
           cause = subst (IsCauseOf g old new over.part left.world) (sym ended) left.cause;
           left = record {
-            entries = told_alike o.journal.items ∙ ap (map told_of) (shut.journal ∙ ap (map entry_of) left.told);
+            entries = shut.journal ∙ ap (map entry_of) left.told;
             position = at ∙ sym (ap (λ (line : List Past). last_end (map (λ (p : Past). p.info.end) line)) left.is_world.line ∙ ends_done over.part.progress.state.past);
             tables = serial_rows ∙ ap (λ (ps : List Past). serial (schema_of g) rows (changes_of ps)) left.told ∙ sym left.committed;
           };
@@ -225,7 +220,7 @@ module _ (g : Setting) (rows : Rows) where
       };
       cause = subst (IsThreadedCause g devices devices [] start_progress [] [] [] (starting rows)) (sym end) (inl (record { clear = tt; read = refl; sent = (refl, Appends-nil devices.sent) }));
       left = record {
-        entries = told_alike o.journal.items ∙ ap (map told_of) shut.journal;
+        entries = shut.journal;
         position = position;
         tables = shut.tables ∙ ap (rows_after (schema_of g) rows) shut.journal;
       };

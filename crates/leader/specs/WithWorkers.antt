@@ -21,7 +21,7 @@ use Rattle.run.specs.declared.end.End.{End}
 use Rattle.run.specs.declared.end.End.TheVariants.{Clean}
 use Rattle.run.specs.declared.outcome.Config.{Config}
 use Rattle.run.specs.declared.outcome.Outcome.{Outcome}
-use Rattle.run.specs.Commits.{transaction_of, commits, committed_changes, commit_ends}
+use Rattle.run.specs.Commits.{commits, committed_changes, commit_ends}
 use Rattle.model.specs.Beginning.{last_end}
 use Rattle.run.specs.Cause.{schema_of, AreAllSent, LastIsCut}
 use Rattle.run.specs.Devices.{DeviceState}
@@ -65,7 +65,7 @@ pub record IsRunByWorkers (g : Setting) (rows : Rows) (old new : DeviceState) (o
   pub run : IsThreadedRun g rows old new o
   pub sent : WasSent g old new run.part.handled run.part.progress run.part.times
   pub clean : o.end ≡ Clean → run.part.handled ≡ copy_items run.part.bytes
-  pub journal : map transaction_of o.journal.items ≡ commits run.part.progress.state
+  pub journal : map entry_in o.journal.items ≡ commits run.part.progress.state
   pub position : o.position ≡ last_end (commit_ends run.part.progress.state.past)
   pub tables : o.tables.rows ≡ serial (schema_of g) rows (committed_changes run.part.progress.state)
   pub world : ∥ ((w : World) × Reaches (schema_of g) (starting rows) w × Closes w o.tables.rows (map entry_in o.journal.items)) ∥₁

@@ -20,7 +20,7 @@ use Rattle.model.specs.Accepted.{AreAccepted}
 use Rattle.model.specs.SerialLemmas.{accepted_first}
 use Rattle.engine.specs.FirstClashLemmas.{ClashesIn-behind}
 use Rattle.engine.specs.Serial.{rows_now}
-use Rattle.run.specs.Commits.{transaction, changes_in, committed_changes, begun_changes, all_changes}
+use Rattle.run.specs.Commits.{entry_of_commit, changes_of_entries, committed_changes, begun_changes, all_changes}
 use Rattle.run.specs.Progress.{Progress}
 use Rattle.run.specs.Ends.{end_of_refusal, end_of_clash}
 use Rattle.run.specs.Cause.{schema_of}
@@ -58,7 +58,7 @@ out_of_memory g rows a b p payload at same = inl (stays g rows a b p.state p.sta
 -- none of the changes of the commits clashed, nor do they once a message was taken that commits nothing
 committed_clear : (g : Setting) (rows : Rows) (a : Applier) (p : Progress) (t : State) → Represents g rows a p → t.past ≡ p.state.past → AreAccepted (schema_of g) rows (committed_changes t)
 committed_clear g rows a p t at same =
-    subst (AreAccepted (schema_of g) rows) (ap (λ past. changes_in (map transaction past)) (sym same))
+    subst (AreAccepted (schema_of g) rows) (ap (λ past. changes_of_entries (map entry_of_commit past)) (sym same))
     (accepted_first (schema_of g) rows (committed_changes p.state) (begun_changes p.state) at.clear)
 
 -- changes that were refused on the rows now are refused behind all that was done

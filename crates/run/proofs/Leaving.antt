@@ -2,7 +2,6 @@
 use Rattle.std.proofs.Common.{◌≡◌, ℕ, List, [], refl, sym, ap, subst, ◌∙◌, inl, inr}
 use Rattle.std.proofs.KnownBytes.{Appends-nil}
 use Rattle.std.specs.Prelude.{ℤ, map}
-use Rattle.std.proofs.lemmas.Simd.{map-map}
 use Rattle.model.specs.Rows.{Rows}
 use Rattle.frames.specs.declared.fault.FrameFault.TheVariants as frames
 use Rattle.frames.specs.declared.item.CopyItem.{CopyItem}
@@ -13,7 +12,6 @@ use Rattle.run.specs.declared.end.End.TheVariants as ends
 use Rattle.run.specs.declared.outcome.Outcome.{Outcome}
 use Rattle.engine.specs.Engine.{entry_in}
 use Rattle.world.specs.World.{journal as journal_of}
-use Rattle.run.specs.Commits.{transaction_of, told_transaction}
 use Rattle.run.specs.Cause.{schema_of, HasGoneWell, HasNotClashed, IsNextCause, LastClashed, IsSendCause, IsInputCause, IsItemCause, IsCause}
 use Rattle.run.specs.Devices.{DeviceState}
 use Rattle.run.specs.Handler.{IsEnded, IsRunOver}
@@ -85,7 +83,7 @@ is_run g rows old new a o over tables schema journal position =
         | inr (inl send) ↦ by_send g rows old new over.part.handled over.part.progress over.part.times a over.part.bytes over.part.rest o.end send
         | inr (inr input) ↦ by_input g rows old new over.part.handled over.part.progress over.part.times a over.part.bytes over.part.rest o.end input
       ];
-      journal = sym (map-map told_transaction entry_in o.journal.items) ∙ ap (map told_transaction) journal ∙ commits.journal;
+      journal = journal ∙ commits.journal;
       position = position ∙ commits.position;
       tables = tables ∙ commits.base;
       schema = schema ∙ commits.schema;
@@ -97,7 +95,7 @@ pub unread_is_run : (g : Setting) (rows : Rows) (devices : DeviceState) (o : Out
 unread_is_run g rows devices o tables schema journal position end = record {
   part = nothing_handled g devices;
   cause = subst (IsCause g rows devices devices [] start_progress [] [] []) (sym end) (inl (record { clear = tt; read = refl; sent = (refl, Appends-nil devices.sent) }));
-  journal = ap (map transaction_of) journal;
+  journal = ap (map entry_in) journal;
   position = position;
   tables = tables;
   schema = schema;

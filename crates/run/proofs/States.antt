@@ -15,15 +15,17 @@ use Rattle.model.specs.SurvivorLemmas.{work_of, work_with_change}
 use Rattle.session.specs.Sized.{SizedItems, item_of}
 use Rattle.session.specs.State.{Open, Committed, OpenTransactions}
 use Rattle.session.specs.StreamEvents.{IsChange}
-use Rattle.run.specs.Commits.{Transaction, surviving_changes, changes_in, commit_ends}
+use Rattle.world.specs.World.{Entry}
+use Rattle.run.specs.Commits.{surviving_changes, changes_of_entries, commit_ends}
 use Rattle.model.specs.Beginning.{last_end}
 use Rattle.run.specs.Applier.{IsServed, AreServed}
 use Rattle.model.specs.BeginningLemmas.{last_end-append}
 
 -- ---- lists
 
-pub changes_in-append : (xs ys : List Transaction) → changes_in (xs ++ ys) ≡ changes_in xs ++ changes_in ys
-changes_in-append xs ys = flat_map-append (λ (t : Transaction). t.changes) xs ys
+pub changes_of_entries-append : (xs ys : List Entry)
+    → changes_of_entries (xs ++ ys) ≡ changes_of_entries xs ++ changes_of_entries ys
+changes_of_entries-append xs ys = flat_map-append (λ (e : Entry). e.changes) xs ys
 
 pub last_end-push : (past : List Committed) (c : Committed) → last_end (commit_ends (past ++ c ∷ [])) ≡ c.info.end
 last_end-push past c = ap last_end (map-append (λ (d : Committed). d.info.end) past (c ∷ [])) ∙ last_end-append (commit_ends past) c.info.end

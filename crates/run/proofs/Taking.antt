@@ -36,13 +36,13 @@ use Rattle.engine.specs.Engine.{Engine, IsOtherwiseSame}
 use Rattle.engine.specs.Serial.{Serial, rows_now, with_changes, committed_by as then_committed}
 use Rattle.engine.specs.SerialLemmas.{rows_with, rows_committed, journal_committed}
 use Rattle.world.specs.World as told_entry
-use Rattle.run.specs.Commits.{Transaction, told_transaction, transaction, changes_in, surviving_changes, commits, committed_changes, begun_changes, all_changes, commit_ends}
+use Rattle.run.specs.Commits.{entry_of_commit, changes_of_entries, surviving_changes, commits, committed_changes, begun_changes, all_changes, commit_ends}
 use Rattle.run.specs.Progress.{Progress, commits_from}
 use Rattle.run.specs.Cause.{schema_of}
 use Rattle.run.specs.Applier.{AreServed, HasCommits, Represents}
 use Rattle.run.specs.Handler.{HasTaken}
 use Rattle.run.proofs.Admitted.{on_to, one_committed, later_max, by_commit, taken_commit}
-use Rattle.run.proofs.States.{last_end-push, changes_in-append, AreServed-insert, AreServed-remove}
+use Rattle.run.proofs.States.{last_end-push, changes_of_entries-append, AreServed-insert, AreServed-remove}
 use Rattle.run.proofs.Begun.{IsSane, direct_begun, begun_stays, begun_opened, begun_beside, begun_given, begun_without, begun_outside, unbegun}
 use Rattle.model.specs.Beginning.{last_end}
 use Rattle.world.specs.World.{ends_of}
@@ -84,7 +84,7 @@ pub HasCommits-kept : (g : Setting) (rows : Rows) (a b : Applier) (s t : State) 
 HasCommits-kept g rows a b s t has past store position = record {
   schema = ap (λ (e : Engine). e.schema) store ∙ has.schema;
   base = ap (λ (e : Engine). e.world.committed) store ∙ has.base ∙ rw past;
-  journal = ap (λ (e : Engine). map told_transaction (told_entry.journal e.world)) store ∙ has.journal ∙ rw past;
+  journal = ap (λ (e : Engine). told_entry.journal e.world) store ∙ has.journal ∙ rw past;
   position = position ∙ has.position ∙ rw past;
 }
 
@@ -270,9 +270,9 @@ committed_by g s t told xid commit end items first second served tells says = ab
 module _ (g : Setting) (s t : State) (xid commit end : ℕ) (items : List Item) (is : IsCommitted g s t xid commit end items) where
   commits_more : commits t ≡ commits s ++ record { xid = xid; changes = begun_changes s ++ changes_of items; commit = commit; end = end } ∷ []
   commits_more =
-      ap (map transaction) is.past
-      ∙ map-append transaction s.past (is.transaction ∷ [])
-      ∙ ap (λ (tx : Transaction). commits s ++ tx ∷ [])
+      ap (map entry_of_commit) is.past
+      ∙ map-append entry_of_commit s.past (is.transaction ∷ [])
+      ∙ ap (λ (tx : told_entry.Entry). commits s ++ tx ∷ [])
       (ap (λ cs. record { xid = is.transaction.xid; changes = cs; commit = is.transaction.info.commit; end = is.transaction.info.end }) is.changes
       ∙ ap (λ x. record { xid = x; changes = begun_changes s ++ changes_of items; commit = is.transaction.info.commit; end = is.transaction.info.end }) is.xid_is
       ∙ ap (λ (i : CommitInfo). record { xid = xid; changes = begun_changes s ++ changes_of items; commit = i.commit; end = i.end }) is.info_is)
@@ -280,8 +280,8 @@ module _ (g : Setting) (s t : State) (xid commit end : ℕ) (items : List Item) 
   -- all that is committed now was done before, and then the items
   committed_is : committed_changes t ≡ all_changes s ++ changes_of items
   committed_is =
-      ap changes_in commits_more
-      ∙ changes_in-append (commits s) _
+      ap changes_of_entries commits_more
+      ∙ changes_of_entries-append (commits s) _
       ∙ ap (λ cs. committed_changes s ++ cs) (append-nil (begun_changes s ++ changes_of items))
       ∙ sym (append_assoc (committed_changes s) (begun_changes s) (changes_of items))
 
@@ -295,12 +295,12 @@ module _ (g : Setting) (s t : State) (xid commit end : ℕ) (items : List Item) 
   commits_one = one_committed s t is.transaction is.past
 
 -- where the log goes on behind the last commit of the world is where it does so behind that of the past
-world_ends : (line : List told_entry.Past) (past : List Committed) → map told_transaction (map told_entry.entry_of line) ≡ map transaction past
+world_ends : (line : List told_entry.Past) (past : List Committed) → map told_entry.entry_of line ≡ map entry_of_commit past
     → last_end (map (λ (p : told_entry.Past). p.info.end) line) ≡ last_end (commit_ends past)
 world_ends line past told =
     ap last_end
-    (sym (map-map (λ (e : told_entry.Entry). e.end) told_entry.entry_of line) ∙ sym (map-map (λ (t : Transaction). t.end) told_transaction (map told_entry.entry_of line))
-    ∙ ap (map (λ (t : Transaction). t.end)) told ∙ map-map (λ (t : Transaction). t.end) transaction past)
+    (sym (map-map (λ (e : told_entry.Entry). e.end) told_entry.entry_of line)
+    ∙ ap (map (λ (e : told_entry.Entry). e.end)) told ∙ map-map (λ (e : told_entry.Entry). e.end) entry_of_commit past)
 
 -- a commit ends above those before it
 pub rises : (g : Setting) (rows : Rows) (a : Applier) (p : Progress) (t : State) (xid commit end : ℕ) (items : List Item) → Represents g rows a p → IsCommitted g p.state t xid commit end items
@@ -331,10 +331,9 @@ commit_taken g rows a b p payload m t xid commit end items w at admits is sessio
             ∙ sym (serial_append (schema_of g) rows (all_changes p.state) (changes_of items))
             ∙ ap (serial (schema_of g) rows) (sym (committed_is g p.state t xid commit end items is));
         journal =
-            ap (λ (v : told_entry.World). map told_transaction (told_entry.journal v)) settled
-            ∙ ap (map told_transaction) (journal_committed w.store.schema w.store.world xid w.changes info)
-            ∙ map-append told_transaction (told_entry.journal w.store.world) _
-            ∙ ap (λ ts. ts ++ record { xid = xid; changes = w.changes; commit = commit; end = end } ∷ []) (ap (λ (e : Engine). map told_transaction (told_entry.journal e.world)) store ∙ at.commits.journal)
+            ap (λ (v : told_entry.World). told_entry.journal v) settled
+            ∙ journal_committed w.store.schema w.store.world xid w.changes info
+            ∙ ap (λ ts. ts ++ record { xid = xid; changes = w.changes; commit = commit; end = end } ∷ []) (ap (λ (e : Engine). told_entry.journal e.world) store ∙ at.commits.journal)
             ∙ ap (λ cs. commits p.state ++ record { xid = xid; changes = cs; commit = commit; end = end } ∷ []) (ap (λ (v : Serial). v.changes) more ∙ ap (λ cs. cs ++ changes_of items) at.begun)
             ∙ sym (commits_more g p.state t xid commit end items is);
         position = position ∙ sym (ends_at g p.state t xid commit end items is);

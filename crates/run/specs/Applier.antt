@@ -15,7 +15,7 @@ use Rattle.run.specs.declared.end.End.{End}
 use Rattle.run.specs.declared.applier.Applier.{Applier}
 use Rattle.model.specs.Accepted.{AreAccepted}
 use Rattle.world.specs.World.{journal}
-use Rattle.run.specs.Commits.{told_transaction, commits, committed_changes, begun_changes, all_changes, commit_ends}
+use Rattle.run.specs.Commits.{commits, committed_changes, begun_changes, all_changes, commit_ends}
 use Rattle.model.specs.Beginning.{last_end}
 use Rattle.run.specs.Progress.{Progress, commits_from}
 use Rattle.run.specs.Handler.{HasTaken}
@@ -34,7 +34,7 @@ AreServed count transactions = (xid : ℕ) (o : Open) → finite.get transaction
 pub record HasCommits (g : Setting) (rows : Rows) (a : Applier) (s : State) : Type 0 where
   pub schema : a.work.store.schema ≡ schema_of g
   pub base : a.work.store.world.committed ≡ serial (schema_of g) rows (committed_changes s)
-  pub journal : map told_transaction (journal a.work.store.world) ≡ commits s
+  pub journal : journal a.work.store.world ≡ commits s
   pub position : a.position ≡ last_end (commit_ends s.past)
 
 -- All that is kept is that of a progress.

@@ -1,10 +1,9 @@
 -- The transactions that a session's state tells of, and their changes.
---     Transaction, commits      each commit of the past, with the changes of its items that survived
---     transaction_of, told_transaction      the same of an entry of a journal, and of one as a world tells it
---     committed_changes      the changes of all commits, in commit order
+--     entry_of_commit, commits      each commit of the past as it is told, with the changes that survived
+--     changes_of_entries, committed_changes      the changes of entries, and of all commits, in commit order
 --     commit_ends      where the log goes on behind each of them
 --     begun_changes, all_changes      the changes so far of the transaction that was begun; all changes
-use Rattle.std.specs.Prelude.{ℕ, List, [], ◌∷◌, ◌++◌, map, flat_map, Option, Some, None}
+use Rattle.std.specs.Prelude.{ℕ, List, [], ◌++◌, map, flat_map, Option, Some, None}
 use Rattle.std.specs.FinMap as finite
 use Rattle.model.specs.declared.change.Change.{Change}
 use Rattle.model.specs.Survivors.{survivors, changes_of}
@@ -12,44 +11,32 @@ use Rattle.session.specs.declared.phase.Phase.{Phase}
 use Rattle.session.specs.declared.phase.Phase.TheVariants.{Outside, Begun, Block}
 use Rattle.session.specs.Sized.{SizedItems, item_of}
 use Rattle.session.specs.State.{Open, Committed, State, OpenTransactions}
-use Rattle.world.specs.World as told_entry
-use Rattle.engine.specs.declared.entry.Entry.{Entry}
-
--- a committed transaction
-pub record Transaction : Type 0 where
-  pub xid : ℕ
-  -- those that survived its rollbacks, in order
-  pub changes : List Change
-  pub commit : ℕ
-  pub end : ℕ
-
--- an entry of a journal, without where it lies in memory
-abbrev pub transaction_of : Entry → Transaction
-transaction_of e = record { xid = e.xid; changes = e.changes; commit = e.commit; end = e.end }
-
--- a commit as a world tells it
-abbrev pub told_transaction : told_entry.Entry → Transaction
-told_transaction e = record { xid = e.xid; changes = e.changes; commit = e.commit; end = e.end }
+use Rattle.world.specs.World.{Entry}
 
 -- the changes of a transaction's items that survive
 abbrev pub surviving_changes : ℕ → SizedItems → List Change
 surviving_changes xid items = changes_of (survivors xid (map item_of items))
 
--- a committed transaction, with the changes that survived its rollbacks
-abbrev pub transaction : Committed → Transaction
-transaction c = record { xid = c.xid; changes = surviving_changes c.xid c.items; commit = c.info.commit; end = c.info.end }
+-- a commit as it is told, with the changes that survived its rollbacks
+abbrev pub entry_of_commit : Committed → Entry
+entry_of_commit c = record {
+  xid = c.xid;
+  changes = surviving_changes c.xid c.items;
+  commit = c.info.commit;
+  end = c.info.end;
+}
 
 -- the commits so far, in order
-abbrev pub commits : State → List Transaction
-commits s = map transaction s.past
+abbrev pub commits : State → List Entry
+commits s = map entry_of_commit s.past
 
--- the changes of these transactions, one after another
-abbrev pub changes_in : List Transaction → List Change
-changes_in transactions = flat_map (λ (t : Transaction). t.changes) transactions
+-- the changes of these entries, one after another
+abbrev pub changes_of_entries : List Entry → List Change
+changes_of_entries entries = flat_map (λ (e : Entry). e.changes) entries
 
 -- the changes of all commits so far, in commit order
 abbrev pub committed_changes : State → List Change
-committed_changes s = changes_in (commits s)
+committed_changes s = changes_of_entries (commits s)
 
 -- an open transaction's changes so far, without those rolled back; none if it isn't open
 abbrev pub open_changes : ℕ → Option Open → List Change

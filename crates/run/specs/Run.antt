@@ -5,7 +5,8 @@ use Rattle.model.specs.Rows.{Rows}
 use Rattle.model.specs.Effect.{serial}
 use Rattle.session.specs.State.{Setting}
 use Rattle.run.specs.declared.outcome.Outcome.{Outcome}
-use Rattle.run.specs.Commits.{transaction_of, commits, committed_changes, commit_ends}
+use Rattle.engine.specs.Engine.{entry_in}
+use Rattle.run.specs.Commits.{commits, committed_changes, commit_ends}
 use Rattle.model.specs.Beginning.{last_end}
 use Rattle.run.specs.Cause.{schema_of, IsCause}
 use Rattle.run.specs.Devices.{DeviceState}
@@ -16,7 +17,7 @@ use Rattle.run.specs.StreamPart.{StreamPart}
 pub record IsRun (g : Setting) (rows : Rows) (old new : DeviceState) (o : Outcome) : Type 0 where
   pub part : StreamPart g old new
   pub cause : IsCause g rows old new part.handled part.progress part.times part.bytes part.rest o.end
-  pub journal : map transaction_of o.journal.items ≡ commits part.progress.state
+  pub journal : map entry_in o.journal.items ≡ commits part.progress.state
   pub position : o.position ≡ last_end (commit_ends part.progress.state.past)
   pub tables : o.tables.rows ≡ serial (schema_of g) rows (committed_changes part.progress.state)
   pub schema : o.tables.schema ≡ schema_of g

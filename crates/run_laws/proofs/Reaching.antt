@@ -19,10 +19,10 @@ use Rattle.session.specs.declared.phase.Phase.TheVariants.{Outside, Begun, Block
 use Rattle.session.specs.Sized.{item_of}
 use Rattle.session.specs.State.{Way, Direct, Worker, Spooled, Open, OpenTransactions, Committed, State, Setting}
 use Rattle.session.specs.StreamEvents.{StreamEvent, NoEvent, TransactionOpens, ItemComes, TransactionCommits, TransactionAborts, Tells, IsChange}
-use Rattle.run.specs.Commits.{changes_in as told_changes, Transaction, transaction, begun_changes, begun_changes_in, all_changes, open_changes}
+use Rattle.run.specs.Commits.{changes_of_entries, entry_of_commit, begun_changes, begun_changes_in, all_changes, open_changes}
 use Rattle.model.specs.Accepted.{AreAccepted}
 use Rattle.run.specs.Progress.{Progress, Handles, Leads, start_progress}
-use Rattle.world.specs.World.{Past, World, changes_in, starting}
+use Rattle.world.specs.World.{Past, Entry, World, changes_in, starting}
 use Rattle.world.specs.Steps.{Reaches, at_start, by_step}
 use Rattle.run_laws.specs.Begun.{IsSane, open_items, begun_in, begun, if_direct, Moves, IsTold}
 use Rattle.run_laws.specs.Course.{committed_past, open_ones, world_at}
@@ -40,14 +40,14 @@ changes_begun (Some b) = changes_of (survivors b.0 b.1)
 abbrev pub done : List Committed → Option (ℕ × List Item) → List change_type.Change
 done past b = changes_in (map committed_past past) ++ changes_begun b
 
-pub work_same : (past : List Committed) → changes_in (map committed_past past) ≡ told_changes (map transaction past)
+pub work_same : (past : List Committed) → changes_in (map committed_past past) ≡ changes_of_entries (map entry_of_commit past)
 work_same [] = refl
 work_same (c ∷ past) =
     flat_map-append (λ (p : Past). changes_of (survivors p.xid p.items)) (committed_past c ∷ []) (map committed_past past)
     ∙ ap (λ cs. cs ++ changes_in (map committed_past past)) (append-nil _ ∙ ap changes_of (survive_again c.xid (map item_of c.items)))
     ∙ ap (λ cs. changes_of (survivors c.xid (map item_of c.items)) ++ cs) (work_same past)
-    ∙ ap (λ cs. cs ++ told_changes (map transaction past)) (sym (append-nil _))
-    ∙ sym (flat_map-append (λ (t : Transaction). t.changes) (transaction c ∷ []) (map transaction past))
+    ∙ ap (λ cs. cs ++ changes_of_entries (map entry_of_commit past)) (sym (append-nil _))
+    ∙ sym (flat_map-append (λ (e : Entry). e.changes) (entry_of_commit c ∷ []) (map entry_of_commit past))
 
 begun_same : (p : Phase) (m : OpenTransactions) → begun_changes_in p m ≡ changes_begun (begun_in p m)
 begun_same Outside m = refl

@@ -21,7 +21,7 @@ use Rattle.session.specs.StreamEvents.{StreamEvent, NoEvent, TransactionOpens, I
 use Rattle.run.specs.declared.end.End.{End}
 use Rattle.run.specs.declared.end.End.TheVariants as ends
 use Rattle.run.specs.declared.outcome.Outcome.{Outcome}
-use Rattle.run.specs.Commits.{transaction, committed_changes, all_changes, commit_ends}
+use Rattle.run.specs.Commits.{entry_of_commit, committed_changes, all_changes, commit_ends}
 use Rattle.model.specs.Beginning.{last_end}
 use Rattle.change.specs.Refusal.{ClashesAs}
 use Rattle.engine.specs.FirstClash.{ClashesIn}
@@ -34,11 +34,11 @@ use Rattle.std.specs.Ordering.{nat_cmp}
 use Rattle.std.specs.FinMap.{get, get-empty}
 use Rattle.model.specs.SurvivorLemmas.{survivors_with}
 use Rattle.world.specs.ListingLemmas.{xid_cases, got_other}
-use Rattle.world.specs.World.{Opened, OpenOnes, World, starting, entry_of, journal, changes_in, ends_of}
+use Rattle.world.specs.World.{Opened, OpenOnes, Past, World, starting, entry_of, journal, changes_in, ends_of}
 use Rattle.world.specs.Steps.{Reaches, by_step}
 use Rattle.run_laws.specs.Begun.{IsSane, begun, if_direct, Moves}
 use Rattle.run_laws.specs.Course.{committed_past, open_ones, world_at}
-use Rattle.run_laws.specs.Runs.{told_of, IsAtMostOne, TellsRun, conflict, DoesAtCommit, IsTurnOf, IsStoppedBy}
+use Rattle.run_laws.specs.Runs.{IsAtMostOne, TellsRun, conflict, DoesAtCommit, IsTurnOf, IsStoppedBy}
 use Rattle.run_laws.proofs.Telling.{told}
 use Rattle.run_laws.proofs.Alone.{plain_survivors, survive_again, none, one, at, seen, stops, step_opens, comes_to, ClashesFirst, first_of_split, first_behind, first_in_clear}
 use Rattle.run_laws.proofs.Reaching.{done, all_done, work_same, stands, IsAt, world_is, done_at, with_change, seen_done, done_with, handled_told, reached, reached_at}
@@ -46,11 +46,11 @@ use Rattle.std.proofs.lemmas.Simd.{map-map}
 
 -- ---- a run and the world of a state
 
-entries_same : (past : List Committed) → map transaction past ≡ map told_of (map entry_of (map committed_past past))
+entries_same : (past : List Committed) → map entry_of_commit past ≡ map entry_of (map committed_past past)
 entries_same [] = refl
 entries_same (c ∷ past) =
-    ap (λ cs. record { xid = c.xid; changes = cs; commit = c.info.commit; end = c.info.end } ∷ map transaction past) (sym (ap changes_of (survive_again c.xid (map item_of c.items))))
-    ∙ ap (λ ts. told_of (entry_of (committed_past c)) ∷ ts) (entries_same past)
+    ap (λ cs. record { xid = c.xid; changes = cs; commit = c.info.commit; end = c.info.end } ∷ map entry_of_commit past) (sym (ap changes_of (survive_again c.xid (map item_of c.items))))
+    ∙ ap (λ es. entry_of (committed_past c) ∷ es) (entries_same past)
 
 ends_same : (past : List Committed) → last_end (commit_ends past) ≡ last_end (map (λ (p : Past). p.info.end) (map committed_past past))
 ends_same past = ap last_end (sym (map-map (λ (p : Past). p.info.end) committed_past past))
@@ -64,7 +64,7 @@ tells_of g rows old new o run m w alone is reached = record {
   reached = reached;
   line = ap (λ (v : World). v.line) is;
   left = record {
-    entries = run.journal ∙ entries_same run.part.progress.state.past ∙ sym (ap (λ (v : World). map told_of (journal v)) is);
+    entries = run.journal ∙ entries_same run.part.progress.state.past ∙ sym (ap journal is);
     position = run.position ∙ ends_same run.part.progress.state.past ∙ sym (ap (λ (v : World). last_end (ends_of v)) is);
     tables =
         run.tables ∙ ap (serial (schema_of g) rows) (sym (work_same run.part.progress.state.past)) ∙ sym (ap (λ (v : World). v.committed) is);

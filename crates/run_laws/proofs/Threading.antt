@@ -25,17 +25,18 @@ use Rattle.session.specs.StreamEvents.{StreamEvent, NoEvent, TransactionOpens, I
 use Rattle.run.specs.declared.end.End.TheVariants as ends
 use Rattle.run.specs.declared.outcome.Outcome.{Outcome}
 use Rattle.run.specs.Cause.{schema_of}
-use Rattle.run.specs.Commits.{Transaction, transaction, transaction_of, commits, changes_in as told_changes, commit_ends}
+use Rattle.engine.specs.Engine.{entry_in}
+use Rattle.run.specs.Commits.{entry_of_commit, commits, changes_of_entries, commit_ends}
 use Rattle.model.specs.Beginning.{last_end}
 use Rattle.run.specs.Devices.{DeviceState}
 use Rattle.run.specs.Progress.{Progress, Leads, start_progress}
 use Rattle.model.specs.Accepted.{AreAccepted}
 use Rattle.world.specs.CallLemmas.{committed_is_serial}
-use Rattle.world.specs.World.{Opened, Past, World, starting, entry_of, changes_in}
+use Rattle.world.specs.World.{Opened, Past, Entry, World, starting, entry_of, changes_in}
 use Rattle.world.specs.Steps.{Reaches}
 use Rattle.run_laws.specs.Begun.{IsSane, begun, begun_in, if_direct, Moves}
 use Rattle.run_laws.specs.Statements.{WorkersAlterNothing, CleanIsWithoutThreads}
-use Rattle.run_laws.specs.Runs.{told_of, IsAtMostOne, IsCommitOf, CommitsNext}
+use Rattle.run_laws.specs.Runs.{IsAtMostOne, IsCommitOf, CommitsNext}
 use Rattle.run_laws.specs.Threads.{work_of, done_by_commit, Does, IsWorldOf}
 use Rattle.run_laws.specs.ThreadedRun.{IsStuckBy, IsCauseOf, IsThreadedRun}
 use Rattle.run_laws.proofs.Alone.{survive_again}
@@ -54,21 +55,21 @@ work_survives xid Direct items = refl
 work_survives xid Worker items = refl
 work_survives xid Spooled items = survive_again xid (map item_of items)
 
-pub entries_done : (past : List Committed) → map told_of (map entry_of (map done_by_commit past)) ≡ map transaction past
+pub entries_done : (past : List Committed) → map entry_of (map done_by_commit past) ≡ map entry_of_commit past
 entries_done [] = refl
 entries_done (c ∷ past) =
-    ap (λ is. record { xid = c.xid; changes = changes_of is; commit = c.info.commit; end = c.info.end } ∷ map told_of (map entry_of (map done_by_commit past))) (work_survives c.xid c.way c.items)
-    ∙ ap (λ ts. transaction c ∷ ts) (entries_done past)
+    ap (λ is. record { xid = c.xid; changes = changes_of is; commit = c.info.commit; end = c.info.end } ∷ map entry_of (map done_by_commit past)) (work_survives c.xid c.way c.items)
+    ∙ ap (λ es. entry_of_commit c ∷ es) (entries_done past)
 
 pub ends_done : (past : List Committed) → last_end (map (λ (p : Past). p.info.end) (map done_by_commit past)) ≡ last_end (commit_ends past)
 ends_done past = ap last_end (map-map (λ (p : Past). p.info.end) done_by_commit past)
 
-pub changes_told : (line : List Past) → changes_in line ≡ told_changes (map told_of (map entry_of line))
+pub changes_told : (line : List Past) → changes_in line ≡ changes_of_entries (map entry_of line)
 changes_told [] = refl
 changes_told (p ∷ line) =
     flat_map-append (λ (q : Past). changes_of (survivors q.xid q.items)) (p ∷ []) line
     ∙ ap (λ cs. (changes_of (survivors p.xid p.items) ++ []) ++ cs) (changes_told line)
-    ∙ sym (flat_map-append (λ (t : Transaction). t.changes) (told_of (entry_of p) ∷ []) (map told_of (map entry_of line)))
+    ∙ sym (flat_map-append (λ (e : Entry). e.changes) (entry_of p ∷ []) (map entry_of line))
 
 -- ---- the tables
 
@@ -81,25 +82,25 @@ committed_serial schema rows w valid reached =
     ∥∥₁_elim reached (Coded-set rows_code _ _) (λ (is : Reaches schema (starting rows) w). (committed_is_serial schema rows w (valid, is)).1)
 
 module _ (g : Setting) (rows : Rows) (old new : DeviceState) (o : Outcome) (run : IsThreadedRun g rows old new o) where
-  pub run_commits : map transaction_of o.journal.items ≡ commits run.part.progress.state
+  pub run_commits : map entry_in o.journal.items ≡ commits run.part.progress.state
   run_commits =
-      run.left.entries ∙ ap (λ line. map told_of (map entry_of line)) run.is_world.line ∙ entries_done run.part.progress.state.past
+      run.left.entries ∙ ap (map entry_of) run.is_world.line ∙ entries_done run.part.progress.state.past
 
   pub run_position : o.position ≡ last_end (commit_ends run.part.progress.state.past)
   run_position = run.left.position ∙ ap (λ (line : List Past). last_end (map (λ (p : Past). p.info.end) line)) run.is_world.line ∙ ends_done run.part.progress.state.past
 
   pub run_tables : IsValid (schema_of g) rows
-      → o.tables.rows ≡ serial (schema_of g) rows (told_changes (map transaction_of o.journal.items))
+      → o.tables.rows ≡ serial (schema_of g) rows (changes_of_entries (map entry_in o.journal.items))
   run_tables valid =
       run.left.tables ∙ committed_serial (schema_of g) rows run.world valid run.is_world.reached
-      ∙ ap (serial (schema_of g) rows) (changes_told run.world.line ∙ ap told_changes (sym run.left.entries))
+      ∙ ap (serial (schema_of g) rows) (changes_told run.world.line ∙ ap changes_of_entries (sym run.left.entries))
 
   -- the changes of the world's commits are those of the journal
-  run_changes : changes_in run.world.line ≡ told_changes (map transaction_of o.journal.items)
-  run_changes = changes_told run.world.line ∙ ap told_changes (sym run.left.entries)
+  run_changes : changes_in run.world.line ≡ changes_of_entries (map entry_in o.journal.items)
+  run_changes = changes_told run.world.line ∙ ap changes_of_entries (sym run.left.entries)
 
   pub run_clear : IsValid (schema_of g) rows
-      → AreAccepted (schema_of g) rows (told_changes (map transaction_of o.journal.items))
+      → AreAccepted (schema_of g) rows (changes_of_entries (map entry_in o.journal.items))
   run_clear valid =
       subst (AreAccepted (schema_of g) rows) run_changes (commits_clear (schema_of g) rows run.world valid run.is_world.reached)
 
@@ -287,11 +288,11 @@ clean_alone g h rows old new before after o p run alone valid catalog clean byte
     let same = led g h start_progress start_progress run.part.progress alone.part.progress run.part.handled catalog (start_alike h) run.part.lawful
     (subst (λ is. Leads h start_progress is alone.part.progress) items alone.part.lawful) in
     let commits_same = same_transactions h run.part.progress.state alone.part.progress.state same.state in
-    let journal_same : map transaction_of p.journal.items ≡ map transaction_of o.journal.items =
+    let journal_same : map entry_in p.journal.items ≡ map entry_in o.journal.items =
     alone.journal ∙ commits_same ∙ sym (run_commits g rows old new o run) in (
       journal_same,
       alone.position ∙ same_ends h run.part.progress.state alone.part.progress.state same.state ∙ sym (run_position g rows old new o run),
-      alone.tables ∙ ap (λ c. serial (map keys_of c) rows (told_changes (commits alone.part.progress.state))) catalog
-          ∙ ap (λ ts. serial (schema_of g) rows (told_changes ts)) (sym alone.journal ∙ journal_same) ∙ sym (run_tables g rows old new o run valid),
+      alone.tables ∙ ap (λ c. serial (map keys_of c) rows (changes_of_entries (commits alone.part.progress.state))) catalog
+          ∙ ap (λ ts. serial (schema_of g) rows (changes_of_entries ts)) (sym alone.journal ∙ journal_same) ∙ sym (run_tables g rows old new o run valid),
       same.updates,
     )

@@ -23,14 +23,15 @@ use Rattle.run.specs.declared.end.End.{End}
 use Rattle.run.specs.declared.end.End.TheVariants as ends
 use Rattle.run.specs.declared.outcome.Outcome.{Outcome}
 use Rattle.run.specs.Cause.{schema_of, IsCause, RefusesNext, NextClashes}
-use Rattle.run.specs.Commits.{Transaction, transaction, transaction_of, commits, committed_changes, all_changes, changes_in as told_changes, commit_ends}
+use Rattle.engine.specs.Engine.{entry_in}
+use Rattle.run.specs.Commits.{entry_of_commit, commits, committed_changes, all_changes, changes_of_entries, commit_ends}
 use Rattle.model.specs.Beginning.{last_end}
 use Rattle.run.specs.Devices.{DeviceState}
 use Rattle.run.specs.Progress.{Progress, Handles, Leads, start_progress, due_updates, commits_from}
 use Rattle.run.specs.Run.{IsRun}
 use Rattle.engine.specs.FirstClash.{ClashesIn}
 use Rattle.model.specs.Accepted.{AreAccepted}
-use Rattle.world.specs.World.{starting}
+use Rattle.world.specs.World.{Entry, starting}
 use Rattle.run_laws.specs.Begun.{IsSane, begun, Moves}
 use Rattle.run_laws.specs.ThreadedRun.{IsCauseOf, IsThreadedRun}
 use Rattle.run_laws.specs.Threads.{AreBytes}
@@ -104,10 +105,10 @@ past_grows g p q (item ∷ items) sane is =
 
 -- the changes of commits, and of some more
 changes_grow : (s t : State) (more : List Committed) → t.past ≡ s.past ++ more
-    → committed_changes t ≡ committed_changes s ++ told_changes (map transaction more)
+    → committed_changes t ≡ committed_changes s ++ changes_of_entries (map entry_of_commit more)
 changes_grow s t more e =
-    ap (λ past. told_changes (map transaction past)) e ∙ ap told_changes (map-append transaction s.past more)
-    ∙ flat_map-append (λ (u : Transaction). u.changes) (map transaction s.past) (map transaction more)
+    ap (λ past. changes_of_entries (map entry_of_commit past)) e ∙ ap changes_of_entries (map-append entry_of_commit s.past more)
+    ∙ flat_map-append (λ (e : Entry). e.changes) (map entry_of_commit s.past) (map entry_of_commit more)
 
 none_begun_done : (t : State) → begun t ≡ None → done t.past (begun t) ≡ committed_changes t
 none_begun_done t is = ap (done t.past) is ∙ append-nil _ ∙ work_same t.past
@@ -133,9 +134,9 @@ module _ (schema : Schema) (rows : Rows) (g : Setting) where
             let rest = past_grows g is.0 q items now.3 is.2 in
             let here : committed_changes t ≡ all_changes t = sym (none_begun_done t none) ∙ sym (all_done t) in
             inr (
-              grown.0 ++ told_changes (map transaction rest.0),
-              changes_grow t q.state rest.0 rest.1 ∙ ap (λ cs. cs ++ told_changes (map transaction rest.0)) (here ∙ all)
-                  ∙ append_assoc (all_changes p.state) grown.0 (told_changes (map transaction rest.0)),
+              grown.0 ++ changes_of_entries (map entry_of_commit rest.0),
+              changes_grow t q.state rest.0 rest.1 ∙ ap (λ cs. cs ++ changes_of_entries (map entry_of_commit rest.0)) (here ∙ all)
+                  ∙ append_assoc (all_changes p.state) grown.0 (changes_of_entries (map entry_of_commit rest.0)),
             )
       ]
 
@@ -197,8 +198,8 @@ module _ (h : Setting) (rows : Rows) (s q : Progress) (rest : List CopyItem) (sa
                 let later = past_grows h r q items now.3 more.2 in
                 let here : committed_changes r.state ≡ all_changes r.state =
                 sym (none_begun_done r.state none) ∙ sym (all_done r.state) in
-                clashes_not (schema_of h) rows h r.state (told_changes (map transaction later.0)) (committed_changes q.state) cause
-                (changes_grow r.state q.state later.0 later.1 ∙ ap (λ cs. cs ++ told_changes (map transaction later.0)) here)
+                clashes_not (schema_of h) rows h r.state (changes_of_entries (map entry_of_commit later.0)) (committed_changes q.state) cause
+                (changes_grow r.state q.state later.0 later.1 ∙ ap (λ cs. cs ++ changes_of_entries (map entry_of_commit later.0)) here)
                 clear clash
           ]
 
@@ -266,26 +267,26 @@ module _ (g h : Setting) (rows : Rows) (old new before after : DeviceState) (o p
   alike : Alike h run.part.progress.state q.state
   alike = (led g h start_progress start_progress run.part.progress q run.part.handled catalog (start_alike h) run.part.lawful room).state
 
-  same_journal : map transaction_of o.journal.items ≡ commits q.state
+  same_journal : map entry_in o.journal.items ≡ commits q.state
   same_journal = run_commits g rows old new o run ∙ sym (same_transactions h run.part.progress.state q.state alike)
 
   clear : AreAccepted (schema_of h) rows (committed_changes q.state)
   clear =
       subst (λ c. AreAccepted (map keys_of c) rows (committed_changes q.state)) (sym catalog)
-      (subst (λ ts. AreAccepted (schema_of g) rows (told_changes ts)) same_journal (run_clear g rows old new o run valid))
+      (subst (λ ts. AreAccepted (schema_of g) rows (changes_of_entries ts)) same_journal (run_clear g rows old new o run valid))
 
   pub clean_with_room : p.end ≢ ends.OutOfMemory → p.end ≢ ends.Frame Device
-      → (map transaction_of p.journal.items ≡ map transaction_of o.journal.items)
+      → (map entry_in p.journal.items ≡ map entry_in o.journal.items)
       × (p.position ≡ o.position) × (p.tables.rows ≡ o.tables.rows)
   clean_with_room memory device =
       let sane = sane_items h start_progress alone.part.progress alone.part.handled sane_start alone.part.lawful in
       let past : q.state.past ≡ alone.part.progress.state.past =
       all_committed h rows alone.part.progress q alone.part.rest sane later clear before after alone.part.handled alone.part.times alone.part.bytes
       (bytes_behind alone.part.handled alone.part.rest (subst AreBytes (sym items) are)) p.end alone.cause memory device in
-      let journal : map transaction_of p.journal.items ≡ map transaction_of o.journal.items =
-      alone.journal ∙ ap (map transaction) (sym past) ∙ sym same_journal in (
+      let journal : map entry_in p.journal.items ≡ map entry_in o.journal.items =
+      alone.journal ∙ ap (map entry_of_commit) (sym past) ∙ sym same_journal in (
         journal,
         alone.position ∙ ap (λ (past : List Committed). last_end (commit_ends past)) (sym past) ∙ same_ends h run.part.progress.state q.state alike ∙ sym (run_position g rows old new o run),
-        alone.tables ∙ ap (λ c. serial (map keys_of c) rows (told_changes (commits alone.part.progress.state))) catalog
-            ∙ ap (λ ts. serial (schema_of g) rows (told_changes ts)) (sym alone.journal ∙ journal) ∙ sym (run_tables g rows old new o run valid),
+        alone.tables ∙ ap (λ c. serial (map keys_of c) rows (changes_of_entries (commits alone.part.progress.state))) catalog
+            ∙ ap (λ ts. serial (schema_of g) rows (changes_of_entries ts)) (sym alone.journal ∙ journal) ∙ sym (run_tables g rows old new o run valid),
       )

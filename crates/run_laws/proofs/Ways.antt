@@ -25,7 +25,7 @@ use Rattle.session.specs.declared.phase.Phase.TheVariants.{Outside, Begun, Block
 use Rattle.session.specs.Sized.{SizedItems}
 use Rattle.session.specs.State.{Way, Direct, Worker, Spooled, Open, OpenTransactions, Committed, State, Setting, setting, in_block, worker_count}
 use Rattle.session.specs.Table.{room_fault, new_open, opens, next_way, goes_on, streams, gives, has_room, is_open, touches, changes, closes, commits as commits_line, commits_begun, aborts_open, aborts, subtransaction_named, step}
-use Rattle.run.specs.Commits.{transaction, commits}
+use Rattle.run.specs.Commits.{entry_of_commit, commits}
 use Rattle.run.specs.Progress.{Update, Progress, Handles, Leads, start_progress, due_updates, commits_from}
 use Rattle.world.specs.ListingLemmas.{xid_cases, got_same, got_other, gone_other, gone_same}
 use Rattle.run_laws.proofs.Telling.{was_fault_free, was_open, was_so, was_not_so, went_to, ok_is, same_open, not_there}
@@ -403,9 +403,9 @@ start_alike h = record {
   updates = refl;
 }
 
-without_ways : (past : List Committed) → map transaction past ≡ map transaction (map without_way past)
+without_ways : (past : List Committed) → map entry_of_commit past ≡ map entry_of_commit (map without_way past)
 without_ways [] = refl
-without_ways (c ∷ past) = ap (λ ts. transaction c ∷ ts) (without_ways past)
+without_ways (c ∷ past) = ap (λ es. entry_of_commit c ∷ es) (without_ways past)
 
 pub same_transactions : (h : Setting) (s t : State) → Alike h s t → commits t ≡ commits s
-same_transactions h s t alike = without_ways t.past ∙ ap (map transaction) alike.past ∙ sym (without_ways s.past)
+same_transactions h s t alike = without_ways t.past ∙ ap (map entry_of_commit) alike.past ∙ sym (without_ways s.past)

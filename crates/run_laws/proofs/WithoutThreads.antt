@@ -25,7 +25,7 @@ use Rattle.run.specs.declared.end.End.{End}
 use Rattle.run.specs.declared.end.End.TheVariants as ends
 use Rattle.run.specs.declared.outcome.Outcome.{Outcome}
 use Rattle.run.specs.Cause.{schema_of, LastStep, NextClashes, IsLastCause, IsCause, HasGoneWell, CouldNotSend, HadNoMemoryToSend, CouldNotRead, IsOver, HasNotClashed, LastClashed}
-use Rattle.run.specs.Commits.{committed_changes, all_changes, changes_in as told_changes}
+use Rattle.run.specs.Commits.{committed_changes, all_changes, changes_of_entries}
 use Rattle.run.specs.Devices.{DeviceState}
 use Rattle.run.specs.Progress.{Progress, Handles, Leads, start_progress, commits_from}
 use Rattle.run.specs.Run.{IsRun}
@@ -392,7 +392,7 @@ module _ (g : Setting) (rows : Rows) (old new : DeviceState) (o : Outcome) (run 
 
   committed_clear : AreAccepted (schema_of g) rows (committed_changes s)
   committed_clear =
-      subst (λ ts. AreAccepted (schema_of g) rows (told_changes ts)) (run_commits g rows old new o run)
+      subst (λ ts. AreAccepted (schema_of g) rows (changes_of_entries ts)) (run_commits g rows old new o run)
       (run_clear g rows old new o run valid)
 
   -- a change of the transaction that was begun clashed
@@ -450,7 +450,7 @@ module _ (g : Setting) (rows : Rows) (old new : DeviceState) (o : Outcome) (run 
       position = run_position g rows old new o run;
       tables =
           run_tables g rows old new o run valid
-          ∙ ap (λ ts. serial (schema_of g) rows (told_changes ts)) (run_commits g rows old new o run);
+          ∙ ap (λ ts. serial (schema_of g) rows (changes_of_entries ts)) (run_commits g rows old new o run);
       schema = run.schema;
     },
     refl,

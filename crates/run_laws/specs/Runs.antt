@@ -1,5 +1,4 @@
 -- A run in the words of a world.
---     told_of      a world's commit in the words of a journal
 --     LeavesWorld      a run leaves just the commits of a world
 --     IsAtMostOne, TellsRun      no two transactions are open; the world has just what the run leaves
 --     conflict      the conflict that ended a run
@@ -23,17 +22,13 @@ use Rattle.session.specs.Lawful.{Admits}
 use Rattle.run.specs.declared.end.End.{End}
 use Rattle.run.specs.declared.end.End.TheVariants as ends
 use Rattle.run.specs.declared.outcome.Outcome.{Outcome}
-use Rattle.run.specs.Commits.{Transaction, transaction_of}
+use Rattle.engine.specs.Engine.{entry_in}
 use Rattle.run.specs.Cause.{schema_of, IsNext}
-use Rattle.world.specs.World.{Opened, OpenOnes, Entry, World, starting, journal, ends_of}
+use Rattle.world.specs.World.{Opened, OpenOnes, World, starting, journal, ends_of}
 use Rattle.world.specs.Steps.{Clashed, Acts, Reaches}
 use Rattle.run_laws.specs.Begun.{begun}
 use Rattle.run_laws.specs.Course.{committed_past}
 use Rattle.model.specs.Beginning.{last_end}
-
--- a commit of a world, as a run's journal has it
-abbrev pub told_of : Entry → Transaction
-told_of e = record { xid = e.xid; changes = e.changes; commit = e.commit; end = e.end }
 
 -- No two of these transactions are open.
 abbrev pub IsAtMostOne : OpenOnes → Type 0
@@ -44,7 +39,7 @@ IsAtMostOne opened =
 -- The run leaves the commits of the world: they are the journal, whose end is the position, and the
 -- committed rows are the tables.
 pub record LeavesWorld (o : Outcome) (w : World) : Type 0 where
-  pub entries : map transaction_of o.journal.items ≡ map told_of (journal w)
+  pub entries : map entry_in o.journal.items ≡ journal w
   pub position : o.position ≡ last_end (ends_of w)
   pub tables : o.tables.rows ≡ w.committed
 

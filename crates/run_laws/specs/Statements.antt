@@ -13,7 +13,8 @@ use Rattle.session.specs.Lawful.{IsLawful}
 use Rattle.session.specs.State.{State, Setting, begun_at}
 use Rattle.session.specs.Table.{step}
 use Rattle.run.specs.Cause.{schema_of}
-use Rattle.run.specs.Commits.{transaction_of, commits, all_changes, changes_in, commit_ends}
+use Rattle.engine.specs.Engine.{entry_in}
+use Rattle.run.specs.Commits.{commits, all_changes, changes_of_entries, commit_ends}
 use Rattle.model.specs.Beginning.{last_end}
 use Rattle.run.specs.Devices.{DeviceState}
 use Rattle.run.specs.Progress.{Progress, Leads, start_progress}
@@ -81,9 +82,9 @@ abbrev pub ThreadedIsSerial : Type 0
 ThreadedIsSerial =
     (g : Setting) (rows : Rows) (old new : DeviceState) (o : Outcome)
     (run : IsThreadedRun g rows old new o) → IsValid (schema_of g) rows
-    → (map transaction_of o.journal.items ≡ commits run.part.progress.state)
-    × (o.tables.rows ≡ serial (schema_of g) rows (changes_in (map transaction_of o.journal.items)))
-    × AreAccepted (schema_of g) rows (changes_in (map transaction_of o.journal.items))
+    → (map entry_in o.journal.items ≡ commits run.part.progress.state)
+    × (o.tables.rows ≡ serial (schema_of g) rows (changes_of_entries (map entry_in o.journal.items)))
+    × AreAccepted (schema_of g) rows (changes_of_entries (map entry_in o.journal.items))
     × (o.position ≡ last_end (commit_ends run.part.progress.state.past))
 
 -- what was open at its end has left nothing: calls reach a world in which none is open any more,
@@ -112,7 +113,7 @@ CleanIsWithoutThreads =
     (run : IsThreadedRun g rows old new o) (alone : IsRun h rows before after p)
     → IsValid (schema_of g) rows → h.catalog ≡ g.catalog → o.end ≡ ends.Clean
     → alone.part.bytes ≡ run.part.bytes → alone.part.rest ≡ []
-    → (map transaction_of p.journal.items ≡ map transaction_of o.journal.items)
+    → (map entry_in p.journal.items ≡ map entry_in o.journal.items)
     × (p.position ≡ o.position) × (p.tables.rows ≡ o.tables.rows)
     × (alone.part.progress.updates ≡ run.part.progress.updates)
 
@@ -126,7 +127,7 @@ CleanWhereThereIsRoom =
     → alone.part.bytes ≡ run.part.bytes → AreBytes run.part.handled
     → (q : Progress) → Leads h start_progress run.part.handled q
     → p.end ≢ ends.OutOfMemory → p.end ≢ ends.Frame Device
-    → (map transaction_of p.journal.items ≡ map transaction_of o.journal.items)
+    → (map entry_in p.journal.items ≡ map entry_in o.journal.items)
     × (p.position ≡ o.position) × (p.tables.rows ≡ o.tables.rows)
 
 -- without workers it is a run without threads: one transaction is open at most, so none waits for

@@ -1,10 +1,8 @@
 use Rattle.std.proofs.Common.{◌≡◌, refl, sym, ap, ◌∙◌, None, Some}
-use Rattle.std.specs.Prelude.{map}
 use Rattle.std.specs.Ordering.{nat_cmp}
 use Rattle.std.specs.FinMap as finite
 use Rattle.world.specs.World.{World, journal}
 use Rattle.session.specs.State.{setting}
-use Rattle.run.specs.Commits.{told_transaction}
 use Rattle.run.proofs.applier.Applier.new.Goals as goal
 
 pub returns-clause-at : goal.returns-clause-at
@@ -16,7 +14,7 @@ returns-clause-at c = record {
   commits = record {
     schema = c.in_ok-new.ensures.schema ∙ c.requires;
     base = ap (λ (w : World). w.committed) c.in_ok-new.ensures.world;
-    journal = ap (λ (w : World). map told_transaction (journal w)) c.in_ok-new.ensures.world;
+    journal = ap journal c.in_ok-new.ensures.world;
     position = refl;
   };
   reached = refl;
