@@ -1,7 +1,7 @@
 -- From what a leader has of its transactions as a run ends, and the world at which it ended, to why the run with workers
 -- ended.
 use Rattle.std.proofs.Common.{◌≡◌, ◌≢◌, ℕ, true, false, List, [], ◌∷◌, ◌++◌, length, Option, Some, None, refl, sym, ap, subst, ◌∙◌, append-nil, inl, inr}
-use Rattle.std.specs.Prelude.{ℤ, IsSome, IfSome, Contains, is_some, MatchOption}
+use Rattle.std.specs.Prelude.{IsSome, IfSome, Contains, is_some, MatchOption}
 use Rattle.std.specs.FinMap.{get}
 use Rattle.std.proofs.lemmas.List.Elements.{All-contains}
 use Rattle.model.specs.declared.change.Change as change_type
@@ -12,20 +12,19 @@ use Rattle.model.specs.Effect.{ClashCause, NullKey, Unique}
 use Rattle.world.specs.World.{Opened, World}
 use Rattle.world.specs.Steps.{IsStuck}
 use Rattle.engine.specs.declared.events.LineEvent.{LineEvent}
-use Rattle.frames.specs.declared.fault.FrameFault.{FrameFault}
 use Rattle.frames.specs.declared.fault.FrameFault.TheVariants as frames
 use Rattle.frames.specs.declared.item.CopyItem.{CopyItem}
 use Rattle.session.specs.State.{Way, Direct, Worker, Spooled, Open, State, Setting}
 use Rattle.run.specs.declared.end.End.{End}
 use Rattle.run.specs.declared.end.End.TheVariants as ends
-use Rattle.run.specs.Cause.{schema_of, HasGoneWell, IsOver, IsSendCause, IsInputCause}
+use Rattle.run.specs.Cause.{schema_of, HasGoneWell, IsSendCause, IsInputCause}
 use Rattle.run.specs.Devices.{DeviceState}
 use Rattle.run.specs.Handler.{IsRunOver}
 use Rattle.run.specs.Progress.{Progress}
-use Rattle.run.proofs.Running.{clear_at_send, clear_at_input}
+use Rattle.run.specs.StreamPart.{StreamPart}
 use Rattle.run_laws.specs.Leading.{Outbox, InStep, IsAgreed, AreInStep, AreCounts}
 use Rattle.run_laws.specs.Threads.{work_of, IsWorldOf}
-use Rattle.run_laws.specs.ThreadedRun.{HasConflict, IsStuckBy, Clear, HasWorkedOn, IsThreadedCause, IsCauseOf}
+use Rattle.run_laws.specs.ThreadedRun.{HasConflict, IsStuckBy, IsThreadedCause}
 use Rattle.run_laws.proofs.Books.{is_world, noted_conflict, stuck_by}
 use Rattle.dispatch.specs.Standing.{Own}
 use Rattle.leader.specs.Threads.{KeepsToWork, HasTurn, MayEndBy}
@@ -154,28 +153,32 @@ module _ (g : Setting) (rows : Rows) (s : State) (rest : List CopyItem) (line : 
   stuck counts xid turn other is =
       stuck_by g rows s rest (outboxes_at s f.world) f.world are_in_step given xid other (are_counts counts) turn is
 
--- with the devices, at the progress that the items handled led to
-module _ (g : Setting) (rows : Rows) (rest : List CopyItem) (line : List LineEvent) (hand : Hand) (given : List (ℕ × ℕ)) (proposed end : End)
-    (old new : DeviceState) (handled : List CopyItem) (p : Progress) (times : List ℤ) (bytes : List ℕ) (valid : IsValid (schema_of g) rows)
+-- with the devices, where this part of the stream was handled
+module _ (g : Setting) (rows : Rows) (line : List LineEvent) (hand : Hand) (given : List (ℕ × ℕ)) (proposed end : End)
+    (old new : DeviceState) (part : StreamPart g old new) (valid : IsValid (schema_of g) rows)
     (f : HasFinished (schema_of g) rows line hand given proposed end) where
   abbrev Cause : End → Type 0
-  Cause = IsThreadedCause g old new handled p times bytes rest f.world
+  Cause = IsThreadedCause part f.world
 
-  abbrev Worked : Type 0
-  Worked = HasWorkedOn g old new handled p times
+  -- where it stands, and what is left
+  abbrev s : State
+  s = part.progress.state
 
-  of_cause : Worked → (cause : ClashCause) → HasConflict g p.state f.world cause → Cause (end_for cause)
+  abbrev rest : List CopyItem
+  rest = part.rest
+
+  of_cause : HasGoneWell part → (cause : ClashCause) → HasConflict g s f.world cause → Cause (end_for cause)
   of_cause well (Unique table key) is = (well, is)
   of_cause well (NullKey table) is = (well, is)
 
-  by_noted : AreInHand g p.state rest line hand → Worked → (e : End) → EndsAsNoted f.world hand e → Cause e
+  by_noted : AreInHand g s rest line hand → HasGoneWell part → (e : End) → EndsAsNoted f.world hand e → Cause e
   by_noted are well e (inl (cause, noted, is)) =
       subst Cause (sym is)
-      (of_cause well cause (conflicts g rows p.state rest line hand given proposed end f are valid cause noted))
+      (of_cause well cause (conflicts g rows s rest line hand given proposed end f are valid cause noted))
   by_noted are well e (inr (none, is)) = subst Cause (sym is) (inl well)
 
   -- an item ended it
-  by_item : AreInHand g p.state rest line hand → AreGiven p.state given → Worked → (first e : End) → MayEndBy g p.state rest first
+  by_item : AreInHand g s rest line hand → AreGiven s given → HasGoneWell part → (first e : End) → MayEndBy g s rest first
       → IsDecided (schema_of g) f.world hand given first e → Cause e
   by_item are counts well ends.Clean e why decided = absurd why
   by_item are counts well (ends.Frame fault) e why decided = absurd why
@@ -185,35 +188,25 @@ module _ (g : Setting) (rows : Rows) (rest : List CopyItem) (line : List LineEve
   by_item are counts well (ends.Unique table key) e why decided = by_noted are well e decided
   by_item are counts well (ends.NullKey table) e why decided = by_noted are well e decided
   by_item are counts well (ends.HeldKey xid holder) e why (inl (other, is, so)) =
-      subst Cause (sym so) (well, stuck g rows p.state rest line hand given proposed end f are counts xid why other is)
+      subst Cause (sym so) (well, stuck g rows s rest line hand given proposed end f are counts xid why other is)
   by_item are counts well (ends.HeldKey xid holder) e why (inr (none, so)) = subst Cause (sym so) (inl well)
   by_item are counts well ends.OutOfMemory e why decided = subst Cause (sym decided) (inl well)
 
-  -- where the devices worked, whatever else is clear
-  goes_well : {X : Type 0} → HasGoneWell g X old new handled p times → Worked
-  goes_well well = record { clear = tt; read = well.read; sent = well.sent }
-
-  is_over : {X : Type 0} (why : Option FrameFault) → IsOver g X old new handled p times bytes rest why → IsOver g Clear old new handled p times bytes rest why
-  is_over why over = record { well = goes_well over.well; all_handled = over.all_handled; fault = over.fault; asked = over.asked }
-
   -- an update that was due did
-  by_send : (X : Type 0) (first e : End) → IsSendCause g X old new handled p times first → IsDecided (schema_of g) f.world hand given first e → Cause e
-  by_send X (ends.Frame frames.Device) e why decided =
-      subst Cause (sym decided) (inr (record { clear = tt; read = why.read; failed = why.failed; cut = why.cut }))
-  by_send X ends.OutOfMemory e why decided =
-      subst Cause (sym decided) (inr (record { clear = tt; read = why.read; written = why.written; cut = why.cut; nothing = why.nothing }))
-  by_send X first e why decided = absurd why
+  by_send : (first e : End) → IsSendCause part first → IsDecided (schema_of g) f.world hand given first e → Cause e
+  by_send (ends.Frame frames.Device) e why decided = subst Cause (sym decided) (inr why)
+  by_send ends.OutOfMemory e why decided = subst Cause (sym decided) (inr why)
+  by_send first e why decided = absurd why
 
   -- the input did
-  by_input : (X : Type 0) → AreInHand g p.state rest line hand → (first e : End) → IsInputCause g X old new handled p times bytes rest first
+  by_input : AreInHand g s rest line hand → (first e : End) → IsInputCause part first
       → IsDecided (schema_of g) f.world hand given first e → Cause e
-  by_input X are ends.Clean e why (inl (runs, so)) = subst Cause (sym so) (is_over None why, runs)
-  by_input X are ends.Clean e why (inr (stopped, noted)) = by_noted are (goes_well why.well) e noted
-  by_input X are (ends.Frame frames.Device) e why decided =
-      subst Cause (sym decided) (inl (record { clear = tt; all_handled = why.all_handled; failed = why.failed; sent = why.sent }))
-  by_input X are (ends.Frame fault) e why decided = subst Cause (sym decided) (is_over (Some fault) why)
-  by_input X are ends.OutOfMemory e why decided = subst Cause (sym decided) (inl (goes_well why))
-  by_input X are first e why decided = absurd why
+  by_input are ends.Clean e why (inl (runs, so)) = subst Cause (sym so) (why, runs)
+  by_input are ends.Clean e why (inr (stopped, noted)) = by_noted are why.well e noted
+  by_input are (ends.Frame frames.Device) e why decided = subst Cause (sym decided) (inl why)
+  by_input are (ends.Frame fault) e why decided = subst Cause (sym decided) why
+  by_input are ends.OutOfMemory e why decided = subst Cause (sym decided) (inl why)
+  by_input are first e why decided = absurd why
 
 -- ---- the run
 
@@ -226,11 +219,10 @@ module _ {H : Type 0} (g : Setting) (rows : Rows) (At : H → Progress → Type 
     (ended_held : (handled : List CopyItem) (p : Progress) (rest : List CopyItem) → Ended h handled p rest proposed
     → AreInHand g p.state rest line hand × AreGiven p.state given × MayEndBy g p.state rest proposed) where
   abbrev Why : Type 0
-  Why = AreInHand g over.part.progress.state over.part.rest line hand
-      × IsCauseOf g old new over.part f.world end
+  Why = AreInHand g over.part.progress.state over.part.rest line hand × IsThreadedCause over.part f.world end
 
   by_at : At h over.part.progress
-      → (AreInHand g over.part.progress.state over.part.rest line hand → IsCauseOf g old new over.part f.world end) → Why
+      → (AreInHand g over.part.progress.state over.part.rest line hand → IsThreadedCause over.part f.world end) → Why
   by_at at why = let are = at_held over.part.progress over.part.rest at in (are, why are)
 
   by_why : Why
@@ -238,20 +230,12 @@ module _ {H : Type 0} (g : Setting) (rows : Rows) (At : H → Progress → Type 
     | inl item ↦
         let is = ended_held over.part.handled over.part.progress over.part.rest item.ended in (
           is.0,
-          by_item g rows over.part.rest line hand given proposed end old new over.part.handled over.part.progress over.part.times over.part.bytes valid f is.0 is.1
-              (record { clear = tt; read = item.read; sent = item.sent }) proposed end is.2 f.decided,
+          by_item g rows line hand given proposed end old new over.part valid f is.0 is.1 item.well proposed end is.2 f.decided,
         )
-    | inr later ↦
-        elim later [
-          | inl send ↦
-              by_at (clear_at_send g (At h over.part.progress) old new over.part.handled over.part.progress over.part.times proposed send) (λ are.
-              by_send g rows over.part.rest line hand given proposed end old new over.part.handled over.part.progress over.part.times over.part.bytes valid f
-              (At h over.part.progress) proposed end send f.decided)
-          | inr input ↦
-              by_at (clear_at_input g (At h over.part.progress) old new over.part.handled over.part.progress over.part.times over.part.bytes over.part.rest proposed input) (λ are.
-              by_input g rows over.part.rest line hand given proposed end old new over.part.handled over.part.progress over.part.times over.part.bytes valid f
-              (At h over.part.progress) are proposed end input f.decided)
-        ]
+    | inr (at, inl send) ↦
+        by_at at (λ are. by_send g rows line hand given proposed end old new over.part valid f proposed end send f.decided)
+    | inr (at, inr input) ↦
+        by_at at (λ are. by_input g rows line hand given proposed end old new over.part valid f are proposed end input f.decided)
   ]
 
   -- the world is one of the items that were handled
@@ -259,5 +243,5 @@ module _ {H : Type 0} (g : Setting) (rows : Rows) (At : H → Progress → Type 
   is_world_of = ends_in_world g rows over.part.progress.state over.part.rest line hand given proposed end f by_why.0
 
   -- and has a cause of the end
-  pub is_cause : IsCauseOf g old new over.part f.world end
+  pub is_cause : IsThreadedCause over.part f.world end
   is_cause = by_why.1

@@ -6,7 +6,7 @@
 --     left_run, none_run      what is left is a run's
 --     runs_by      a run by so many workers, beside so many watchers
 use Rattle.std.proofs.Common.{◌≡◌, ℕ, zero, suc, ◌+◌, ◌<◌, List, [], ◌∷◌, ◌++◌, Option, Some, None, refl, sym, ap, subst, ◌∙◌, append-nil, arith, inl, inr}
-use Rattle.std.specs.Prelude.{ℤ, map, option_map, All, ◌⊎◌}
+use Rattle.std.specs.Prelude.{map, option_map, All, ◌⊎◌}
 use Rattle.std.specs.Ordering.{nat_cmp}
 use Rattle.std.specs.FinMap as finite
 use Rattle.std.proofs.KnownBytes.{Appends-nil}
@@ -36,9 +36,10 @@ use Rattle.model.specs.Beginning.{last_end}
 use Rattle.run.specs.Devices.{DeviceState}
 use Rattle.run.specs.Handler.{IsEnded, IsRunOver}
 use Rattle.run.specs.Progress.{Progress, start_progress}
+use Rattle.run.specs.StreamPart.{StreamPart}
 use Rattle.run.proofs.Running.{nothing_handled}
 use Rattle.run_laws.specs.Threads.{done_by_commit}
-use Rattle.run_laws.specs.ThreadedRun.{IsThreadedCause, IsCauseOf}
+use Rattle.run_laws.specs.ThreadedRun.{IsThreadedCause}
 use Rattle.run_laws.proofs.Threading.{entries_done, ends_done, changes_told}
 use Rattle.dispatch.specs.Lanes.{Laned, IsHome, AreCounted}
 use Rattle.dispatch.specs.Standing.{own_by, goes_by, holds_in, KeepsGiven}
@@ -58,7 +59,7 @@ module _ {H : Type 0} (of : H → Led) (g : Setting) (rows : Rows) where
       → IsRunOver g (Represents g rows) (HasLedTo g rows) old new (of h) end
   over_led old new h end over = record {
     part = over.part;
-    why = elim over.why [ inl item ↦ inl (record { ended = item.ended; read = item.read; sent = item.sent }) | inr other ↦ inr other ];
+    why = elim over.why [ inl item ↦ inl (record { ended = item.ended; well = item.well }) | inr other ↦ inr other ];
   }
 
 -- it is over before a byte is read
@@ -68,8 +69,7 @@ nothing_read g rows devices l at = record {
   part = nothing_handled g devices;
   why = inl (record {
     ended = (at.committed, (λ e. cc), all_held g start [] l.standing at.agreed, tt);
-    read = refl;
-    sent = (refl, Appends-nil devices.sent);
+    well = record { read = refl; sent = (refl, Appends-nil devices.sent) };
   });
 }
 
@@ -80,32 +80,32 @@ refused_end schema rows line hand given proposed end finished refused =
     subst (λ (p : End). IsDecided schema finished.world hand given p end) refused finished.decided
 
 -- what follows from why a run is over: its commits, what was sent, and that a clean end leaves no item
-module _ (g : Setting) (rows : Rows) (old new : DeviceState) (l : Led) (handled : List CopyItem) (p : Progress) (times : List ℤ) where
-  abbrev Follows : List CopyItem → End → Type 0
-  Follows rest end = HasCommitted l p.state × WasSent g old new handled p times × (end ≡ ends.Clean → rest ≡ [])
+module _ (g : Setting) (rows : Rows) (old new : DeviceState) (l : Led) (part : StreamPart g old new) where
+  abbrev Follows : End → Type 0
+  Follows end = HasCommitted l part.progress.state × WasSent part × (end ≡ ends.Clean → part.rest ≡ [])
 
-  by_item : (rest : List CopyItem) (end : End) → IsEnded g (Represents g rows) (HasLedTo g rows) old new l handled p times rest end → Follows rest end
-  by_item rest end why = (why.ended.0, inl why.sent, λ clean. absurd (why.ended.1 clean))
+  by_item : (end : End) → IsEnded g (Represents g rows) (HasLedTo g rows) l part end → Follows end
+  by_item end why = (why.ended.0, inl why.well.sent, λ clean. absurd (why.ended.1 clean))
 
-  by_send : (rest : List CopyItem) (end : End) → IsSendCause g (Represents g rows l p) old new handled p times end → Follows rest end
-  by_send rest (ends.Frame frames.Device) why = (why.clear.committed, inr why.cut, λ clean. cc)
-  by_send rest ends.OutOfMemory why = (why.clear.committed, inr why.cut, λ clean. cc)
-  by_send rest end why = absurd why
+  by_send : (end : End) → HasCommitted l part.progress.state → IsSendCause part end → Follows end
+  by_send (ends.Frame frames.Device) committed why = (committed, inr why.cut, λ clean. cc)
+  by_send ends.OutOfMemory committed why = (committed, inr why.cut, λ clean. cc)
+  by_send end committed why = absurd why
 
-  by_input : (bytes : List ℕ) (rest : List CopyItem) (end : End) → IsInputCause g (Represents g rows l p) old new handled p times bytes rest end → Follows rest end
-  by_input bytes rest ends.Clean why = (why.well.clear.committed, inl why.well.sent, λ clean. why.all_handled)
-  by_input bytes rest (ends.Frame frames.Device) why = (why.clear.committed, inl why.sent, λ clean. why.all_handled)
-  by_input bytes rest (ends.Frame f) why = (why.well.clear.committed, inl why.well.sent, λ clean. why.all_handled)
-  by_input bytes rest ends.OutOfMemory why = (why.clear.committed, inl why.sent, λ clean. cc)
-  by_input bytes rest end why = absurd why
+  by_input : (end : End) → HasCommitted l part.progress.state → IsInputCause part end → Follows end
+  by_input ends.Clean committed why = (committed, inl why.well.sent, λ clean. why.all_handled)
+  by_input (ends.Frame frames.Device) committed why = (committed, inl why.sent, λ clean. why.all_handled)
+  by_input (ends.Frame f) committed why = (committed, inl why.well.sent, λ clean. why.all_handled)
+  by_input ends.OutOfMemory committed why = (committed, inl why.sent, λ clean. cc)
+  by_input end committed why = absurd why
 
-  leaves : (bytes : List ℕ) (rest : List CopyItem) (end : End)
-      → (IsEnded g (Represents g rows) (HasLedTo g rows) old new l handled p times rest end
-      ⊎ (IsSendCause g (Represents g rows l p) old new handled p times end ⊎ IsInputCause g (Represents g rows l p) old new handled p times bytes rest end))
-      → Follows rest end
-  leaves bytes rest end (inl why) = by_item rest end why
-  leaves bytes rest end (inr (inl why)) = by_send rest end why
-  leaves bytes rest end (inr (inr why)) = by_input bytes rest end why
+  leaves : (end : End)
+      → IsEnded g (Represents g rows) (HasLedTo g rows) l part end
+      ⊎ (Represents g rows l part.progress × (IsSendCause part end ⊎ IsInputCause part end))
+      → Follows end
+  leaves end (inl why) = by_item end why
+  leaves end (inr (at, inl why)) = by_send end at.committed why
+  leaves end (inr (at, inr why)) = by_input end at.committed why
 
 -- Its open transactions were in hand, and the end was decided: the leader has ended it.
 module _ (g : Setting) (rows : Rows) (old new : DeviceState) (l : Led) (proposed end : End) (over : IsRunOver g (Represents g rows) (HasLedTo g rows) old new l proposed)
@@ -167,10 +167,9 @@ shut_at_start keys rows o none tables schema =
 -- ---- the run
 
 -- at a clean end no item is left
-none_left : (g : Setting) (old new : DeviceState) (handled : List CopyItem) (p : Progress) (times : List ℤ) (bytes : List ℕ) (rest : List CopyItem) (w : World) (end : End)
-    → IsThreadedCause g old new handled p times bytes rest w end → end ≡ ends.Clean → rest ≡ []
-none_left g old new handled p times bytes rest w end cause clean =
-    (subst (IsThreadedCause g old new handled p times bytes rest w) clean cause).0.all_handled
+none_left : (g : Setting) (old new : DeviceState) (part : StreamPart g old new) (w : World) (end : End)
+    → IsThreadedCause part w end → end ≡ ends.Clean → part.rest ≡ []
+none_left g old new part w end cause clean = (subst (IsThreadedCause part w) clean cause).0.all_handled
 
 module _ (g : Setting) (rows : Rows) where
   -- what is left where the leader has ended a run is a run's
@@ -179,7 +178,7 @@ module _ (g : Setting) (rows : Rows) where
   left_run keys old new line position end o left shut_by same reached ended =
       let over = left.over in
       let shut : IsShutSo (schema_of g) rows line o = subst (λ (k : Schema). IsShutSo k rows line o) same shut_by in
-      let so = leaves g rows old new left.led over.part.handled over.part.progress over.part.times over.part.bytes over.part.rest left.proposed over.why in
+      let so = leaves g rows old new left.led over.part left.proposed over.why in
       let done : commits_in line ≡ map done_by_commit over.part.progress.state.past = left.told ∙ left.is_world.line in
       let at : o.position ≡ last_end (commit_ends over.part.progress.state.past) = reached ∙ left.reached ∙ so.0.position in
       let serial_rows : o.tables.rows ≡ serial (schema_of g) rows (changes_of (commits_in line)) =
@@ -189,7 +188,7 @@ module _ (g : Setting) (rows : Rows) where
           part = over.part;
           world = left.world;
           is_world = left.is_world;
-          cause = subst (IsCauseOf g old new over.part left.world) (sym ended) left.cause;
+          cause = subst (IsThreadedCause over.part left.world) (sym ended) left.cause;
           left = record {
             entries = shut.journal ∙ ap (map entry_of) left.told;
             position = at ∙ sym (ap (λ (line : List Past). last_end (map (λ (p : Past). p.info.end) line)) left.is_world.line ∙ ends_done over.part.progress.state.past);
@@ -199,7 +198,7 @@ module _ (g : Setting) (rows : Rows) where
         };
         sent = so.1;
         clean = λ clean.
-            let none = none_left g old new over.part.handled over.part.progress over.part.times over.part.bytes over.part.rest left.world end left.cause (sym ended ∙ clean) in
+            let none = none_left g old new over.part left.world end left.cause (sym ended ∙ clean) in
             sym (append-nil over.part.handled) ∙ ap (λ (others : List CopyItem). over.part.handled ++ others) (sym none) ∙ over.part.items;
         journal = journal_told (schema_of g) rows line over.part.progress.state done o.journal.items shut.journal;
         position = at;
@@ -218,7 +217,7 @@ module _ (g : Setting) (rows : Rows) where
         line = refl;
         opened = λ xid done at. let none : None ≡ Some done = sym (finite.get-empty nat_cmp xid) ∙ at in absurd cc;
       };
-      cause = subst (IsThreadedCause g devices devices [] start_progress [] [] [] (starting rows)) (sym end) (inl (record { clear = tt; read = refl; sent = (refl, Appends-nil devices.sent) }));
+      cause = subst (IsThreadedCause (nothing_handled g devices) (starting rows)) (sym end) (inl (record { read = refl; sent = (refl, Appends-nil devices.sent) }));
       left = record {
         entries = shut.journal;
         position = position;

@@ -4,11 +4,10 @@
 --     IsShutSo      what is left of a store
 --     IsRunByWorkers      a run: why it ended, the commits of the items up to its end, and nothing else
 --     RunsBy      a run by so many workers, beside so many watchers
-use Rattle.std.specs.Prelude.{◌≡◌, ℕ, zero, suc, List, map, ℤ, ◌⊎◌}
+use Rattle.std.specs.Prelude.{◌≡◌, ℕ, zero, suc, List, map, ◌⊎◌}
 use Rattle.model.specs.Rows.{Rows, Schema}
 use Rattle.model.specs.Effect.{serial}
 use Rattle.model.specs.Definition.{Definition}
-use Rattle.frames.specs.declared.item.CopyItem.{CopyItem}
 use Rattle.frames.specs.Stream.{copy_items}
 use Rattle.world.specs.World.{World, entry_of, starting, changes_in}
 use Rattle.world.specs.Steps.{Reaches, Closes}
@@ -26,15 +25,15 @@ use Rattle.model.specs.Beginning.{last_end}
 use Rattle.run.specs.Cause.{schema_of, AreAllSent, LastIsCut}
 use Rattle.run.specs.Devices.{DeviceState}
 use Rattle.run.specs.Handler.{IsRunOver}
-use Rattle.run.specs.Progress.{Progress}
 use Rattle.run.specs.Run.{IsRun}
+use Rattle.run.specs.StreamPart.{StreamPart}
 use Rattle.run_laws.specs.Threads.{IsWorldOf}
-use Rattle.run_laws.specs.ThreadedRun.{IsCauseOf, IsThreadedRun}
+use Rattle.run_laws.specs.ThreadedRun.{IsThreadedCause, IsThreadedRun}
 use Rattle.leader.specs.Threads.{Led, Represents, HasLedTo}
 
 -- The status updates went out: all of them, or all but a part of the last.
-abbrev pub WasSent : Setting → DeviceState → DeviceState → List CopyItem → Progress → List ℤ → Type 0
-WasSent g old new handled p times = AreAllSent g old new handled p times ⊎ LastIsCut g old new handled p times
+abbrev pub WasSent : {g : Setting} {old new : DeviceState} → StreamPart g old new → Type 0
+WasSent part = AreAllSent part ⊎ LastIsCut part
 
 -- A leader has ended a run so, at a world of its items, for a cause there; it has left a line that tells the world's
 -- commits, and the position that they reach.
@@ -44,7 +43,7 @@ pub record LeavesLine (g : Setting) (rows : Rows) (old new : DeviceState) (line 
   pub over : IsRunOver g (Represents g rows) (HasLedTo g rows) old new led proposed
   pub world : World
   pub is_world : IsWorldOf g rows over.part.progress.state over.part.rest world
-  pub cause : IsCauseOf g old new over.part world end
+  pub cause : IsThreadedCause over.part world end
   pub committed : world.committed ≡ serial (schema_of g) rows (changes_in world.line)
   pub told : commits_in line ≡ world.line
   pub reached : position ≡ led.position
@@ -63,7 +62,7 @@ pub record IsShutSo (keys : Schema) (rows : Rows) (line : List LineEvent) (o : O
 -- their order. A world that calls reach closes with them.
 pub record IsRunByWorkers (g : Setting) (rows : Rows) (old new : DeviceState) (o : Outcome) : Type 0 where
   pub run : IsThreadedRun g rows old new o
-  pub sent : WasSent g old new run.part.handled run.part.progress run.part.times
+  pub sent : WasSent run.part
   pub clean : o.end ≡ Clean → run.part.handled ≡ copy_items run.part.bytes
   pub journal : map entry_in o.journal.items ≡ commits run.part.progress.state
   pub position : o.position ≡ last_end (commit_ends run.part.progress.state.past)

@@ -1,6 +1,6 @@
 -- What the items of the bytes that were read leave of a run.
-use Rattle.std.proofs.Common.{◌≡◌, ℕ, List, [], ◌∷◌, ◌++◌, length, Some, None, refl, sym, ap, subst, ◌∙◌, append_assoc, append-nil, inl, inr}
-use Rattle.std.specs.Prelude.{◌≢◌, ℤ, Result, Ok, Err, IsErrAnd, ◌⊎◌}
+use Rattle.std.proofs.Common.{◌≡◌, ℕ, List, [], ◌∷◌, ◌++◌, Some, None, refl, sym, ap, subst, ◌∙◌, append_assoc, append-nil, inl, inr}
+use Rattle.std.specs.Prelude.{◌≢◌, Result, Ok, Err, IsErrAnd, ◌⊎◌}
 use Rattle.std.specs.Io.KnownBytes.{Appends, Consumes}
 use Rattle.frames.specs.declared.fault.FrameFault.{FrameFault}
 use Rattle.frames.specs.declared.fault.FrameFault.TheVariants as frames
@@ -12,13 +12,13 @@ use Rattle.session.specs.State.{Setting}
 use Rattle.run.specs.declared.end.End.{End}
 use Rattle.run.specs.declared.end.End.TheVariants as ends
 use Rattle.run.specs.Ends.{end_of_frame}
-use Rattle.run.specs.Cause.{IsSendCause, IsInputCause, IsOver}
+use Rattle.run.specs.Cause.{IsInputCause, IsOver}
 use Rattle.run.specs.Devices.{DeviceState}
-use Rattle.run.specs.Handler.{IsEnded, HasCome, StopsAt, AnswersItem, HandlesKept, IsRunOver, end_of_result}
-use Rattle.run.proofs.Running.{gone_well, Ticks-nil}
+use Rattle.run.specs.Handler.{HasCome, HasTold, AnswersItem, HandlesKept, IsRunOver, end_of_result}
+use Rattle.run.proofs.Running.{part_so, part_come, gone_well, Ticks-nil}
 use Rattle.std.proofs.KnownBytes.{Appends-nil, Consumes-trans}
 use Rattle.run.specs.Clock.{Ticks}
-use Rattle.run.specs.Progress.{Progress, Leads, start_progress, status_bytes}
+use Rattle.run.specs.Progress.{Progress, Update, start_progress, status_bytes}
 
 -- ---- items that are kept
 
@@ -64,86 +64,64 @@ module _ {H : Type 0} (g : Setting) (IsAt : H → Progress → Type 0) (HasEnded
   -- an item that was kept ended the run
   pub kept_stopped : (old new : DeviceState) (a : H) (bytes : List ℕ) (handled : List CopyItem) (item : CopyItem) (kept : Reading) (end : End) (result : Result (Unit {0}) End) → HasRead bytes (handled ++ item ∷ []) kept
       → AnswersItem g IsAt HasEnded old new a handled item (Err end) → IsErrAnd result (λ e. e ≡ end) → HandlesKept g IsAt HasEnded old new a bytes kept result
-  kept_stopped old new a bytes handled item kept end (Ok u) read answered is = absurd is
-  kept_stopped old new a bytes handled item kept end (Err e) read (inl stops) is =
+  kept_stopped old new a bytes handled item kept end (Ok u) read stops is = absurd is
+  kept_stopped old new a bytes handled item kept end (Err e) read stops is = λ consumed.
       let left = reads_beginning bytes ((handled ++ item ∷ []) ++ kept.items) kept.ending read in
-      let rest = kept.items ++ left.0 in (
-        handled,
-        item ∷ rest,
-        sym (append_assoc handled (item ∷ []) rest) ∙ sym (append_assoc (handled ++ item ∷ []) kept.items left.0) ∙ left.1,
-        subst (StopsAt g IsAt HasEnded old new a handled (item ∷ rest)) (sym is) (stops rest),
-      )
-  kept_stopped old new a bytes handled item kept end (Err e) read (inr stops) is =
-      let left = reads_beginning bytes ((handled ++ item ∷ []) ++ kept.items) kept.ending read in
-      let rest = kept.items ++ left.0 in (
-        handled ++ item ∷ [],
-        rest,
-        sym (append_assoc (handled ++ item ∷ []) kept.items left.0) ∙ left.1,
-        subst (StopsAt g IsAt HasEnded old new a (handled ++ item ∷ []) rest) (sym is) (stops rest),
-      )
+      let more = kept.items ++ left.0 in
+      let all : handled ++ item ∷ more ≡ copy_items bytes =
+      sym (append_assoc handled (item ∷ []) more) ∙ sym (append_assoc (handled ++ item ∷ []) kept.items left.0) ∙ left.1 in
+      subst (Over old new a) (sym is) (stops more bytes consumed all)
 
   -- ---- the end of the run
 
-  -- it is over, with these items of its bytes left, for this reason
-  over_so : (old new : DeviceState) (a : H) (bytes : List ℕ) (handled rest : List CopyItem) (end : End) → Consumes old.unread new.unread bytes → handled ++ rest ≡ copy_items bytes
-      → (p : Progress) → Leads g start_progress handled p → (times : List ℤ) → Ticks old.times new.times times → length times ≡ length p.updates
-      → IsEnded g IsAt HasEnded old new a handled p times rest end ⊎ (IsSendCause g (IsAt a p) old new handled p times end ⊎ IsInputCause g (IsAt a p) old new handled p times bytes rest end)
-      → Over old new a end
-  over_so old new a bytes handled rest end read items p lawful times told counted why = record {
-    part = record {
-      bytes = bytes;
-      read = read;
-      handled = handled;
-      rest = rest;
-      items = items;
-      progress = p;
-      lawful = lawful;
-      times = times;
-      told = told;
-      counted = counted;
-    };
-    why = why;
-  }
-
-  -- an item, or the update after it, ended the run
-  pub over_by_item : (old new : DeviceState) (a : H) (bytes : List ℕ) (end : End) → Consumes old.unread new.unread bytes
-      → (handled : List CopyItem) × (rest : List CopyItem) × (handled ++ rest ≡ copy_items bytes) × StopsAt g IsAt HasEnded old new a handled rest end → Over old new a end
-  over_by_item old new a bytes end read (handled, rest, items, at) =
-      over_so old new a bytes handled rest end read items at.progress at.lawful at.times at.told at.counted (elim at.why [ inl ended ↦ inl ended | inr cut ↦ inr (inl cut) ])
-
   -- the run came to the end of what it read
-  over_by_end : (old new : DeviceState) (a : H) (bytes : List ℕ) (handled rest : List CopyItem) (end : End) → Consumes old.unread new.unread bytes → (come : Come old new a handled) → handled ++ rest ≡ copy_items bytes
-      → IsInputCause g (IsAt a come.progress) old new handled come.progress come.told.times bytes rest end → Over old new a end
+  over_by_end : (old new : DeviceState) (a : H) (bytes : List ℕ) (handled rest : List CopyItem) (end : End) (read : Consumes old.unread new.unread bytes) (come : Come old new a handled) (items : handled ++ rest ≡ copy_items bytes)
+      → IsInputCause (part_come g IsAt HasEnded old new a bytes read handled rest items come) end → Over old new a end
   over_by_end old new a bytes handled rest end read come items cause =
-      over_so old new a bytes handled rest end read items come.progress come.lawful come.told.times come.told.told come.told.counted (inr (inr cause))
+      record { part = part_come g IsAt HasEnded old new a bytes read handled rest items come; why = inr (come.at, inr cause) }
 
   -- the items were handled, and the stream was refused there
   refused_there : (old new : DeviceState) (a : H) (bytes : List ℕ) (handled : List CopyItem) (f : FrameFault) → Consumes old.unread new.unread bytes → (come : Come old new a handled) → handled ≡ copy_items bytes
       → fault_at_end (ending_of bytes) ≡ Some f → AtEndOf (ending_of bytes) new.unread → (f ≡ frames.Device → ⊥) → (f ≡ frames.OutOfMemory → ⊥) → Over old new a (end_of_frame f)
   refused_there old new a bytes handled f read come items fault asked other ample =
-      by f other ample (record { well = gone_well g IsAt HasEnded old new a handled come; all_handled = refl; fault = fault; asked = asked })
+      by f other ample (record { well = gone_well g IsAt HasEnded old new a bytes read handled [] all come; all_handled = refl; fault = fault; asked = asked })
     where
-      by : (f : FrameFault) → (f ≡ frames.Device → ⊥) → (f ≡ frames.OutOfMemory → ⊥) → IsOver g (IsAt a come.progress) old new handled come.progress come.told.times bytes [] (Some f) → Over old new a (end_of_frame f)
+      all : handled ++ [] ≡ copy_items bytes
+      all = append-nil handled ∙ items
+
+      by : (f : FrameFault) → (f ≡ frames.Device → ⊥) → (f ≡ frames.OutOfMemory → ⊥)
+          → IsOver (part_come g IsAt HasEnded old new a bytes read handled [] all come) (Some f) → Over old new a (end_of_frame f)
       by frames.Device other ample over = absurd (other refl)
       by frames.OutOfMemory other ample over = absurd (ample refl)
-      by f other ample over = over_by_end old new a bytes handled [] (ends.Frame f) read come (append-nil handled ∙ items) over
+      by f other ample over = over_by_end old new a bytes handled [] (ends.Frame f) read come all over
+
+  -- updates that were sent before a read
+  told_on : (old mid new : DeviceState) (updates : List Update) → HasTold old mid updates → new.writer ≡ mid.writer
+      → new.sent ≡ mid.sent → new.times ≡ mid.times → HasTold old new updates
+  told_on old mid new updates told writer sent times = record {
+    times = told.times;
+    told = subst (λ ts. Ticks old.times ts told.times) (sym times) told.told;
+    counted = told.counted;
+    sent = subst (λ to. Appends old.sent to (status_bytes updates told.times)) (sym sent) told.sent;
+    works = subst (HasWorked old.writer) (sym writer) told.works;
+  }
 
   -- a read failed: all items of what the reader gave were handled
   over_by_device : (old mid new : DeviceState) (a : H) (bytes : List ℕ) (handled : List CopyItem) → Consumes old.unread new.unread bytes → Come old mid a handled → handled ≡ copy_items bytes
       → HasFailedLast mid.reader new.reader → new.writer ≡ mid.writer → new.sent ≡ mid.sent → new.times ≡ mid.times → Over old new a (ends.Frame frames.Device)
   over_by_device old mid new a bytes handled read come items failed writer sent times =
-      over_so old new a bytes handled [] (ends.Frame frames.Device) read (append-nil handled ∙ items) come.progress come.lawful come.told.times
-      (subst (λ ts. Ticks old.times ts come.told.times) (sym times) come.told.told) come.told.counted
-      (inr (inr
-      (record {
-        clear = come.at;
-        all_handled = refl;
-        failed = (subst (λ n. HasFailed n new.reader.failures) come.read failed.0, failed.1);
-        sent = (
-          subst (HasWorked old.writer) (sym writer) come.told.works,
-          subst (λ to. Appends old.sent to (status_bytes come.progress.updates come.told.times)) (sym sent) come.told.sent,
+      let told = told_on old mid new come.progress.updates come.told writer sent times in
+      record {
+        part = part_so g old new bytes read handled [] (append-nil handled ∙ items) come.progress come.lawful told;
+        why = inr (
+          come.at,
+          inr (record {
+            all_handled = refl;
+            failed = (subst (λ n. HasFailed n new.reader.failures) come.read failed.0, failed.1);
+            sent = (told.works, told.sent);
+          }),
         );
-      })))
+      }
 
   -- nothing has been handled yet
   pub come_none : (d : DeviceState) (a : H) → IsAt a start_progress → Come d d a []
@@ -165,13 +143,7 @@ module _ {H : Type 0} (g : Setting) (IsAt : H → Progress → Type 0) (HasEnded
     lawful = come.lawful;
     at = come.at;
     read = works ∙ come.read;
-    told = record {
-      times = come.told.times;
-      told = subst (λ ts. Ticks old.times ts come.told.times) (sym times) come.told.told;
-      counted = come.told.counted;
-      sent = subst (λ to. Appends old.sent to (status_bytes come.progress.updates come.told.times)) (sym sent) come.told.sent;
-      works = subst (HasWorked old.writer) (sym writer) come.told.works;
-    };
+    told = told_on old mid new come.progress.updates come.told writer sent times;
   }
 
   -- the items handed out of the bytes so far were handled
@@ -210,7 +182,8 @@ module _ {H : Type 0} (g : Setting) (IsAt : H → Progress → Type 0) (HasEnded
   pub over_by_fault : (f : FrameFault) → Reads bytes handled (Broken f) → f ≢ frames.Device → Ends (end_of_frame f)
   over_by_fault frames.Device known other = absurd (other refl)
   over_by_fault frames.OutOfMemory known other =
-      over_by_end g IsAt HasEnded old new a bytes handled known.0 ends.OutOfMemory read come known.1 (gone_well g IsAt HasEnded old new a handled come)
+      over_by_end g IsAt HasEnded old new a bytes handled known.0 ends.OutOfMemory read come known.1
+      (gone_well g IsAt HasEnded old new a bytes read handled known.0 known.1 come)
   over_by_fault f known other = refused_there g IsAt HasEnded old new a bytes handled f read come known.0 (ap fault_at_end known.1) (rw known.1 tt) other (λ e. cc)
 
   -- a reader that asks for no more: the input ends here, inside a frame
@@ -226,7 +199,7 @@ module _ {H : Type 0} (g : Setting) (IsAt : H → Progress → Type 0) (HasEnded
   at_edge : (ending : Ending) → (handled ≡ copy_items bytes) × (ending_of bytes ≡ ending) → fault_at_end ending ≡ None → AtEndOf ending new.unread → Ends ends.Clean
   at_edge ending known none asked =
       over_by_end g IsAt HasEnded old new a bytes handled [] ends.Clean read come (append-nil handled ∙ known.0)
-      (record { well = gone_well g IsAt HasEnded old new a handled come; all_handled = refl; fault = ap fault_at_end known.1 ∙ none; asked = rw known.1 asked })
+      (record { well = gone_well g IsAt HasEnded old new a bytes read handled [] (append-nil handled ∙ known.0) come; all_handled = refl; fault = ap fault_at_end known.1 ∙ none; asked = rw known.1 asked })
 
   -- or at a frame's edge, or behind CopyDone
   pub over_at_edge : (ending : Ending) → Reads bytes handled ending → AtEndOf ending new.unread → fault_of ending ≡ None → fault_at_end ending ≡ None → Ends ends.Clean

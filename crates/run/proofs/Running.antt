@@ -1,7 +1,7 @@
 -- What the items so far, and the status updates after them, leave of a run.
 use Rattle.std.proofs.Common.{◌≡◌, ℕ, ◌+◌, Bool, true, false, List, [], ◌∷◌, ◌++◌, length, Option, Some, None, refl, sym, ap, subst, ◌∙◌, append_assoc, append-nil, length-append, arith, inl, inr}
 use Rattle.std.specs.Prelude.{Result, Ok, Err, ℤ, IsErrAnd, ◌⊎◌, max}
-use Rattle.std.specs.Io.KnownBytes.{Appends, Keeps}
+use Rattle.std.specs.Io.KnownBytes.{Appends, Keeps, Consumes}
 use Rattle.std.proofs.KnownBytes.{Appends-nil, Appends-trans, Appends-kept, Consumes-nil}
 use Rattle.model.specs.Rows.{Rows}
 use Rattle.frames.specs.declared.fault.FrameFault.{FrameFault}
@@ -9,15 +9,16 @@ use Rattle.frames.specs.declared.fault.FrameFault.TheVariants as frames
 use Rattle.frames.specs.declared.item.CopyItem.{CopyItem}
 use Rattle.frames.specs.Device.{HasFailed, HasWorked, HasFailedLast}
 use Rattle.frames.specs.Status.{status_frame}
+use Rattle.frames.specs.Stream.{copy_items}
 use Rattle.session.specs.State.{Setting}
 use Rattle.run.specs.declared.end.End.{End}
 use Rattle.run.specs.declared.end.End.TheVariants as ends
 use Rattle.run.specs.Clock.{Ticks}
 use Rattle.run.specs.Ends.{end_of_frame}
 use Rattle.run.specs.Progress.{Progress, Handles, Leads, start_progress, Update, update, status_bytes}
-use Rattle.run.specs.Cause.{LastStep, HasGoneWell, LastIsCut, IsSendCause, IsInputCause}
+use Rattle.run.specs.Cause.{LastStep, HasGoneWell, LastIsCut, IsSendCause}
 use Rattle.run.specs.Devices.{DeviceState}
-use Rattle.run.specs.Handler.{IsUnderWay, EndsByItem, HasHandled, HasTold, HasCome, StopsAt, AnswersItem}
+use Rattle.run.specs.Handler.{IsUnderWay, EndsByItem, HasHandled, HasTold, HasCome, StopsRun, AnswersItem}
 use Rattle.frames.proofs.Handed.{Reads-nothing}
 use Rattle.run.specs.StreamPart.{StreamPart}
 
@@ -51,6 +52,29 @@ nothing_handled g devices = record {
   told = Ticks-nil devices.times;
   counted = refl;
 }
+
+-- the part of a stream that was handled, where all status updates were sent
+abbrev pub part_so : (g : Setting) (old new : DeviceState) (bytes : List ℕ) → Consumes old.unread new.unread bytes
+    → (handled rest : List CopyItem) → handled ++ rest ≡ copy_items bytes → (p : Progress)
+    → Leads g start_progress handled p → HasTold old new p.updates → StreamPart g old new
+part_so g old new bytes read handled rest items p lawful told = record {
+  bytes = bytes;
+  read = read;
+  handled = handled;
+  rest = rest;
+  items = items;
+  progress = p;
+  lawful = lawful;
+  times = told.times;
+  told = told.told;
+  counted = told.counted;
+}
+
+pub well_so : (g : Setting) (old new : DeviceState) (bytes : List ℕ) (read : Consumes old.unread new.unread bytes)
+    (handled rest : List CopyItem) (items : handled ++ rest ≡ copy_items bytes) (p : Progress)
+    (lawful : Leads g start_progress handled p) (told : HasTold old new p.updates) → HasWorked old.reader new.reader
+    → HasGoneWell (part_so g old new bytes read handled rest items p lawful told)
+well_so g old new bytes read handled rest items p lawful told works = record { read = works; sent = (told.works, told.sent) }
 
 -- the frame of an update at a time
 abbrev pub frame_at : Update → ℤ → List ℕ
@@ -132,37 +156,44 @@ module _ {H : Type 0} (g : Setting) (IsAt : H → Progress → Type 0) (HasEnded
 
   -- ---- an item ended the run
 
-  -- nothing has clashed or failed so far
-  pub gone_well : (old new : DeviceState) (a : H) (handled : List CopyItem) (come : HasCome g IsAt HasEnded old new a handled)
-      → HasGoneWell g (IsAt a come.progress) old new handled come.progress come.told.times
-  gone_well old new a handled come = record { clear = come.at; read = come.read; sent = (come.told.works, come.told.sent) }
+  -- the part of these bytes that was handled so far
+  abbrev pub part_come : (old new : DeviceState) (a : H) (bytes : List ℕ) → Consumes old.unread new.unread bytes
+      → (handled rest : List CopyItem) → handled ++ rest ≡ copy_items bytes → HasCome g IsAt HasEnded old new a handled
+      → StreamPart g old new
+  part_come old new a bytes read handled rest items come =
+      part_so g old new bytes read handled rest items come.progress come.lawful come.told
+
+  -- nothing has failed so far
+  pub gone_well : (old new : DeviceState) (a : H) (bytes : List ℕ) (read : Consumes old.unread new.unread bytes)
+      (handled rest : List CopyItem) (items : handled ++ rest ≡ copy_items bytes)
+      (come : HasCome g IsAt HasEnded old new a handled)
+      → HasGoneWell (part_come old new a bytes read handled rest items come)
+  gone_well old new a bytes read handled rest items come =
+      well_so g old new bytes read handled rest items come.progress come.lawful come.told come.read
 
   pub stopped : (old new : DeviceState) (a b : H) (handled : List CopyItem) (item : CopyItem) (result : Result (Unit {0}) End) (end : End) (come : HasCome g IsAt HasEnded old new a handled)
       → EndsByItem g IsAt HasEnded b handled come.progress item end → IsErrAnd result (λ e. e ≡ end) → AnswersItem g IsAt HasEnded old new b handled item result
   stopped old new a b handled item (Ok u) end come why is = absurd is
-  stopped old new a b handled item (Err e) end come (inl why) is =
-      inl (λ more.
-      subst (StopsAt g IsAt HasEnded old new b handled (item ∷ more)) (sym is)
-      (record {
-        progress = come.progress;
-        lawful = come.lawful;
-        times = come.told.times;
-        told = come.told.told;
-        counted = come.told.counted;
-        why = inl (record { ended = why more; read = come.read; sent = (come.told.works, come.told.sent) });
-      }))
-  stopped old new a b handled item (Err e) end come (inr (q, handles, same, why)) is =
+  stopped old new a b handled item (Err e) end come (inl why) is = λ more.
+      subst (StopsRun g IsAt HasEnded old new b (handled ++ item ∷ more)) (sym is)
+      (λ bytes read items.
+      record {
+        part = part_come old new a bytes read handled (item ∷ more) items come;
+        why = inl (record { ended = why more; well = gone_well old new a bytes read handled (item ∷ more) items come });
+      })
+  stopped old new a b handled item (Err e) end come (inr (q, handles, same, why)) is = λ more.
       let told = subst (HasTold old new) (sym same) come.told in
-      inr (λ more.
-      subst (StopsAt g IsAt HasEnded old new b (handled ++ item ∷ []) more) (sym is)
-      (record {
-        progress = q;
-        lawful = Leads-more g start_progress come.progress q handled item come.lawful handles;
-        times = told.times;
-        told = told.told;
-        counted = told.counted;
-        why = inl (record { ended = why more; read = come.read; sent = (told.works, told.sent) });
-      }))
+      let lawful = Leads-more g start_progress come.progress q handled item come.lawful handles in
+      subst (StopsRun g IsAt HasEnded old new b (handled ++ item ∷ more)) (sym is)
+      (λ bytes read items.
+      let all : (handled ++ item ∷ []) ++ more ≡ copy_items bytes = append_assoc handled (item ∷ []) more ∙ items in
+      record {
+        part = part_so g old new bytes read (handled ++ item ∷ []) more all q lawful told;
+        why = inl (record {
+          ended = why more;
+          well = well_so g old new bytes read (handled ++ item ∷ []) more all q lawful told come.read;
+        });
+      })
 
 -- the update could not be sent
 module _ {H : Type 0} (g : Setting) (IsAt : H → Progress → Type 0) (HasEnded : H → List CopyItem → Progress → List CopyItem → End → Type 0) (old mid new : DeviceState) (a b : H) (handled : List CopyItem) (item : CopyItem) (time : ℤ)
@@ -182,28 +213,44 @@ module _ {H : Type 0} (g : Setting) (IsAt : H → Progress → Type 0) (HasEnded
   read_on : HasWorked old.reader new.reader
   read_on = subst (HasWorked old.reader) (sym reader) come.read
 
-  -- all before it were sent, and this part of it
-  abbrev cut_at : (part left : List ℕ) → frame_at (update h.progress.state h.progress.seen) time ≡ part ++ left → Appends mid.sent new.sent part → LastIsCut g old new all h.progress (ts ++ time ∷ [])
-  cut_at part left frame went = record {
-    last = with_item g handled item come.progress h.progress come.lawful h.handles;
-    update = update h.progress.state h.progress.seen;
-    due = h.updates;
-    part = part;
-    unsent = left;
-    frame = but_last come.progress.updates h.progress.updates ts (update h.progress.state h.progress.seen) time part left h.updates come.told.counted frame;
-    sent = subst (λ bs. Appends old.sent new.sent (bs ++ part)) (sym (status_bytes-longer come.progress.updates ts (time ∷ []) come.told.counted))
-        (Appends-trans old.sent mid.sent new.sent (status_bytes come.progress.updates ts) part come.told.sent went);
-  }
-
-  stops_there : (end : End) (more : List CopyItem) → IsSendCause g (IsAt b h.progress) old new all h.progress (ts ++ time ∷ []) end → StopsAt g IsAt HasEnded old new b all more end
-  stops_there end more why = record {
+  -- the part of the stream that was handled, with the item
+  abbrev there : (bytes : List ℕ) → Consumes old.unread new.unread bytes → (more : List CopyItem)
+      → handled ++ item ∷ more ≡ copy_items bytes → StreamPart g old new
+  there bytes read more items = record {
+    bytes = bytes;
+    read = read;
+    handled = all;
+    rest = more;
+    items = append_assoc handled (item ∷ []) more ∙ items;
     progress = h.progress;
     lawful = Leads-more g start_progress come.progress h.progress handled item come.lawful h.handles;
     times = ts ++ time ∷ [];
     told = Ticks-trans old.times mid.times new.times ts (time ∷ []) come.told.told ticks;
     counted = counted;
-    why = inr why;
   }
+
+  -- all before it were sent, and this of it
+  abbrev cut_at : (bytes : List ℕ) (read : Consumes old.unread new.unread bytes) (more : List CopyItem)
+      (items : handled ++ item ∷ more ≡ copy_items bytes) (taken left : List ℕ)
+      → frame_at (update h.progress.state h.progress.seen) time ≡ taken ++ left → Appends mid.sent new.sent taken
+      → LastIsCut (there bytes read more items)
+  cut_at bytes read more items taken left frame went = record {
+    last = with_item g handled item come.progress h.progress come.lawful h.handles;
+    update = update h.progress.state h.progress.seen;
+    due = h.updates;
+    taken = taken;
+    unsent = left;
+    frame = but_last come.progress.updates h.progress.updates ts (update h.progress.state h.progress.seen) time taken left h.updates come.told.counted frame;
+    sent = subst (λ bs. Appends old.sent new.sent (bs ++ taken)) (sym (status_bytes-longer come.progress.updates ts (time ∷ []) come.told.counted))
+        (Appends-trans old.sent mid.sent new.sent (status_bytes come.progress.updates ts) taken come.told.sent went);
+  }
+
+  stops_there : (end : End) (more : List CopyItem)
+      → ((bytes : List ℕ) (read : Consumes old.unread new.unread bytes) (items : handled ++ item ∷ more ≡ copy_items bytes)
+      → IsSendCause (there bytes read more items) end)
+      → StopsRun g IsAt HasEnded old new b (handled ++ item ∷ more) end
+  stops_there end more why = λ bytes read items.
+      record { part = there bytes read more items; why = inr (h.at, inl (why bytes read items)) }
 
   pub unsent : (written flushed applied : ℕ) (result : Result (Unit {0}) End) (fault : FrameFault) → (fault ≡ frames.Device) ⊎ (fault ≡ frames.OutOfMemory)
       → (fault ≡ frames.Device → HasFailedLast mid.writer new.writer) → (fault ≡ frames.OutOfMemory → HasWorked mid.writer new.writer × Keeps mid.sent new.sent)
@@ -215,27 +262,24 @@ module _ {H : Type 0} (g : Setting) (IsAt : H → Progress → Type 0) (HasEnded
       let went = part device in
       let fails = failed device in
       let frame : frame_at (update h.progress.state h.progress.seen) time ≡ went.0 ++ went.1 = frame_of h.progress written flushed applied time is_written is_flushed is_applied ∙ went.2 in
-      inr (λ more.
-      subst (StopsAt g IsAt HasEnded old new b all more) (sym (is ∙ ap end_of_frame device))
+      λ more.
+      subst (StopsRun g IsAt HasEnded old new b (handled ++ item ∷ more)) (sym (is ∙ ap end_of_frame device))
       (stops_there (ends.Frame frames.Device) more
-      (record { clear = h.at; read = read_on; failed = (subst (λ n. HasFailed n new.writer.failures) come.told.works fails.0, fails.1); cut = cut_at went.0 went.1 frame went.3 })))
+      (λ bytes read items.
+      record {
+        read = read_on;
+        failed = (subst (λ n. HasFailed n new.writer.failures) come.told.works fails.0, fails.1);
+        cut = cut_at bytes read more items went.0 went.1 frame went.3;
+      }))
   unsent written flushed applied (Err e) fault (inr memory) failed kept part is_written is_flushed is_applied is =
       let was = kept memory in
-      inr (λ more.
-      subst (StopsAt g IsAt HasEnded old new b all more) (sym (is ∙ ap end_of_frame memory))
+      λ more.
+      subst (StopsRun g IsAt HasEnded old new b (handled ++ item ∷ more)) (sym (is ∙ ap end_of_frame memory))
       (stops_there ends.OutOfMemory more
-      (record { clear = h.at; read = read_on; written = was.0 ∙ come.told.works; cut = cut_at [] (frame_at (update h.progress.state h.progress.seen) time) refl (Appends-kept mid.sent mid.sent new.sent [] (Appends-nil mid.sent) was.1); nothing = refl })))
-
--- what an update that was due, or the input, says is clear where it ended a run
-module _ (g : Setting) (Clear : Type 0) (old new : DeviceState) (handled : List CopyItem) (p : Progress) (times : List ℤ) where
-  pub clear_at_send : (end : End) → IsSendCause g Clear old new handled p times end → Clear
-  clear_at_send (ends.Frame frames.Device) why = why.clear
-  clear_at_send ends.OutOfMemory why = why.clear
-  clear_at_send end why = absurd why
-
-  pub clear_at_input : (bytes : List ℕ) (rest : List CopyItem) (end : End) → IsInputCause g Clear old new handled p times bytes rest end → Clear
-  clear_at_input bytes rest ends.Clean why = why.well.clear
-  clear_at_input bytes rest (ends.Frame frames.Device) why = why.clear
-  clear_at_input bytes rest (ends.Frame f) why = why.well.clear
-  clear_at_input bytes rest ends.OutOfMemory why = why.clear
-  clear_at_input bytes rest end why = absurd why
+      (λ bytes read items.
+      record {
+        read = read_on;
+        written = was.0 ∙ come.told.works;
+        cut = cut_at bytes read more items [] (frame_at (update h.progress.state h.progress.seen) time) refl (Appends-kept mid.sent mid.sent new.sent [] (Appends-nil mid.sent) was.1);
+        nothing = refl;
+      }))

@@ -1,14 +1,14 @@
 -- Why a run without threads ends.
 --     LastStep      the last item that was handled, and what the others led to
+--     RefusesNext, NextClashes      what the next message ends a run by
+--     IsNextCause, IsLastCause      why the next item ends it; why the last does, which was handled
 --     AreAllSent, LastIsCut      which status updates went out: all, or all but a part of the last
---     HasGoneWell      all is clear, and no device failed
+--     HasGoneWell      no device failed
 --     CouldNotSend, HadNoMemoryToSend, IsSendCause      an update that was due ends a run
 --     CouldNotRead, IsOver, IsInputCause      the input ends it
---     HasNotClashed      without threads all is clear where no change clashed
---     RefusesNext, NextClashes, LastClashed      what the next message, or the last item, ends a run by
---     IsNextCause, IsLastCause, IsItemCause      why an item ends it: one that is not handled; one that is; either
+--     HasNotClashed, LastClashed      no change clashed; one that the last item brought did
 --     IsCause      why a run ends, for each end
-use Rattle.std.specs.Prelude.{◌≡◌, ℕ, true, List, [], ◌∷◌, ◌++◌, map, Option, Some, None, ℤ, ◌⊎◌}
+use Rattle.std.specs.Prelude.{◌≡◌, ℕ, true, List, [], ◌∷◌, ◌++◌, map, Option, Some, None, ◌⊎◌}
 use Rattle.std.specs.Io.KnownBytes.{Appends}
 use Rattle.model.specs.Rows.{Rows, Schema, keys_of}
 use Rattle.change.specs.declared.outcome.Clash.{Clash}
@@ -32,6 +32,7 @@ use Rattle.model.specs.Accepted.{AreAccepted}
 use Rattle.run.specs.Commits.{committed_changes, all_changes}
 use Rattle.run.specs.Devices.{DeviceState}
 use Rattle.run.specs.Progress.{Progress, start_progress, commits_from, Handles, Leads, Update, status_bytes}
+use Rattle.run.specs.StreamPart.{StreamPart}
 
 -- the keys' columns of each table of the catalog
 abbrev pub schema_of : Setting → Schema
@@ -73,7 +74,8 @@ IsNextCause g rows s rest (ends.Frame fault) = ⊥
 IsNextCause g rows s rest (ends.Msg fault) = RefusesNext g s rest (refusals.Msg fault)
 IsNextCause g rows s rest (ends.Session fault) = RefusesNext g s rest (refusals.Session fault)
 IsNextCause g rows s rest (ends.Rel fault) = RefusesNext g s rest (refusals.Rel fault)
-IsNextCause g rows s rest (ends.Unique table key) = NextClashes g rows s rest (clashes.Unique table key)
+IsNextCause g rows s rest (ends.Unique table key) =
+    NextClashes g rows s rest (clashes.Unique table key)
 IsNextCause g rows s rest (ends.NullKey table) = NextClashes g rows s rest (clashes.NullKey table)
 -- without threads no transaction holds what another needs
 IsNextCause g rows s rest (ends.HeldKey xid holder) = ⊥
@@ -81,52 +83,54 @@ IsNextCause g rows s rest ends.OutOfMemory = Unit {0}
 
 -- ---- what the last item did
 
--- Why a run ends behind the item that led to this state: it brought a change into the transaction that was begun, the
--- first that clashes, and it clashes so.
+-- Why a run ends behind the item that led to this state: it brought a change into the transaction
+-- that was begun, the first that clashes, and it clashes so.
 abbrev pub IsLastCause : Setting → Rows → State → End → Type 0
-IsLastCause g rows s (ends.Unique table key) = ClashesIn (schema_of g) rows (all_changes s) (clashes.Unique table key)
-IsLastCause g rows s (ends.NullKey table) = ClashesIn (schema_of g) rows (all_changes s) (clashes.NullKey table)
+IsLastCause g rows s (ends.Unique table key) =
+    ClashesIn (schema_of g) rows (all_changes s) (clashes.Unique table key)
+IsLastCause g rows s (ends.NullKey table) =
+    ClashesIn (schema_of g) rows (all_changes s) (clashes.NullKey table)
 IsLastCause g rows s end = ⊥
 
--- ---- a run that handled these items, which led to this progress
+-- ---- a run that handled this part of its stream
 
-module _ (g : Setting) (old new : DeviceState) (handled : List CopyItem) (p : Progress) (times : List ℤ) where
+module _ {g : Setting} {old new : DeviceState} (part : StreamPart g old new) where
   -- All status updates were sent, and the writer never failed.
   abbrev pub AreAllSent : Type 0
-  AreAllSent = HasWorked old.writer new.writer × Appends old.sent new.sent (status_bytes p.updates times)
+  AreAllSent =
+      HasWorked old.writer new.writer
+      × Appends old.sent new.sent (status_bytes part.progress.updates part.times)
 
-  -- All status updates but the last were sent, which the last item brought, and of that one this part.
+  -- All status updates but the last were sent, which the last item brought, and of that one the
+  -- writer took this.
   pub record LastIsCut : Type 0 where
-    pub last : LastStep g handled p
+    pub last : LastStep g part.handled part.progress
     pub update : Update
-    pub due : p.updates ≡ last.past.updates ++ update ∷ []
-    pub part : List ℕ
+    pub due : part.progress.updates ≡ last.past.updates ++ update ∷ []
+    pub taken : List ℕ
     pub unsent : List ℕ
-    pub frame : status_bytes p.updates times ≡ status_bytes last.past.updates times ++ part ++ unsent
-    pub sent : Appends old.sent new.sent (status_bytes last.past.updates times ++ part)
+    pub frame : status_bytes part.progress.updates part.times
+        ≡ status_bytes last.past.updates part.times ++ taken ++ unsent
+    pub sent : Appends old.sent new.sent (status_bytes last.past.updates part.times ++ taken)
 
--- where, beside the devices, this says that all is clear
-module _ (g : Setting) (Clear : Type 0) (old new : DeviceState) (handled : List CopyItem) (p : Progress) (times : List ℤ) where
-  -- All is clear, no read failed, and all status updates were sent.
+  -- No device failed, and all status updates were sent.
   pub record HasGoneWell : Type 0 where
-    pub clear : Clear
     pub read : HasWorked old.reader new.reader
-    pub sent : AreAllSent g old new handled p times
+    pub sent : AreAllSent
 
-  -- The update that the last item brought could not be sent: the writer failed in its last call, and never before.
+  -- The update that the last item brought could not be sent: the writer failed in its last call, and
+  -- never before.
   pub record CouldNotSend : Type 0 where
-    pub clear : Clear
     pub read : HasWorked old.reader new.reader
     pub failed : HasFailedLast old.writer new.writer
-    pub cut : LastIsCut g old new handled p times
+    pub cut : LastIsCut
 
   -- Memory was refused for the update that the last item brought, of which nothing was sent.
   pub record HadNoMemoryToSend : Type 0 where
-    pub clear : Clear
     pub read : HasWorked old.reader new.reader
     pub written : HasWorked old.writer new.writer
-    pub cut : LastIsCut g old new handled p times
-    pub nothing : cut.part ≡ []
+    pub cut : LastIsCut
+    pub nothing : cut.taken ≡ []
 
   -- Why an update that was due ends the run.
   abbrev pub IsSendCause : End → Type 0
@@ -135,52 +139,50 @@ module _ (g : Setting) (Clear : Type 0) (old new : DeviceState) (handled : List 
   IsSendCause end = ⊥
 
   -- The reader failed in its last call, and never before; all items of what it gave were handled.
-  pub record CouldNotRead (rest : List CopyItem) : Type 0 where
-    pub clear : Clear
-    pub all_handled : rest ≡ []
+  pub record CouldNotRead : Type 0 where
+    pub all_handled : part.rest ≡ []
     pub failed : HasFailedLast old.reader new.reader
-    pub sent : AreAllSent g old new handled p times
+    pub sent : AreAllSent
 
-  -- The input is over: all items were handled, and this is the fault of an input that ends here, if there is one.
-  pub record IsOver (bytes : List ℕ) (rest : List CopyItem) (why : Option FrameFault) : Type 0 where
+  -- The input is over: all items were handled, and this is the fault of an input that ends here, if
+  -- there is one.
+  pub record IsOver (why : Option FrameFault) : Type 0 where
     pub well : HasGoneWell
-    pub all_handled : rest ≡ []
-    pub fault : fault_at_end (ending_of bytes) ≡ why
-    pub asked : AtEndOf (ending_of bytes) new.unread
+    pub all_handled : part.rest ≡ []
+    pub fault : fault_at_end (ending_of part.bytes) ≡ why
+    pub asked : AtEndOf (ending_of part.bytes) new.unread
 
-  -- Why the input ends the run, with these items of its bytes left.
-  abbrev pub IsInputCause : List ℕ → List CopyItem → End → Type 0
-  IsInputCause bytes rest ends.Clean = IsOver bytes rest None
-  IsInputCause bytes rest (ends.Frame Device) = CouldNotRead rest
-  IsInputCause bytes rest (ends.Frame fault) = IsOver bytes rest (Some fault)
-  IsInputCause bytes rest ends.OutOfMemory = HasGoneWell
-  IsInputCause bytes rest end = ⊥
+  -- Why the input ends the run.
+  abbrev pub IsInputCause : End → Type 0
+  IsInputCause ends.Clean = IsOver None
+  IsInputCause (ends.Frame Device) = CouldNotRead
+  IsInputCause (ends.Frame fault) = IsOver (Some fault)
+  IsInputCause ends.OutOfMemory = HasGoneWell
+  IsInputCause end = ⊥
 
--- without threads
-module _ (g : Setting) (rows : Rows) (old new : DeviceState) (handled : List CopyItem) (p : Progress) (times : List ℤ) where
+-- This table is for a run without threads, at its first cause; `IsThreadedCause` of `run_laws` is
+-- for one with workers. Two are kept on purpose, tied by the laws `run_is_without_workers`,
+-- `ends_at_first_cause` and `first_cause_is_without_threads` there.
+module _ {g : Setting} {old new : DeviceState} (rows : Rows) (part : StreamPart g old new) where
   -- No change clashed.
   abbrev pub HasNotClashed : Type 0
-  HasNotClashed = AreAccepted (schema_of g) rows (all_changes p.state)
+  HasNotClashed = AreAccepted (schema_of g) rows (all_changes part.progress.state)
 
-  -- A change that the last item brought into the transaction that was begun clashed, the first that did; it was not
-  -- committed.
+  -- A change that the last item brought into the transaction that was begun clashed, the first that
+  -- did; it was not committed.
   pub record LastClashed (end : End) : Type 0 where
-    pub last : LastStep g handled p
+    pub last : LastStep g part.handled part.progress
     pub clear : AreAccepted (schema_of g) rows (all_changes last.past.state)
-    pub committed : AreAccepted (schema_of g) rows (committed_changes p.state)
-    pub why : IsLastCause g rows p.state end
-    pub read : HasWorked old.reader new.reader
-    pub sent : AreAllSent g old new handled p times
+    pub committed : AreAccepted (schema_of g) rows (committed_changes part.progress.state)
+    pub why : IsLastCause g rows part.progress.state end
+    pub well : HasGoneWell part
 
-  -- Why an item, or the update behind it, ends the run, with these items left.
-  abbrev pub IsItemCause : List CopyItem → End → Type 0
-  IsItemCause rest (ends.Frame Device) = CouldNotSend g HasNotClashed old new handled p times
-  IsItemCause rest ends.OutOfMemory = HasGoneWell g HasNotClashed old new handled p times ⊎ HadNoMemoryToSend g HasNotClashed old new handled p times
-  IsItemCause rest end = (HasGoneWell g HasNotClashed old new handled p times × IsNextCause g rows p.state rest end) ⊎ LastClashed end
-
-  -- Why a run over these bytes ends, with these items left.
-  abbrev pub IsCause : List ℕ → List CopyItem → End → Type 0
-  IsCause bytes rest ends.Clean = IsOver g HasNotClashed old new handled p times bytes rest None
-  IsCause bytes rest (ends.Frame Device) = CouldNotRead g HasNotClashed old new handled p times rest ⊎ CouldNotSend g HasNotClashed old new handled p times
-  IsCause bytes rest (ends.Frame fault) = IsOver g HasNotClashed old new handled p times bytes rest (Some fault)
-  IsCause bytes rest end = IsItemCause rest end
+  -- Why a run ends.
+  abbrev pub IsCause : End → Type 0
+  IsCause ends.Clean = HasNotClashed × IsOver part None
+  IsCause (ends.Frame Device) = HasNotClashed × (CouldNotRead part ⊎ CouldNotSend part)
+  IsCause (ends.Frame fault) = HasNotClashed × IsOver part (Some fault)
+  IsCause ends.OutOfMemory = HasNotClashed × (HasGoneWell part ⊎ HadNoMemoryToSend part)
+  IsCause end =
+      (HasNotClashed × HasGoneWell part × IsNextCause g rows part.progress.state part.rest end)
+      ⊎ LastClashed end

@@ -2,12 +2,12 @@
 --     HasTaken      a message was taken
 --     HasHandled, EndsByItem, HandlesItem      an item was handled, or it ended the run
 --     HasTold      the status updates so far were sent
---     HasCome, StopsAt      the items so far were handled; they were, and the run ends there
+--     IsUnderWay, HasCome      some items were handled; these were
+--     IsEnded, IsRunOver, StopsRun      an item ended the run; it is over
 --     AnswersItem, HandlesKept      what came of one item more, and of all that were kept of the bytes
---     IsUnderWay      some items were handled
---     end_of_result, IsRunOver      the end that an answer says; the run is over
+--     end_of_result      the end that an answer says
 use Rattle.std.specs.Prelude.{◌≡◌, ℕ, ℤ, Bool, List, [], ◌∷◌, ◌++◌, length, Result, Ok, Err, MatchResult, ◌⊎◌}
-use Rattle.std.specs.Io.KnownBytes.{Appends}
+use Rattle.std.specs.Io.KnownBytes.{Appends, Consumes}
 use Rattle.model.specs.Rows.{Rows}
 use Rattle.frames.specs.declared.item.CopyItem.{CopyItem}
 use Rattle.frames.specs.Device.{HasWorked}
@@ -20,7 +20,7 @@ use Rattle.run.specs.declared.end.End.{End}
 use Rattle.run.specs.declared.end.End.TheVariants as ends
 use Rattle.run.specs.Progress.{Progress, Handles, Leads, start_progress, Update, due_updates, commits_from, status_bytes}
 use Rattle.run.specs.Clock.{Ticks}
-use Rattle.run.specs.Cause.{AreAllSent, IsSendCause, IsInputCause}
+use Rattle.run.specs.Cause.{HasGoneWell, IsSendCause, IsInputCause}
 use Rattle.run.specs.Devices.{DeviceState}
 use Rattle.run.specs.StreamPart.{StreamPart}
 
@@ -40,10 +40,13 @@ end_of_result (Err end) = end
 -- The handler stands at a progress to which some items led.
 abbrev pub IsUnderWay : {H : Type 0} → (Setting → Rows → H → Progress → Type 0) → H → Type 0
 IsUnderWay IsAt h =
-    (g : Setting) × (rows : Rows) × (handled : List CopyItem) × (p : Progress) × Leads g start_progress handled p × IsAt g rows h p
+    (g : Setting) × (rows : Rows) × (handled : List CopyItem) × (p : Progress)
+    × Leads g start_progress handled p × IsAt g rows h p
 
--- A message was taken, which led to this progress, at which whatever took it stands. Whether it commits is answered.
-pub record HasTaken (g : Setting) (IsAt : Progress → Type 0) (p : Progress) (payload : List ℕ) (is_commit : Bool) : Type 0 where
+-- A message was taken, which led to this progress, at which whatever took it stands. Whether it
+-- commits is answered.
+pub record HasTaken (g : Setting) (IsAt : Progress → Type 0) (p : Progress) (payload : List ℕ)
+    (is_commit : Bool) : Type 0 where
   pub message : Message
   pub progress : Progress
   pub admits : Admits g p.state payload message progress.state
@@ -52,9 +55,10 @@ pub record HasTaken (g : Setting) (IsAt : Progress → Type 0) (p : Progress) (p
   pub updates : progress.updates ≡ p.updates ++ due_updates is_commit progress.state progress.seen
   pub at : IsAt progress
 
--- The handler stands at a progress; or it ended a run so, these items handled, which led to this progress, with those
--- left. What it says by this is its own.
-module _ {H : Type 0} (g : Setting) (IsAt : H → Progress → Type 0) (HasEnded : H → List CopyItem → Progress → List CopyItem → End → Type 0) where
+-- The handler stands at a progress; or it ended a run so, these items handled, which led to this
+-- progress, with those left. What it says by this is its own.
+module _ {H : Type 0} (g : Setting) (IsAt : H → Progress → Type 0)
+    (HasEnded : H → List CopyItem → Progress → List CopyItem → End → Type 0) where
   -- ---- an item
 
   -- The item was handled. Whether an update is due is answered.
@@ -73,7 +77,8 @@ module _ {H : Type 0} (g : Setting) (IsAt : H → Progress → Type 0) (HasEnded
 
   -- The item was handled behind those, or it ended the run.
   abbrev pub HandlesItem : H → List CopyItem → Progress → CopyItem → Result Bool End → Type 0
-  HandlesItem h handled p item result = MatchResult result (HasHandled h p item) (EndsByItem h handled p item)
+  HandlesItem h handled p item result =
+      MatchResult result (HasHandled h p item) (EndsByItem h handled p item)
 
   -- ---- the items so far
 
@@ -85,36 +90,36 @@ module _ {H : Type 0} (g : Setting) (IsAt : H → Progress → Type 0) (HasEnded
     pub read : HasWorked old.reader new.reader
     pub told : HasTold old new progress.updates
 
-  -- An item ended a run so, while no device failed and all updates were sent.
-  pub record IsEnded (old new : DeviceState) (h : H) (handled : List CopyItem) (p : Progress) (times : List ℤ) (rest : List CopyItem) (end : End) : Type 0 where
-    pub ended : HasEnded h handled p rest end
-    pub read : HasWorked old.reader new.reader
-    pub sent : AreAllSent g old new handled p times
+  -- An item ended the run so, while no device failed and all updates were sent.
+  pub record IsEnded {old new : DeviceState} (h : H) (part : StreamPart g old new) (end : End)
+      : Type 0 where
+    pub ended : HasEnded h part.handled part.progress part.rest end
+    pub well : HasGoneWell part
 
-  -- These items were handled, and an item, or the update behind the last, ends the run here, with those left.
-  pub record StopsAt (old new : DeviceState) (h : H) (handled rest : List CopyItem) (end : End) : Type 0 where
-    pub progress : Progress
-    pub lawful : Leads g start_progress handled progress
-    pub times : List ℤ
-    pub told : Ticks old.times new.times times
-    pub counted : length times ≡ length progress.updates
-    pub why : IsEnded old new h handled progress times rest end ⊎ IsSendCause g (IsAt h progress) old new handled progress times end
-
-  -- An item more was handled, or ended the run before or after it was.
-  abbrev pub AnswersItem : DeviceState → DeviceState → H → List CopyItem → CopyItem → Result (Unit {0}) End → Type 0
-  AnswersItem old new h handled item result =
-      MatchResult result (λ _. HasCome old new h (handled ++ item ∷ []))
-      (λ end. ((more : List CopyItem) → StopsAt old new h handled (item ∷ more) end) ⊎ ((more : List CopyItem) → StopsAt old new h (handled ++ item ∷ []) more end))
-
-  -- All items that were kept of these bytes were handled, or one of them ended the run.
-  abbrev pub HandlesKept : DeviceState → DeviceState → H → List ℕ → Reading → Result (Unit {0}) End → Type 0
-  HandlesKept old new h bytes kept result =
-      MatchResult result (λ _. (handled : List CopyItem) × HasCome old new h handled × HasRead bytes handled kept)
-      (λ end. (handled : List CopyItem) × (rest : List CopyItem) × (handled ++ rest ≡ copy_items bytes) × StopsAt old new h handled rest end)
-
-  -- The run is over, with these items of the bytes left: an item ended it, an update that was due, or the input.
+  -- The run is over: an item ended it; or it goes on from where the handler stands, and an update that
+  -- was due ends it, or the input.
   pub record IsRunOver (old new : DeviceState) (h : H) (end : End) : Type 0 where
     pub part : StreamPart g old new
-    pub why : IsEnded old new h part.handled part.progress part.times part.rest end
-        ⊎ (IsSendCause g (IsAt h part.progress) old new part.handled part.progress part.times end
-        ⊎ IsInputCause g (IsAt h part.progress) old new part.handled part.progress part.times part.bytes part.rest end)
+    pub why : IsEnded h part end
+        ⊎ (IsAt h part.progress × (IsSendCause part end ⊎ IsInputCause part end))
+
+  -- The run is over, whatever bytes it has read of which these are the items.
+  abbrev pub StopsRun : DeviceState → DeviceState → H → List CopyItem → End → Type 0
+  StopsRun old new h items end =
+      (bytes : List ℕ) → Consumes old.unread new.unread bytes → items ≡ copy_items bytes
+      → IsRunOver old new h end
+
+  -- An item more was handled, or the run is over, with whatever comes behind the item.
+  abbrev pub AnswersItem : DeviceState → DeviceState → H → List CopyItem → CopyItem
+      → Result (Unit {0}) End → Type 0
+  AnswersItem old new h handled item result =
+      MatchResult result (λ _. HasCome old new h (handled ++ item ∷ []))
+      (λ end. (more : List CopyItem) → StopsRun old new h (handled ++ item ∷ more) end)
+
+  -- All items that were kept of these bytes were handled; or the run is over, where it has read these.
+  abbrev pub HandlesKept : DeviceState → DeviceState → H → List ℕ → Reading
+      → Result (Unit {0}) End → Type 0
+  HandlesKept old new h bytes kept result =
+      MatchResult result
+      (λ _. (handled : List CopyItem) × HasCome old new h handled × HasRead bytes handled kept)
+      (λ end. Consumes old.unread new.unread bytes → IsRunOver old new h end)

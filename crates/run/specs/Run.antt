@@ -16,7 +16,7 @@ use Rattle.run.specs.StreamPart.{StreamPart}
 -- them, applied in their order.
 pub record IsRun (g : Setting) (rows : Rows) (old new : DeviceState) (o : Outcome) : Type 0 where
   pub part : StreamPart g old new
-  pub cause : IsCause g rows old new part.handled part.progress part.times part.bytes part.rest o.end
+  pub cause : IsCause rows part o.end
   pub journal : map entry_in o.journal.items ≡ commits part.progress.state
   pub position : o.position ≡ last_end (commit_ends part.progress.state.past)
   pub tables : o.tables.rows ≡ serial (schema_of g) rows (committed_changes part.progress.state)

@@ -162,9 +162,8 @@ clear_earlier schema rows g q p items sane is clear =
 -- ---- a run
 
 module _ (g : Setting) (rows : Rows) (old new : DeviceState) (o : Outcome) (run : IsRun g rows old new o) where
-  clash : HasNotClashed g rows old new run.part.handled run.part.progress run.part.times
-      ⊎ LastClashed g rows old new run.part.handled run.part.progress run.part.times o.end
-  clash = clear_or_last g rows old new run.part.handled run.part.progress run.part.times run.part.bytes run.part.rest o.end run.cause
+  clash : HasNotClashed rows run.part ⊎ LastClashed rows run.part o.end
+  clash = clear_or_last g rows old new run.part o.end run.cause
 
   by_clash : (end : End) → IsLastCause g rows run.part.progress.state end → o.end ≡ end
   by_clash end is =

@@ -1,6 +1,6 @@
 -- A run without threads is a run with no workers.
 use Rattle.std.proofs.Common.{◌≡◌, ◌≢◌, ℕ, List, [], ◌∷◌, ◌++◌, Option, Some, None, refl, sym, ap, subst, ◌∙◌, append-nil, inl, inr}
-use Rattle.std.specs.Prelude.{map, ℤ, IsSomeAnd}
+use Rattle.std.specs.Prelude.{map, IsSomeAnd}
 use Rattle.std.proofs.lemmas.List.{map-append}
 use Rattle.std.specs.Ordering.{nat_cmp}
 use Rattle.std.specs.FinMap as finite
@@ -12,7 +12,6 @@ use Rattle.model.specs.Rows.{Rows}
 use Rattle.model.specs.Effect.{ClashCause, NullKey, Unique}
 use Rattle.model.specs.Survivors.{survivors}
 use Rattle.model.specs.SurvivorLemmas.{survivors_with}
-use Rattle.frames.specs.declared.fault.FrameFault.{FrameFault}
 use Rattle.frames.specs.declared.fault.FrameFault.TheVariants.{Device}
 use Rattle.frames.specs.declared.item.CopyItem.{CopyItem}
 use Rattle.frames.specs.declared.item.CopyItem.TheVariants.{Wal, Keepalive, Done}
@@ -25,17 +24,18 @@ use Rattle.session.specs.StreamEvents.{StreamEvent, NoEvent, TransactionOpens, I
 use Rattle.run.specs.declared.end.End.{End}
 use Rattle.run.specs.declared.end.End.TheVariants as ends
 use Rattle.run.specs.declared.outcome.Outcome.{Outcome}
-use Rattle.run.specs.Cause.{schema_of, IsNext, IsCause, HasGoneWell, CouldNotSend, HadNoMemoryToSend, CouldNotRead, IsOver, HasNotClashed, LastClashed}
+use Rattle.run.specs.Cause.{schema_of, IsNext, IsCause}
 use Rattle.run.specs.Devices.{DeviceState}
 use Rattle.run.specs.Progress.{Progress, Leads, start_progress}
 use Rattle.run.specs.Run.{IsRun}
+use Rattle.run.specs.StreamPart.{StreamPart}
 use Rattle.world.specs.ListingLemmas.{xid_cases, got_same, got_other, gone_same, gone_other}
 use Rattle.world.specs.World.{Opened, OpenOnes, World}
 use Rattle.run_laws.specs.Begun.{IsSane, open_items, begun_in, begun, Moves}
 use Rattle.run_laws.specs.Course.{committed_past, open_ones, world_at}
 use Rattle.run_laws.specs.Runs.{IsAtMostOne, TellsRun, conflict, CommitsNext, DoesAtCommit, IsTurnOf, IsStoppedBy}
 use Rattle.run_laws.specs.Threads.{work_of, done_by_commit, Does}
-use Rattle.run_laws.specs.ThreadedRun.{Clear, HasConflict, HasWorkedOn, IsThreadedCause, IsThreadedRun}
+use Rattle.run_laws.specs.ThreadedRun.{HasConflict, IsThreadedCause, IsThreadedRun}
 use Rattle.run_laws.proofs.Reaching.{handled_told}
 use Rattle.run_laws.proofs.Running.{none_is, begun_open, run_reached, run_stopped}
 use Rattle.run_laws.proofs.Telling.{same_open, not_there, sane_start}
@@ -283,59 +283,27 @@ module _ (g : Setting) (s : State) (rest : List CopyItem) (sane : IsSane s) (pla
 
 -- ---- why a run ended
 
-module _ (g : Setting) (rows : Rows) (old new : DeviceState) (handled : List CopyItem) (p : Progress)
-    (times : List ℤ) where
-  -- no change clashed
-  abbrev IsQuiet : Type 0
-  IsQuiet = HasNotClashed g rows old new handled p times
-
-  well : HasGoneWell g IsQuiet old new handled p times → HasWorkedOn g old new handled p times
-  well is = record { clear = tt; read = is.read; sent = is.sent }
-
-  well_but : (end : End) → LastClashed g rows old new handled p times end → HasWorkedOn g old new handled p times
-  well_but end is = record { clear = tt; read = is.read; sent = is.sent }
-
-  over : (bytes : List ℕ) (rest : List CopyItem) (why : Option FrameFault)
-      → IsOver g IsQuiet old new handled p times bytes rest why → IsOver g Clear old new handled p times bytes rest why
-  over bytes rest why is =
-      record { well = well is.well; all_handled = is.all_handled; fault = is.fault; asked = is.asked }
-
-  not_read : (rest : List CopyItem) → CouldNotRead g IsQuiet old new handled p times rest
-      → CouldNotRead g Clear old new handled p times rest
-  not_read rest is = record { clear = tt; all_handled = is.all_handled; failed = is.failed; sent = is.sent }
-
-  not_sent : CouldNotSend g IsQuiet old new handled p times → CouldNotSend g Clear old new handled p times
-  not_sent is = record { clear = tt; read = is.read; failed = is.failed; cut = is.cut }
-
-  no_memory : HadNoMemoryToSend g IsQuiet old new handled p times → HadNoMemoryToSend g Clear old new handled p times
-  no_memory is = record { clear = tt; read = is.read; written = is.written; cut = is.cut; nothing = is.nothing }
-
-  module _ (bytes : List ℕ) (rest : List CopyItem) (w : World) (running : w.stopped ≡ None) where
-    threaded_cause : (end : End) → IsCause g rows old new handled p times bytes rest end
-        → ((cause : ClashCause) → conflict end ≡ Some cause → HasConflict g p.state w cause)
-        → IsThreadedCause g old new handled p times bytes rest w end
-    threaded_cause ends.Clean is clashes = (over bytes rest None is, running)
-    threaded_cause (ends.Frame Device) is clashes =
-        elim is [ inl read ↦ inl (not_read rest read) | inr sent ↦ inr (not_sent sent) ]
-    threaded_cause (ends.Frame fault) is clashes = over bytes rest (Some fault) is
-    threaded_cause (ends.Msg fault) is clashes =
-        elim is [ inl next ↦ (well next.0, next.1) | inr last ↦ absurd last.why ]
-    threaded_cause (ends.Session fault) is clashes =
-        elim is [ inl next ↦ (well next.0, next.1) | inr last ↦ absurd last.why ]
-    threaded_cause (ends.Rel fault) is clashes =
-        elim is [ inl next ↦ (well next.0, next.1) | inr last ↦ absurd last.why ]
-    threaded_cause (ends.Unique table key) is clashes = (
-      elim is [ inl next ↦ well next.0 | inr last ↦ well_but (ends.Unique table key) last ],
-      clashes (Unique table key) refl,
-    )
-    threaded_cause (ends.NullKey table) is clashes = (
-      elim is [ inl next ↦ well next.0 | inr last ↦ well_but (ends.NullKey table) last ],
-      clashes (NullKey table) refl,
-    )
-    threaded_cause (ends.HeldKey xid holder) is clashes =
-        elim is [ inl next ↦ absurd next.1 | inr last ↦ absurd last.why ]
-    threaded_cause ends.OutOfMemory is clashes =
-        elim is [ inl memory ↦ inl (well memory) | inr cut ↦ inr (no_memory cut) ]
+module _ (g : Setting) (rows : Rows) (old new : DeviceState) (part : StreamPart g old new) (w : World)
+    (running : w.stopped ≡ None) where
+  threaded_cause : (end : End) → IsCause rows part end
+      → ((cause : ClashCause) → conflict end ≡ Some cause → HasConflict g part.progress.state w cause)
+      → IsThreadedCause part w end
+  threaded_cause ends.Clean is clashes = (is.1, running)
+  threaded_cause (ends.Frame Device) is clashes = is.1
+  threaded_cause (ends.Frame fault) is clashes = is.1
+  threaded_cause (ends.Msg fault) is clashes =
+      elim is [ inl next ↦ (next.1, next.2) | inr last ↦ absurd last.why ]
+  threaded_cause (ends.Session fault) is clashes =
+      elim is [ inl next ↦ (next.1, next.2) | inr last ↦ absurd last.why ]
+  threaded_cause (ends.Rel fault) is clashes =
+      elim is [ inl next ↦ (next.1, next.2) | inr last ↦ absurd last.why ]
+  threaded_cause (ends.Unique table key) is clashes =
+      (elim is [ inl next ↦ next.1 | inr last ↦ last.well ], clashes (Unique table key) refl)
+  threaded_cause (ends.NullKey table) is clashes =
+      (elim is [ inl next ↦ next.1 | inr last ↦ last.well ], clashes (NullKey table) refl)
+  threaded_cause (ends.HeldKey xid holder) is clashes =
+      elim is [ inl next ↦ absurd next.2 | inr last ↦ absurd last.why ]
+  threaded_cause ends.OutOfMemory is clashes = is.1
 
 -- ---- a run
 
@@ -369,9 +337,7 @@ module _ (g : Setting) (rows : Rows) (old new : DeviceState) (o : Outcome) (run 
       part = run.part;
       world = w;
       is_world = record { reached = ∣ tells.reached ∣₁; line = tells.line ∙ sym plain.past; opened = opened };
-      cause =
-          threaded_cause g rows old new run.part.handled run.part.progress run.part.times run.part.bytes run.part.rest w tells.running o.end
-          run.cause clashes;
+      cause = threaded_cause g rows old new run.part w tells.running o.end run.cause clashes;
       left = tells.left;
       schema = run.schema;
     },

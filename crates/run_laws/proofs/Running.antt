@@ -1,6 +1,6 @@
 -- The world that a run is.
 use Rattle.std.proofs.Common.{◌≡◌, ℕ, true, false, List, [], ◌∷◌, ◌++◌, length, Option, Some, None, refl, sym, ap, subst, ◌∙◌, append-nil, arith, inl, inr}
-use Rattle.std.specs.Prelude.{map, ℤ, nat_lt, ◌⊎◌}
+use Rattle.std.specs.Prelude.{map, nat_lt, ◌⊎◌}
 use Rattle.messages.specs.declared.message.Message.{Message}
 use Rattle.std.proofs.lemmas.Bool.{le-ltb}
 use Rattle.model.specs.declared.change.Change as change_type
@@ -26,10 +26,11 @@ use Rattle.model.specs.Beginning.{last_end}
 use Rattle.change.specs.Refusal.{ClashesAs}
 use Rattle.engine.specs.FirstClash.{ClashesIn}
 use Rattle.model.specs.Accepted.{AreAccepted}
-use Rattle.run.specs.Progress.{Progress, Leads, start_progress, commits_from}
-use Rattle.run.specs.Cause.{schema_of, IsCause, HasGoneWell, HasNotClashed, LastClashed, NextClashes, IsNext}
+use Rattle.run.specs.Progress.{commits_from}
+use Rattle.run.specs.Cause.{schema_of, IsCause, HasNotClashed, LastClashed, NextClashes, IsNext}
 use Rattle.run.specs.Devices.{DeviceState}
 use Rattle.run.specs.Run.{IsRun}
+use Rattle.run.specs.StreamPart.{StreamPart}
 use Rattle.std.specs.Ordering.{nat_cmp}
 use Rattle.std.specs.FinMap.{get, get-empty}
 use Rattle.model.specs.SurvivorLemmas.{survivors_with}
@@ -95,25 +96,24 @@ begun_open (Some b) = one_open b.0 (survivors b.0 b.1)
 
 -- ---- no conflict
 
-module _ (g : Setting) (rows : Rows) (old new : DeviceState) (handled : List CopyItem) (p : Progress) (times : List ℤ) (bytes : List ℕ) (rest : List CopyItem) where
-  clear_at : (end : End) → IsCause g rows old new handled p times bytes rest end → conflict end ≡ None
-      → AreAccepted (schema_of g) rows (all_changes p.state)
-  clear_at ends.Clean cause e = cause.well.clear
-  clear_at (ends.Frame Device) cause e = elim cause [ inl read ↦ read.clear | inr sent ↦ sent.clear ]
-  clear_at (ends.Frame fault) cause e = cause.well.clear
-  clear_at (ends.Msg fault) cause e = elim cause [ inl next ↦ next.0.clear | inr last ↦ absurd last.why ]
-  clear_at (ends.Session fault) cause e = elim cause [ inl next ↦ next.0.clear | inr last ↦ absurd last.why ]
-  clear_at (ends.Rel fault) cause e = elim cause [ inl next ↦ next.0.clear | inr last ↦ absurd last.why ]
+module _ (g : Setting) (rows : Rows) (old new : DeviceState) (part : StreamPart g old new) where
+  clear_at : (end : End) → IsCause rows part end → conflict end ≡ None
+      → AreAccepted (schema_of g) rows (all_changes part.progress.state)
+  clear_at ends.Clean cause e = cause.0
+  clear_at (ends.Frame Device) cause e = cause.0
+  clear_at (ends.Frame fault) cause e = cause.0
+  clear_at (ends.Msg fault) cause e = elim cause [ inl next ↦ next.0 | inr last ↦ absurd last.why ]
+  clear_at (ends.Session fault) cause e = elim cause [ inl next ↦ next.0 | inr last ↦ absurd last.why ]
+  clear_at (ends.Rel fault) cause e = elim cause [ inl next ↦ next.0 | inr last ↦ absurd last.why ]
   clear_at (ends.Unique table key) cause e = cc
   clear_at (ends.NullKey table) cause e = cc
-  clear_at (ends.HeldKey xid holder) cause e = elim cause [ inl next ↦ next.0.clear | inr last ↦ absurd last.why ]
-  clear_at ends.OutOfMemory cause e = elim cause [ inl well ↦ well.clear | inr cut ↦ cut.clear ]
+  clear_at (ends.HeldKey xid holder) cause e = elim cause [ inl next ↦ next.0 | inr last ↦ absurd last.why ]
+  clear_at ends.OutOfMemory cause e = cause.0
 
   -- no change clashed, or one that the last item brought
-  pub clear_or_last : (end : End) → IsCause g rows old new handled p times bytes rest end
-      → HasNotClashed g rows old new handled p times ⊎ LastClashed g rows old new handled p times end
-  clear_or_last (ends.Unique table key) cause = elim cause [ inl next ↦ inl next.0.clear | inr last ↦ inr last ]
-  clear_or_last (ends.NullKey table) cause = elim cause [ inl next ↦ inl next.0.clear | inr last ↦ inr last ]
+  pub clear_or_last : (end : End) → IsCause rows part end → HasNotClashed rows part ⊎ LastClashed rows part end
+  clear_or_last (ends.Unique table key) cause = elim cause [ inl next ↦ inl next.0 | inr last ↦ inr last ]
+  clear_or_last (ends.NullKey table) cause = elim cause [ inl next ↦ inl next.0 | inr last ↦ inr last ]
   clear_or_last end cause = inl (clear_at end cause refl)
 
 pub run_reached : (g : Setting) (rows : Rows) (old new : DeviceState) (o : Outcome) (run : IsRun g rows old new o)
@@ -122,7 +122,7 @@ pub run_reached : (g : Setting) (rows : Rows) (old new : DeviceState) (o : Outco
 run_reached g rows old new o run e =
     tells_of g rows old new o run (open_ones (begun run.part.progress.state)) (world_at (schema_of g) rows run.part.progress.state) (begun_open (begun run.part.progress.state)) (world_is (schema_of g) rows (starting rows) run.part.progress.state)
     (reached g (schema_of g) rows run.part.handled run.part.progress run.part.lawful
-    (clear_at g rows old new run.part.handled run.part.progress run.part.times run.part.bytes run.part.rest o.end run.cause e))
+    (clear_at g rows old new run.part o.end run.cause e))
 
 -- ---- a conflict
 
@@ -314,55 +314,61 @@ module _ (schema : Schema) (rows : Rows) (cause : ClashCause) where
 
 -- ---- why a run ended
 
-module _ (g : Setting) (rows : Rows) (old new : DeviceState) (handled : List CopyItem) (p : Progress) (times : List ℤ) (lawful : Leads g start_progress handled p) (rest : List CopyItem) (cause : ClashCause) where
-  next_clashed : HasGoneWell g (HasNotClashed g rows old new handled p times) old new handled p times
-      → NextClashes g rows p.state rest (clash_of cause) → Stops (schema_of g) rows p.state.past cause (IsTurnOf g p.state rest)
-  next_clashed well next =
-      let was = reached_at g (schema_of g) rows handled p lawful well.clear in
-      stops_in_turn (schema_of g) rows p.state.past cause (λ xid work. IsNext rest (λ payload. DoesAtCommit g p.state payload xid work)) (IsTurnOf g p.state rest) (λ xid work turn. inr turn)
-      (next_stops (schema_of g) rows cause g p.state rest was.1 (clear_of (schema_of g) rows cause p.state well.clear) was.0 next)
+module _ (g : Setting) (rows : Rows) (old new : DeviceState) (part : StreamPart g old new) (cause : ClashCause) where
+  -- where it stands, and what is left
+  abbrev s : State
+  s = part.progress.state
 
-  last_clashed : (end : End) → LastClashed g rows old new handled p times end
-      → ClashesIn (schema_of g) rows (all_changes p.state) (clash_of cause)
-      → Stops (schema_of g) rows p.state.past cause (IsTurnOf g p.state rest)
+  abbrev rest : List CopyItem
+  rest = part.rest
+
+  next_clashed : HasNotClashed rows part → NextClashes g rows s rest (clash_of cause)
+      → Stops (schema_of g) rows s.past cause (IsTurnOf g s rest)
+  next_clashed clear next =
+      let was = reached_at g (schema_of g) rows part.handled part.progress part.lawful clear in
+      stops_in_turn (schema_of g) rows s.past cause (λ xid work. IsNext rest (λ payload. DoesAtCommit g s payload xid work)) (IsTurnOf g s rest) (λ xid work turn. inr turn)
+      (next_stops (schema_of g) rows cause g s rest was.1 (clear_of (schema_of g) rows cause s clear) was.0 next)
+
+  last_clashed : (end : End) → LastClashed rows part end → ClashesIn (schema_of g) rows (all_changes s) (clash_of cause)
+      → Stops (schema_of g) rows s.past cause (IsTurnOf g s rest)
   last_clashed end is clash =
       let past = is.last.past in
       let was = reached_at g (schema_of g) rows is.last.before past is.last.lawful is.clear in
-      let what = handled_told g past p is.last.item was.1 is.last.step in
-      stops_in_turn (schema_of g) rows p.state.past cause (BegunTurn p.state) (IsTurnOf g p.state rest) (λ xid work turn. inl turn)
-      (last_told (schema_of g) rows cause past.state p.state what.0 what.1 what.2 (clear_of (schema_of g) rows cause past.state is.clear) is.committed (clashing (schema_of g) rows cause p.state clash) was.0)
+      let what = handled_told g past part.progress is.last.item was.1 is.last.step in
+      stops_in_turn (schema_of g) rows s.past cause (BegunTurn s) (IsTurnOf g s rest) (λ xid work turn. inl turn)
+      (last_told (schema_of g) rows cause past.state s what.0 what.1 what.2 (clear_of (schema_of g) rows cause past.state is.clear) is.committed (clashing (schema_of g) rows cause s clash) was.0)
 
 conflict_is : (one other : ClashCause) → Some one ≡ Some other → one ≡ other
 conflict_is one other e = cc
 
-ended : (g : Setting) (rows : Rows) (old new : DeviceState) (handled : List CopyItem) (p : Progress) (times : List ℤ) (bytes : List ℕ) (rest : List CopyItem)
-    → Leads g start_progress handled p → (end : End) → IsCause g rows old new handled p times bytes rest end → (cause : ClashCause) → conflict end ≡ Some cause
-    → Stops (schema_of g) rows p.state.past cause (IsTurnOf g p.state rest)
-ended g rows old new handled p times bytes rest lawful ends.Clean is cause e = cc
-ended g rows old new handled p times bytes rest lawful (ends.Frame fault) is cause e = cc
-ended g rows old new handled p times bytes rest lawful (ends.Msg fault) is cause e = cc
-ended g rows old new handled p times bytes rest lawful (ends.Session fault) is cause e = cc
-ended g rows old new handled p times bytes rest lawful (ends.Rel fault) is cause e = cc
-ended g rows old new handled p times bytes rest lawful (ends.Unique table key) is cause e =
-    subst (λ (of : ClashCause). Stops (schema_of g) rows p.state.past of (IsTurnOf g p.state rest)) (conflict_is (Unique table key) cause e)
+ended : (g : Setting) (rows : Rows) (old new : DeviceState) (part : StreamPart g old new) (end : End) → IsCause rows part end
+    → (cause : ClashCause) → conflict end ≡ Some cause
+    → Stops (schema_of g) rows part.progress.state.past cause (IsTurnOf g part.progress.state part.rest)
+ended g rows old new part ends.Clean is cause e = cc
+ended g rows old new part (ends.Frame fault) is cause e = cc
+ended g rows old new part (ends.Msg fault) is cause e = cc
+ended g rows old new part (ends.Session fault) is cause e = cc
+ended g rows old new part (ends.Rel fault) is cause e = cc
+ended g rows old new part (ends.Unique table key) is cause e =
+    subst (λ (of : ClashCause). Stops (schema_of g) rows part.progress.state.past of (IsTurnOf g part.progress.state part.rest)) (conflict_is (Unique table key) cause e)
     (elim is [
-      | inl next ↦ next_clashed g rows old new handled p times lawful rest (Unique table key) next.0 next.1
-      | inr last ↦ last_clashed g rows old new handled p times lawful rest (Unique table key) (ends.Unique table key) last last.why
+      | inl next ↦ next_clashed g rows old new part (Unique table key) next.0 next.2
+      | inr last ↦ last_clashed g rows old new part (Unique table key) (ends.Unique table key) last last.why
     ])
-ended g rows old new handled p times bytes rest lawful (ends.NullKey table) is cause e =
-    subst (λ (of : ClashCause). Stops (schema_of g) rows p.state.past of (IsTurnOf g p.state rest)) (conflict_is (NullKey table) cause e)
+ended g rows old new part (ends.NullKey table) is cause e =
+    subst (λ (of : ClashCause). Stops (schema_of g) rows part.progress.state.past of (IsTurnOf g part.progress.state part.rest)) (conflict_is (NullKey table) cause e)
     (elim is [
-      | inl next ↦ next_clashed g rows old new handled p times lawful rest (NullKey table) next.0 next.1
-      | inr last ↦ last_clashed g rows old new handled p times lawful rest (NullKey table) (ends.NullKey table) last last.why
+      | inl next ↦ next_clashed g rows old new part (NullKey table) next.0 next.2
+      | inr last ↦ last_clashed g rows old new part (NullKey table) (ends.NullKey table) last last.why
     ])
-ended g rows old new handled p times bytes rest lawful (ends.HeldKey xid holder) is cause e = cc
-ended g rows old new handled p times bytes rest lawful ends.OutOfMemory is cause e = cc
+ended g rows old new part (ends.HeldKey xid holder) is cause e = cc
+ended g rows old new part ends.OutOfMemory is cause e = cc
 
 pub run_stopped : (g : Setting) (rows : Rows) (old new : DeviceState) (o : Outcome) (run : IsRun g rows old new o) (cause : ClashCause)
     → conflict o.end ≡ Some cause
     → (w : World) × TellsRun g rows run.part.progress.state o w × (xid : ℕ) × (work : List Item)
     × IsTurnOf g run.part.progress.state run.part.rest xid work × IsStoppedBy (schema_of g) w xid work cause
 run_stopped g rows old new o run cause e =
-    let is = ended g rows old new run.part.handled run.part.progress run.part.times run.part.bytes run.part.rest run.part.lawful o.end run.cause cause e in
+    let is = ended g rows old new run.part o.end run.cause cause e in
     let w = at (schema_of g) rows (map committed_past run.part.progress.state.past) is.0 in
     (w, tells_of g rows old new o run is.0 w is.1 refl is.2, is.3, is.4, is.5, is.6)

@@ -38,7 +38,7 @@ use Rattle.run_laws.specs.Begun.{IsSane, begun, begun_in, if_direct, Moves}
 use Rattle.run_laws.specs.Statements.{WorkersAlterNothing, CleanIsWithoutThreads}
 use Rattle.run_laws.specs.Runs.{IsAtMostOne, IsCommitOf, CommitsNext}
 use Rattle.run_laws.specs.Threads.{work_of, done_by_commit, Does, IsWorldOf}
-use Rattle.run_laws.specs.ThreadedRun.{IsStuckBy, IsCauseOf, IsThreadedRun}
+use Rattle.run_laws.specs.ThreadedRun.{IsStuckBy, IsThreadedCause, IsThreadedRun}
 use Rattle.run_laws.proofs.Alone.{survive_again}
 use Rattle.run_laws.proofs.Clear.{commits_clear}
 use Rattle.run_laws.proofs.Reaching.{handled_told}
@@ -259,7 +259,7 @@ one_open g rows old new o run zero =
     let alone = at_most_one g rows run.part.handled run.part.rest run.part.progress run.world zero run.part.lawful run.is_world in (
       alone,
       λ xid holder e.
-          let cause = subst (IsCauseOf g old new run.part run.world) e run.cause in
+          let cause = subst (IsThreadedCause run.part run.world) e run.cause in
           not_stuck g run.part.progress.state run.part.rest run.world xid holder alone cause.1,
     )
 
@@ -281,7 +281,7 @@ all_items handled rest items all none = sym (append-nil handled) ∙ ap (λ more
 
 pub clean_alone : CleanIsWithoutThreads
 clean_alone g h rows old new before after o p run alone valid catalog clean bytes none =
-    let cause = subst (IsCauseOf g old new run.part run.world) clean run.cause in
+    let cause = subst (IsThreadedCause run.part run.world) clean run.cause in
     let items : alone.part.handled ≡ run.part.handled =
     all_items alone.part.handled alone.part.rest (copy_items run.part.bytes) (alone.part.items ∙ ap copy_items bytes) none
     ∙ sym (all_items run.part.handled run.part.rest (copy_items run.part.bytes) run.part.items cause.0.all_handled) in

@@ -1,6 +1,6 @@
 -- A run without workers over the items of a clean run comes to the same commits.
 use Rattle.std.proofs.Common.{◌≡◌, ◌≢◌, ℕ, true, List, [], ◌∷◌, ◌++◌, length, None, refl, sym, ap, subst, ◌∙◌, append_assoc, append-nil, inl, inr}
-use Rattle.std.specs.Prelude.{map, ℤ, ◌⊎◌, Ok, Err}
+use Rattle.std.specs.Prelude.{map, ◌⊎◌, Ok, Err}
 use Rattle.std.proofs.lemmas.Grind.{flat_map-append}
 use Rattle.std.proofs.lemmas.List.{map-append}
 use Rattle.model.specs.declared.change.Change as change_type
@@ -22,18 +22,19 @@ use Rattle.session.specs.StreamEvents.{StreamEvent, NoEvent, TransactionOpens, I
 use Rattle.run.specs.declared.end.End.{End}
 use Rattle.run.specs.declared.end.End.TheVariants as ends
 use Rattle.run.specs.declared.outcome.Outcome.{Outcome}
-use Rattle.run.specs.Cause.{schema_of, IsCause, RefusesNext, NextClashes}
+use Rattle.run.specs.Cause.{schema_of, IsCause, RefusesNext, NextClashes, HasGoneWell, HasNotClashed}
 use Rattle.engine.specs.Engine.{entry_in}
 use Rattle.run.specs.Commits.{entry_of_commit, commits, committed_changes, all_changes, changes_of_entries, commit_ends}
 use Rattle.model.specs.Beginning.{last_end}
 use Rattle.run.specs.Devices.{DeviceState}
 use Rattle.run.specs.Progress.{Progress, Handles, Leads, start_progress, due_updates, commits_from}
 use Rattle.run.specs.Run.{IsRun}
+use Rattle.run.specs.StreamPart.{StreamPart}
 use Rattle.engine.specs.FirstClash.{ClashesIn}
 use Rattle.model.specs.Accepted.{AreAccepted}
 use Rattle.world.specs.World.{Entry, starting}
 use Rattle.run_laws.specs.Begun.{IsSane, begun, Moves}
-use Rattle.run_laws.specs.ThreadedRun.{IsCauseOf, IsThreadedRun}
+use Rattle.run_laws.specs.ThreadedRun.{IsThreadedCause, IsThreadedRun}
 use Rattle.run_laws.specs.Threads.{AreBytes}
 use Rattle.run_laws.proofs.Alone.{clear_front, first_in_clear}
 use Rattle.run_laws.proofs.Reaching.{done, all_done, work_same, moved, handled_told}
@@ -225,25 +226,50 @@ module _ (h : Setting) (rows : Rows) (s q : Progress) (rest : List CopyItem) (sa
       by_next (Wal first last payload ∷ items) more bytes next =
           spelled-or-stands payload (in_block s.state.phase) more.1.0 fault bytes.0 more.1.1.spelled next
 
-  module _ (before after : DeviceState) (handled : List CopyItem) (times : List ℤ) (bytes : List ℕ) (are : AreBytes rest) where
-    all_committed : (end : End) → IsCause h rows before after handled s times bytes rest end → end ≢ ends.OutOfMemory
-        → end ≢ ends.Frame Device → IsAll
-    all_committed ends.Clean cause memory device = at_end cause.all_handled
-    all_committed (ends.Frame Device) cause memory device = absurd (device refl)
-    all_committed (ends.Frame fault) cause memory device = at_end cause.all_handled
-    all_committed (ends.Msg fault) cause memory device =
-        elim cause [ inl next ↦ absurd (no_message fault are next.1) | inr last ↦ absurd last.why ]
-    all_committed (ends.Session fault) cause memory device =
-        elim cause [ inl next ↦ absurd (table_refused (refusals.Session fault) (λ payload is. is) next.1) | inr last ↦ absurd last.why ]
-    all_committed (ends.Rel fault) cause memory device =
-        elim cause [ inl next ↦ absurd (table_refused (refusals.Rel fault) (λ payload is. is) next.1) | inr last ↦ absurd last.why ]
-    all_committed (ends.Unique table key) cause memory device =
-        elim cause [ inl next ↦ absurd (next_clash (Unique table key) next.1) | inr last ↦ after_clash (Unique table key) last.why ]
-    all_committed (ends.NullKey table) cause memory device =
-        elim cause [ inl next ↦ absurd (next_clash (NullKey table) next.1) | inr last ↦ after_clash (NullKey table) last.why ]
-    all_committed (ends.HeldKey xid holder) cause memory device =
-        elim cause [ inl next ↦ absurd next.1 | inr last ↦ absurd last.why ]
-    all_committed ends.OutOfMemory cause memory device = absurd (memory refl)
+module _ (h : Setting) (rows : Rows) (before after : DeviceState) (part : StreamPart h before after) (q : Progress)
+    (sane : IsSane part.progress.state) (more : Leads h part.progress part.rest q)
+    (clear : AreAccepted (schema_of h) rows (committed_changes q.state)) (are : AreBytes part.rest) where
+  -- where a run ended, the commits were those of all items
+  abbrev AreAll : Type 0
+  AreAll = IsAll h rows part.progress q part.rest sane more clear
+
+  by_end : part.rest ≡ [] → AreAll
+  by_end none = at_end h rows part.progress q part.rest sane more clear none
+
+  not_refused_next : (refused : Refused)
+      → ((payload : List ℕ) → Refuses h part.progress.state payload refused → TableRefuses h part.progress.state payload refused)
+      → RefusesNext h part.progress.state part.rest refused → ⊥
+  not_refused_next refused is = table_refused h rows part.progress q part.rest sane more clear refused is
+
+  by_clash : (cause : ClashCause)
+      → (HasNotClashed rows part × HasGoneWell part × NextClashes h rows part.progress.state part.rest (clash_of cause))
+      ⊎ ClashesIn (schema_of h) rows (all_changes part.progress.state) (clash_of cause) → AreAll
+  by_clash cause is =
+      elim is [
+        | inl next ↦ absurd (next_clash h rows part.progress q part.rest sane more clear cause next.2)
+        | inr last ↦ after_clash h rows part.progress q part.rest sane more clear cause last
+      ]
+
+  all_committed : (end : End) → IsCause rows part end → end ≢ ends.OutOfMemory → end ≢ ends.Frame Device → AreAll
+  all_committed ends.Clean cause memory device = by_end cause.1.all_handled
+  all_committed (ends.Frame Device) cause memory device = absurd (device refl)
+  all_committed (ends.Frame fault) cause memory device = by_end cause.1.all_handled
+  all_committed (ends.Msg fault) cause memory device =
+      elim cause [
+        | inl next ↦ absurd (no_message h rows part.progress q part.rest sane more clear fault are next.2)
+        | inr last ↦ absurd last.why
+      ]
+  all_committed (ends.Session fault) cause memory device =
+      elim cause [ inl next ↦ absurd (not_refused_next (refusals.Session fault) (λ payload is. is) next.2) | inr last ↦ absurd last.why ]
+  all_committed (ends.Rel fault) cause memory device =
+      elim cause [ inl next ↦ absurd (not_refused_next (refusals.Rel fault) (λ payload is. is) next.2) | inr last ↦ absurd last.why ]
+  all_committed (ends.Unique table key) cause memory device =
+      by_clash (Unique table key) (elim cause [ inl next ↦ inl next | inr last ↦ inr last.why ])
+  all_committed (ends.NullKey table) cause memory device =
+      by_clash (NullKey table) (elim cause [ inl next ↦ inl next | inr last ↦ inr last.why ])
+  all_committed (ends.HeldKey xid holder) cause memory device =
+      elim cause [ inl next ↦ absurd next.2 | inr last ↦ absurd last.why ]
+  all_committed ends.OutOfMemory cause memory device = absurd (memory refl)
 
 -- ---- runs
 
@@ -256,7 +282,7 @@ bytes_behind (Done ∷ xs) ys are = bytes_behind xs ys are
 module _ (g h : Setting) (rows : Rows) (old new before after : DeviceState) (o p : Outcome) (run : IsThreadedRun g rows old new o) (alone : IsRun h rows before after p) (valid : IsValid (schema_of g) rows) (catalog : h.catalog ≡ g.catalog) (clean : o.end ≡ ends.Clean) (same_bytes : alone.part.bytes ≡ run.part.bytes) (are : AreBytes run.part.handled) (q : Progress) (room : Leads h start_progress run.part.handled q) where
   items : alone.part.handled ++ alone.part.rest ≡ run.part.handled
   items =
-      let cause = subst (IsCauseOf g old new run.part run.world) clean run.cause in
+      let cause = subst (IsThreadedCause run.part run.world) clean run.cause in
       alone.part.items ∙ ap copy_items same_bytes ∙ sym (all_items run.part.handled run.part.rest (copy_items run.part.bytes) run.part.items cause.0.all_handled)
 
   later : Leads h alone.part.progress alone.part.rest q
@@ -281,7 +307,7 @@ module _ (g h : Setting) (rows : Rows) (old new before after : DeviceState) (o p
   clean_with_room memory device =
       let sane = sane_items h start_progress alone.part.progress alone.part.handled sane_start alone.part.lawful in
       let past : q.state.past ≡ alone.part.progress.state.past =
-      all_committed h rows alone.part.progress q alone.part.rest sane later clear before after alone.part.handled alone.part.times alone.part.bytes
+      all_committed h rows before after alone.part q sane later clear
       (bytes_behind alone.part.handled alone.part.rest (subst AreBytes (sym items) are)) p.end alone.cause memory device in
       let journal : map entry_in p.journal.items ≡ map entry_in o.journal.items =
       alone.journal ∙ ap (map entry_of_commit) (sym past) ∙ sym same_journal in (

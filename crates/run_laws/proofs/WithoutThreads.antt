@@ -1,6 +1,6 @@
 -- A run with no workers that ends at its first cause is a run without threads.
-use Rattle.std.proofs.Common.{◌≡◌, ◌≢◌, ℕ, true, List, [], ◌∷◌, ◌++◌, length, Option, Some, None, refl, sym, ap, subst, ◌∙◌, append_assoc, length-append, arith, inl, inr}
-use Rattle.std.specs.Prelude.{map, ℤ, nat_lt, ◌⊎◌}
+use Rattle.std.proofs.Common.{◌≡◌, ◌≢◌, ℕ, true, List, [], ◌∷◌, ◌++◌, length, Some, None, refl, sym, ap, subst, ◌∙◌, append_assoc, length-append, arith, inl, inr}
+use Rattle.std.specs.Prelude.{map, nat_lt, ◌⊎◌}
 use Rattle.std.proofs.lemmas.Bool.{lt-ltb}
 use Rattle.std.specs.FinMap.{get}
 use Rattle.model.specs.declared.change.Change as change_type
@@ -12,7 +12,6 @@ use Rattle.model.specs.EffectLemmas.{serial_append}
 use Rattle.model.specs.Survivors.{survivors, changes_of}
 use Rattle.model.specs.SurvivorLemmas.{changes_of_both}
 use Rattle.messages.specs.declared.message.Message.{Message}
-use Rattle.frames.specs.declared.fault.FrameFault.{FrameFault}
 use Rattle.frames.specs.declared.fault.FrameFault.TheVariants.{Device}
 use Rattle.frames.specs.declared.item.CopyItem.{CopyItem}
 use Rattle.frames.specs.declared.item.CopyItem.TheVariants.{Wal, Keepalive, Done}
@@ -24,11 +23,12 @@ use Rattle.session.specs.Lawful.{Admits}
 use Rattle.run.specs.declared.end.End.{End}
 use Rattle.run.specs.declared.end.End.TheVariants as ends
 use Rattle.run.specs.declared.outcome.Outcome.{Outcome}
-use Rattle.run.specs.Cause.{schema_of, LastStep, NextClashes, IsLastCause, IsCause, HasGoneWell, CouldNotSend, HadNoMemoryToSend, CouldNotRead, IsOver, HasNotClashed, LastClashed}
+use Rattle.run.specs.Cause.{schema_of, LastStep, NextClashes, IsLastCause, IsCause, HasGoneWell, HasNotClashed, LastClashed}
 use Rattle.run.specs.Commits.{committed_changes, all_changes, changes_of_entries}
 use Rattle.run.specs.Devices.{DeviceState}
 use Rattle.run.specs.Progress.{Progress, Handles, Leads, start_progress, commits_from}
 use Rattle.run.specs.Run.{IsRun}
+use Rattle.run.specs.StreamPart.{StreamPart}
 use Rattle.change.specs.Refusal.{ClashesAs}
 use Rattle.model.specs.Accepted.{HasNoClash, AreAccepted}
 use Rattle.engine.specs.FirstClash.{ClashesIn}
@@ -38,7 +38,7 @@ use Rattle.run_laws.specs.Begun.{IsSane, open_items, begun_in, begun}
 use Rattle.run_laws.specs.Course.{committed_past}
 use Rattle.run_laws.specs.Runs.{IsCommitOf, CommitsNext}
 use Rattle.run_laws.specs.Threads.{work_of, IsWorldOf}
-use Rattle.run_laws.specs.ThreadedRun.{Clear, HasConflict, HasWorkedOn, IsThreadedCause, IsThreadedRun}
+use Rattle.run_laws.specs.ThreadedRun.{HasConflict, IsThreadedCause, IsThreadedRun}
 use Rattle.run_laws.specs.FirstCause.{IsStreamCause, IsAtFirstCause}
 use Rattle.run_laws.proofs.Alone.{ArePlain, plain_front, plain_survivors, all_survive, first_in_clear}
 use Rattle.run_laws.proofs.Clear.{open_clear, commits_clear}
@@ -317,65 +317,33 @@ module _ (g : Setting) (rows : Rows) (s : State) (rest : List CopyItem) (w : Wor
 
 -- ---- why a run ended
 
-module _ (g : Setting) (rows : Rows) (old new : DeviceState) (handled : List CopyItem) (p : Progress)
-    (times : List ℤ) (bytes : List ℕ) (rest : List CopyItem) (w : World) where
-  -- why it ended without threads, and with workers
-  abbrev IsAlone : End → Type 0
-  IsAlone = IsCause g rows old new handled p times bytes rest
-
-  abbrev IsThreaded : End → Type 0
-  IsThreaded = IsThreadedCause g old new handled p times bytes rest w
-
+module _ (g : Setting) (rows : Rows) (old new : DeviceState) (part : StreamPart g old new) (w : World) where
   -- a change of the transaction that was begun clashed
-  module _ (last : LastStep g handled p) (clear : AreAccepted (schema_of g) rows (all_changes last.past.state))
-      (committed : AreAccepted (schema_of g) rows (committed_changes p.state)) where
-    last_clashed : (end : End) → HasWorkedOn g old new handled p times → IsLastCause g rows p.state end
-        → LastClashed g rows old new handled p times end
-    last_clashed end is why =
-        record { last = last; clear = clear; committed = committed; why = why; read = is.read; sent = is.sent }
+  module _ (last : LastStep g part.handled part.progress) (clear : AreAccepted (schema_of g) rows (all_changes last.past.state))
+      (committed : AreAccepted (schema_of g) rows (committed_changes part.progress.state)) where
+    last_clashed : (end : End) → HasGoneWell part → IsLastCause g rows part.progress.state end → LastClashed rows part end
+    last_clashed end is why = record { last = last; clear = clear; committed = committed; why = why; well = is }
 
-    by_last : (end : End) → IsThreaded end → IsLastCause g rows p.state end → IsAlone end
+    by_last : (end : End) → IsThreadedCause part w end → IsLastCause g rows part.progress.state end → IsCause rows part end
     by_last (ends.Unique table key) is why = inr (last_clashed (ends.Unique table key) is.0 why)
     by_last (ends.NullKey table) is why = inr (last_clashed (ends.NullKey table) is.0 why)
     by_last end is why = absurd why
 
   -- no change clashed
-  module _ (clear : HasNotClashed g rows old new handled p times) where
-    -- this says that no change clashed
-    abbrev IsQuiet : Type 0
-    IsQuiet = HasNotClashed g rows old new handled p times
-
-    well : HasWorkedOn g old new handled p times → HasGoneWell g IsQuiet old new handled p times
-    well is = record { clear = clear; read = is.read; sent = is.sent }
-
-    over : (why : Option FrameFault) → IsOver g Clear old new handled p times bytes rest why
-        → IsOver g IsQuiet old new handled p times bytes rest why
-    over why is = record { well = well is.well; all_handled = is.all_handled; fault = is.fault; asked = is.asked }
-
-    not_read : CouldNotRead g Clear old new handled p times rest → CouldNotRead g IsQuiet old new handled p times rest
-    not_read is = record { clear = clear; all_handled = is.all_handled; failed = is.failed; sent = is.sent }
-
-    not_sent : CouldNotSend g Clear old new handled p times → CouldNotSend g IsQuiet old new handled p times
-    not_sent is = record { clear = clear; read = is.read; failed = is.failed; cut = is.cut }
-
-    no_memory : HadNoMemoryToSend g Clear old new handled p times → HadNoMemoryToSend g IsQuiet old new handled p times
-    no_memory is = record { clear = clear; read = is.read; written = is.written; cut = is.cut; nothing = is.nothing }
-
-    by_item : (end : End) → IsThreaded end
-        → ((cause : ClashCause) → HasConflict g p.state w cause → NextClashes g rows p.state rest (clash_of cause))
-        → ((xid holder : ℕ) → end ≢ ends.HeldKey xid holder) → IsAlone end
-    by_item ends.Clean is conflicts held = over None is.0
-    by_item (ends.Frame Device) is conflicts held =
-        elim is [ inl read ↦ inl (not_read read) | inr sent ↦ inr (not_sent sent) ]
-    by_item (ends.Frame fault) is conflicts held = over (Some fault) is
-    by_item (ends.Msg fault) is conflicts held = inl (well is.0, is.1)
-    by_item (ends.Session fault) is conflicts held = inl (well is.0, is.1)
-    by_item (ends.Rel fault) is conflicts held = inl (well is.0, is.1)
-    by_item (ends.Unique table key) is conflicts held = inl (well is.0, conflicts (Unique table key) is.1)
-    by_item (ends.NullKey table) is conflicts held = inl (well is.0, conflicts (NullKey table) is.1)
-    by_item (ends.HeldKey xid holder) is conflicts held = absurd (held xid holder refl)
-    by_item ends.OutOfMemory is conflicts held =
-        elim is [ inl worked ↦ inl (well worked) | inr cut ↦ inr (no_memory cut) ]
+  by_item : HasNotClashed rows part → (end : End) → IsThreadedCause part w end
+      → ((cause : ClashCause) → HasConflict g part.progress.state w cause
+      → NextClashes g rows part.progress.state part.rest (clash_of cause))
+      → ((xid holder : ℕ) → end ≢ ends.HeldKey xid holder) → IsCause rows part end
+  by_item clear ends.Clean is conflicts held = (clear, is.0)
+  by_item clear (ends.Frame Device) is conflicts held = (clear, is)
+  by_item clear (ends.Frame fault) is conflicts held = (clear, is)
+  by_item clear (ends.Msg fault) is conflicts held = inl (clear, is.0, is.1)
+  by_item clear (ends.Session fault) is conflicts held = inl (clear, is.0, is.1)
+  by_item clear (ends.Rel fault) is conflicts held = inl (clear, is.0, is.1)
+  by_item clear (ends.Unique table key) is conflicts held = inl (clear, is.0, conflicts (Unique table key) is.1)
+  by_item clear (ends.NullKey table) is conflicts held = inl (clear, is.0, conflicts (NullKey table) is.1)
+  by_item clear (ends.HeldKey xid holder) is conflicts held = absurd (held xid holder refl)
+  by_item clear ends.OutOfMemory is conflicts held = (clear, is)
 
 -- ---- a run
 
@@ -388,7 +356,7 @@ module _ (g : Setting) (rows : Rows) (old new : DeviceState) (o : Outcome) (run 
 
   -- why a run without threads would end there
   abbrev IsEnd : Type 0
-  IsEnd = IsAlone g rows old new run.part.handled run.part.progress run.part.times run.part.bytes run.part.rest run.world o.end
+  IsEnd = IsCause rows run.part o.end
 
   committed_clear : AreAccepted (schema_of g) rows (committed_changes s)
   committed_clear =
@@ -413,7 +381,7 @@ module _ (g : Setting) (rows : Rows) (old new : DeviceState) (o : Outcome) (run 
 
     at_last : LastStep g run.part.handled run.part.progress → IsEnd
     at_last last =
-        by_last g rows old new run.part.handled run.part.progress run.part.times run.part.bytes run.part.rest run.world last
+        by_last g rows old new run.part run.world last
         (clear_without g rows last.past.state (last.item ∷ run.part.rest)
         (λ end. first.none_before last.before [] last.item last.past end last.split last.lawful))
         committed_clear o.end run.cause why
@@ -430,7 +398,7 @@ module _ (g : Setting) (rows : Rows) (old new : DeviceState) (o : Outcome) (run 
       let sane = sane_items g start_progress run.part.progress run.part.handled sane_start run.part.lawful in
       let plain = led_plain g zero run.part.progress run.part.handled run.part.lawful in
       let none = none_works g run.part.handled run.part.progress zero run.part.lawful in
-      by_item g rows old new run.part.handled run.part.progress run.part.times run.part.bytes run.part.rest run.world clear o.end run.cause
+      by_item g rows old new run.part run.world clear o.end run.cause
       (conflict_next g rows s run.part.rest run.world sane plain none run.is_world valid clear)
       (one_open g rows old new o run zero).1
 

@@ -1,25 +1,24 @@
 -- A run with workers: why it ends, and what it leaves.
---     Clear, HasWorkedOn      what became of the devices
 --     HasConflict      the next change of an open transaction clashes
 --     WaitsOn, HasDoneAll, AllWait, IsStuckBy      nothing goes on, and a transaction whose turn it
 --         is waits for a cell of another
---     IsThreadedCause, IsCauseOf      why a run ends, for each end
+--     IsThreadedCause      why a run ends, for each end
 --     IsThreadedRun      a run
-use Rattle.std.specs.Prelude.{◌≡◌, ◌≢◌, ℕ, ℤ, List, Some, None, ◌⊎◌}
+use Rattle.std.specs.Prelude.{◌≡◌, ◌≢◌, ℕ, List, Some, None, ◌⊎◌}
 use Rattle.std.specs.FinMap.{get}
 use Rattle.model.specs.Rows.{Rows, Schema}
 use Rattle.model.specs.Effect.{ClashCause, NullKey, Unique}
 use Rattle.model.specs.Footprint.{footprint}
 use Rattle.frames.specs.declared.fault.FrameFault.TheVariants.{Device}
 use Rattle.frames.specs.declared.item.CopyItem.{CopyItem}
-use Rattle.session.specs.declared.fault.Refused.TheVariants as refusals
+use Rattle.session.specs.declared.fault.Refused.TheVariants as by
 use Rattle.session.specs.State.{Spooled, Open, State, Setting, begun_at}
 use Rattle.run.specs.declared.end.End.{End}
 use Rattle.run.specs.declared.end.End.TheVariants as ends
 use Rattle.run.specs.declared.outcome.Outcome.{Outcome}
-use Rattle.run.specs.Cause.{schema_of, RefusesNext, HasGoneWell, CouldNotSend, HadNoMemoryToSend, CouldNotRead, IsOver}
+use Rattle.run.specs.Cause.{schema_of, RefusesNext}
+use Rattle.run.specs.Cause.{HasGoneWell, CouldNotSend, HadNoMemoryToSend, CouldNotRead, IsOver}
 use Rattle.run.specs.Devices.{DeviceState}
-use Rattle.run.specs.Progress.{Progress}
 use Rattle.run.specs.StreamPart.{StreamPart}
 use Rattle.world.specs.Steps.{IsClashing}
 use Rattle.world.specs.World.{Opened, World, own_rows, IsHeldBy}
@@ -65,35 +64,32 @@ pub record IsStuckBy (g : Setting) (s : State) (rest : List CopyItem) (w : World
   pub waits : WaitsOn (schema_of g) w xid transaction holder
   pub settled : AllWait g s w
 
--- ---- a run that handled these items, which led to this progress
+-- ---- a run that handled this part of its stream
 
--- Beside the devices nothing is asked to be clear: what the transactions did is told by the world.
-abbrev pub Clear : Type 0
-Clear = Unit {0}
+-- This table is for a run with workers, over a world; `IsCause` of `run` is for one without threads,
+-- at its first cause. Two are kept on purpose, tied by the laws `run_is_without_workers`,
+-- `ends_at_first_cause` and `first_cause_is_without_threads`.
+module _ {g : Setting} {old new : DeviceState} (part : StreamPart g old new) (w : World) where
+  -- the state that its items led to
+  abbrev pub s : State
+  s = part.progress.state
 
-module _ (g : Setting) (old new : DeviceState) (handled : List CopyItem) (p : Progress) (times : List ℤ) where
-  -- No device failed, and all status updates were sent.
-  abbrev pub HasWorkedOn : Type 0
-  HasWorkedOn = HasGoneWell g Clear old new handled p times
+  -- the items that it left
+  abbrev pub rest : List CopyItem
+  rest = part.rest
 
-  -- Why a run over these bytes ends at this world, with these items left.
-  abbrev pub IsThreadedCause : List ℕ → List CopyItem → World → End → Type 0
-  IsThreadedCause bytes rest w ends.Clean = IsOver g Clear old new handled p times bytes rest None × (w.stopped ≡ None)
-  IsThreadedCause bytes rest w (ends.Frame Device) =
-      CouldNotRead g Clear old new handled p times rest ⊎ CouldNotSend g Clear old new handled p times
-  IsThreadedCause bytes rest w (ends.Frame fault) = IsOver g Clear old new handled p times bytes rest (Some fault)
-  IsThreadedCause bytes rest w (ends.Msg fault) = HasWorkedOn × RefusesNext g p.state rest (refusals.Msg fault)
-  IsThreadedCause bytes rest w (ends.Session fault) =
-      HasWorkedOn × RefusesNext g p.state rest (refusals.Session fault)
-  IsThreadedCause bytes rest w (ends.Rel fault) = HasWorkedOn × RefusesNext g p.state rest (refusals.Rel fault)
-  IsThreadedCause bytes rest w (ends.Unique table key) = HasWorkedOn × HasConflict g p.state w (Unique table key)
-  IsThreadedCause bytes rest w (ends.NullKey table) = HasWorkedOn × HasConflict g p.state w (NullKey table)
-  IsThreadedCause bytes rest w (ends.HeldKey xid holder) = HasWorkedOn × IsStuckBy g p.state rest w xid holder
-  IsThreadedCause bytes rest w ends.OutOfMemory = HasWorkedOn ⊎ HadNoMemoryToSend g Clear old new handled p times
-
--- Why a run that handled this part of its stream ends at this world.
-abbrev pub IsCauseOf : (g : Setting) (old new : DeviceState) → StreamPart g old new → World → End → Type 0
-IsCauseOf g old new part = IsThreadedCause g old new part.handled part.progress part.times part.bytes part.rest
+  -- Why it ends at this world.
+  abbrev pub IsThreadedCause : End → Type 0
+  IsThreadedCause ends.Clean = IsOver part None × (w.stopped ≡ None)
+  IsThreadedCause (ends.Frame Device) = CouldNotRead part ⊎ CouldNotSend part
+  IsThreadedCause (ends.Frame fault) = IsOver part (Some fault)
+  IsThreadedCause (ends.Msg fault) = HasGoneWell part × RefusesNext g s rest (by.Msg fault)
+  IsThreadedCause (ends.Session fault) = HasGoneWell part × RefusesNext g s rest (by.Session fault)
+  IsThreadedCause (ends.Rel fault) = HasGoneWell part × RefusesNext g s rest (by.Rel fault)
+  IsThreadedCause (ends.Unique table key) = HasGoneWell part × HasConflict g s w (Unique table key)
+  IsThreadedCause (ends.NullKey table) = HasGoneWell part × HasConflict g s w (NullKey table)
+  IsThreadedCause (ends.HeldKey xid holder) = HasGoneWell part × IsStuckBy g s rest w xid holder
+  IsThreadedCause ends.OutOfMemory = HasGoneWell part ⊎ HadNoMemoryToSend part
 
 -- A run with workers from these rows: it handled items of the bytes; there is a world of the state
 -- that they led to, at which the run ended for its cause. What is left are the commits of that
@@ -102,6 +98,6 @@ pub record IsThreadedRun (g : Setting) (rows : Rows) (old new : DeviceState) (o 
   pub part : StreamPart g old new
   pub world : World
   pub is_world : IsWorldOf g rows part.progress.state part.rest world
-  pub cause : IsCauseOf g old new part world o.end
+  pub cause : IsThreadedCause part world o.end
   pub left : LeavesWorld o world
   pub schema : o.tables.schema ≡ schema_of g

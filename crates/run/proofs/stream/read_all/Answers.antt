@@ -8,9 +8,9 @@ use Rattle.model.specs.Rows.{Rows}
 use Rattle.frames.specs.Stream.{Ending}
 use Rattle.frames.specs.Reads.{Reads, AnswersFault, fault_of, AtEndOf}
 use Rattle.session.specs.State.{Setting}
-use Rattle.run.specs.Handler.{HandlesKept}
+use Rattle.run.specs.Handler.{HandlesKept, IsRunOver}
 use Rattle.run.specs.Progress.{start_progress}
-use Rattle.run.proofs.Reading.{SoFar, piece_read, read_failed, over_by_item, over_by_fault, over_inside, over_at_edge, come_none, none_kept, broken_by, failed_now, ends_as}
+use Rattle.run.proofs.Reading.{SoFar, piece_read, read_failed, over_by_fault, over_inside, over_at_edge, come_none, none_kept, broken_by, failed_now, ends_as}
 use Rattle.run.proofs.stream.read_all.Given.{Over}
 use Rattle.run.proofs.stream.read_all.Goals as goal
 use Rattle.run.proofs.stream.read_all.Goals.{After-handle_kept, After-finish}
@@ -66,9 +66,11 @@ asks_no_more g c =
 pub returns-in_err-handle_kept : goal.returns-in_err-handle_kept
 returns-in_err-handle_kept g c = λ h rows at.
     let piece = piece_handled g (goal.at.returns-in_err-handle_kept g c).After-handle_kept h rows at in
+    let over : Consumes c.args.devices.now.unread c.handle_kept.new.devices.unread piece.0
+    → IsRunOver h (g.H.Handler.at h rows) (g.H.Handler.ended h rows) c.args.devices.now c.handle_kept.new.devices c.handle_kept.new.handler c.in_err-handle_kept.field-0.0 =
+    simp c.in_err-handle_kept.was at piece.2 in
     ends_as h (g.H.Handler.at h rows) (g.H.Handler.ended h rows) c.args.devices.now c.handle_kept.new.devices c.handle_kept.new.handler c.in_err-handle_kept.field-0.0 c.from_residual.result c.from_residual.ensures.1
-    (over_by_item h (g.H.Handler.at h rows) (g.H.Handler.ended h rows) c.args.devices.now c.handle_kept.new.devices c.handle_kept.new.handler piece.0 c.in_err-handle_kept.field-0.0 piece.1
-    (simp c.in_err-handle_kept.was at piece.2))
+    (over piece.1)
 
 pub returns-in_err-pulled : goal.returns-in_err-pulled
 returns-in_err-pulled g c = λ h rows at.
