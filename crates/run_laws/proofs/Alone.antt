@@ -1,7 +1,7 @@
 -- Calls of a transaction that is alone: each is a step of a world that is not stopped.
 use Rattle.std.proofs.Common.{◌≡◌, ℕ, ◌<◌, ◌==◌, Bool, true, false, if◌then◌else◌, List, [], ◌∷◌, ◌++◌, Some, None, refl, sym, ap, subst, ◌∙◌, append_assoc, append-nil, arith, inl, inr}
 use Rattle.std.specs.Prelude.{Ok, ◌⊎◌}
-use Rattle.run_laws.specs.Runs.{IsStoppedBy}
+use Rattle.run_laws.proofs.WorldAt.{IsStoppedBy}
 use Rattle.std.proofs.lemmas.Grind.{flat_map-append}
 use Rattle.std.specs.Ordering.{nat_cmp}
 use Rattle.std.specs.FinMap as finite

@@ -27,7 +27,7 @@ use Rattle.run.specs.Run.{IsRun}
 use Rattle.engine.specs.FirstClash.{ClashesIn}
 use Rattle.model.specs.Accepted.{AreAccepted}
 use Rattle.world.specs.World.{starting}
-use Rattle.run_laws.specs.Begun.{IsSane, begun}
+use Rattle.run_laws.proofs.Begun.{IsSane, begun}
 use Rattle.run_laws.specs.FirstCause.{IsStreamCause, IsAtFirstCause}
 use Rattle.run_laws.proofs.Alone.{clear_front, ClashesFirst, first_in_clear}
 use Rattle.run_laws.proofs.Reaching.{done as done_by, all_done, led_more}

@@ -1,3 +1,5 @@
+mod Begun
+mod WorldAt
 mod Telling
 mod Alone
 mod Reaching

@@ -31,9 +31,9 @@ use Rattle.run.specs.Run.{IsRun}
 use Rattle.run.specs.StreamPart.{StreamPart}
 use Rattle.world.specs.ListingLemmas.{xid_cases, got_same, got_other, gone_same, gone_other}
 use Rattle.world.specs.World.{Opened, OpenOnes, World}
-use Rattle.run_laws.specs.Begun.{IsSane, open_items, begun_in, begun, Moves}
-use Rattle.run_laws.specs.Course.{committed_past, open_ones, world_at}
-use Rattle.run_laws.specs.Runs.{IsAtMostOne, TellsRun, conflict, CommitsNext, DoesAtCommit, IsTurnOf, IsStoppedBy}
+use Rattle.run_laws.proofs.Begun.{IsSane, open_items, begun_in, begun, Moves}
+use Rattle.run_laws.proofs.WorldAt.{committed_past, open_ones, world_at, TellsRun, conflict, IsTurnOf, IsStoppedBy}
+use Rattle.run_laws.specs.Runs.{IsAtMostOne, CommitsNext, DoesAtCommit}
 use Rattle.run_laws.specs.Threads.{work_of, done_by_commit, Does}
 use Rattle.run_laws.specs.ThreadedRun.{HasConflict, IsThreadedCause, IsThreadedRun}
 use Rattle.run_laws.proofs.Reaching.{handled_told}

@@ -24,8 +24,8 @@ use Rattle.model.specs.Accepted.{AreAccepted}
 use Rattle.run.specs.Progress.{Progress, Handles, Leads, start_progress}
 use Rattle.world.specs.World.{Past, Entry, World, changes_in, starting}
 use Rattle.world.specs.Steps.{Reaches, at_start, by_step}
-use Rattle.run_laws.specs.Begun.{IsSane, open_items, begun_in, begun, if_direct, Moves, IsTold}
-use Rattle.run_laws.specs.Course.{committed_past, open_ones, world_at}
+use Rattle.run_laws.proofs.Begun.{IsSane, open_items, begun_in, begun, if_direct, Moves, IsTold}
+use Rattle.run_laws.proofs.WorldAt.{committed_past, open_ones, world_at}
 use Rattle.run_laws.proofs.Telling.{told, tells_nothing, sane_start}
 use Rattle.run_laws.proofs.Alone.{plain_survivors, survive_again, clear_front, clear_rest, none, one, running, at, seen, step_opens, step_acts, step_commits, changes_with, does_all}
 

@@ -37,9 +37,9 @@ use Rattle.model.specs.SurvivorLemmas.{survivors_with}
 use Rattle.world.specs.ListingLemmas.{xid_cases, got_other}
 use Rattle.world.specs.World.{Opened, OpenOnes, Past, World, starting, entry_of, journal, changes_in, ends_of}
 use Rattle.world.specs.Steps.{Reaches, by_step}
-use Rattle.run_laws.specs.Begun.{IsSane, begun, if_direct, Moves}
-use Rattle.run_laws.specs.Course.{committed_past, open_ones, world_at}
-use Rattle.run_laws.specs.Runs.{IsAtMostOne, TellsRun, conflict, DoesAtCommit, IsTurnOf, IsStoppedBy}
+use Rattle.run_laws.proofs.Begun.{IsSane, begun, if_direct, Moves}
+use Rattle.run_laws.proofs.WorldAt.{committed_past, open_ones, world_at, TellsRun, conflict, IsTurnOf, IsStoppedBy}
+use Rattle.run_laws.specs.Runs.{IsAtMostOne, DoesAtCommit}
 use Rattle.run_laws.proofs.Telling.{told}
 use Rattle.run_laws.proofs.Alone.{plain_survivors, survive_again, none, one, at, seen, stops, step_opens, comes_to, ClashesFirst, first_of_split, first_behind, first_in_clear}
 use Rattle.run_laws.proofs.Reaching.{done, all_done, work_same, stands, IsAt, world_is, done_at, with_change, seen_done, done_with, handled_told, reached, reached_at}

@@ -1,6 +1,6 @@
 -- What each line of the session table tells.
 use Rattle.std.proofs.Common.{◌≡◌, ◌≢◌, ℕ, Bool, true, false, if◌then◌else◌, List, [], ◌∷◌, ◌++◌, Option, Some, None, refl, sym, ap, subst, ◌∙◌, inl, inr}
-use Rattle.std.specs.Prelude.{map, Result, Ok, Err, IsSomeAnd, nat_le, ◌==◌, length}
+use Rattle.std.specs.Prelude.{map, Result, Ok, Err, IsSomeAnd, nat_le, ◌==◌}
 use Rattle.std.proofs.lemmas.Bool.{leb-false}
 use Rattle.std.proofs.lemmas.List.{map-append}
 use Rattle.std.specs.FinMap as finite
@@ -23,9 +23,8 @@ use Rattle.session.specs.Sized.{SizedItems, item_of}
 use Rattle.session.specs.State.{Way, Direct, Worker, Spooled, Open, OpenTransactions, Committed, State, Setting, GoesAlone, begun_at, start}
 use Rattle.session.specs.Table.{Next, refuse, room_fault, unless_fault, new_open, opens, next_way, goes_on, streams, of_open, gives, has_room, touches, plans, changes, closes, commits, commits_begun, aborts_open, aborts, subtransaction_named, step}
 use Rattle.session.specs.StreamEvents.{NoEvent, TransactionOpens, ItemComes, TransactionCommits, TransactionAborts}
-use Rattle.session.specs.Lawful.{Leads}
 use Rattle.world.specs.ListingLemmas.{xid_cases, got_same, got_other, gone_other, gone_same}
-use Rattle.run_laws.specs.Begun.{IsSane, open_items, begun, if_direct, Moves, IsTold}
+use Rattle.run_laws.proofs.Begun.{IsSane, open_items, begun, if_direct, Moves, IsTold}
 
 -- ---- what an answer of the table is
 
@@ -444,9 +443,3 @@ no_open x o e = not_there o (sym (finite.get-empty _ x) ∙ e)
 
 pub sane_start : IsSane start
 sane_start = record { here = tt; alone = λ x o at direct. absurd (no_open x o at) }
-
-pub sane_led : (g : Setting) (s : State) (payloads : List (List ℕ)) (t : State) → IsSane s
-    → Leads g s payloads t → IsSane t
-sane_led g s [] t sane is = subst IsSane is sane
-sane_led g s (payload ∷ payloads) t sane is =
-    sane_led g is.1 payloads t (told g s is.1 (length payload) is.0 sane is.2.stepped).3 is.3

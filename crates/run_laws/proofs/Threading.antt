@@ -34,7 +34,7 @@ use Rattle.model.specs.Accepted.{AreAccepted}
 use Rattle.world.specs.CallLemmas.{committed_is_serial}
 use Rattle.world.specs.World.{Opened, Past, Entry, World, starting, entry_of, changes_in}
 use Rattle.world.specs.Steps.{Reaches}
-use Rattle.run_laws.specs.Begun.{IsSane, begun, begun_in, if_direct, Moves}
+use Rattle.run_laws.proofs.Begun.{IsSane, begun, begun_in, if_direct, Moves}
 use Rattle.run_laws.specs.Statements.{WorkersAlterNothing, CleanIsWithoutThreads}
 use Rattle.run_laws.specs.Runs.{IsAtMostOne, IsCommitOf, CommitsNext}
 use Rattle.run_laws.specs.Threads.{work_of, done_by_commit, Does, IsWorldOf}

@@ -33,7 +33,7 @@ use Rattle.run.specs.StreamPart.{StreamPart}
 use Rattle.engine.specs.FirstClash.{ClashesIn}
 use Rattle.model.specs.Accepted.{AreAccepted}
 use Rattle.world.specs.World.{Entry, starting}
-use Rattle.run_laws.specs.Begun.{IsSane, begun, Moves}
+use Rattle.run_laws.proofs.Begun.{IsSane, begun, Moves}
 use Rattle.run_laws.specs.ThreadedRun.{IsThreadedCause, IsThreadedRun}
 use Rattle.run_laws.specs.Threads.{AreBytes}
 use Rattle.run_laws.proofs.Alone.{clear_front, first_in_clear}

@@ -34,8 +34,8 @@ use Rattle.model.specs.Accepted.{HasNoClash, AreAccepted}
 use Rattle.engine.specs.FirstClash.{ClashesIn}
 use Rattle.model.specs.SerialLemmas.{accepted_append}
 use Rattle.world.specs.World.{Opened, World, starting, changes_in, work, own_rows}
-use Rattle.run_laws.specs.Begun.{IsSane, open_items, begun_in, begun}
-use Rattle.run_laws.specs.Course.{committed_past}
+use Rattle.run_laws.proofs.Begun.{IsSane, open_items, begun_in, begun}
+use Rattle.run_laws.proofs.WorldAt.{committed_past}
 use Rattle.run_laws.specs.Runs.{IsCommitOf, CommitsNext}
 use Rattle.run_laws.specs.Threads.{work_of, IsWorldOf}
 use Rattle.run_laws.specs.ThreadedRun.{HasConflict, IsThreadedCause, IsThreadedRun}

@@ -1,5 +1,3 @@
-pub mod Begun
-pub mod Course
 pub mod Runs
 pub mod Threads
 pub mod ThreadedRun

@@ -1,33 +1,24 @@
 -- A run in the words of a world.
 --     LeavesWorld      a run leaves just the commits of a world
---     IsAtMostOne, TellsRun      no two transactions are open; the world has just what the run leaves
---     conflict      the conflict that ended a run
+--     IsAtMostOne      no two transactions are open
 --     IsCommitOf, CommitsNext      a payload commits a transaction; the next message does
+--     DoesAtCommit      a payload commits a transaction that does these items then
 --     NextChange      the next item of a transaction's work is a change, and which
---     IsTurnOf, IsStoppedBy      whose turn it is, and with which items; one of its changes clashes
---         so in the world
-use Rattle.std.specs.Prelude.{◌≡◌, ℕ, List, [], ◌∷◌, ◌++◌, map, Option, Some, None, Ok, ◌⊎◌}
+use Rattle.std.specs.Prelude.{◌≡◌, ℕ, List, [], ◌∷◌, ◌++◌, map, Some}
 use Rattle.std.specs.FinMap.{get}
 use Rattle.model.specs.declared.change.Change.{Change}
 use Rattle.model.specs.declared.item.Item.{Item}
 use Rattle.model.specs.declared.item.Item.TheVariants.{Change as ItemChange}
-use Rattle.model.specs.Rows.{Rows, Schema}
-use Rattle.model.specs.Effect.{ClashCause, NullKey, Unique}
 use Rattle.model.specs.Survivors.{survivors}
 use Rattle.messages.specs.declared.message.Message.{Message}
 use Rattle.frames.specs.declared.item.CopyItem.{CopyItem}
 use Rattle.session.specs.Sized.{item_of}
 use Rattle.session.specs.State.{Committed, State, Setting}
 use Rattle.session.specs.Lawful.{Admits}
-use Rattle.run.specs.declared.end.End.{End}
-use Rattle.run.specs.declared.end.End.TheVariants as ends
 use Rattle.run.specs.declared.outcome.Outcome.{Outcome}
 use Rattle.engine.specs.Engine.{entry_in}
-use Rattle.run.specs.Cause.{schema_of, IsNext}
-use Rattle.world.specs.World.{Opened, OpenOnes, World, starting, journal, ends_of}
-use Rattle.world.specs.Steps.{Clashed, Acts, Reaches}
-use Rattle.run_laws.specs.Begun.{begun}
-use Rattle.run_laws.specs.Course.{committed_past}
+use Rattle.run.specs.Cause.{IsNext}
+use Rattle.world.specs.World.{Opened, OpenOnes, World, journal, ends_of}
 use Rattle.model.specs.Beginning.{last_end}
 
 -- No two of these transactions are open.
@@ -42,27 +33,6 @@ pub record LeavesWorld (o : Outcome) (w : World) : Type 0 where
   pub entries : map entry_in o.journal.items ≡ journal w
   pub position : o.position ≡ last_end (ends_of w)
   pub tables : o.tables.rows ≡ w.committed
-
--- Calls reach the world from these rows; it has the commits that the state tells of, which the run
--- leaves; at most one transaction is open in it, and nothing has stopped it.
-pub record TellsRun (g : Setting) (rows : Rows) (s : State) (o : Outcome) (w : World) : Type 0 where
-  pub reached : Reaches (schema_of g) (starting rows) w
-  pub line : w.line ≡ map committed_past s.past
-  pub left : LeavesWorld o w
-  pub alone : IsAtMostOne w.opened
-  pub running : w.stopped ≡ None
-
--- the conflict of a change that ended a run, if one did
-abbrev pub conflict : End → Option ClashCause
-conflict ends.Clean = None
-conflict (ends.Frame fault) = None
-conflict (ends.Msg fault) = None
-conflict (ends.Session fault) = None
-conflict (ends.Rel fault) = None
-conflict (ends.Unique table key) = Some (Unique table key)
-conflict (ends.NullKey table) = Some (NullKey table)
-conflict (ends.HeldKey xid holder) = None
-conflict ends.OutOfMemory = None
 
 -- ---- the message that comes next
 
@@ -97,18 +67,3 @@ pub record NextChange (w : World) (xid : ℕ) (work : List Item) (P : Opened →
   pub after : List Item
   pub in_turn : transaction.items ++ ItemChange subtransaction change ∷ after ≡ work
   pub so : P transaction subtransaction change
-
--- ---- a conflict
-
--- It is a transaction's turn to do these items: it is the one that was begun, or the next message
--- commits it.
-abbrev pub IsTurnOf : Setting → State → List CopyItem → ℕ → List Item → Type 0
-IsTurnOf g s rest xid work =
-    ((items : List Item) × (begun s ≡ Some (xid, items)) × (survivors xid items ≡ work))
-    ⊎ IsNext rest (λ payload. DoesAtCommit g s payload xid work)
-
--- The transaction has done the first of these items, and tries the next, a change, which clashes
--- so: that call stops the world.
-abbrev pub IsStoppedBy : Schema → World → ℕ → List Item → ClashCause → Type 0
-IsStoppedBy schema w xid work cause =
-    NextChange w xid work (λ o sub c. (new : World) × Acts schema w xid o sub c (Ok (Clashed cause)) new)

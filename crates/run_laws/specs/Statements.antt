@@ -1,20 +1,16 @@
 -- The laws of a run in the words of a world, each as one statement. `src/laws.rt` names them, so
 -- that the check proves them.
-use Rattle.std.specs.Prelude.{◌≡◌, ◌≢◌, ℕ, List, [], Option, Some, None, Ok, map, ◌⊎◌}
+use Rattle.std.specs.Prelude.{◌≡◌, ◌≢◌, ℕ, List, [], Option, Some, map, ◌⊎◌}
 use Rattle.std.specs.FinMap.{get}
 use Rattle.model.specs.Effect.{ClashCause, serial}
 use Rattle.model.specs.Rows.{Rows, IsValid}
 use Rattle.model.specs.declared.change.Change as change_type
-use Rattle.model.specs.declared.item.Item.{Item}
-use Rattle.messages.specs.declared.message.Message.{Message}
 use Rattle.frames.specs.declared.fault.FrameFault.TheVariants.{Device}
 use Rattle.frames.specs.declared.item.CopyItem.{CopyItem}
-use Rattle.session.specs.Lawful.{IsLawful}
 use Rattle.session.specs.State.{State, Setting, begun_at}
-use Rattle.session.specs.Table.{step}
 use Rattle.run.specs.Cause.{schema_of}
 use Rattle.engine.specs.Engine.{entry_in}
-use Rattle.run.specs.Commits.{commits, all_changes, changes_of_entries, commit_ends}
+use Rattle.run.specs.Commits.{commits, changes_of_entries, commit_ends}
 use Rattle.model.specs.Beginning.{last_end}
 use Rattle.run.specs.Devices.{DeviceState}
 use Rattle.run.specs.Progress.{Progress, Leads, start_progress}
@@ -24,53 +20,12 @@ use Rattle.run.specs.declared.end.End.TheVariants as ends
 use Rattle.run.specs.declared.outcome.Outcome.{Outcome}
 use Rattle.world.specs.Steps.{Reaches, Closes, IsStuck}
 use Rattle.world.specs.World.{Opened, ByClash, World, starting, journal}
-use Rattle.run_laws.specs.Begun.{IsSane, IsTold}
-use Rattle.run_laws.specs.Course.{world_at}
 use Rattle.run_laws.specs.Leading.{Outbox, AreInStep, AreCounts}
-use Rattle.run_laws.specs.Runs.{CommitsNext, LeavesWorld, IsAtMostOne, TellsRun, IsTurnOf, IsStoppedBy, conflict}
+use Rattle.run_laws.specs.Runs.{CommitsNext, LeavesWorld, IsAtMostOne}
 use Rattle.run_laws.specs.Threads.{IsWorldOf, AreBytes}
 use Rattle.run_laws.specs.Turns.{Moment, start_moment, IsInStep, Turns}
 use Rattle.run_laws.specs.ThreadedRun.{HasConflict, IsStuckBy, IsThreadedRun}
 use Rattle.run_laws.specs.FirstCause.{IsAtFirstCause}
-
--- each message that the session table admits tells one thing
-abbrev pub EachMessageTells : Type 0
-EachMessageTells =
-    (g : Setting) (s t : State) (size : ℕ) (m : Message) → IsSane s → step g s size m ≡ Ok t
-    → IsTold s t
-
--- so it is in every state that a lawful stream leads to
-abbrev pub LawfulIsSane : Type 0
-LawfulIsSane =
-    (g : Setting) (payloads : List (List ℕ)) (t : State) → IsLawful g payloads t → IsSane t
-
--- where no change clashed, calls reach the world of the state that items lead to: each is no call,
--- or opens, or tries a change, or commits; a streamed transaction opens, does what survived, and
--- commits, all at its commit
-abbrev pub ProgressIsReached : Type 0
-ProgressIsReached =
-    (g : Setting) (rows : Rows) (handled : List CopyItem) (p : Progress)
-    → Leads g start_progress handled p
-    → AreAccepted (schema_of g) rows (all_changes p.state)
-    → Reaches (schema_of g) (starting rows) (world_at (schema_of g) rows p.state)
-
--- ---- runs
-
--- a run that no conflict ended is the world of the state that its items led to
-abbrev pub RunIsReached : Type 0
-RunIsReached =
-    (g : Setting) (rows : Rows) (old new : DeviceState) (o : Outcome) (run : IsRun g rows old new o)
-    → conflict o.end ≡ None
-    → TellsRun g rows run.part.progress.state o (world_at (schema_of g) rows run.part.progress.state)
-
--- a run that a conflict ended is a world that a call stops, for just this conflict: a change of the
--- one transaction whose turn it is, after the items that come before it
-abbrev pub ConflictStopsWorld : Type 0
-ConflictStopsWorld =
-    (g : Setting) (rows : Rows) (old new : DeviceState) (o : Outcome) (run : IsRun g rows old new o)
-    (cause : ClashCause) → conflict o.end ≡ Some cause
-    → (w : World) × TellsRun g rows run.part.progress.state o w × (xid : ℕ) × (work : List Item)
-    × IsTurnOf g run.part.progress.state run.part.rest xid work × IsStoppedBy (schema_of g) w xid work cause
 
 -- ---- runs with workers
 
