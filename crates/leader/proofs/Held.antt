@@ -77,8 +77,7 @@ module _ (g : Setting) (s : State) (rest : List CopyItem) (xid : ℕ) where
   in_step : (o : Open) (done : Opened) → KeepsToWork g s rest xid o done → InStep g s rest xid o (whole_outbox xid o) done
   in_step o done (doing, next) = record {
     all_work = append-nil (work_of xid o.way o.items);
-    left = doing.left;
-    begins = doing.begins;
+    does = record { left = doing.left; begins = doing.begins };
     wants = wanted_next done.wants doing.left doing.wants;
     next = next;
   }

@@ -58,8 +58,8 @@ module _ (g : Setting) (s : State) (rest : List CopyItem) (xid : ℕ) where
 
   module _ (o : Open) (l : Outbox) (done : Opened) (step : InStep g s rest xid o l done) where
     -- what it has done and has still to do
-    pub whole : done.items ++ (step.left ++ l.queued) ≡ work_of xid o.way o.items
-    whole = sym (append_assoc done.items step.left l.queued) ∙ ap (λ is. is ++ l.queued) step.begins ∙ step.all_work
+    pub whole : done.items ++ (step.does.left ++ l.queued) ≡ work_of xid o.way o.items
+    whole = sym (append_assoc done.items step.does.left l.queued) ∙ ap (λ is. is ++ l.queued) step.does.begins ∙ step.all_work
 
     -- the change that waits or clashed comes next
     pub wanted_next : (sub : ℕ) (c : change_type.Change) (wanted : done.wants ≡ Some (sub, c))
@@ -84,7 +84,10 @@ module _ (g : Setting) (rows : Rows) (s : State) (rest : List CopyItem) (outboxe
         let is = there xid done at in (
           is.0,
           is.1,
-          record { left = is.4.left ++ is.2.queued; begins = whole g s rest xid is.0 is.2 done is.4; next = is.4.next },
+          (
+            record { left = is.4.does.left ++ is.2.queued; begins = whole g s rest xid is.0 is.2 done is.4 },
+            is.4.next,
+          ),
         );
   }
 
@@ -133,8 +136,8 @@ module _ (g : Setting) (rows : Rows) (s : State) (rest : List CopyItem) (outboxe
       → InStep g s rest xid o l done → length done.items ≡ length (l.sent ++ l.queued) → HasDoneAll w xid o
   has_done_all xid o l done at step count =
       let all = whole g s rest xid o l done step in
-      let none : step.left ++ l.queued ≡ [] =
-      none_after done.items (step.left ++ l.queued) (count ∙ ap length (step.all_work ∙ sym all)) in
+      let none : step.does.left ++ l.queued ≡ [] =
+      none_after done.items (step.does.left ++ l.queued) (count ∙ ap length (step.all_work ∙ sym all)) in
       (done, at, sym (append-nil done.items) ∙ ap (λ more. done.items ++ more) (sym none) ∙ all)
 
   pub all_wait : (named : List (ℕ × ℕ)) → AreCounts outboxes named → IsSettled (schema_of g) w named → AllWait g s w

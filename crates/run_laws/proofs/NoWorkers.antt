@@ -34,7 +34,7 @@ use Rattle.world.specs.World.{Opened, OpenOnes, World}
 use Rattle.run_laws.proofs.Begun.{IsSane, open_items, begun_in, begun, Moves}
 use Rattle.run_laws.proofs.WorldAt.{committed_past, open_ones, world_at, TellsRun, conflict, IsTurnOf, IsStoppedBy}
 use Rattle.run_laws.specs.Runs.{IsAtMostOne, CommitsNext, DoesAtCommit}
-use Rattle.run_laws.specs.Threads.{work_of, done_by_commit, Does}
+use Rattle.run_laws.specs.Threads.{work_of, done_by_commit, DoesWork}
 use Rattle.run_laws.specs.ThreadedRun.{HasConflict, IsThreadedCause, IsThreadedRun}
 use Rattle.run_laws.proofs.Reaching.{handled_told}
 use Rattle.run_laws.proofs.Running.{none_is, begun_open, run_reached, run_stopped}
@@ -184,7 +184,7 @@ module _ (g : Setting) (s : State) (rest : List CopyItem) (sane : IsSane s) (pla
 
   -- It is open in the state, and does its work.
   abbrev IsOpen : ℕ → Opened → Type 0
-  IsOpen xid done = (o : Open) × (get s.transactions xid ≡ Some o) × Does g s rest xid o done
+  IsOpen xid done = (o : Open) × (get s.transactions xid ≡ Some o) × DoesWork g s rest xid o done
 
   begun_work : (xid : ℕ) (items work : List Item) → begun s ≡ Some (xid, items) → survivors xid items ≡ work
       → IsWork xid work
@@ -236,7 +236,7 @@ module _ (g : Setting) (s : State) (rest : List CopyItem) (sane : IsSane s) (pla
   -- one that has done a beginning of its work
   works : (xid : ℕ) (work : List Item) (done : Opened) (left : List Item) → IsWork xid work → done.items ++ left ≡ work
       → IsOpen xid done
-  works xid work done left is begins = (is.0, is.1, record { left = left; begins = begins ∙ is.2; next = is.3 })
+  works xid work done left is begins = (is.0, is.1, (record { left = left; begins = begins ∙ is.2 }, is.3))
 
   -- it is the only one
   only : (m : OpenOnes) → IsAtMostOne m → (xid : ℕ) (done : Opened) → get m xid ≡ Some done → IsOpen xid done

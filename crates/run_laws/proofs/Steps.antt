@@ -45,8 +45,7 @@ module _ (g : Setting) (rows : Rows) (s t : State) (rest more : List CopyItem) w
       later (Some o) None None is = is
       later (Some o) (Some l) (Some d) is = record {
         all_work = is.all_work;
-        left = is.left;
-        begins = is.begins;
+        does = is.does;
         wants = is.wants;
         next = λ spooled. next (is.next spooled);
       }
@@ -169,8 +168,7 @@ module _ (g : Setting) (rows : Rows) (s t : State) (rest more : List CopyItem) (
       (subst (λ x. IsAgreed g t more xid (Some (record { way = way; items = [] })) (Some empty_outbox) x) (sym (there xid ∙ got_same w.opened xid just_opened))
       (record {
         all_work = no_work xid way not;
-        left = [];
-        begins = refl;
+        does = record { left = []; begins = refl };
         wants = λ sub c e. absurd (none_wanted sub c e);
         next = λ spooled. absurd (not spooled);
       }))))
@@ -205,8 +203,7 @@ module _ (g : Setting) (rows : Rows) (s t : State) (rest more : List CopyItem) (
         all_work =
             sym (append_assoc l.sent l.queued (item ∷ [])) ∙ ap (λ is. is ++ item ∷ []) is.2.all_work
             ∙ sym (work_with xid o.way o.items item size not);
-        left = is.2.left;
-        begins = is.2.begins;
+        does = is.2.does;
         wants = is.2.wants;
         next = λ spooled. absurd (not spooled);
       }))))
@@ -320,8 +317,7 @@ module _ (g : Setting) (rows : Rows) (s : State) (rest : List CopyItem) (outboxe
       moves after w (record { sent = l.sent ++ i ∷ []; queued = queued }) d are.reached refl
       (record {
         all_work = append_assoc l.sent (i ∷ []) queued ∙ ap (λ is. l.sent ++ is) (sym first) ∙ step.all_work;
-        left = step.left ++ i ∷ [];
-        begins = sym (append_assoc d.items step.left (i ∷ [])) ∙ ap (λ is. is ++ i ∷ []) step.begins;
+        does = record { left = step.does.left ++ i ∷ []; begins = sym (append_assoc d.items step.does.left (i ∷ [])) ∙ ap (λ is. is ++ i ∷ []) step.does.begins };
         wants = λ sub c wanted. let is = step.wants sub c wanted in (is.0 ++ i ∷ [], ap (λ is. is ++ i ∷ []) is.1);
         next = step.next;
       })
@@ -341,8 +337,7 @@ module _ (g : Setting) (rows : Rows) (s : State) (rest : List CopyItem) (outboxe
       (∥∥₁_map are.reached (λ r. by_step w (done_with w xid d i) r call)) refl
       (record {
         all_work = step.all_work;
-        left = left;
-        begins = append_assoc d.items (i ∷ []) left ∙ first;
+        does = record { left = left; begins = append_assoc d.items (i ∷ []) left ∙ first };
         wants = λ sub c wanted. absurd (none_wanted sub c wanted);
         next = step.next;
       })
@@ -358,8 +353,7 @@ module _ (g : Setting) (rows : Rows) (s : State) (rest : List CopyItem) (outboxe
       (∥∥₁_map are.reached (λ r. by_step w (record (wanting w xid d sub c) { stopped = stopped }) r call)) refl
       (record {
         all_work = step.all_work;
-        left = Change sub c ∷ left;
-        begins = first;
+        does = record { left = Change sub c ∷ left; begins = first };
         wants = λ other e wanted. (left, ap (λ i. i ∷ left) (same_change sub other c e wanted));
         next = step.next;
       })
@@ -381,8 +375,7 @@ module _ (g : Setting) (rows : Rows) (s : State) (rest : List CopyItem) (outboxe
       (∥∥₁_map are.reached (λ r. by_step w new r (opens xid (Ok tt) new call))) (ap (λ (v : World). v.line) call.3)
       (record {
         all_work = refl;
-        left = [];
-        begins = refl;
+        does = record { left = []; begins = refl };
         wants = λ sub c wanted. absurd (none_wanted sub c wanted);
         next = λ spooled. next;
       })

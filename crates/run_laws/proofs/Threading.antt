@@ -37,7 +37,7 @@ use Rattle.world.specs.Steps.{Reaches}
 use Rattle.run_laws.proofs.Begun.{IsSane, begun, begun_in, if_direct, Moves}
 use Rattle.run_laws.specs.Statements.{WorkersAlterNothing, CleanIsWithoutThreads}
 use Rattle.run_laws.specs.Runs.{IsAtMostOne, IsCommitOf, CommitsNext}
-use Rattle.run_laws.specs.Threads.{work_of, done_by_commit, Does, IsWorldOf}
+use Rattle.run_laws.specs.Threads.{work_of, done_by_commit, DoesWork, IsWorldOf}
 use Rattle.run_laws.specs.ThreadedRun.{IsStuckBy, IsThreadedCause, IsThreadedRun}
 use Rattle.run_laws.proofs.Alone.{survive_again}
 use Rattle.run_laws.proofs.Clear.{commits_clear}
@@ -193,11 +193,11 @@ its_turn : (g : Setting) (rows : Rows) (s : State) (rest : List CopyItem) (w : W
 its_turn g rows s rest w sane none is xid d at =
     let there = is.opened xid d at in by_way there.0 there.0.way refl there.1 there.2
   where
-    by_way : (o : Open) (way : Way) → o.way ≡ way → finite.get s.transactions xid ≡ Some o → Does g s rest xid o d
+    by_way : (o : Open) (way : Way) → o.way ≡ way → finite.get s.transactions xid ≡ Some o → DoesWork g s rest xid o d
         → IsItsTurn g s rest xid
     by_way o Direct e there does = inl (sane.alone xid o there e)
     by_way o Worker e there does = absurd (none xid o there e)
-    by_way o Spooled e there does = inr (o, there, e, does.next e)
+    by_way o Spooled e there does = inr (o, there, e, does.1 e)
 
 not_both : (g : Setting) (s : State) (rest : List CopyItem) (xid other : ℕ) (o : Open) → IsSane s
     → begun_at s.phase ≡ Some xid → finite.get s.transactions other ≡ Some o → o.way ≡ Spooled

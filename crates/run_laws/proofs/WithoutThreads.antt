@@ -311,7 +311,7 @@ module _ (g : Setting) (rows : Rows) (s : State) (rest : List CopyItem) (w : Wor
       let there = is_world.opened is.0 change.transaction change.present in
       let same : there.0 ≡ o = same_open there.0 o (sym there.1 ∙ at) in
       by_way is.0 o at change.transaction change.present change.subtransaction change.change change.after change.in_turn
-      cause o.way refl (subst (λ (p : Open). p.way ≡ Spooled → CommitsNext g s rest is.0) same there.2.next)
+      cause o.way refl (subst (λ (p : Open). p.way ≡ Spooled → CommitsNext g s rest is.0) same there.2.1)
       (clashes is.0 o at change.transaction change.present change.subtransaction change.change change.after
       change.in_turn cause change.so.1)
 

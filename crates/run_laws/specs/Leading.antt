@@ -16,7 +16,7 @@ use Rattle.run.specs.Cause.{schema_of}
 use Rattle.world.specs.World.{Opened, World, starting}
 use Rattle.world.specs.Steps.{Reaches}
 use Rattle.run_laws.specs.Runs.{CommitsNext}
-use Rattle.run_laws.specs.Threads.{work_of, done_by_commit}
+use Rattle.run_laws.specs.Threads.{work_of, done_by_commit, Does}
 
 -- the items that were sent to a transaction, and those that are still to be sent, as there was no
 -- room for them
@@ -32,18 +32,18 @@ pub record IsWith (outboxes after : ℕ → Option Outbox) (xid : ℕ) (now : Op
 -- What was sent and what is late are its work. What it has done is a beginning of what was sent; a
 -- change that waits or clashed is the next. A spooled one begins only once the next message commits
 -- it.
-pub record InStep (g : Setting) (s : State) (rest : List CopyItem) (xid : ℕ) (o : Open) (outbox : Outbox) (done : Opened)
-    : Type 0 where
+pub record InStep (g : Setting) (s : State) (rest : List CopyItem) (xid : ℕ) (o : Open)
+    (outbox : Outbox) (done : Opened) : Type 0 where
   pub all_work : outbox.sent ++ outbox.queued ≡ work_of xid o.way o.items
-  pub left : List Item
-  pub begins : done.items ++ left ≡ outbox.sent
+  pub does : Does done outbox.sent
   pub wants : (sub : ℕ) (c : change_type.Change) → done.wants ≡ Some (sub, c)
-      → (more : List Item) × (left ≡ Change sub c ∷ more)
+      → (more : List Item) × (does.left ≡ Change sub c ∷ more)
   pub next : o.way ≡ Spooled → CommitsNext g s rest xid
 
 -- A transaction of the state is in step with its lane and with the world, or it is spooled and has
 -- neither; what is not open there is nowhere.
-abbrev pub IsAgreed : Setting → State → List CopyItem → ℕ → Option Open → Option Outbox → Option Opened → Type 0
+abbrev pub IsAgreed : Setting → State → List CopyItem → ℕ → Option Open → Option Outbox
+    → Option Opened → Type 0
 IsAgreed g s rest xid None None None = Unit {0}
 IsAgreed g s rest xid (Some o) None None = o.way ≡ Spooled
 IsAgreed g s rest xid (Some o) (Some outbox) (Some done) = InStep g s rest xid o outbox done
@@ -51,15 +51,15 @@ IsAgreed g s rest xid _ _ _ = ⊥
 
 -- Calls reach the world from these rows, its commits are those of the state, and so it is with each
 -- transaction.
-pub record AreInStep (g : Setting) (rows : Rows) (s : State) (rest : List CopyItem) (outboxes : ℕ → Option Outbox) (w : World)
-    : Type 0 where
+pub record AreInStep (g : Setting) (rows : Rows) (s : State) (rest : List CopyItem)
+    (outboxes : ℕ → Option Outbox) (w : World) : Type 0 where
   pub reached : ∥ Reaches (schema_of g) (starting rows) w ∥₁
   pub line : w.line ≡ map done_by_commit s.past
   pub agree : (xid : ℕ) → IsAgreed g s rest xid (get s.transactions xid) (outboxes xid) (get w.opened xid)
 
--- Each count that is named of a transaction with a lane is of all items of the lane. The last number of a u64 is no
--- count: it stands where there were more, or where a name is of no transaction.
+-- Each count that is named of a transaction with a lane is of all items of the lane. The last number
+-- of a u64 is no count: it stands where there were more, or where a name is of no transaction.
 abbrev pub AreCounts : (ℕ → Option Outbox) → List (ℕ × ℕ) → Type 0
 AreCounts outboxes named =
-    (xid count : ℕ) (outbox : Outbox) → Contains named (xid, count) → count < 2 ^ 64 - 1 → outboxes xid ≡ Some outbox
-    → count ≡ length (outbox.sent ++ outbox.queued)
+    (xid count : ℕ) (outbox : Outbox) → Contains named (xid, count) → count < 2 ^ 64 - 1
+    → outboxes xid ≡ Some outbox → count ≡ length (outbox.sent ++ outbox.queued)

@@ -1,7 +1,7 @@
 -- The world of a run in which workers apply streamed transactions while they come.
 --     work_of, done_by_commit      what a transaction has to do there; a commit, for which all of
 --         it was done
---     Does      what an open transaction has done of its work
+--     Does, DoesWork      what an open transaction has done is a beginning of items, or of its work
 --     IsWorldOf      the world is one of a state, with these items still to be handled
 --     AreBytes      the payloads of items are bytes
 use Rattle.std.specs.Prelude.{◌≡◌, ◌<◌, ℕ, List, [], ◌∷◌, ◌++◌, map, slice_index, Some}
@@ -29,13 +29,15 @@ work_of xid Spooled items = survivors xid (map item_of items)
 abbrev pub done_by_commit : Committed → Past
 done_by_commit c = record { xid = c.xid; items = work_of c.xid c.way c.items; info = c.info }
 
--- What an open transaction has done is a beginning of its work; a spooled one begins only once the
--- next message commits it.
-pub record Does (g : Setting) (s : State) (rest : List CopyItem) (xid : ℕ) (o : Open) (done : Opened)
-    : Type 0 where
+-- What an open transaction has done is a beginning of these items.
+pub record Does (done : Opened) (items : List Item) : Type 0 where
   pub left : List Item
-  pub begins : done.items ++ left ≡ work_of xid o.way o.items
-  pub next : o.way ≡ Spooled → CommitsNext g s rest xid
+  pub begins : done.items ++ left ≡ items
+
+-- It is a beginning of its work; a spooled one begins only once the next message commits it.
+abbrev pub DoesWork : Setting → State → List CopyItem → ℕ → Open → Opened → Type 0
+DoesWork g s rest xid o done =
+    Does done (work_of xid o.way o.items) × (o.way ≡ Spooled → CommitsNext g s rest xid)
 
 -- Calls reach the world from these rows; its commits are those of the state, in order; each of its
 -- open transactions is open in the state, and does its work. That there are such calls is all that
@@ -45,7 +47,7 @@ pub record IsWorldOf (g : Setting) (rows : Rows) (s : State) (rest : List CopyIt
   pub reached : ∥ Reaches (schema_of g) (starting rows) w ∥₁
   pub line : w.line ≡ map done_by_commit s.past
   pub opened : (xid : ℕ) (done : Opened) → get w.opened xid ≡ Some done
-      → (o : Open) × (get s.transactions xid ≡ Some o) × Does g s rest xid o done
+      → (o : Open) × (get s.transactions xid ≡ Some o) × DoesWork g s rest xid o done
 
 -- The payloads of these items are bytes.
 abbrev pub AreBytes : List CopyItem → Type 0
