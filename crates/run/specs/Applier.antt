@@ -1,5 +1,6 @@
 -- When what a run keeps is that of a progress, and what handling an item leaves.
-use Rattle.std.specs.Prelude.{◌≡◌, ◌≢◌, ℕ, Bool, false, max, List, ◌∷◌, length, map, Some, Result, MatchResult, All, ◌⊎◌}
+use Rattle.std.specs.Prelude.{◌≡◌, ◌≢◌, ℕ, Bool, false, max, List, ◌∷◌, length, map, Some, All}
+use Rattle.std.specs.Prelude.{Result, MatchResult, ◌⊎◌}
 use Rattle.std.specs.FinMap as finite
 use Rattle.model.specs.Rows.{Rows}
 use Rattle.model.specs.Effect.{serial}
@@ -28,7 +29,8 @@ pub record IsServed (count : ℕ) (o : Open) : Type 0 where
 
 -- So it is with all.
 abbrev pub AreServed : ℕ → OpenTransactions → Type 0
-AreServed count transactions = (xid : ℕ) (o : Open) → finite.get transactions xid ≡ Some o → IsServed count o
+AreServed count transactions =
+    (xid : ℕ) (o : Open) → finite.get transactions xid ≡ Some o → IsServed count o
 
 -- What is kept of the commits: the rows without open work, the journal, the position.
 pub record HasCommits (g : Setting) (rows : Rows) (a : Applier) (s : State) : Type 0 where
@@ -55,22 +57,28 @@ RepresentsSome a = (g : Setting) × (rows : Rows) × (p : Progress) × Represent
 
 -- ---- a message
 
--- The message ended the run: it may not come or clashes as it commits, or it was taken and clashed then.
+-- The message ended the run: it may not come or clashes as it commits, or it was taken and clashed
+-- then.
 abbrev pub EndsByMessage : Setting → Rows → Applier → Progress → List ℕ → End → Type 0
 EndsByMessage g rows a p payload end =
     (HasCommits g rows a p.state
-    × ((first last : ℕ) (more : List CopyItem) → IsNextCause g rows p.state (Wal first last payload ∷ more) end))
+    × ((first last : ℕ) (more : List CopyItem)
+    → IsNextCause g rows p.state (Wal first last payload ∷ more) end))
     ⊎ ((m : Message) × (s : State) × Admits g p.state payload m s × (commits_from p.state s ≡ false)
-    × HasCommits g rows a s × AreAccepted (schema_of g) rows (committed_changes s) × IsLastCause g rows s end)
+    × HasCommits g rows a s × AreAccepted (schema_of g) rows (committed_changes s)
+    × IsLastCause g rows s end)
 
 -- The message was taken, or it ended the run.
 abbrev pub TakesMessage : Setting → Rows → Applier → Progress → List ℕ → Result Bool End → Type 0
-TakesMessage g rows a p payload result = MatchResult result (HasTaken g (Represents g rows a) p payload) (EndsByMessage g rows a p payload)
+TakesMessage g rows a p payload result =
+    MatchResult result (HasTaken g (Represents g rows a) p payload)
+    (EndsByMessage g rows a p payload)
 
 -- ---- an item
 
--- What ended a run: the next item may not come, or clashes as it commits, while no change had clashed; or the last item
--- brought a change into the transaction that was begun, the first that clashes, and it was not committed.
+-- What ended a run: the next item may not come, or clashes as it commits, while no change had
+-- clashed; or the last item brought a change into the transaction that was begun, the first that
+-- clashes, and it was not committed.
 abbrev pub IsWhyEnded : Setting → Rows → List CopyItem → Progress → List CopyItem → End → Type 0
 IsWhyEnded g rows handled p rest end =
     (AreAccepted (schema_of g) rows (all_changes p.state) × IsNextCause g rows p.state rest end)
@@ -78,5 +86,7 @@ IsWhyEnded g rows handled p rest end =
     × AreAccepted (schema_of g) rows (committed_changes p.state) × IsLastCause g rows p.state end)
 
 -- It ended a run so, and what is kept of the commits is that of this progress.
-abbrev pub HasEnded : Setting → Rows → Applier → List CopyItem → Progress → List CopyItem → End → Type 0
-HasEnded g rows a handled p rest end = HasCommits g rows a p.state × IsWhyEnded g rows handled p rest end
+abbrev pub HasEnded : Setting → Rows → Applier → List CopyItem → Progress → List CopyItem → End
+    → Type 0
+HasEnded g rows a handled p rest end =
+    HasCommits g rows a p.state × IsWhyEnded g rows handled p rest end

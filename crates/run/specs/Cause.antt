@@ -31,7 +31,8 @@ use Rattle.engine.specs.FirstClash.{ClashesIn}
 use Rattle.model.specs.Accepted.{AreAccepted}
 use Rattle.run.specs.Commits.{committed_changes, all_changes}
 use Rattle.run.specs.Devices.{DeviceState}
-use Rattle.run.specs.Progress.{Progress, start_progress, commits_from, Handles, Leads, Update, status_bytes}
+use Rattle.run.specs.Progress.{Progress, start_progress, commits_from, Handles, Leads}
+use Rattle.run.specs.Progress.{Update, status_bytes}
 use Rattle.run.specs.StreamPart.{StreamPart}
 
 -- the keys' columns of each table of the catalog
@@ -118,8 +119,8 @@ module _ {g : Setting} {old new : DeviceState} (part : StreamPart g old new) whe
     pub read : HasWorked old.reader new.reader
     pub sent : AreAllSent
 
-  -- The update that the last item brought could not be sent: the writer failed in its last call, and
-  -- never before.
+  -- The update that the last item brought could not be sent: the writer failed in its last call,
+  -- and never before.
   pub record CouldNotSend : Type 0 where
     pub read : HasWorked old.reader new.reader
     pub failed : HasFailedLast old.writer new.writer

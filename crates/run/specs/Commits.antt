@@ -1,8 +1,8 @@
 -- The transactions that a session's state tells of, and their changes.
---     entry_of_commit, commits      each commit of the past as it is told, with the changes that survived
---     changes_of_entries, committed_changes      the changes of entries, and of all commits, in commit order
+--     entry_of_commit, commits      each commit of the past as it is told, with what survived
+--     changes_of_entries, committed_changes      the changes of entries, and of all commits
 --     commit_ends      where the log goes on behind each of them
---     begun_changes, all_changes      the changes so far of the transaction that was begun; all changes
+--     begun_changes, all_changes      those so far of the transaction that was begun; all
 use Rattle.std.specs.Prelude.{ℕ, List, [], ◌++◌, map, flat_map, Option, Some, None}
 use Rattle.std.specs.FinMap as finite
 use Rattle.model.specs.declared.change.Change.{Change}
@@ -43,7 +43,8 @@ abbrev pub open_changes : ℕ → Option Open → List Change
 open_changes xid None = []
 open_changes xid (Some o) = surviving_changes xid o.items
 
--- the changes so far of the transaction between Begin and Commit; none outside of one, or in a block
+-- the changes so far of the transaction between Begin and Commit; none outside of one, or in a
+-- block
 abbrev pub begun_changes_in : Phase → OpenTransactions → List Change
 begun_changes_in Outside transactions = []
 begun_changes_in (Begun xid final) transactions = open_changes xid (finite.get transactions xid)

@@ -4,9 +4,10 @@
 --     HasTold      the status updates so far were sent
 --     IsUnderWay, HasCome      some items were handled; these were
 --     IsEnded, IsRunOver, StopsRun      an item ended the run; it is over
---     AnswersItem, HandlesKept      what came of one item more, and of all that were kept of the bytes
+--     AnswersItem, HandlesKept      what came of one item more, and of all that were kept
 --     end_of_result      the end that an answer says
-use Rattle.std.specs.Prelude.{◌≡◌, ℕ, ℤ, Bool, List, [], ◌∷◌, ◌++◌, length, Result, Ok, Err, MatchResult, ◌⊎◌}
+use Rattle.std.specs.Prelude.{◌≡◌, ℕ, ℤ, Bool, List, [], ◌∷◌, ◌++◌, length}
+use Rattle.std.specs.Prelude.{Result, Ok, Err, MatchResult, ◌⊎◌}
 use Rattle.std.specs.Io.KnownBytes.{Appends, Consumes}
 use Rattle.model.specs.Rows.{Rows}
 use Rattle.frames.specs.declared.item.CopyItem.{CopyItem}
@@ -18,7 +19,8 @@ use Rattle.session.specs.State.{Setting}
 use Rattle.session.specs.Lawful.{Admits}
 use Rattle.run.specs.declared.end.End.{End}
 use Rattle.run.specs.declared.end.End.TheVariants as ends
-use Rattle.run.specs.Progress.{Progress, Handles, Leads, start_progress, Update, due_updates, commits_from, status_bytes}
+use Rattle.run.specs.Progress.{Progress, Handles, Leads, start_progress, commits_from}
+use Rattle.run.specs.Progress.{Update, due_updates, status_bytes}
 use Rattle.run.specs.Clock.{Ticks}
 use Rattle.run.specs.Cause.{HasGoneWell, IsSendCause, IsInputCause}
 use Rattle.run.specs.Devices.{DeviceState}
@@ -96,8 +98,8 @@ module _ {H : Type 0} (g : Setting) (IsAt : H → Progress → Type 0)
     pub ended : HasEnded h part.handled part.progress part.rest end
     pub well : HasGoneWell part
 
-  -- The run is over: an item ended it; or it goes on from where the handler stands, and an update that
-  -- was due ends it, or the input.
+  -- The run is over: an item ended it; or an update that was due did, or the input, where the
+  -- handler stands at the progress.
   pub record IsRunOver (old new : DeviceState) (h : H) (end : End) : Type 0 where
     pub part : StreamPart g old new
     pub why : IsEnded h part end
@@ -116,7 +118,7 @@ module _ {H : Type 0} (g : Setting) (IsAt : H → Progress → Type 0)
       MatchResult result (λ _. HasCome old new h (handled ++ item ∷ []))
       (λ end. (more : List CopyItem) → StopsRun old new h (handled ++ item ∷ more) end)
 
-  -- All items that were kept of these bytes were handled; or the run is over, where it has read these.
+  -- All items that were kept of these bytes were handled; or the run is over, if it has read these.
   abbrev pub HandlesKept : DeviceState → DeviceState → H → List ℕ → Reading
       → Result (Unit {0}) End → Type 0
   HandlesKept old new h bytes kept result =

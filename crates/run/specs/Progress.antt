@@ -1,9 +1,10 @@
 -- What the items of a stream lead to, one after another.
---     Update, Progress      a status update but for its clock; the session's state, and what was told the publisher
+--     Update, Progress      a status update but for its clock; the state, and what was told of it
 --     seen_with      the greatest position of the log, with an item more
 --     Handles, Leads      what an item, or each of a list in turn, leads to
 --     status_bytes      the frames of status updates, each with its time
-use Rattle.std.specs.Prelude.{◌≡◌, ℕ, Bool, true, false, nat_lt, max, List, [], ◌∷◌, ◌++◌, length, ℤ}
+use Rattle.std.specs.Prelude.{◌≡◌, ℕ, ℤ, Bool, true, false, nat_lt, max}
+use Rattle.std.specs.Prelude.{List, [], ◌∷◌, ◌++◌, length}
 use Rattle.messages.specs.declared.message.Message.{Message}
 use Rattle.frames.specs.declared.item.CopyItem.{CopyItem}
 use Rattle.frames.specs.declared.item.CopyItem.TheVariants.{Wal, Keepalive, Done}
@@ -11,7 +12,8 @@ use Rattle.frames.specs.Status.{status_frame}
 use Rattle.session.specs.State.{State, Setting, start}
 use Rattle.session.specs.Lawful.{Admits}
 
--- a status update but for its clock: the greatest position of the publisher's log so far, and the end of the last commit
+-- a status update but for its clock: the greatest position of the publisher's log so far, and the
+-- end of the last commit
 pub record Update : Type 0 where
   pub written : ℕ
   pub applied : ℕ
@@ -47,8 +49,8 @@ seen_with seen (Wal first last payload) = max (max seen first) last
 seen_with seen (Keepalive last reply) = max seen last
 seen_with seen Done = seen
 
--- An item leads from one progress to the next: a payload that is admitted, with an update if it commits; a keepalive,
--- with an update if a reply is wanted; CopyDone, with nothing.
+-- An item leads from one progress to the next: a payload that is admitted, with an update if it
+-- commits; a keepalive, with an update if a reply is wanted; CopyDone, with nothing.
 abbrev pub Handles : Setting → Progress → CopyItem → Progress → Type 0
 Handles g p (Wal first last payload) q =
     (m : Message)
@@ -56,7 +58,8 @@ Handles g p (Wal first last payload) q =
     × (q.seen ≡ max (max p.seen first) last)
     × (q.updates ≡ p.updates ++ due_updates (commits_from p.state q.state) q.state q.seen)
 Handles g p (Keepalive last reply) q =
-    (q.state ≡ p.state) × (q.seen ≡ max p.seen last) × (q.updates ≡ p.updates ++ due_updates reply q.state q.seen)
+    (q.state ≡ p.state) × (q.seen ≡ max p.seen last)
+    × (q.updates ≡ p.updates ++ due_updates reply q.state q.seen)
 Handles g p Done q = q ≡ p
 
 -- The items, one after another, lead to this.
@@ -69,4 +72,6 @@ abbrev pub status_bytes : List Update → List ℤ → List ℕ
 status_bytes [] times = []
 status_bytes (u ∷ updates) [] = []
 status_bytes (u ∷ updates) (time ∷ times) =
-    status_frame (record { written = u.written; flushed = u.applied; applied = u.applied; clock = time }) ++ status_bytes updates times
+    status_frame
+    (record { written = u.written; flushed = u.applied; applied = u.applied; clock = time })
+    ++ status_bytes updates times

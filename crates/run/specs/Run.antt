@@ -1,5 +1,5 @@
 -- What a run leaves, as a function of the bytes that it read.
---     IsRun      a run: the items up to the first cause of an end, the commits among them, and nothing else
+--     IsRun      a run: the items up to the first cause of an end, and the commits among them
 use Rattle.std.specs.Prelude.{◌≡◌, map}
 use Rattle.model.specs.Rows.{Rows}
 use Rattle.model.specs.Effect.{serial}
@@ -12,8 +12,8 @@ use Rattle.run.specs.Cause.{schema_of, IsCause}
 use Rattle.run.specs.Devices.{DeviceState}
 use Rattle.run.specs.StreamPart.{StreamPart}
 
--- A run from these rows: it handled the items up to the first cause of an end, and what is left are the commits among
--- them, applied in their order.
+-- A run from these rows: it handled the items up to the first cause of an end, and what is left are
+-- the commits among them, applied in their order.
 pub record IsRun (g : Setting) (rows : Rows) (old new : DeviceState) (o : Outcome) : Type 0 where
   pub part : StreamPart g old new
   pub cause : IsCause rows part o.end

@@ -9,8 +9,8 @@ use Rattle.run.specs.Clock.{Ticks}
 use Rattle.run.specs.Devices.{DeviceState}
 use Rattle.run.specs.Progress.{Progress, start_progress, Leads}
 
--- Of the bytes that the reader gave, a run handled these items, each lawful after those before it, and left the rest.
--- The clock told a time for each status update.
+-- Of the bytes that the reader gave, a run handled these items, each lawful after those before it,
+-- and left the rest. The clock told a time for each status update.
 pub record StreamPart (g : Setting) (old new : DeviceState) : Type 0 where
   pub bytes : List ℕ
   pub read : Consumes old.unread new.unread bytes

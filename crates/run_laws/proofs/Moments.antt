@@ -30,7 +30,7 @@ worker_not : Worker ≢ Spooled
 worker_not = λ e. cc
 
 module _ (g : Setting) (rows : Rows) (a b : Moment) (are : IsInStep g rows a) where
-  -- where lanes and world are as they were
+  -- where outboxes and world are as they were
   left_in_step : IsUnmoved a b → AreInStep g rows b.state b.rest a.outboxes a.world → IsInStep g rows b
   left_in_step same is =
       subst (λ l. AreInStep g rows b.state b.rest l b.world) (sym same.outboxes)

@@ -93,7 +93,7 @@ no_work xid Direct not = refl
 no_work xid Worker not = refl
 no_work xid Spooled not = absurd (not refl)
 
--- what isn't open in the state has no lane, and is not open in the world
+-- what isn't open in the state has no outbox, and is not open in the world
 nowhere : (g : Setting) (s : State) (rest : List CopyItem) (xid : ℕ) (o : Option Open) (l : Option Outbox) (d : Option Opened)
     → o ≡ None → IsAgreed g s rest xid o l d → (l ≡ None) × (d ≡ None)
 nowhere g s rest xid None None None e is = (refl, refl)
@@ -119,7 +119,7 @@ not_yet g s rest xid (Some o) p (Some l) (Some d) e spooled not is =
     same : (o p : Open) → Some o ≡ Some p → o ≡ p
     same o p e = cc
 
--- what has a lane is in step
+-- what has an outbox is in step
 in_outbox : (g : Setting) (s : State) (rest : List CopyItem) (xid : ℕ) (o : Option Open) (p : Open) (l : Option Outbox) (k : Outbox) (d : Option Opened)
     → o ≡ Some p → l ≡ Some k → IsAgreed g s rest xid o l d
     → (done : Opened) × (d ≡ Some done) × InStep g s rest xid p k done
@@ -190,7 +190,7 @@ module _ (g : Setting) (rows : Rows) (s t : State) (rest more : List CopyItem) (
       (λ x differs. (ap (λ m. get m x) told.transactions ∙ got_other s.transactions xid _ x differs, refl, refl))
       (λ x differs. none_next x)
 
-  -- a transaction gets an item, which is late at first
+  -- a transaction gets an item, which is queued at first
   pub gives_told : (xid : ℕ) (item : Item) (size : ℕ) (o : Open) (l : Outbox) (after : ℕ → Option Outbox) → IsGiving s t xid item size o
       → o.way ≢ Spooled → outboxes xid ≡ Some l → IsWith outboxes after xid (Some (with_queued l item)) → AreInStep g rows t more after w
   gives_told xid item size o l after told not was outbox =
@@ -283,7 +283,7 @@ commits_told g rows s t rest more outboxes after w c d are told only at all outb
 
 -- ---- between two messages
 
--- what is open in the state and in the world, and has a lane, is in step
+-- what is open in the state and in the world, and has an outbox, is in step
 pub in_step_at : (g : Setting) (rows : Rows) (s : State) (rest : List CopyItem) (outboxes : ℕ → Option Outbox) (w : World) → AreInStep g rows s rest outboxes w
     → (xid : ℕ) (o : Open) (l : Outbox) (d : Opened) → get s.transactions xid ≡ Some o → outboxes xid ≡ Some l → get w.opened xid ≡ Some d
     → InStep g s rest xid o l d
@@ -295,7 +295,7 @@ in_step_at g rows s rest outboxes w are xid o l d at was there =
     same d e is = cc
 
 module _ (g : Setting) (rows : Rows) (s : State) (rest : List CopyItem) (outboxes : ℕ → Option Outbox) (w : World) (are : AreInStep g rows s rest outboxes w) (xid : ℕ) (o : Open) (present : get s.transactions xid ≡ Some o) where
-  -- one transaction's lane, or what it has done, moves
+  -- one transaction's outbox, or what it has done, moves
   abbrev moves : (after : ℕ → Option Outbox) (new : World) (k : Outbox) (e : Opened) → ∥ Reaches (schema_of g) (starting rows) new ∥₁
       → new.line ≡ w.line → InStep g s rest xid o k e → IsWith outboxes after xid (Some k)
       → ((x : ℕ) → get new.opened x ≡ get (finite.insert w.opened xid e) x) → AreInStep g rows s rest after new
@@ -309,7 +309,7 @@ module _ (g : Setting) (rows : Rows) (s : State) (rest : List CopyItem) (outboxe
   same_outboxes : (l : Outbox) → outboxes xid ≡ Some l → IsWith outboxes outboxes xid (Some l)
   same_outboxes l was = record { here = was; elsewhere = λ x differs. refl }
 
-  -- the leader sends the first item that is late
+  -- the leader sends the first item that is queued
   pub sends : (l : Outbox) (d : Opened) (i : Item) (queued : List Item) (after : ℕ → Option Outbox) → InStep g s rest xid o l d → get w.opened xid ≡ Some d
       → l.queued ≡ i ∷ queued → IsWith outboxes after xid (Some (record { sent = l.sent ++ i ∷ []; queued = queued }))
       → AreInStep g rows s rest after w
@@ -366,7 +366,7 @@ module _ (g : Setting) (rows : Rows) (s : State) (rest : List CopyItem) (outboxe
           → ◌≡◌ {A = Option (ℕ × change_type.Change)} (Some (sub, c)) (Some (other, e)) → Change sub c ≡ Change other e
       same_change sub other c e wanted = ap (λ (p : ℕ × change_type.Change). Change p.0 p.1) (same_pair (sub, c) (other, e) wanted)
 
-  -- a spooled one that the next message commits opens in the world, with all of its work late
+  -- a spooled one that the next message commits opens in the world, with all of its work queued
   pub unspools : (after : ℕ → Option Outbox) (new : World) → CommitsNext g s rest xid → Opens w xid (Ok tt) new
       → IsWith outboxes after xid (Some (record { sent = []; queued = work_of xid o.way o.items }))
       → AreInStep g rows s rest after new

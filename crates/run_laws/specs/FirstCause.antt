@@ -11,8 +11,8 @@ use Rattle.run.specs.declared.end.End.TheVariants as ends
 use Rattle.run.specs.Cause.{IsNextCause, IsLastCause}
 use Rattle.run.specs.Progress.{Progress, Leads, start_progress}
 
--- The stream gives this cause at a state, with these items left: by the next message, or by a change
--- of the transaction that was begun. Want of memory is not its doing.
+-- The stream gives this cause at a state, with these items left: by the next message, or by a
+-- change of the transaction that was begun. Want of memory is not its doing.
 abbrev pub IsStreamCause : Setting → Rows → State → List CopyItem → End → Type 0
 IsStreamCause g rows s rest ends.OutOfMemory = ⊥
 IsStreamCause g rows s rest end = IsNextCause g rows s rest end ⊎ IsLastCause g rows s end
@@ -27,7 +27,7 @@ NoShorterCause g rows handled rest =
 -- A run that handled these items, with these left, ends at its first cause: there is none at a
 -- shorter beginning; and where a change of the transaction that was begun has clashed, the run ends
 -- by that.
-pub record IsAtFirstCause (g : Setting) (rows : Rows) (handled rest : List CopyItem) (s : State) (end : End)
-    : Type 0 where
+pub record IsAtFirstCause (g : Setting) (rows : Rows) (handled rest : List CopyItem) (s : State)
+    (end : End) : Type 0 where
   pub none_before : NoShorterCause g rows handled rest
   pub by_clash : (clash : End) → IsLastCause g rows s clash → end ≡ clash

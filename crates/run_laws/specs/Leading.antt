@@ -1,10 +1,11 @@
 -- What a leader keeps of its open transactions, beside the session's state and the world.
 --     Outbox      the items that it has sent to a transaction, and those that it is still to send
---     IsWith      the lanes are as they were but for one
---     InStep      an open transaction, its lane, and what it has done in the world
---     IsAgreed, AreInStep      so it is with one transaction; with all of them, and with the commits
+--     IsWith      the outboxes are as they were but for one
+--     InStep      an open transaction, its outbox, and what it has done in the world
+--     IsAgreed, AreInStep      so it is with one transaction; with all, and with the commits
 --     AreCounts      how many items each transaction has to do
-use Rattle.std.specs.Prelude.{◌≡◌, ◌≢◌, ℕ, ◌-◌, ◌^◌, ◌<◌, List, ◌∷◌, ◌++◌, length, map, Contains, Option, Some, None}
+use Rattle.std.specs.Prelude.{◌≡◌, ◌≢◌, ℕ, ◌-◌, ◌^◌, ◌<◌, List, ◌∷◌, ◌++◌, length, map}
+use Rattle.std.specs.Prelude.{Contains, Option, Some, None}
 use Rattle.std.specs.FinMap.{get}
 use Rattle.model.specs.declared.change.Change as change_type
 use Rattle.model.specs.declared.item.Item.{Item}
@@ -24,14 +25,15 @@ pub record Outbox : Type 0 where
   pub sent : List Item
   pub queued : List Item
 
--- The lanes are as they were, but for that of one transaction, which is this now.
-pub record IsWith (outboxes after : ℕ → Option Outbox) (xid : ℕ) (now : Option Outbox) : Type 0 where
+-- The outboxes are as they were, but for that of one transaction, which is this now.
+pub record IsWith (outboxes after : ℕ → Option Outbox) (xid : ℕ) (now : Option Outbox)
+    : Type 0 where
   pub here : after xid ≡ now
   pub elsewhere : (x : ℕ) → x ≢ xid → after x ≡ outboxes x
 
--- What was sent and what is late are its work. What it has done is a beginning of what was sent; a
--- change that waits or clashed is the next. A spooled one begins only once the next message commits
--- it.
+-- What was sent and what is queued are its work. What it has done is a beginning of what was sent;
+-- a change that waits or clashed is the next. A spooled one begins only once the next message
+-- commits it.
 pub record InStep (g : Setting) (s : State) (rest : List CopyItem) (xid : ℕ) (o : Open)
     (outbox : Outbox) (done : Opened) : Type 0 where
   pub all_work : outbox.sent ++ outbox.queued ≡ work_of xid o.way o.items
@@ -40,8 +42,8 @@ pub record InStep (g : Setting) (s : State) (rest : List CopyItem) (xid : ℕ) (
       → (more : List Item) × (does.left ≡ Change sub c ∷ more)
   pub next : o.way ≡ Spooled → CommitsNext g s rest xid
 
--- A transaction of the state is in step with its lane and with the world, or it is spooled and has
--- neither; what is not open there is nowhere.
+-- A transaction of the state is in step with its outbox and with the world, or it is spooled and
+-- has neither; what is not open there is nowhere.
 abbrev pub IsAgreed : Setting → State → List CopyItem → ℕ → Option Open → Option Outbox
     → Option Opened → Type 0
 IsAgreed g s rest xid None None None = Unit {0}
@@ -55,10 +57,12 @@ pub record AreInStep (g : Setting) (rows : Rows) (s : State) (rest : List CopyIt
     (outboxes : ℕ → Option Outbox) (w : World) : Type 0 where
   pub reached : ∥ Reaches (schema_of g) (starting rows) w ∥₁
   pub line : w.line ≡ map done_by_commit s.past
-  pub agree : (xid : ℕ) → IsAgreed g s rest xid (get s.transactions xid) (outboxes xid) (get w.opened xid)
+  pub agree : (xid : ℕ)
+      → IsAgreed g s rest xid (get s.transactions xid) (outboxes xid) (get w.opened xid)
 
--- Each count that is named of a transaction with a lane is of all items of the lane. The last number
--- of a u64 is no count: it stands where there were more, or where a name is of no transaction.
+-- Each count that is named of a transaction with an outbox is of all items of the outbox. The last
+-- number of a u64 is no count: it stands where there were more, or where a name is of no
+-- transaction.
 abbrev pub AreCounts : (ℕ → Option Outbox) → List (ℕ × ℕ) → Type 0
 AreCounts outboxes named =
     (xid count : ℕ) (outbox : Outbox) → Contains named (xid, count) → count < 2 ^ 64 - 1

@@ -38,7 +38,8 @@ ThreadedIsSerial =
     (g : Setting) (rows : Rows) (old new : DeviceState) (o : Outcome)
     (run : IsThreadedRun g rows old new o) → IsValid (schema_of g) rows
     → (map entry_in o.journal.items ≡ commits run.part.progress.state)
-    × (o.tables.rows ≡ serial (schema_of g) rows (changes_of_entries (map entry_in o.journal.items)))
+    × (o.tables.rows
+    ≡ serial (schema_of g) rows (changes_of_entries (map entry_in o.journal.items)))
     × AreAccepted (schema_of g) rows (changes_of_entries (map entry_in o.journal.items))
     × (o.position ≡ last_end (commit_ends run.part.progress.state.past))
 
@@ -130,16 +131,19 @@ EachMomentIsInStep =
 -- where a leader's transactions are in step with the world, that is one of its state
 abbrev pub InStepIsWorld : Type 0
 InStepIsWorld =
-    (g : Setting) (rows : Rows) (s : State) (rest : List CopyItem) (outboxes : ℕ → Option Outbox) (w : World)
+    (g : Setting) (rows : Rows) (s : State) (rest : List CopyItem) (outboxes : ℕ → Option Outbox)
+    (w : World)
     → AreInStep g rows s rest outboxes w → IsWorldOf g rows s rest w
 
 -- and a clash that was noted there is the conflict that the run ends for, while its transaction
 -- wants a change: that is the one which clashed
 abbrev pub NotedClashIsConflict : Type 0
 NotedClashIsConflict =
-    (g : Setting) (rows : Rows) (s : State) (rest : List CopyItem) (outboxes : ℕ → Option Outbox) (w : World)
+    (g : Setting) (rows : Rows) (s : State) (rest : List CopyItem) (outboxes : ℕ → Option Outbox)
+    (w : World)
     → AreInStep g rows s rest outboxes w → IsValid (schema_of g) rows
-    → (xid : ℕ) (c : change_type.Change) (cause : ClashCause) → w.stopped ≡ Some (ByClash xid c cause)
+    → (xid : ℕ) (c : change_type.Change) (cause : ClashCause)
+    → w.stopped ≡ Some (ByClash xid c cause)
     → (done : Opened) → get w.opened xid ≡ Some done
     → (sub : ℕ) (e : change_type.Change) → done.wants ≡ Some (sub, e) → HasConflict g s w cause
 
@@ -147,7 +151,9 @@ NotedClashIsConflict =
 -- goes on: the run ends for that holder
 abbrev pub HeldIsStuck : Type 0
 HeldIsStuck =
-    (g : Setting) (rows : Rows) (s : State) (rest : List CopyItem) (outboxes : ℕ → Option Outbox) (w : World)
-    → AreInStep g rows s rest outboxes w → (named : List (ℕ × ℕ)) (waiter holder : ℕ) → AreCounts outboxes named
+    (g : Setting) (rows : Rows) (s : State) (rest : List CopyItem) (outboxes : ℕ → Option Outbox)
+    (w : World)
+    → AreInStep g rows s rest outboxes w → (named : List (ℕ × ℕ)) (waiter holder : ℕ)
+    → AreCounts outboxes named
     → (begun_at s.phase ≡ Some waiter) ⊎ CommitsNext g s rest waiter
     → IsStuck (schema_of g) w named waiter holder → IsStuckBy g s rest w waiter holder

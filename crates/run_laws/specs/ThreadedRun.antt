@@ -32,7 +32,8 @@ use Rattle.run_laws.specs.Threads.{work_of, IsWorldOf}
 abbrev pub HasConflict : Setting → State → World → ClashCause → Type 0
 HasConflict g s w cause =
     (xid : ℕ) × (o : Open) × (get s.transactions xid ≡ Some o)
-    × NextChange w xid (work_of xid o.way o.items) (λ done sub c. IsClashing (schema_of g) w xid done c cause)
+    × NextChange w xid (work_of xid o.way o.items)
+    (λ done sub c. IsClashing (schema_of g) w xid done c cause)
 
 -- ---- where nothing goes on
 
@@ -66,16 +67,16 @@ pub record IsStuckBy (g : Setting) (s : State) (rest : List CopyItem) (w : World
 
 -- ---- a run that handled this part of its stream
 
--- This table is for a run with workers, over a world; `IsCause` of `run` is for one without threads,
--- at its first cause. Two are kept on purpose, tied by the laws `run_is_without_workers`,
+-- This table is for a run with workers, over a world; `IsCause` of `run` is for one without
+-- threads, at its first cause. Two are kept on purpose, tied by the laws `run_is_without_workers`,
 -- `ends_at_first_cause` and `first_cause_is_without_threads`.
 module _ {g : Setting} {old new : DeviceState} (part : StreamPart g old new) (w : World) where
   -- the state that its items led to
-  abbrev pub s : State
+  abbrev s : State
   s = part.progress.state
 
   -- the items that it left
-  abbrev pub rest : List CopyItem
+  abbrev rest : List CopyItem
   rest = part.rest
 
   -- Why it ends at this world.
@@ -94,7 +95,8 @@ module _ {g : Setting} {old new : DeviceState} (part : StreamPart g old new) (w 
 -- A run with workers from these rows: it handled items of the bytes; there is a world of the state
 -- that they led to, at which the run ended for its cause. What is left are the commits of that
 -- world, and nothing of what was open in it.
-pub record IsThreadedRun (g : Setting) (rows : Rows) (old new : DeviceState) (o : Outcome) : Type 0 where
+pub record IsThreadedRun (g : Setting) (rows : Rows) (old new : DeviceState) (o : Outcome)
+    : Type 0 where
   pub part : StreamPart g old new
   pub world : World
   pub is_world : IsWorldOf g rows part.progress.state part.rest world

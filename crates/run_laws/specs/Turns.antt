@@ -1,6 +1,6 @@
 -- A leader with its workers, at one moment, and each thing that one of them does.
 --     Moment, start_moment      what the leader keeps, and the world
---     IsUnmoved      lanes and world stay as they are
+--     IsUnmoved      outboxes and world stay as they are
 --     Follows      what the leader does once it was told of a message
 --     Turn, Turns      one thing that it or a worker does; such things one after another
 --     IsInStep      all transactions are in step with the world
@@ -15,9 +15,11 @@ use Rattle.frames.specs.declared.item.CopyItem.{CopyItem}
 use Rattle.frames.specs.declared.item.CopyItem.TheVariants.{Wal, Keepalive, Done}
 use Rattle.session.specs.Lawful.{Admits}
 use Rattle.session.specs.State.{Direct, Worker, Spooled, Open, State, Setting, start}
-use Rattle.session.specs.StreamEvents.{StreamEvent, NoEvent, TransactionOpens, ItemComes, TransactionCommits, TransactionAborts, Tells}
+use Rattle.session.specs.StreamEvents.{StreamEvent, NoEvent, TransactionOpens, ItemComes}
+use Rattle.session.specs.StreamEvents.{TransactionCommits, TransactionAborts, Tells}
 use Rattle.run.specs.Cause.{schema_of}
-use Rattle.world.specs.Steps.{Opens as OpensIn, Step, done_with, wanting, committed_with, aborted_with}
+use Rattle.world.specs.Steps.{Opens as OpensIn, Step}
+use Rattle.world.specs.Steps.{done_with, wanting, committed_with, aborted_with}
 use Rattle.world.specs.World.{Opened, Stop, World, starting}
 use Rattle.run_laws.specs.Leading.{Outbox, AreInStep, IsWith}
 use Rattle.run_laws.specs.Runs.{CommitsNext}
@@ -32,25 +34,26 @@ pub record Moment : Type 0 where
 
 -- before the first of these items, over these rows
 abbrev pub start_moment : Rows → List CopyItem → Moment
-start_moment rows items = record { state = start; rest = items; outboxes = λ xid. None; world = starting rows }
+start_moment rows items =
+    record { state = start; rest = items; outboxes = λ xid. None; world = starting rows }
 
 -- All transactions are in step with the world.
 abbrev pub IsInStep : Setting → Rows → Moment → Type 0
 IsInStep g rows a = AreInStep g rows a.state a.rest a.outboxes a.world
 
--- ---- lanes
+-- ---- outboxes
 
--- a lane with nothing in it
+-- an outbox with nothing in it
 abbrev pub empty_outbox : Outbox
 empty_outbox = record { sent = []; queued = [] }
 
--- the lane with one item more that is late
+-- the outbox with one item more, which is queued
 abbrev pub with_queued : Outbox → Item → Outbox
 with_queued outbox item = record outbox { queued = outbox.queued ++ item ∷ [] }
 
 -- ---- what the leader does
 
--- Lanes and world are as they were.
+-- Outboxes and world are as they were.
 pub record IsUnmoved (a b : Moment) : Type 0 where
   pub outboxes : b.outboxes ≡ a.outboxes
   pub world : b.world ≡ a.world
@@ -74,8 +77,8 @@ pub record DropsBoth (a b : Moment) (xid : ℕ) : Type 0 where
   pub outbox : IsWith a.outboxes b.outboxes xid None
   pub world : b.world ≡ aborted_with a.world xid
 
--- What it does once it was told this of a message: with what is spooled nothing, but for its commit,
--- before which it was opened; and it commits what has done all of its work.
+-- What it does once it was told this of a message: with what is spooled nothing, but for its
+-- commit, before which it was opened; and it commits what has done all of its work.
 abbrev pub Follows : Setting → Moment → Moment → StreamEvent → Type 0
 Follows g a b NoEvent = IsUnmoved a b
 Follows g a b (TransactionOpens xid Direct) = OpensBoth a b xid
@@ -85,50 +88,57 @@ Follows g a b (ItemComes xid Direct item size) = GivesQueued a b xid item
 Follows g a b (ItemComes xid Worker item size) = GivesQueued a b xid item
 Follows g a b (ItemComes xid Spooled item size) = IsUnmoved a b
 Follows g a b (TransactionCommits c) =
-    (done : Opened) × (get a.world.opened c.xid ≡ Some done) × (done.items ≡ work_of c.xid c.way c.items)
-    × IsWith a.outboxes b.outboxes c.xid None × (b.world ≡ committed_with (schema_of g) a.world c.xid done c.info)
+    (done : Opened) × (get a.world.opened c.xid ≡ Some done)
+    × (done.items ≡ work_of c.xid c.way c.items) × IsWith a.outboxes b.outboxes c.xid None
+    × (b.world ≡ committed_with (schema_of g) a.world c.xid done c.info)
 Follows g a b (TransactionAborts xid Direct) = DropsBoth a b xid
 Follows g a b (TransactionAborts xid Worker) = DropsBoth a b xid
 Follows g a b (TransactionAborts xid Spooled) = IsUnmoved a b
 
 -- ---- what a transaction does
 
--- An open transaction of the state, with its lane, and what it has done.
-pub record IsOpenAt (a : Moment) (xid : ℕ) (o : Open) (outbox : Outbox) (done : Opened) : Type 0 where
+-- An open transaction of the state, with its outbox, and what it has done.
+pub record IsOpenAt (a : Moment) (xid : ℕ) (o : Open) (outbox : Outbox) (done : Opened)
+    : Type 0 where
   pub present : get a.state.transactions xid ≡ Some o
   pub served : a.outboxes xid ≡ Some outbox
   pub opened : get a.world.opened xid ≡ Some done
 
 -- One thing that the leader or a worker does. The leader handles a message, or an item without one;
--- it sends the first item that is late; it opens a spooled transaction that the next message
--- commits. A transaction does the next item that was sent; or that is a change, and waits, or clashes
--- and stops the world. A call stops the world where all wait, or alters nothing.
+-- it sends the first item that is queued; it opens a spooled transaction that the next message
+-- commits. A transaction does the next item that was sent; or that is a change, and waits, or
+-- clashes and stops the world. A call stops the world where all wait, or alters nothing.
 pub data Turn (g : Setting) (a : Moment) : Moment → Type 0 where
   handles : (b : Moment) (first last : ℕ) (payload : List ℕ) (m : Message) (told : StreamEvent)
-      → a.rest ≡ Wal first last payload ∷ b.rest → Admits g a.state payload m b.state → Tells a.state b.state told
-      → Follows g a b told → Turn g a b
+      → a.rest ≡ Wal first last payload ∷ b.rest → Admits g a.state payload m b.state
+      → Tells a.state b.state told → Follows g a b told → Turn g a b
   hears : (last : ℕ) (reply : Bool) (rest : List CopyItem) → a.rest ≡ Keepalive last reply ∷ rest
       → Turn g a (record a { rest = rest })
   passes : (rest : List CopyItem) → a.rest ≡ Done ∷ rest → Turn g a (record a { rest = rest })
-  sends : (xid : ℕ) (o : Open) (outbox : Outbox) (done : Opened) (i : Item) (queued : List Item) (after : ℕ → Option Outbox)
+  sends : (xid : ℕ) (o : Open) (outbox : Outbox) (done : Opened) (i : Item) (queued : List Item)
+      (after : ℕ → Option Outbox)
       → IsOpenAt a xid o outbox done → outbox.queued ≡ i ∷ queued
-      → IsWith a.outboxes after xid (Some (record { sent = outbox.sent ++ i ∷ []; queued = queued }))
+      → IsWith a.outboxes after xid
+      (Some (record { sent = outbox.sent ++ i ∷ []; queued = queued }))
       → Turn g a (record a { outboxes = after })
   does : (xid : ℕ) (o : Open) (outbox : Outbox) (done : Opened) (i : Item) (left : List Item)
       → IsOpenAt a xid o outbox done → done.items ++ i ∷ left ≡ outbox.sent
       → Step (schema_of g) a.world (done_with a.world xid done i)
       → Turn g a (record a { world = done_with a.world xid done i })
-  wants : (xid : ℕ) (o : Open) (outbox : Outbox) (done : Opened) (sub : ℕ) (c : change_type.Change) (left : List Item)
-      (stopped : Option Stop)
+  wants : (xid : ℕ) (o : Open) (outbox : Outbox) (done : Opened) (sub : ℕ) (c : change_type.Change)
+      (left : List Item) (stopped : Option Stop)
       → IsOpenAt a xid o outbox done → done.items ++ Change sub c ∷ left ≡ outbox.sent
       → Step (schema_of g) a.world (record (wanting a.world xid done sub c) { stopped = stopped })
-      → Turn g a (record a { world = record (wanting a.world xid done sub c) { stopped = stopped } })
+      → Turn g a
+      (record a { world = record (wanting a.world xid done sub c) { stopped = stopped } })
   unspools : (xid : ℕ) (o : Open) (after : ℕ → Option Outbox) (new : World)
       → get a.state.transactions xid ≡ Some o → o.way ≡ Spooled → CommitsNext g a.state a.rest xid
       → OpensIn a.world xid (Ok tt) new
-      → IsWith a.outboxes after xid (Some (record { sent = []; queued = work_of xid o.way o.items }))
+      → IsWith a.outboxes after xid
+      (Some (record { sent = []; queued = work_of xid o.way o.items }))
       → Turn g a (record a { outboxes = after; world = new })
-  stops : (stopped : Option Stop) → Step (schema_of g) a.world (record a.world { stopped = stopped })
+  stops : (stopped : Option Stop)
+      → Step (schema_of g) a.world (record a.world { stopped = stopped })
       → Turn g a (record a { world = record a.world { stopped = stopped } })
 
 -- such things one after another
