@@ -28,30 +28,33 @@ pub fn send<R: Threads + Wait + Sync>(
     requires { (1 ≤ slots) × (slots ≤ 1024) }
 {
     match kind {
-        Kind::Ring => through_ring(rt, alloc, count, slots, false),
-        Kind::Wait => through_ring(rt, alloc, count, slots, true),
+        Kind::Ring => Ok(through_ring(rt, ring(alloc, slots)?, count, false)),
+        Kind::Wait => Ok(through_ring(rt, ring(alloc, slots)?, count, true)),
         Kind::Rtrb => through_rtrb(rt, alloc, count, slots),
+    }
+}
+
+fn ring(alloc: Global, slots: usize) -> Result<(Sender<u64>, Taker<u64>), AllocError>
+    requires { (1 ≤ slots) × (slots ≤ 1024) }
+{
+    match Ring::new::<u64>(alloc, slots) {
+        Ok(ends) => Ok(ends),
+        Err(_) => Err(AllocError),
     }
 }
 
 fn through_ring<R: Threads + Wait + Sync>(
     rt: &R,
-    alloc: Global,
+    (sender, taker): (Sender<u64>, Taker<u64>),
     count: u64,
-    slots: usize,
     sleeps: bool,
-) -> Result<u64, AllocError>
-    requires { (1 ≤ slots) × (slots ≤ 1024) }
-{
-    let Ok((sender, taker)) = Ring::new::<u64>(alloc, slots) else {
-        return Err(AllocError);
-    };
+) -> u64 {
     let ((), taken) = thread::join(
         rt,
         || give_all(rt, sender, count),
         || take_all(rt, taker, count, sleeps),
     );
-    Ok(taken)
+    taken
 }
 
 fn through_rtrb<R: Threads + Wait + Sync>(

@@ -193,15 +193,6 @@ fn number<'a>(
 pub fn parse<'a>(alloc: Global, words: &'a [String]) -> Result<Options<'a>, Error> {
     let mut program = command(alloc)?;
     let matches = program.try_get_matches_from_mut(words)?;
-    read_matches(alloc, &mut program, &matches)
-}
-
-/// What the matched words ask for, or the text of a usage fault.
-fn read_matches<'a>(
-    alloc: Global,
-    program: &mut Command<'_>,
-    matches: &ArgMatches<'a>,
-) -> Result<Options<'a>, Error> {
     let Some((name, given)) = matches.subcommand() else {
         return Err(program.error(ErrorKind::MissingSubcommand, "a command is missing")?);
     };

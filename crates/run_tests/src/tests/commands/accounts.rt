@@ -170,6 +170,16 @@ static CASES: [Case; 13] = [
             pgapply: 221 bytes were read, whole frames 3; the last frame begins at byte 159, at 0/0 of the publisher's log\n\
             pgapply: it is Insert, of transaction 900, of relation 16385 (public.accounts)\n",
     },
+    Case {
+        name: "a primary key that stands twice",
+        payloads: &[BEGIN, RELATION, INSERT, INSERT],
+        rest: "",
+        without_workers: false,
+        said: "pgapply: key 0 of public.accounts has the columns id\n\
+            pgapply: a row would stand twice in key 0 of table 0 (0 is the primary key, and the first table): the tables are no true copy of the publisher's: compare them at the position, or begin again with empty tables\n\
+            pgapply: 258 bytes were read, whole frames 4; the last frame begins at byte 202, at 0/0 of the publisher's log\n\
+            pgapply: it is Insert, of transaction 900, of relation 16385 (public.accounts)\n",
+    },
     // 711:I(x,a,n)
     Case {
         name: "a value of another type, in a subtransaction",
@@ -183,16 +193,6 @@ static CASES: [Case; 13] = [
         said: "pgapply: bad value: give the column a type in the catalog that holds what the publisher sends; text holds all\n\
             pgapply: 195 bytes were read, whole frames 3; the last frame begins at byte 135, at 0/0 of the publisher's log\n\
             pgapply: it is Insert, of transaction 700, subtransaction 711, of relation 16385 (public.accounts)\n",
-    },
-    Case {
-        name: "a primary key that stands twice",
-        payloads: &[BEGIN, RELATION, INSERT, INSERT],
-        rest: "",
-        without_workers: false,
-        said: "pgapply: key 0 of public.accounts has the columns id\n\
-            pgapply: a row would stand twice in key 0 of table 0 (0 is the primary key, and the first table): the tables are no true copy of the publisher's: compare them at the position, or begin again with empty tables\n\
-            pgapply: 258 bytes were read, whole frames 4; the last frame begins at byte 202, at 0/0 of the publisher's log\n\
-            pgapply: it is Insert, of transaction 900, of relation 16385 (public.accounts)\n",
     },
     // The second insert is of (2,a,n). It clashes where the transaction commits.
     Case {

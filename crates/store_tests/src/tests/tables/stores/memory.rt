@@ -331,8 +331,7 @@ fn shows_as_stepped(
 fn told_alike(
     rt: &impl Abort,
     alloc: Global,
-    one: Scene,
-    other: Scene,
+    (one, other): (Scene, Scene),
     step: &Step,
 ) -> Result<(), EngineFault> {
     let wanted = told(rt, alloc, other)?;
@@ -353,7 +352,7 @@ fn answers_alike(
     let again = make(rt, alloc, &mut one, step);
     let answer = make(rt, alloc, &mut other, step);
     assert_same(rt, again, answer, step);
-    told_alike(rt, alloc, one, other, step)
+    told_alike(rt, alloc, (one, other), step)
 }
 
 /// A call was refused, after so many. It answers the same now as in a store that was never asked, and
