@@ -177,7 +177,7 @@ tied_idle w l tied none v t opened stopped fine rows = record {
   count = ap (λ (m : OpenOnes). finite.len m) opened ∙ tied.count;
   stopped = tied.stopped ∙ sym stopped;
   caused = tied.caused;
-  stood = λ xid o r is at. absurd (not_none o (sym (absent xid) ∙ is));
+  before_image = λ xid o r is at. absurd (not_none o (sym (absent xid) ∙ is));
 }
   where
     gone : (xid : ℕ) → get w.opened xid ≡ None
