@@ -2,6 +2,7 @@
 ghost use Rattle.std.specs.Prelude.{◌≡◌, ◌<◌, ◌⊎◌, [], None, length, All, OnOk, OnErr, IfErr, MatchOption, map, option_map};
 ghost use Rattle.model.specs.Beginning.{last_end};
 ghost use Rattle.model.specs.Rows.{Rows};
+ghost use Rattle.engine.specs.Events.{ends_in};
 ghost use Rattle.session.specs.Answers.{IsOfTables};
 ghost use Rattle.session.specs.State.{Setting, setting};
 ghost use Rattle.run.specs.Progress.{Progress, start_progress, seen_with};
