@@ -16,7 +16,7 @@ returns-in_default-clause-refused g c =
     let entries = c.journal.result.now in
     let seen = c.look.new.seen in
     let told = subst (λ (s : Engine). s.world.line ≡ commits_in s.line.list) c.deref.ensures c.recall_invariant.ensures.line in
-    let is = subst (λ (s : Engine). map entry_in entries ≡ journal s.world) c.deref-2.ensures c.journal.ensures.journal in
+    let is = subst (λ (s : Engine). map entry_in entries ≡ journal s.world) c.deref-3.ensures c.journal.ensures.journal in
     let looked = subst (λ (s : Engine). seen ≡ s.line) c.deref_mut.ensures.value c.look.ensures.seen in
     let positions = positions_told c.lock-store.result.value told seen looked entries is in
     rw (← c.self.view_is) (
@@ -28,9 +28,9 @@ returns-in_default-clause-refused g c =
 pub rows_after-requires-clause-reached : goal.rows_after-requires-clause-reached
 rows_after-requires-clause-reached g c =
     let entries = c.journal.result.now in
-    let same = c.deref-2.ensures ∙ sym c.deref-3.ensures in
+    let same = c.deref-3.ensures ∙ sym c.deref-4.ensures in
     let is = subst (λ (s : Engine). map entry_in entries ≡ journal s.world) same c.journal.ensures.journal in
-    within_line c.deref-3.result.now.world entries is c.in-Some.count c.args.position c.in-Some.ensures
+    within_line c.deref-4.result.now.world entries is c.in-Some.count c.args.position c.in-Some.ensures
 
 pub returns-clause-rows : goal.returns-clause-rows
 returns-clause-rows g c =
@@ -39,13 +39,13 @@ returns-clause-rows g c =
     let seen = c.look-2.new.seen in
     let told = subst (λ (t : Engine). t.world.line ≡ commits_in t.line.list) c.deref.ensures c.recall_invariant.ensures.line in
     let starts = subst (λ (t : Engine). t.world.start ≡ g.N.StoreNames.start) c.deref.ensures c.recall_invariant.ensures.start in
-    let is = subst (λ (t : Engine). map entry_in entries ≡ journal t.world) c.deref-2.ensures c.journal.ensures.journal in
+    let is = subst (λ (t : Engine). map entry_in entries ≡ journal t.world) c.deref-3.ensures c.journal.ensures.journal in
     let looked = subst (λ (t : Engine). seen ≡ t.line) c.deref_mut-2.ensures.value c.look-2.ensures.seen in
     let positions = positions_told s told seen looked entries is in (
       c.in-Some.count,
       ap (λ (ns : List ℕ). slice_get ns c.in-Some.count) (sym positions) ∙ c.in-Some.ensures,
       c.in-Ok.ensures.reads
-          ∙ ap (λ (t : Engine). rows_of_table (serial g.N.StoreNames.schema t.world.start (changes_in (take c.in-Some.count t.world.line))) c.args.table) c.deref-3.ensures
+          ∙ ap (λ (t : Engine). rows_of_table (serial g.N.StoreNames.schema t.world.start (changes_in (take c.in-Some.count t.world.line))) c.args.table) c.deref-4.ensures
           ∙ ap (λ (rows : Rows). rows_of_table rows c.args.table) (rows_told s told seen looked g.N.StoreNames.schema g.N.StoreNames.start c.in-Some.count starts),
     )
 
