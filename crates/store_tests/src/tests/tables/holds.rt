@@ -43,7 +43,7 @@ fn take_or_refuse(
     let again = row(alloc, table, key)?;
     if hold(alloc, holds, xid, cell, key).is_err() {
         assert_same(rt, holds.mark(xid), before, xid);
-        assert_same(rt, holds.stood(&again), None, xid);
+        assert_same(rt, holds.before_image(&again), None, xid);
         assert_same(rt, holds.other_holder(702, &again), None, xid);
         let held = hold(alloc, holds, xid, again, key);
         assert_same(rt, held, Ok(None), xid);

@@ -315,23 +315,27 @@ pub(super) fn play<R: Abort + Threads + Wait + Sync>(
 }
 
 // Plays a scenario over parts that are made for it.
-fn play_new(rt: &HostRuntime, which: Scenario) -> Result<(), Fail> {
-    play(rt, rt.alloc(), Parts::new(rt, rt.alloc())?, which)
+fn play_new<R: Abort + Threads + Wait + Sync>(
+    rt: &R,
+    alloc: Global,
+    which: Scenario,
+) -> Result<(), Fail> {
+    play(rt, alloc, Parts::new(rt, alloc)?, which)
 }
 
 #[test]
 fn a_reader_sees_committed_rows_alone(rt: HostRuntime) -> Result<(), Fail> {
-    play_new(&rt, Scenario::Between)
+    play_new(&rt, rt.alloc(), Scenario::Between)
 }
 
 #[test]
 fn a_reader_sees_the_rows_at_each_position(rt: HostRuntime) -> Result<(), Fail> {
-    play_new(&rt, Scenario::Positions)
+    play_new(&rt, rt.alloc(), Scenario::Positions)
 }
 
 #[test]
 fn a_reader_loads_what_was_published(rt: HostRuntime) -> Result<(), Fail> {
-    play_new(&rt, Scenario::Published)
+    play_new(&rt, rt.alloc(), Scenario::Published)
 }
 
 #[test]
