@@ -366,7 +366,7 @@ led_commit g s t told xid info items named tells says = absurd cc
 line_ends : (line : List LineEvent) (past : List Committed) → commits_in line ≡ map done_by_commit past → last_end (ends_in line) ≡ last_end (commit_ends past)
 line_ends line past e = ap last_end (ap (map (λ (p : Past). p.info.end)) e ∙ map-map (λ (p : Past). p.info.end) done_by_commit past)
 
-pub rises : (g : Setting) (rows : Rows) (l : Led) (p : Progress) (t : State) (xid : ℕ) (info : CommitInfo) (handed : List Item) → Represents g rows l p → IsLedCommit g p.state t xid info handed → last_end_of l.standing.line < info.end
+pub rises : (g : Setting) (rows : Rows) (l : Led) (p : Progress) (t : State) (xid : ℕ) (info : CommitInfo) (handed : List Item) → Represents g rows l p → IsLedCommit g p.state t xid info handed → last_end (ends_in l.standing.line) < info.end
 rises g rows l p t xid info handed at is =
     subst (λ n. n < info.end) (sym (line_ends l.standing.line p.state.past at.committed.done ∙ sym at.reached))
     (subst (λ (i : CommitInfo). p.state.position < i.end) is.info_is is.commits.later)
