@@ -12,10 +12,10 @@
 // standard error.
 #![tactic(auto)]
 
-use frames::{ReadSource, Source, WriteSink};
+use frames::{ReadSource, WriteSink};
 use leader::Devices;
 use pgapply_command::account::Account;
-use pgapply_command::execute::{Ended, Hearer, Nobody, execute_on};
+use pgapply_command::execute::{Nobody, execute_on};
 use pgapply_command::options::{Input, Options, parse};
 use pgapply_command::output::{Failure, print, say_failure};
 use pgapply_command::progress::Progress;
@@ -56,19 +56,17 @@ fn run<T: Threads + Wait + RandomSource + Sync>(
             return say_failure(rt, options.verbose, failure, &error);
         }
     };
-    let call = Call {
-        rt,
-        threads,
-        options,
-        catalog: catalog.as_slice(),
-    };
+    let catalog = catalog.as_slice();
     match options.input {
         Input::File(path) => match File::open(rt, path) {
-            Ok(stream) => call.run_stream(Stream::File(stream), Updates::Nowhere),
+            Ok(stream) => {
+                let stream = Stream::File(stream);
+                run_stream(rt, threads, options, catalog, stream, Updates::Nowhere)
+            }
             Err(error) => say_failure(rt, options.verbose, Failure::Open(path), &error),
         },
         Input::Connection(address) => match connect(rt, address) {
-            Ok((stream, updates)) => call.run_stream(stream, updates),
+            Ok((stream, updates)) => run_stream(rt, threads, options, catalog, stream, updates),
             Err(error) => say_failure(rt, options.verbose, Failure::Connect(address), &error),
         },
     }
@@ -80,69 +78,73 @@ fn connect(rt: &HostRuntime, address: &str) -> io::Result<(Stream, Updates)> {
     Ok((Stream::Connection(read), Updates::Connection(written)))
 }
 
-/// A command whose catalog was read.
-#[derive(Drop)]
-struct Call<'a, T> {
-    rt: &'a HostRuntime,
-    threads: &'a T,
-    options: &'a Options<'a>,
-    catalog: &'a [u8],
+/// `run` of a stream that is open, and its status updates.
+fn run_stream<T: Threads + Wait + RandomSource + Sync>(
+    rt: &HostRuntime,
+    threads: &T,
+    options: &Options<'_>,
+    catalog: &[u8],
+    stream: Stream,
+    updates: Updates,
+) -> io::Result<u8> {
+    if options.verbose || options.progress {
+        return run_watched(rt, threads, options, catalog, stream, updates);
+    }
+    let mut out = Vec::new(rt.alloc());
+    let mut devices = Devices::new(
+        ReadSource::new(stream),
+        WriteSink::new(updates),
+        SystemClock::new(rt),
+    );
+    let ended = execute_on(
+        threads,
+        rt.alloc(),
+        options.spooled,
+        &options.config,
+        catalog,
+        &mut devices,
+        &mut Nobody,
+        &mut out,
+    );
+    print(rt, options.verbose, &mut rt.stdout(), out.as_slice(), ended)
 }
 
-impl<T: Threads + Wait + RandomSource + Sync> Call<'_, T> {
-    /// The command on a stream that is open, and its status updates.
-    fn run_stream(&self, stream: Stream, updates: Updates) -> io::Result<u8> {
-        if self.options.verbose || self.options.progress {
-            return self.run_watched(stream, updates);
+/// `run_stream` of a stream that is watched, with lines on standard error behind the report.
+fn run_watched<T: Threads + Wait + RandomSource + Sync>(
+    rt: &HostRuntime,
+    threads: &T,
+    options: &Options<'_>,
+    catalog: &[u8],
+    stream: Stream,
+    updates: Updates,
+) -> io::Result<u8> {
+    let mut out = Vec::new(rt.alloc());
+    let mut trace = Trace::new(rt.alloc());
+    let mut progress = Progress::new(rt.clone()?, options.progress);
+    let mut account = Account::new(rt.alloc());
+    let source = ReadSource::new(BufReader::new(rt.alloc(), stream)?);
+    let watched = Watched::new(source, &mut trace, &mut progress, options.verbose);
+    let mut devices = Devices::new(watched, WriteSink::new(updates), SystemClock::new(rt));
+    let ended = execute_on(
+        threads,
+        rt.alloc(),
+        options.spooled,
+        &options.config,
+        catalog,
+        &mut devices,
+        &mut account,
+        &mut out,
+    );
+    drop(devices);
+    let status = print(rt, options.verbose, &mut rt.stdout(), out.as_slice(), ended)?;
+    progress.say(&trace);
+    if options.verbose {
+        if status >= 2 {
+            // Without memory the place is not said.
+            let _added = account.add_place(&trace);
         }
-        let (rt, verbose) = (self.rt, self.options.verbose);
-        let mut out = Vec::new(rt.alloc());
-        let ended = self.execute(ReadSource::new(stream), updates, &mut Nobody, &mut out);
-        print(rt, verbose, &mut rt.stdout(), out.as_slice(), ended)
+        let text = account.text();
+        eprint!(rt; "{text}")?;
     }
-
-    /// `run_stream` of a stream that is watched, with lines on standard error behind the report.
-    fn run_watched(&self, stream: Stream, updates: Updates) -> io::Result<u8> {
-        let (rt, verbose) = (self.rt, self.options.verbose);
-        let mut out = Vec::new(rt.alloc());
-        let mut trace = Trace::new(rt.alloc());
-        let mut progress = Progress::new(rt.clone()?, self.options.progress);
-        let mut account = Account::new(rt.alloc());
-        let source = ReadSource::new(BufReader::new(rt.alloc(), stream)?);
-        let watched = Watched::new(source, &mut trace, &mut progress, verbose);
-        let ended = self.execute(watched, updates, &mut account, &mut out);
-        let status = print(rt, verbose, &mut rt.stdout(), out.as_slice(), ended)?;
-        progress.say(&trace);
-        if verbose {
-            if status >= 2 {
-                // Without memory the place is not said.
-                let _added = account.add_place(&trace);
-            }
-            let text = account.text();
-            eprint!(rt; "{text}")?;
-        }
-        Ok(status)
-    }
-
-    /// Executes the command over this source. What is heard of it goes to `hearer`, its report to `out`.
-    fn execute<S: Source + Drop, L: Hearer>(
-        &self,
-        source: S,
-        updates: Updates,
-        hearer: &mut L,
-        out: &mut Vec<u8>,
-    ) -> Ended {
-        let (rt, options) = (self.rt, self.options);
-        let mut devices = Devices::new(source, WriteSink::new(updates), SystemClock::new(rt));
-        execute_on(
-            self.threads,
-            rt.alloc(),
-            options.spooled,
-            &options.config,
-            self.catalog,
-            &mut devices,
-            hearer,
-            out,
-        )
-    }
+    Ok(status)
 }
