@@ -5,6 +5,7 @@ ghost use Rattle.model.specs.Named.{NamesTables};
 ghost use Rattle.world.specs.World.{starting};
 ghost use Rattle.engine.specs.EngineCode.{world_code};
 ghost use Rattle.model.specs.Beginning.{last_end};
+ghost use Rattle.engine.specs.Events.{ends_in};
 ghost use Rattle.origin.specs.Commits.{commits_of};
 
 use crate::tests::asserts::assert_same;

@@ -2,6 +2,7 @@
 ghost use Rattle.std.specs.Prelude.{◌≡◌, [], length};
 ghost use Rattle.world.specs.World.{starting};
 ghost use Rattle.model.specs.Beginning.{last_end};
+ghost use Rattle.engine.specs.Events.{ends_in};
 
 use super::steps::{Step, int_at, item_of};
 use crate::tests::asserts::assert_same;

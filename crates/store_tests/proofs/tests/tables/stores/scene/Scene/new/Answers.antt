@@ -3,6 +3,7 @@ use Rattle.world.specs.World.{World}
 use Rattle.tokens.specs.Half.{Half}
 use Rattle.engine.specs.declared.events.LineEvent.{LineEvent}
 use Rattle.model.specs.Beginning.{last_end}
+use Rattle.engine.specs.Events.{ends_in}
 use Rattle.store_tests.proofs.Scenes.{belong_none, know_none}
 use Rattle.store_tests.proofs.tests.tables.stores.scene.Scene.new.Goals as goal
 

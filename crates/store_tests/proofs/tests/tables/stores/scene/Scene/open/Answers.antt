@@ -9,6 +9,7 @@ use Rattle.engine.specs.declared.events.Event.{Event}
 use Rattle.engine.specs.declared.events.LineEvent.{LineEvent}
 use Rattle.engine.specs.declared.events.LineEvent.TheVariants.{Opened as WasOpened, Aborted as WasAborted}
 use Rattle.model.specs.Beginning.{last_end}
+use Rattle.engine.specs.Events.{ends_in}
 use Rattle.engine.specs.EventLemmas.{last_same}
 use Rattle.store_tests.proofs.Scenes.{belong_put, know_put, belong_again, know_again, opens_alike}
 use Rattle.store_tests.proofs.tests.tables.stores.scene.Scene.open.Goals as goal

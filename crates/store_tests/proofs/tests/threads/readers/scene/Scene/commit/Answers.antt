@@ -1,6 +1,7 @@
 use Rattle.std.proofs.Common.{List, ap, ◌∙◌}
 use Rattle.engine.specs.declared.events.LineEvent.{LineEvent}
 use Rattle.model.specs.Beginning.{last_end}
+use Rattle.engine.specs.Events.{ends_in}
 use Rattle.engine.specs.EventLemmas.{last_more}
 use Rattle.store_tests.proofs.Names.{named_still}
 use Rattle.store_tests.proofs.tests.threads.readers.scene.Scene.commit.Goals as goal
