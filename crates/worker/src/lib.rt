@@ -30,7 +30,8 @@
 //   progress   `work`, `work_on`
 //   tries      one item under the lock
 //   ended      why a worker came back
-//   outbox       `Outbox`, where the leader gives the items of a worker's transaction
+//   outbox     `Outbox`, where the leader gives the items of a worker's transaction
+//   hidden     `wait_for_ever`, for what only a lock hides
 //   names      `RingNames`, which rings, and `OutboxNames`, which lists; with the store's names they
 //              stand in the types of all of these
 //
@@ -39,6 +40,7 @@
 // store, on `ring` for the items, on `tokens` for what the leader knows of an outbox, and on `model`.
 mod ended;
 mod gate;
+mod hidden;
 mod item;
 mod job;
 mod names;
@@ -48,6 +50,7 @@ mod tries;
 
 pub use ended::Ended;
 pub use gate::{Gate, Point};
+pub use hidden::wait_for_ever;
 pub use item::WorkItem;
 pub use job::Job;
 pub use names::{OutboxNames, RingNames};

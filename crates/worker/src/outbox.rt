@@ -17,6 +17,7 @@ ghost use Rattle.worker.specs.declared.outbox.OutboxEvent.TheVariants.{Begun, Gi
 ghost use Rattle.worker.specs.declared.outbox.Collected.TheVariants.{All as WasAll};
 ghost use Rattle.worker.specs.Outbox.{given_since, SendsOn, GoesOn, HandsOn, IsSameMeeting};
 
+use crate::hidden::wait_for_ever;
 use crate::item::WorkItem;
 use crate::names::OutboxNames;
 use engine::StoreNames;
@@ -212,11 +213,10 @@ pub fn lock_outbox<'a, N: StoreNames, L: OutboxNames, R: Wait>(
     ensures { (mutex_guard_value result).worker ≡ worker }
 {
     let guard = outbox.lock(rt);
-    if guard.worker() == worker {
-        return guard;
+    if guard.worker() != worker {
+        wait_for_ever(rt);
     }
-    for _ in rt.forever() {}
-    unreachable!()
+    guard
 }
 
 // Sends the items, oldest first, while there is room.

@@ -14,7 +14,7 @@ pub struct Mailbox<J> {
     changed: Condvar,
 }
 
-/// So many desks, open and with no job.
+/// So many mailboxes, open and with no job.
 pub fn make_mailboxes<J: Drop>(alloc: Global, count: usize) -> Result<Vec<Mailbox<J>>, OutOfMemory>
     ensures { IfOk result (λ mailboxes. length mailboxes.items ≡ count) }
 {
@@ -36,8 +36,8 @@ impl<J: Drop> Mailbox<J> {
         }
     }
 
-    /// Lays a job on the desk, for its worker. It is handed back where one is there already or with the
-    /// worker, and where the desk is closed.
+    /// Lays a job into the mailbox, for its worker. It is handed back where one is there already or with the
+    /// worker, and where the mailbox is closed.
     pub fn give<R: Wait>(&self, rt: &R, job: J) -> Result<(), J>
         ensures { IfErr result (λ handed. handed ≡ job) }
     {
@@ -59,7 +59,7 @@ impl<J: Drop> Mailbox<J> {
         place.take_off()
     }
 
-    /// Closes the desk, and its worker leaves. Answers the job that was there, once it isn't in work any
+    /// Closes the mailbox, and its worker leaves. Answers the job that was there, once it isn't in work any
     /// more, whether it was done or not.
     pub fn close<R: Wait>(&self, rt: &R) -> Option<J> {
         self.place.lock(rt).close();
@@ -67,7 +67,7 @@ impl<J: Drop> Mailbox<J> {
         self.wait_back(rt)
     }
 
-    /// Does each job that is laid on the desk, until it is closed.
+    /// Does each job that is laid into the mailbox, until it is closed.
     pub fn serve<R: Wait, W: Work<J>>(&self, rt: &R, shared: &W) {
         for _ in rt.forever() {
             let Some(job) = self.wait_job(rt) else {
@@ -80,7 +80,7 @@ impl<J: Drop> Mailbox<J> {
         }
     }
 
-    // The next job for its worker. None once the desk is closed.
+    // The next job for its worker. None once the mailbox is closed.
     fn wait_job<R: Wait>(&self, rt: &R) -> Option<J> {
         let mut place = self
             .changed

@@ -1,24 +1,24 @@
-// What lies on a desk.
+// What lies in a mailbox.
 ghost use Rattle.std.specs.Prelude.{◌≡◌, false, true, IfErr, OnOk, OnErr, MatchOption};
 ghost use Rattle.worker_threads.specs.MailboxState.{IsVacant, job_on, job_back, job_to_do, is_away, is_idle};
 ghost use Rattle.worker_threads.specs.declared.state.JobState.TheVariants.{Empty, Given, Working, Back};
 
 use std::mem;
 
-/// Where the job of a desk is.
+/// Where the job of a mailbox is.
 #[derive(Debug, Drop)]
 pub enum JobState<J> {
     /// There is none.
     Empty,
-    /// It lies on the desk and is to be done.
+    /// It lies in the mailbox and is to be done.
     Given(J),
     /// The worker has it.
     Working,
-    /// It lies on the desk and was done.
+    /// It lies in the mailbox and was done.
     Back(J),
 }
 
-/// A desk's job, and whether the desk is closed. It may close while its worker has the job, so the one
+/// A mailbox's job, and whether the mailbox is closed. It may close while its worker has the job, so the one
 /// stands beside the other.
 #[derive(Debug, Drop)]
 pub struct MailboxState<J> {
@@ -27,7 +27,7 @@ pub struct MailboxState<J> {
 }
 
 impl<J: Drop> MailboxState<J> {
-    /// A job is laid on a desk that is open and has none.
+    /// A job is laid into a mailbox that is open and has none.
     pub fn give(&mut self, job: J) -> Result<(), J>
         ensures free { OnOk result (IsVacant self.old) }
         ensures ok { OnOk result (self.new ≡ record self.old { slot = Given job }) }
@@ -44,7 +44,7 @@ impl<J: Drop> MailboxState<J> {
         }
     }
 
-    /// The worker takes the job that is to be done. A closed desk starts none.
+    /// The worker takes the job that is to be done. A closed mailbox starts none.
     pub fn start(&mut self) -> Option<J>
         ensures job { result ≡ job_to_do self.old }
         ensures place { MatchOption result (self.new ≡ self.old) (λ _. self.new ≡ record self.old { slot = Working }) }
@@ -68,7 +68,7 @@ impl<J: Drop> MailboxState<J> {
         self.slot = JobState::Back(job);
     }
 
-    /// The job is taken off the desk if it was done.
+    /// The job is taken out of the mailbox if it was done.
     pub fn take_back(&mut self) -> Option<J>
         ensures job { result ≡ job_back self.old.slot }
         ensures place { MatchOption result (self.new ≡ self.old) (λ _. self.new ≡ record self.old { slot = Empty }) }
@@ -82,7 +82,7 @@ impl<J: Drop> MailboxState<J> {
         }
     }
 
-    /// The job is taken off the desk, whether it was done or not.
+    /// The job is taken out of the mailbox, whether it was done or not.
     pub fn take_off(&mut self) -> Option<J>
         ensures job { result ≡ job_on self.old.slot }
         ensures place { MatchOption result (self.new ≡ self.old) (λ _. self.new ≡ record self.old { slot = Empty }) }
@@ -96,7 +96,7 @@ impl<J: Drop> MailboxState<J> {
         }
     }
 
-    /// The desk is closed for good.
+    /// The mailbox is closed for good.
     pub fn close(&mut self)
         ensures { self.new ≡ record self.old { closed = true } }
     {

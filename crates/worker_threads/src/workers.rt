@@ -15,7 +15,7 @@ pub trait Work<J> {
     fn work<R: Wait>(&self, rt: &R, job: &mut J)
         ensures { keeps job.old job.new };
 
-    /// A job was laid back on its desk: wakes the leader, where it waits for anything that moves.
+    /// A job was laid back into its mailbox: wakes the leader, where it waits for anything that moves.
     fn came_back<R: Wait>(&self, rt: &R);
 }
 
@@ -55,9 +55,9 @@ impl<'a, F: FnMut(usize) -> X, X> Task for Lent<'a, F> {
     }
 }
 
-/// Starts a worker for each desk and lets the leader work, which is told how many desks have one: the
+/// Starts a worker for each mailbox and lets the leader work, which is told how many mailboxes have one: the
 /// first so many, and all of them unless a thread can't be started. Once the leader has answered, all
-/// desks are closed, and it returns when the workers have ended. A job that still lies on a desk is
+/// mailboxes are closed, and it returns when the workers have ended. A job that still lies in a mailbox is
 /// dropped.
 pub fn with_workers<J, R, W, F, X>(
     rt: &R,
@@ -78,7 +78,7 @@ where
     outcome
 }
 
-// Runs the task beside a worker for each desk.
+// Runs the task beside a worker for each mailbox.
 fn in_scope<J, R, W, T, X>(rt: &R, mailboxes: &[Mailbox<J>], shared: &W, task: T) -> X
 where
     J: Drop + Send,

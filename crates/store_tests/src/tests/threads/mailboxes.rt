@@ -3,12 +3,13 @@
 ghost use Rattle.std.specs.Prelude.{◌≡◌, IfOk};
 
 use crate::tests::asserts::assert_same;
+use crossbeam_utils::sync::EventCount;
 use model::OutOfMemory;
 use std::alloc::Global;
 use std::sync::{Arc, Condvar, Mutex, Wait};
 use std::test::Fail;
 use std::thread::Threads;
-use worker_threads::{Bell, Mailbox, Work, make_mailboxes, with_workers};
+use worker_threads::{Mailbox, Work, make_mailboxes, with_workers};
 
 #[derive(Drop)]
 struct Job {
@@ -23,7 +24,7 @@ struct Shared {
     wanted: u64,
     begun: Mutex<u64>,
     changed: Condvar,
-    bell: Bell,
+    moved: EventCount,
 }
 
 impl Shared {
@@ -32,7 +33,7 @@ impl Shared {
             wanted,
             begun: Mutex::new(0),
             changed: Condvar::new(),
-            bell: Bell::new(),
+            moved: EventCount::new(),
         }
     }
 }
@@ -52,8 +53,8 @@ impl Work<Job> for Shared {
         job.done = job.done.saturating_add(1);
     }
 
-    fn came_back<R: Wait>(&self, rt: &R) {
-        self.bell.ring(rt);
+    fn came_back<R: Wait>(&self, _rt: &R) {
+        self.moved.notify_all();
     }
 }
 
@@ -80,23 +81,23 @@ fn give_all<R: Wait>(rt: &R, mailboxes: &[Mailbox<Job>], jobs: Vec<Job>) -> bool
     all
 }
 
-// The job of a mailbox, once the bell has told that something moved and it was done.
-fn wait_for<R: Wait>(rt: &R, mailbox: &Mailbox<Job>, bell: &Bell) -> Job {
+// The job of a mailbox, once it was done, which is looked for whenever something moved.
+fn wait_for<R: Wait>(rt: &R, mailbox: &Mailbox<Job>, moved: &EventCount) -> Job {
     for _ in rt.forever() {
-        let seen = bell.rung(rt);
+        let key = moved.prepare_wait();
         if let Some(job) = mailbox.try_back(rt) {
             return job;
         }
-        bell.wait_past(rt, seen);
+        key.wait(rt);
     }
     unreachable!()
 }
 
 // How many of the mailboxes' jobs came back, each to its own mailbox and done once.
-fn count_back<R: Wait>(rt: &R, mailboxes: &[Mailbox<Job>], bell: &Bell) -> u64 {
+fn count_back<R: Wait>(rt: &R, mailboxes: &[Mailbox<Job>], moved: &EventCount) -> u64 {
     let mut count = 0u64;
     for (number, mailbox) in mailboxes.iter().enumerate() {
-        let job = wait_for(rt, mailbox, bell);
+        let job = wait_for(rt, mailbox, moved);
         if job.number == number && job.done == 1 {
             count = count.saturating_add(1);
         }
@@ -121,7 +122,7 @@ fn all_at_once(rt: HostRuntime) -> Result<(), Fail> {
                 if serving < mailboxes.len() || !give_all(&rt, &mailboxes, jobs) {
                     return 0;
                 }
-                count_back(&rt, &mailboxes, &shared.bell)
+                count_back(&rt, &mailboxes, &shared.moved)
             },
         );
         assert_same(&rt, back, workers, "back");
@@ -136,7 +137,7 @@ fn leave_at<R: Wait>(
     rt: &R,
     turn: u64,
     mailboxes: &[Mailbox<Job>],
-    bell: &Bell,
+    moved: &EventCount,
     first: Vec<Job>,
     second: Vec<Job>,
 ) -> u64 {
@@ -148,9 +149,9 @@ fn leave_at<R: Wait>(
         return 0;
     }
     if turn == 2 {
-        return count_back(rt, mailboxes.get(..1).unwrap_or(&[]), bell);
+        return count_back(rt, mailboxes.get(..1).unwrap_or(&[]), moved);
     }
-    let back = count_back(rt, mailboxes, bell);
+    let back = count_back(rt, mailboxes, moved);
     if turn == 4 {
         give_all(rt, mailboxes, second);
     }
@@ -185,7 +186,7 @@ fn the_leader_leaves_at_each_turn(rt: HostRuntime) -> Result<(), Fail> {
                     let Some((first, second)) = laid.take() else {
                         return 0;
                     };
-                    leave_at(&rt, turn, &mailboxes, &shared.bell, first, second)
+                    leave_at(&rt, turn, &mailboxes, &shared.moved, first, second)
                 },
             );
             assert_same(&rt, back, expected(turn, workers), turn);
