@@ -5,13 +5,13 @@ use Rattle.std.proofs.lemmas.List.{append_assoc, append_cancel_left}
 use Rattle.model.specs.Beginning.{Begins}
 
 module _ {X : Type 0} where
-  -- all of them are those acknowledged, those left and those late
+  -- all of them are those acknowledged, those left and those queued
   pub all_given : (given sent acked left queued : List X) → given ≡ sent ++ queued → sent ≡ acked ++ left
       → given ≡ acked ++ (left ++ queued)
   all_given given sent acked left queued whole parts =
       whole ∙ ap (λ s. s ++ queued) parts ∙ append_assoc acked left queued
 
-  -- so these are left or late just where those are all, behind the acknowledged ones
+  -- so these are left or queued just where those are all, behind the acknowledged ones
   pub just_these : (given sent acked left queued rest : List X) → given ≡ sent ++ queued → sent ≡ acked ++ left
       → (left ++ queued ≡ rest) ↔ (given ≡ acked ++ rest)
   just_these given sent acked left queued rest whole parts =

@@ -1,6 +1,6 @@
--- What is known of a lane's post, and what a call makes of it.
+-- What is known of a worker's outbox, and what a call makes of it.
 --     given_after, given_since      the items given since a transaction began
---     OutboxModel, outbox_model      what a post knows, and that of its parts
+--     OutboxModel, outbox_model      what an outbox knows, and that of its parts
 --     IsOutbox      what its type keeps
 --     SendsOn, GoesOn      more may be sent, and the rest is as it was
 --     HandsOn, IsSameMeeting      the items that aren't done are handed out
@@ -21,27 +21,27 @@ given_after items (Given item) = items ++ item ∷ []
 abbrev pub given_since : List OutboxEvent → List Item
 given_since events = fold given_after [] events
 
--- what a post knows
+-- what an outbox knows
 pub record OutboxModel : Type 0 where
-  -- the number of its lane
+  -- the number of its worker
   pub worker : ℕ
   -- what the leader did with it
   pub events : List OutboxEvent
-  -- its end of the lane's ring
+  -- its end of the worker's ring
   pub sending : Sending Item
   -- the items that are still to be sent
   pub queued : List Item
 
--- the end of a ring, which a post has but while it is collected
+-- the end of a ring, which an outbox has but while it is collected
 abbrev pub the_end : Option (Sending Item) → Sending Item
 the_end (Some s) = s
 the_end None = record { ring = no_name; before = 0; sent = []; counted = 0; dooms = false }
 
--- what a post knows, by its parts
+-- what an outbox knows, by its parts
 abbrev pub outbox_model : ℕ → List OutboxEvent → Option (Sending Item) → List Item → OutboxModel
 outbox_model its_worker its_events its_end its_queued = record { worker = its_worker; events = its_events; sending = the_end its_end; queued = its_queued }
 
--- Its end is that of this ring, and its list has this name; what was given since the transaction began was sent, or is late.
+-- Its end is that of this ring, and its list has this name; what was given since the transaction began was sent, or is queued.
 pub record IsOutbox (its_ring : TableId) (its_name its_list : Name) (its_end : Option (Sending Item)) (p : OutboxModel) : Type 0 where
   pub has_end : IsSome its_end
   pub ring : p.sending.ring ≡ its_ring
@@ -55,7 +55,7 @@ pub record SendsOn {T : Type 0} (old new : Sending T) : Type 0 where
   pub dooms : new.dooms ≡ old.dooms
   pub grows : old.counted ≤ new.counted
 
--- the same lane, from which more may be sent
+-- the same worker, from which more may be sent
 abbrev pub GoesOn : OutboxModel → OutboxModel → Type 0
 GoesOn old new = (new.worker ≡ old.worker) × SendsOn old.sending new.sending
 

@@ -3,7 +3,7 @@
 --     done_in, wanted_in      the items that the transaction has done; the change that waits or clashed
 --     IsTaken      a change that waits or clashed is the item taken
 --     IsInStep      what the type of a job keeps
---     GoesOn      the same transaction in the same lane, with more done
+--     GoesOn      the same transaction of the same worker, with more done
 --     HasNext, HasDone      an item of the transaction is taken, and not done; it is done
 --     IsEndedBy      why a worker came back
 --     Wanted, Comes      the events of a transaction once an item was tried
@@ -29,16 +29,16 @@ use Rattle.worker.specs.declared.ended.Tried.TheVariants.{Done as WasDone, Held 
 
 -- what a job knows
 pub record Working : Type 0 where
-  -- the number of its lane
+  -- the number of its worker
   pub worker : ℕ
   -- the number of its transaction
   pub xid : ℕ
   -- what happened to the transaction
   pub events : List Event
-  -- its end of the lane's ring
+  -- its end of the worker's ring
   pub taker : Taking Item
 
--- what it knows, by lane, ticket and ring
+-- what it knows, by worker, ticket and ring
 abbrev pub working : ℕ → OpenList Event → Taking Item → Working
 working its_worker ticket its_taker = record { worker = its_worker; xid = ticket.number; events = ticket.list; taker = its_taker }
 
@@ -62,7 +62,7 @@ pub record IsInStep (its_ring : TableId) (j : Working) : Type 0 where
   pub own : All (λ item. item ≢ Last) (done_in j)
   pub next : IsTaken (wanted_in j) j.taker.taken
 
--- It has the same transaction and the same lane, and all that was done before.
+-- It has the same transaction and the same worker, and all that was done before.
 pub record GoesOn (old new : Working) : Type 0 where
   pub worker : new.worker ≡ old.worker
   pub xid : new.xid ≡ old.xid
