@@ -1,10 +1,10 @@
--- What is among lanes.
+-- What is among workers.
 --     none_among, among_cases, among_map      nothing is among none; one of a list is the first or a later one, and so among what the list is taken to
---     counted_one      counts of those that go by lanes, with one more
+--     counted_one      counts of those that go by workers, with one more
 use Rattle.std.proofs.Common.{◌≡◌, ℕ, ◌<◌, Bool, true, false, List, [], ◌∷◌, ◌++◌, length, get_or, Option, sym, subst, inl, inr, arith}
 use Rattle.std.specs.Prelude.{◌⊎◌, map, Contains, if◌then◌else◌}
 use Rattle.std.proofs.lemmas.List.Elements.{All-contains_itself, All-push, Contains-append_left, Contains-append_right, Contains-append_cases, Contains-push, Contains-push_cases}
-use Rattle.dispatch.specs.Lanes.{Given, Laned, IsCounted, AreCounted}
+use Rattle.dispatch.specs.Handle.{Given, HandleModel, IsCounted, AreCounted}
 use Rattle.dispatch.specs.Standing.{goes_by}
 
 pub none_among : {X : Type 0} (x : X) → Contains [] x → ⊥
@@ -24,12 +24,12 @@ among_map f (y ∷ xs) x is = elim (among_cases y xs x is) [
 ]
 
 -- one count more is told, where there is room for it
-pub counted_one : (lanes : List Laned) (i : ℕ) (lane : Laned) (named : ℕ × ℕ) (given after : List (ℕ × ℕ)) (ok : Bool) → i < length lanes → lane ≡ get_or lanes i lane
-    → after ≡ (if ok then given ++ named ∷ [] else given) → AreCounted (map goes_by lanes) given → IsCounted lane.goes named → AreCounted (map goes_by lanes) after
-counted_one lanes i lane named given after false within is e counted one = subst (AreCounted (map goes_by lanes)) (sym e) counted
-counted_one lanes i lane named given after true within is e counted one =
-    subst (AreCounted (map goes_by lanes)) (sym e)
-    (All-push (λ (n : ℕ × ℕ). (goes : Option Given) × Contains (map goes_by lanes) goes × IsCounted goes n) given named counted (lane.goes, among_map goes_by lanes lane among, one))
+pub counted_one : (workers : List HandleModel) (i : ℕ) (worker : HandleModel) (named : ℕ × ℕ) (given after : List (ℕ × ℕ)) (ok : Bool) → i < length workers → worker ≡ get_or workers i worker
+    → after ≡ (if ok then given ++ named ∷ [] else given) → AreCounted (map goes_by workers) given → IsCounted worker.goes named → AreCounted (map goes_by workers) after
+counted_one workers i worker named given after false within is e counted one = subst (AreCounted (map goes_by workers)) (sym e) counted
+counted_one workers i worker named given after true within is e counted one =
+    subst (AreCounted (map goes_by workers)) (sym e)
+    (All-push (λ (n : ℕ × ℕ). (goes : Option Given) × Contains (map goes_by workers) goes × IsCounted goes n) given named counted (worker.goes, among_map goes_by workers worker among, one))
   where
-    among : Contains lanes lane
-    among = subst (Contains lanes) (sym is) (All-contains_itself lanes i lane within)
+    among : Contains workers worker
+    among = subst (Contains workers) (sym is) (All-contains_itself workers i worker within)

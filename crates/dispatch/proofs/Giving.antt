@@ -1,4 +1,4 @@
--- What a lane shows, by its parts.
+-- What a worker shows, by its parts.
 use Rattle.std.proofs.Common.{◌≡◌, ◌≢◌, ℕ, Bool, true, false, List, [], ◌∷◌, ◌++◌, Option, Some, None, refl, sym, ap, subst, ◌∙◌, append-nil, arith, cond, nat_eq, inl, inr, ◌+◌, ◌-◌, ◌^◌, length, length-append}
 use Rattle.std.specs.Prelude.{MatchBool, MatchOption, All, fold, option_map, is_some, IfSome, not, min, Result, Ok, Err, OnOk, OnErr}
 use Rattle.atomic_table.specs.Seated.{TableId}
@@ -23,8 +23,8 @@ use Rattle.worker.specs.Outbox.{given_after, given_since}
 use Rattle.worker.specs.Working.{Working, IsTaken, IsInStep}
 use Rattle.worker.specs.declared.outbox.Collected.{Collected}
 use Rattle.worker.specs.declared.outbox.Collected.TheVariants.{All as WasAll}
-use Rattle.dispatch.specs.Lanes.{own_item, own_items, after_events, given_before, Given, Laned, going, laned, done_by, IsDoing, IsBack, IsLane, IsIdle, IsHome, HasCount, IsCounted, AddsTo, ComesBack, IsTakenOut, HasAll}
-use Rattle.dispatch.specs.Standing.{own_by, items_of, in_lane, holds_in, KeepsGiven}
+use Rattle.dispatch.specs.Handle.{own_item, own_items, after_events, given_before, Given, HandleModel, going, handle_model, done_by, IsDoing, IsBack, IsHandle, IsIdle, IsHome, HasCount, IsCounted, AddsTo, ComesBack, IsTakenOut, HasAll}
+use Rattle.dispatch.specs.Standing.{Own, Standing, own_by, items_of, in_worker, holds_in, KeepsGiven, IsOwn}
 use Rattle.dispatch.proofs.Numbers.{same_apart}
 
 -- ---- which transaction
@@ -45,6 +45,23 @@ has_it x q goes given is number =
           let differ : nat_eq x q ≡ false = grind (arith, nat_tests) in
           subst (λ b. MatchBool b ((g : Given) × (goes ≡ Some g) × (g.xid ≡ q)) (items_of q goes ≡ [])) (sym differ)
           (ap (items_of q) is ∙ ap (λ b. cond b (given.items ∷ []) []) (same_apart given.xid q (λ e. ne (sym number ∙ e))))
+    ]
+
+same_number : (a b : Own) → Some a ≡ Some b → a.xid ≡ b.xid
+same_number a b e = let both : a ≡ b = cc in ap (λ (o : Own). o.xid) both
+
+-- the leader's own is this one, or isn't
+pub is_it : (t : Standing) (ticket : OpenList Event) (xid : ℕ) → t.begun ≡ Some (own_by ticket) → MatchBool (nat_eq ticket.number xid) (IsOwn t xid) (¬ IsOwn t xid)
+is_it t ticket xid e =
+    elim (cases_eq ticket.number xid) [
+      | inl same ↦
+          let yes : nat_eq ticket.number xid ≡ true = grind (arith, nat_tests) in
+          subst (λ b. MatchBool b (IsOwn t xid) (¬ IsOwn t xid)) (sym yes)
+          (record { done = done_by ticket; is = e ∙ ap (λ n. Some (record { xid = n; done = done_by ticket })) same })
+      | inr ne ↦
+          let differ : nat_eq ticket.number xid ≡ false = grind (arith, nat_tests) in
+          subst (λ b. MatchBool b (IsOwn t xid) (¬ IsOwn t xid)) (sym differ)
+          (λ own. ne (same_number (own_by ticket) (record { xid = xid; done = own.done }) (sym e ∙ own.is)))
     ]
 
 -- ---- what was given
@@ -122,18 +139,18 @@ pub did_all : (done : Opened) (acked given : List Item) → done.items ≡ acked
 did_all done acked given same own e =
     sym (own_all done.items own) ∙ ap own_items same ∙ sym (append-nil (own_items acked)) ∙ sym (own-append acked (Last ∷ [])) ∙ ap own_items (sym e)
 
--- ---- a lane, by its parts
+-- ---- a worker, by its parts
 
-module _ (n xid : ℕ) (events : List OutboxEvent) (taker : Option (Taking Item)) (ticket : Option (OpenList Event)) (collected : Collected) (now : Laned)
-    (view : laned n xid events taker ticket collected ≡ now) where
+module _ (n xid : ℕ) (events : List OutboxEvent) (taker : Option (Taking Item)) (ticket : Option (OpenList Event)) (collected : Collected) (now : HandleModel)
+    (view : handle_model n xid events taker ticket collected ≡ now) where
   goes : going xid events taker ticket ≡ now.goes
-  goes = ap (λ (l : Laned). l.goes) view
+  goes = ap (λ (l : HandleModel). l.goes) view
 
   back : option_map done_by ticket ≡ now.back
-  back = ap (λ (l : Laned). l.back) view
+  back = ap (λ (l : HandleModel). l.back) view
 
   same_collected : collected ≡ now.collected
-  same_collected = ap (λ (l : Laned). l.collected) view
+  same_collected = ap (λ (l : HandleModel). l.collected) view
 
   -- it is free where the end of the ring is here, and no ticket
   pub free_here : is_some taker ≡ true → (r : Bool) → is_some ticket ≡ not r → MatchBool r (IsIdle now) ((given : Given) × (now.goes ≡ Some given))
@@ -158,9 +175,9 @@ module _ (n xid : ℕ) (events : List OutboxEvent) (taker : Option (Taking Item)
       by_parts (Some t) ea false is not_so = absurd (false≢true is)
 
   -- a worker has its transaction, or that came back, or none goes by it
-  pub whose : (its_ring : TableId) (its_name tickets : Name) (token : Half OutboxEvent) → IsLane its_ring its_name tickets xid token taker ticket collected
+  pub whose : (its_ring : TableId) (its_name tickets : Name) (token : Half OutboxEvent) → IsHandle its_ring its_name tickets xid token taker ticket collected
       → (r : Bool) → is_some taker ≡ not r → MatchBool r ((given : Given) × (now.goes ≡ Some given) × (now.back ≡ None)) (IsHome now)
-  whose its_ring its_name tickets token lane = by_parts taker ticket refl refl lane.end
+  whose its_ring its_name tickets token worker = by_parts taker ticket refl refl worker.end
     where
       by_parts : (a : Option (Taking Item)) (b : Option (OpenList Event)) → taker ≡ a → ticket ≡ b → MatchOption a (ticket ≡ None) (λ t. (t.ring ≡ its_ring) × (t.acked ≡ []) × (given_since token.list ≡ []))
           → (r : Bool) → is_some a ≡ not r → MatchBool r ((given : Given) × (now.goes ≡ Some given) × (now.back ≡ None)) (IsHome now)
@@ -188,12 +205,12 @@ module _ (n xid : ℕ) (events : List OutboxEvent) (taker : Option (Taking Item)
 
   -- a transaction goes by it to which nothing was given yet
   pub opened : (its_ring : TableId) (its_name tickets : Name) (token : Half OutboxEvent) (new_xid : ℕ) (taken : Taking Item) (after : Option (Taking Item)) → token.list ≡ events
-      → taker ≡ Some taken → after ≡ None → now.back ≡ None → IsLane its_ring its_name tickets xid token taker ticket collected
-      → IsLane its_ring its_name tickets new_xid token after ticket collected × HasCount (going new_xid events after ticket) (new_xid, 0)
+      → taker ≡ Some taken → after ≡ None → now.back ≡ None → IsHandle its_ring its_name tickets xid token taker ticket collected
+      → IsHandle its_ring its_name tickets new_xid token after ticket collected × HasCount (going new_xid events after ticket) (new_xid, 0)
   opened its_ring its_name tickets token new_xid taken after list here gone none is =
       let eb = no_ticket ticket back in
       let since : given_since token.list ≡ [] = (subst (λ a. MatchOption a (ticket ≡ None) (λ t. (t.ring ≡ its_ring) × (t.acked ≡ []) × (given_since token.list ≡ []))) here is.end).2 in
-      subst (λ a. IsLane its_ring its_name tickets new_xid token a ticket collected × HasCount (going new_xid events a ticket) (new_xid, 0)) (sym gone) (
+      subst (λ a. IsHandle its_ring its_name tickets new_xid token a ticket collected × HasCount (going new_xid events a ticket) (new_xid, 0)) (sym gone) (
         record {
           name = is.name;
           end = eb;
@@ -207,18 +224,18 @@ module _ (n xid : ℕ) (events : List OutboxEvent) (taker : Option (Taking Item)
       no_ticket (Some k) e = let some : Some (done_by k) ≡ None = e ∙ none in absurd cc
 
   -- its ticket is taken out of it
-  pub taken_out : (its_ring : TableId) (its_name tickets : Name) (token : Half OutboxEvent) → token.list ≡ events → IsLane its_ring its_name tickets xid token taker ticket collected
+  pub taken_out : (its_ring : TableId) (its_name tickets : Name) (token : Half OutboxEvent) → token.list ≡ events → IsHandle its_ring its_name tickets xid token taker ticket collected
       → (result after : Option (OpenList Event)) → result ≡ ticket → after ≡ None
-      → MatchOption result ((now.back ≡ None) × (laned n xid events taker after collected ≡ now)) (λ k. IsTakenOut tickets now k (laned n xid events taker after collected))
+      → MatchOption result ((now.back ≡ None) × (handle_model n xid events taker after collected ≡ now)) (λ k. IsTakenOut tickets now k (handle_model n xid events taker after collected))
   taken_out its_ring its_name tickets token list is None after e none =
-      (sym back ∙ ap (option_map done_by) (sym e), ap (λ b. laned n xid events taker b collected) (none ∙ e) ∙ view)
+      (sym back ∙ ap (option_map done_by) (sym e), ap (λ b. handle_model n xid events taker b collected) (none ∙ e) ∙ view)
   taken_out its_ring its_name tickets token list is (Some k) after e none = by_taker taker refl is.end
     where
       its : IsBack tickets xid (own_items (given_before token.list)) collected k
       its = subst (λ b. MatchOption b (Unit {0}) (IsBack tickets xid (own_items (given_before token.list)) collected)) (sym e) is.back
 
       by_taker : (a : Option (Taking Item)) → taker ≡ a → MatchOption a (ticket ≡ None) (λ t. (t.ring ≡ its_ring) × (t.acked ≡ []) × (given_since token.list ≡ []))
-          → IsTakenOut tickets now k (laned n xid events taker after collected)
+          → IsTakenOut tickets now k (handle_model n xid events taker after collected)
       by_taker None ea end = let none_here : Some k ≡ None = e ∙ end in absurd cc
       by_taker (Some t) ea end = record {
         given = record { xid = xid; items = own_items (given_before events) };
@@ -228,14 +245,14 @@ module _ (n xid : ℕ) (events : List OutboxEvent) (taker : Option (Taking Item)
         number = its.number;
         doing = subst (λ l. IsDoing (done_by k) (own_items (given_before l))) list its.doing;
         is =
-            ap (λ b. laned n xid events taker b collected) none ∙ ap (λ x. laned n xid events x None collected) ea
-            ∙ (λ i. record { number = ap (λ (l : Laned). l.number) view i; goes = None; back = None; collected = same_collected i });
+            ap (λ b. handle_model n xid events taker b collected) none ∙ ap (λ x. handle_model n xid events x None collected) ea
+            ∙ (λ i. record { number = ap (λ (l : HandleModel). l.number) view i; goes = None; back = None; collected = same_collected i });
       }
 
   -- the transaction that it holds is that of its ticket, and has done a beginning of what was given to it
-  pub held_in : (its_ring : TableId) (its_name tickets : Name) (token : Half OutboxEvent) → token.list ≡ events → IsLane its_ring its_name tickets xid token taker ticket collected
+  pub held_in : (its_ring : TableId) (its_name tickets : Name) (token : Half OutboxEvent) → token.list ≡ events → IsHandle its_ring its_name tickets xid token taker ticket collected
       → (holds_in now ≡ option_map own_by ticket) × KeepsGiven now × IfSome ticket (λ (t : OpenList Event). t.name ≡ tickets)
-  held_in its_ring its_name tickets token list lane = by_parts taker ticket refl refl lane.end lane.back
+  held_in its_ring its_name tickets token list worker = by_parts taker ticket refl refl worker.end worker.back
     where
       Keeps : Option Given → Option Opened → Type 0
       Keeps its_goes its_back = MatchOption its_goes (Unit {0}) (λ given. MatchOption its_back (Unit {0}) (λ done. IsDoing done given.items))
@@ -246,10 +263,10 @@ module _ (n xid : ℕ) (events : List OutboxEvent) (taker : Option (Taking Item)
       back_is : (b : Option (OpenList Event)) → ticket ≡ b → option_map done_by b ≡ now.back
       back_is b eb = ap (option_map done_by) (sym eb) ∙ back
 
-      both : (a : Option (Taking Item)) (b : Option (OpenList Event)) → taker ≡ a → ticket ≡ b → in_lane (going xid events a b) (option_map done_by b) ≡ option_map own_by b → Keeps (going xid events a b) (option_map done_by b)
+      both : (a : Option (Taking Item)) (b : Option (OpenList Event)) → taker ≡ a → ticket ≡ b → in_worker (going xid events a b) (option_map done_by b) ≡ option_map own_by b → Keeps (going xid events a b) (option_map done_by b)
           → IfSome b (λ (t : OpenList Event). t.name ≡ tickets) → (holds_in now ≡ option_map own_by ticket) × KeepsGiven now × IfSome ticket (λ (t : OpenList Event). t.name ≡ tickets)
       both a b ea eb holds keeps name = (
-        ap (λ g. in_lane g now.back) (sym (goes_is a b ea eb)) ∙ ap (in_lane (going xid events a b)) (sym (back_is b eb)) ∙ holds ∙ ap (option_map own_by) (sym eb),
+        ap (λ g. in_worker g now.back) (sym (goes_is a b ea eb)) ∙ ap (in_worker (going xid events a b)) (sym (back_is b eb)) ∙ holds ∙ ap (option_map own_by) (sym eb),
         subst (λ g. Keeps g now.back) (goes_is a b ea eb) (subst (Keeps (going xid events a b)) (back_is b eb) keeps),
         subst (λ x. IfSome x (λ (t : OpenList Event). t.name ≡ tickets)) (sym eb) name,
       )
@@ -263,7 +280,7 @@ module _ (n xid : ℕ) (events : List OutboxEvent) (taker : Option (Taking Item)
           both (Some t) (Some k) ea eb (ap (λ n. Some (record { xid = n; done = done_by k })) (sym its.number)) (subst (λ l. IsDoing (done_by k) (own_items (given_before l))) list its.doing) its.name
 
   -- an item was given to its transaction
-  pub added : (item : Item) (given : Given) → now.goes ≡ Some given → now.back ≡ None → AddsTo now item (laned n xid (events ++ WasGiven item ∷ []) taker ticket collected)
+  pub added : (item : Item) (given : Given) → now.goes ≡ Some given → now.back ≡ None → AddsTo now item (handle_model n xid (events ++ WasGiven item ∷ []) taker ticket collected)
   added item given gone none =
       let ea = no_taker given gone none in
       let mine : going xid events taker ticket ≡ Some (record { xid = xid; items = own_items (given_since events) }) = ap (λ x. going xid events x ticket) ea in
@@ -274,13 +291,13 @@ module _ (n xid : ℕ) (events : List OutboxEvent) (taker : Option (Taking Item)
         given = record { xid = xid; items = own_items (given_since events) };
         was = sym goes ∙ mine;
         away = none;
-        is = λ i. record { number = ap (λ (l : Laned). l.number) view i; goes = after i; back = back i; collected = same_collected i };
+        is = λ i. record { number = ap (λ (l : HandleModel). l.number) view i; goes = after i; back = back i; collected = same_collected i };
       }
 
   -- and it is kept as it was
-  pub still_lane : (its_ring : TableId) (its_name tickets : Name) (token after : Half OutboxEvent) (given : Given) → now.goes ≡ Some given → now.back ≡ None → after.name ≡ token.name
-      → IsLane its_ring its_name tickets xid token taker ticket collected → IsLane its_ring its_name tickets xid after taker ticket collected
-  still_lane its_ring its_name tickets token after given gone none name is =
+  pub still_handle : (its_ring : TableId) (its_name tickets : Name) (token after : Half OutboxEvent) (given : Given) → now.goes ≡ Some given → now.back ≡ None → after.name ≡ token.name
+      → IsHandle its_ring its_name tickets xid token taker ticket collected → IsHandle its_ring its_name tickets xid after taker ticket collected
+  still_handle its_ring its_name tickets token after given gone none name is =
       let ea = no_taker given gone none in
       let eb : ticket ≡ None = subst (λ a. MatchOption a (ticket ≡ None) (λ t. (t.ring ≡ its_ring) × (t.acked ≡ []) × (given_since token.list ≡ []))) ea is.end in
       record {
@@ -291,7 +308,7 @@ module _ (n xid : ℕ) (events : List OutboxEvent) (taker : Option (Taking Item)
 
   -- its worker gave its transaction back
   pub came_back : (taker_now : Taking Item) (k : OpenList Event) (its_collected : Collected) (given : Given) → now.goes ≡ Some given → now.back ≡ None → IsDoing (done_by k) (own_items (given_since events))
-      → ComesBack now its_collected (laned n xid (events ++ Begun ∷ []) (Some taker_now) (Some k) its_collected)
+      → ComesBack now its_collected (handle_model n xid (events ++ Begun ∷ []) (Some taker_now) (Some k) its_collected)
   came_back taker_now k its_collected given gone none doing =
       let ea = no_taker given gone none in
       let mine : going xid events taker ticket ≡ Some (record { xid = xid; items = own_items (given_since events) }) = ap (λ x. going xid events x ticket) ea in
@@ -300,7 +317,7 @@ module _ (n xid : ℕ) (events : List OutboxEvent) (taker : Option (Taking Item)
         was = sym goes ∙ mine;
         done = done_by k;
         is = λ i. record {
-          number = ap (λ (l : Laned). l.number) view i;
+          number = ap (λ (l : HandleModel). l.number) view i;
           goes = (ap (λ (g : List Item). Some (record { xid = xid; items = own_items g })) (before_begun events) ∙ sym mine ∙ goes) i;
           back = Some (done_by k);
           collected = its_collected;
@@ -338,10 +355,10 @@ module _ (n xid : ℕ) (events : List OutboxEvent) (taker : Option (Taking Item)
       (sym (append-nil (own_items (given_since events))) ∙ sym (own_more (given_since events) Last) ∙ ap own_items (sym (since_given events Last)))
       ∙ ap (λ x. going xid (events ++ WasGiven Last ∷ []) x ticket) (sym ea)) counted
 
-  module _ (its_ring : TableId) (its_name tickets : Name) (token : Half OutboxEvent) (list : token.list ≡ events) (lane : IsLane its_ring its_name tickets xid token taker ticket collected) where
+  module _ (its_ring : TableId) (its_name tickets : Name) (token : Half OutboxEvent) (list : token.list ≡ events) (worker : IsHandle its_ring its_name tickets xid token taker ticket collected) where
     -- nothing is counted once its ticket was taken out
     pub uncounted : (k : OpenList Event) (after : Option (OpenList Event)) → ticket ≡ Some k → after ≡ None → HasCount (going xid events taker after) (xid, 2 ^ 64 - 1)
-    uncounted k after here gone = by_taker taker refl lane.end
+    uncounted k after here gone = by_taker taker refl worker.end
       where
         by_taker : (a : Option (Taking Item)) → taker ≡ a → MatchOption a (ticket ≡ None) (λ t. (t.ring ≡ its_ring) × (t.acked ≡ []) × (given_since token.list ≡ []))
             → HasCount (going xid events taker after) (xid, 2 ^ 64 - 1)
@@ -351,11 +368,11 @@ module _ (n xid : ℕ) (events : List OutboxEvent) (taker : Option (Taking Item)
 
     -- and it is kept so
     pub emptied : (k : OpenList Event) (after : Option (OpenList Event)) → ticket ≡ Some k → after ≡ None
-        → IsLane its_ring its_name tickets xid token taker after collected × HasCount (going xid events taker after) (xid, 2 ^ 64 - 1)
+        → IsHandle its_ring its_name tickets xid token taker after collected × HasCount (going xid events taker after) (xid, 2 ^ 64 - 1)
     emptied k after here gone = (
       record {
-        name = lane.name;
-        end = by_taker taker lane.end;
+        name = worker.name;
+        end = by_taker taker worker.end;
         back = subst (λ b. MatchOption b (Unit {0}) (IsBack tickets xid (own_items (given_before token.list)) collected)) (sym gone) tt;
       },
       uncounted k after here gone,
@@ -367,10 +384,10 @@ module _ (n xid : ℕ) (events : List OutboxEvent) (taker : Option (Taking Item)
         by_taker (Some t) end = end
 
     -- whose ticket is taken out, and who was said to have done all, has
-    pub has_all : collected ≡ WasAll → (result : Option (OpenList Event)) (after : Laned) → MatchOption result ((now.back ≡ None) × (after ≡ now)) (λ k. IsTakenOut tickets now k after)
+    pub has_all : collected ≡ WasAll → (result : Option (OpenList Event)) (after : HandleModel) → MatchOption result ((now.back ≡ None) × (after ≡ now)) (λ k. IsTakenOut tickets now k after)
         → MatchOption result (after ≡ now) (λ k. IsTakenOut tickets now k after × HasAll now k)
     has_all all None after out = out.1
-    has_all all (Some k) after out = (out, by_parts taker ticket refl refl lane.end lane.back)
+    has_all all (Some k) after out = (out, by_parts taker ticket refl refl worker.end worker.back)
       where
         by_parts : (a : Option (Taking Item)) (b : Option (OpenList Event)) → taker ≡ a → ticket ≡ b → MatchOption a (ticket ≡ None) (λ t. (t.ring ≡ its_ring) × (t.acked ≡ []) × (given_since token.list ≡ []))
             → MatchOption b (Unit {0}) (IsBack tickets xid (own_items (given_before token.list)) collected) → HasAll now k
@@ -407,12 +424,12 @@ module _ (its_ring : TableId) (tickets : Name) (token : Half OutboxEvent) (taker
       (did_beginning (opened_by job.events) taker.acked (given_since token.list) taker.taken (step.done ∙ ap (λ (t : Taking Item). t.acked) (sym taker_is)) step.own
       (subst (λ (t : Taking Item). IsTaken (opened_by job.events).wants t.taken) (sym taker_is) step.next) begins next)
 
-  -- the lane is kept, with the ticket
-  pub home_lane : (its_name : Name) (xid : ℕ) (after : Half OutboxEvent) (back_taker : Taking Item) (collected : Collected) → token.name ≡ its_name → after ≡ record token { list = token.list ++ Begun ∷ [] }
+  -- the worker is kept, with the ticket
+  pub home_worker : (its_name : Name) (xid : ℕ) (after : Half OutboxEvent) (back_taker : Taking Item) (collected : Collected) → token.name ≡ its_name → after ≡ record token { list = token.list ++ Begun ∷ [] }
       → job.xid ≡ xid → back_taker.ring ≡ taker.ring → back_taker.acked ≡ [] → Begins taker.acked (given_since token.list)
       → MatchOption taker.taken (Unit {0}) (λ item. Begins (taker.acked ++ item ∷ []) (given_since token.list)) → (collected ≡ WasAll → given_since token.list ≡ taker.acked ++ Last ∷ [])
-      → IsLane its_ring its_name tickets xid after (Some back_taker) (Some ticket) collected
-  home_lane its_name xid after back_taker collected name begun number ring acked begins next all =
+      → IsHandle its_ring its_name tickets xid after (Some back_taker) (Some ticket) collected
+  home_worker its_name xid after back_taker collected name begun number ring acked begins next all =
       let list : after.list ≡ token.list ++ Begun ∷ [] = ap (λ (h : Half OutboxEvent). h.list) begun in
       let given : given_before after.list ≡ given_since token.list = ap given_before list ∙ before_begun token.list in
       record {

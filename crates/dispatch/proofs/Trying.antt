@@ -1,5 +1,5 @@
 -- What a spooled transaction has done, where one of its items wasn't.
-use Rattle.std.proofs.Common.{◌≡◌, ℕ, List, [], ◌∷◌, ◌++◌, Option, Some, None, refl, sym, ap, subst, ◌∙◌, inl, inr}
+use Rattle.std.proofs.Common.{◌≡◌, ℕ, List, [], ◌∷◌, ◌++◌, Option, Some, None, refl, sym, ap, subst, ◌∙◌, append-nil, inl, inr}
 use Rattle.std.specs.Prelude.{MatchOption, Result, Ok, Err, OnErr, IfErr}
 use Rattle.std.specs.Result.{IsErrAnd}
 use Rattle.std.specs.Iterator.{Yields}
@@ -9,8 +9,8 @@ use Rattle.model.specs.declared.item.Item.{Item}
 use Rattle.model.specs.declared.item.Item.TheVariants.{Change}
 use Rattle.world.specs.World.{Opened}
 use Rattle.run.specs.declared.end.End.{End}
-use Rattle.dispatch.specs.Lanes.{IsDoing}
-use Rattle.dispatch.specs.Standing.{Own, Standing, with_wanted, IsUndone, IsStoreEnd, IsMet, HasDoneAll, HasTried}
+use Rattle.dispatch.specs.Handle.{IsDoing}
+use Rattle.dispatch.specs.Standing.{Own, Standing, with_wanted, IsUndone, IsStoreEnd, IsMet, IsOwn, HasDoneAll, HasTried}
 
 -- what the iterator of a vector has given is a front of its items
 pub taken_front : {X A : Type 0} (s : IntoIter X A) (xs : List X) (t : IntoIter X A) → Yields into_iter_steps s xs t → into_iter_items s ≡ xs ++ into_iter_items t
@@ -20,6 +20,11 @@ taken_front s (x ∷ xs) t y = y.1.0 ∙ ap (λ ys. x ∷ ys) (taken_front y.0 x
 pub on_err : {A E P : Type 0} (r : Result A E) → P → OnErr r P
 on_err (Ok a) p = tt
 on_err (Err e) p = p
+
+-- what holds where it was refused
+pub on_err_so : {A E P Q : Type 0} (r : Result A E) → OnErr r P → (P → Q) → OnErr r Q
+on_err_so (Ok a) p so = tt
+on_err_so (Err e) p so = so p
 
 -- an error that was passed on
 pub if_err : {A : Type 0} (r : Result A End) (is : End) (P : End → Type 0) → IsErrAnd r (λ end. end ≡ is) → P is → IfErr r P
@@ -68,3 +73,16 @@ tried_more old mid new xid front rest item done end (inr (d, after, undo, does, 
       doing = undone_doing front rest item d after e undo;
       is = does.is_own ∙ ap (λ (st : Standing). record st { begun = Some (record { xid = xid; done = after }) }) done.is;
     }
+
+-- one that has done all of its items is the leader's own, and has tried them
+pub own_all : (old new : Standing) (xid : ℕ) (items : List Item) → HasDoneAll old xid items new → IsOwn new xid
+own_all old new xid items all = record { done = record { items = items; wants = None }; is = ap (λ (t : Standing). t.begun) all.is }
+
+pub tried_all : (old new : Standing) (xid : ℕ) (items : List Item) → HasDoneAll old xid items new → HasTried old xid items new
+tried_all old new xid items all = record {
+  none = all.none;
+  nowhere = all.nowhere;
+  done = record { items = items; wants = None };
+  doing = record { left = []; begins = append-nil items; wants = tt };
+  is = all.is;
+}

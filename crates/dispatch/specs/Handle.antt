@@ -1,18 +1,18 @@
--- What a leader keeps of a lane to a worker.
+-- What a leader keeps of a worker to a worker.
 --     own_item, own_items      the items of a transaction, among what was given
 --     after_events, given_before      what was given to the transaction before the last
---     Given, Laned      a transaction that goes by a lane; what a lane knows
---     going, laned      that of its parts
---     new_lane, AreNumbered      one to which nothing was given; the place of each in a list is its number
+--     Given, HandleModel      a transaction that goes by a worker; what a worker knows
+--     going, handle_model      that of its parts
+--     new_handle      one to which nothing was given
 --     done_by      what an open transaction has done, by its ticket
 --     IsDoing      what an open transaction has done is a beginning of its work
---     IsBack, IsLane      what its type keeps
+--     IsBack, IsHandle      what its type keeps
 --     IsIdle, IsHome      no transaction goes by it; none is with its worker
---     HasCount, IsCounted, AreCounted      how many items were given to a transaction; a count of them; counts of those that go by lanes
+--     HasCount, IsCounted, AreCounted      how many items were given to a transaction; a count of them; counts of those that go by workers
 --     AddsTo      one item more was given to its transaction
 --     ComesBack      its worker gave its transaction back
 --     IsTakenOut, HasAll      its ticket was taken; the transaction had done all items
-use Rattle.std.specs.Prelude.{◌≡◌, ℕ, ◌+◌, ◌-◌, ◌^◌, ◌<◌, min, List, [], ◌∷◌, ◌++◌, length, All, Contains, Option, Some, None, MatchOption, fold, flat_map, option_map}
+use Rattle.std.specs.Prelude.{◌≡◌, ℕ, ◌-◌, ◌^◌, ◌<◌, min, List, [], ◌∷◌, ◌++◌, length, All, Contains, Option, Some, None, MatchOption, fold, flat_map, option_map}
 use Rattle.atomic_table.specs.Seated.{TableId}
 use Rattle.model.specs.declared.item.Item.{Item}
 use Rattle.model.specs.declared.item.Item.TheVariants.{Change, Touch, BackTo, Last}
@@ -50,15 +50,15 @@ after_events given (WasGiven item) = (given.0, given.1 ++ item ∷ [])
 abbrev pub given_before : List OutboxEvent → List Item
 given_before events = (fold after_events ([], []) events).0
 
--- ---- a lane
+-- ---- a worker
 
--- a transaction that goes by a lane, and the items that were given to it since it began
+-- a transaction that goes by a worker, and the items that were given to it since it began
 pub record Given : Type 0 where
   pub xid : ℕ
   pub items : List Item
 
--- what a lane knows
-pub record Laned : Type 0 where
+-- what a worker knows
+pub record HandleModel : Type 0 where
   pub number : ℕ
   -- the transaction that goes by it
   pub goes : Option Given
@@ -67,7 +67,7 @@ pub record Laned : Type 0 where
   -- whether that was all of its items, as the last one said that came back
   pub collected : Collected
 
--- The transaction that goes by a lane: a worker has it where the end of the ring isn't here, and it came back where its
+-- The transaction that goes by a worker: a worker has it where the end of the ring isn't here, and it came back where its
 -- ticket is.
 abbrev pub going : ℕ → List OutboxEvent → Option (Taking Item) → Option (OpenList Event) → Option Given
 going its_xid events None ticket = Some (record { xid = its_xid; items = own_items (given_since events) })
@@ -78,19 +78,14 @@ going its_xid events (Some taker) (Some ticket) = Some (record { xid = its_xid; 
 abbrev pub done_by : OpenList Event → Opened
 done_by ticket = opened_by ticket.list
 
--- what a lane knows, by its parts
-abbrev pub laned : ℕ → ℕ → List OutboxEvent → Option (Taking Item) → Option (OpenList Event) → Collected → Laned
-laned its_number its_xid events taker ticket its_collected =
+-- what a worker knows, by its parts
+abbrev pub handle_model : ℕ → ℕ → List OutboxEvent → Option (Taking Item) → Option (OpenList Event) → Collected → HandleModel
+handle_model its_number its_xid events taker ticket its_collected =
     record { number = its_number; goes = going its_xid events taker ticket; back = option_map done_by ticket; collected = its_collected }
 
--- a lane of this number, to which nothing was given
-abbrev pub new_lane : ℕ → Laned
-new_lane its_number = record { number = its_number; goes = None; back = None; collected = Left }
-
--- The numbers of lanes, one after another, go up from this one.
-abbrev pub AreNumbered : ℕ → List Laned → Type 0
-AreNumbered first [] = Unit {0}
-AreNumbered first (l ∷ more) = (l.number ≡ first) × AreNumbered (first + 1) more
+-- a worker of this number, to which nothing was given
+abbrev pub new_handle : ℕ → HandleModel
+new_handle its_number = record { number = its_number; goes = None; back = None; collected = Left }
 
 -- ---- what is kept
 
@@ -110,47 +105,47 @@ pub record IsBack (tickets : Name) (its_xid : ℕ) (given : List Item) (collecte
 
 -- Its token has this name. Where the end of the ring is here it is that of this ring, nothing of it was acknowledged,
 -- and nothing was given since; a ticket is here with it alone, and is that of its transaction.
-pub record IsLane (its_ring : TableId) (its_name tickets : Name) (its_xid : ℕ) (token : Half OutboxEvent) (taker : Option (Taking Item)) (ticket : Option (OpenList Event)) (collected : Collected)
+pub record IsHandle (its_ring : TableId) (its_name tickets : Name) (its_xid : ℕ) (token : Half OutboxEvent) (taker : Option (Taking Item)) (ticket : Option (OpenList Event)) (collected : Collected)
     : Type 0 where
   pub name : token.name ≡ its_name
   pub end : MatchOption taker (ticket ≡ None) (λ t. (t.ring ≡ its_ring) × (t.acked ≡ []) × (given_since token.list ≡ []))
   pub back : MatchOption ticket (Unit {0}) (IsBack tickets its_xid (own_items (given_before token.list)) collected)
 
 -- No transaction goes by it.
-abbrev pub IsIdle : Laned → Type 0
+abbrev pub IsIdle : HandleModel → Type 0
 IsIdle l = (l.goes ≡ None) × (l.back ≡ None)
 
 -- A transaction that goes by it has come back.
-abbrev pub IsHome : Laned → Type 0
+abbrev pub IsHome : HandleModel → Type 0
 IsHome l = MatchOption l.goes (Unit {0}) (λ given. (done : Opened) × (l.back ≡ Some done))
 
--- The number is that of all items that were given to this transaction, which goes by the lane. Where none does, or there
+-- The number is that of all items that were given to this transaction, which goes by the worker. Where none does, or there
 -- were too many, it is the last number of a u64, which is no count.
 abbrev pub HasCount : Option Given → ℕ × ℕ → Type 0
 HasCount goes named =
     MatchOption goes (named.1 ≡ 2 ^ 64 - 1) (λ given. (given.xid ≡ named.0) × (named.1 ≡ min (length given.items) (2 ^ 64 - 1)))
 
--- The number, if it is a count, is of all items that were given to this transaction, which goes by the lane. The last
+-- The number, if it is a count, is of all items that were given to this transaction, which goes by the worker. The last
 -- number of a u64 is no count.
 abbrev pub IsCounted : Option Given → ℕ × ℕ → Type 0
 IsCounted goes named =
     named.1 < 2 ^ 64 - 1 → (given : Given) × (goes ≡ Some given) × (given.xid ≡ named.0) × (named.1 ≡ length given.items)
 
--- Each of them is so of a transaction that goes by one of the lanes.
+-- Each of them is so of a transaction that goes by one of the workers.
 abbrev pub AreCounted : List (Option Given) → List (ℕ × ℕ) → Type 0
-AreCounted lanes named = All (λ one. (goes : Option Given) × Contains lanes goes × IsCounted goes one) named
+AreCounted workers named = All (λ one. (goes : Option Given) × Contains workers goes × IsCounted goes one) named
 
 -- ---- what a call does to it
 
 -- The item was given to its transaction, which its worker has.
-pub record AddsTo (old : Laned) (item : Item) (new : Laned) : Type 0 where
+pub record AddsTo (old : HandleModel) (item : Item) (new : HandleModel) : Type 0 where
   pub given : Given
   pub was : old.goes ≡ Some given
   pub away : old.back ≡ None
   pub is : new ≡ record old { goes = Some (record given { items = given.items ++ own_item item }) }
 
 -- Its worker gave its transaction back, which has done a beginning of what was given to it: all of it, or not.
-pub record ComesBack (old : Laned) (its_collected : Collected) (new : Laned) : Type 0 where
+pub record ComesBack (old : HandleModel) (its_collected : Collected) (new : HandleModel) : Type 0 where
   pub given : Given
   pub was : old.goes ≡ Some given
   pub done : Opened
@@ -158,7 +153,7 @@ pub record ComesBack (old : Laned) (its_collected : Collected) (new : Laned) : T
   pub doing : IsDoing done given.items
 
 -- Its transaction, which had come back, was taken out of it: this is the ticket.
-pub record IsTakenOut (tickets : Name) (old : Laned) (ticket : OpenList Event) (new : Laned) : Type 0 where
+pub record IsTakenOut (tickets : Name) (old : HandleModel) (ticket : OpenList Event) (new : HandleModel) : Type 0 where
   pub given : Given
   pub was : old.goes ≡ Some given
   pub back : old.back ≡ Some (done_by ticket)
@@ -168,5 +163,5 @@ pub record IsTakenOut (tickets : Name) (old : Laned) (ticket : OpenList Event) (
   pub is : new ≡ record old { goes = None; back = None }
 
 -- It had done all that was given to it.
-abbrev pub HasAll : Laned → OpenList Event → Type 0
+abbrev pub HasAll : HandleModel → OpenList Event → Type 0
 HasAll l ticket = MatchOption l.goes ⊥ (λ given. (done_by ticket).items ≡ given.items)

@@ -1,3 +1,3 @@
-pub mod Lanes
+pub mod Handle
 pub mod Standing
 pub mod Parts

@@ -1,9 +1,10 @@
 -- What a leader's open transactions show, and what each call makes of it.
 --     Own, nothing      a transaction that the leader applies itself; what one has done that was just opened
---     Standing, own_by, goes_by, standing      what they show of the store, of the lanes and of the leader's own; that of their parts
+--     Standing, own_by, goes_by, standing      what they show of the store, of the workers and of the leader's own; that of their parts
 --     HasNames      what their type keeps
---     in_lane, holds_in, KeepsGiven      the transaction whose ticket a lane has; what its type keeps of that
---     items_of, items_by, own_of      what is there of a transaction: by a lane, by all lanes, with the leader
+--     in_worker, holds_in, KeepsGiven      the transaction whose ticket a worker has; what its type keeps of that
+--     items_of, items_by, own_of      what is there of a transaction: by a worker, by all workers, with the leader
+--     GoesBy, IsOwn, IsOurs      a transaction goes by the worker of this place; the leader applies it itself; either
 --     Replaces      one of a list is another now
 --     IsStoreEnd, IsStopEnd      an end that the store gives a run, by whose turn it is, and whoever's
 --     stop_end, fault_end      the end that what stopped a store makes, and a call that it refused
@@ -14,7 +15,7 @@
 --     CommitsGiven, CommitsOwn, CommitsSpooled, IsCommitted      a transaction was committed, with just these items
 --     HasDoneAll, HasTried      a spooled one was opened, and has done all of its items, or a beginning of them
 --     IsAborted      a transaction of a worker was dropped
-use Rattle.std.specs.Prelude.{◌≡◌, ℕ, List, [], ◌∷◌, ◌++◌, Option, Some, None, MatchOption, map, flat_map, option_map, Bool, true, false, Result, Ok, Err, ◌⊎◌, if◌then◌else◌}
+use Rattle.std.specs.Prelude.{◌≡◌, ◌≢◌, ◌<◌, ℕ, length, slice_index_or, List, [], ◌∷◌, ◌++◌, Option, Some, None, MatchOption, map, flat_map, option_map, Bool, true, false, Result, Ok, Err, ◌⊎◌, if◌then◌else◌}
 use Rattle.model.specs.declared.change.Change as change_type
 use Rattle.model.specs.declared.item.Item.{Item}
 use Rattle.model.specs.declared.item.Item.TheVariants.{Change}
@@ -32,7 +33,7 @@ use Rattle.live_tables.specs.declared.answers.Stop.TheVariants.{Clash as ByClash
 use Rattle.run.specs.declared.end.End.{End}
 use Rattle.run.specs.declared.end.End.TheVariants as ends
 use Rattle.run.specs.Ends.{end_of_clash}
-use Rattle.dispatch.specs.Lanes.{Given, Laned, done_by, IsDoing}
+use Rattle.dispatch.specs.Handle.{Given, HandleModel, done_by, IsDoing}
 
 -- ---- what is shown
 
@@ -46,61 +47,76 @@ abbrev pub nothing : Opened
 nothing = record { items = []; wants = None }
 
 -- what a leader's open transactions show: how many tables their store has and what its line tells, what goes by each
--- lane, and the one that the leader applies itself
+-- worker, and the one that the leader applies itself
 pub record Standing : Type 0 where
   pub tables : ℕ
   pub line : List LineEvent
-  pub lanes : List (Option Given)
+  pub workers : List (Option Given)
   pub begun : Option Own
 
 -- one that the leader applies itself, by its ticket
 abbrev pub own_by : OpenList Event → Own
 own_by ticket = record { xid = ticket.number; done = done_by ticket }
 
--- what goes by a lane
-abbrev pub goes_by : Laned → Option Given
+-- what goes by a worker
+abbrev pub goes_by : HandleModel → Option Given
 goes_by l = l.goes
 
 -- what they show, by their parts
-abbrev pub standing : ℕ → List LineEvent → List Laned → Option (OpenList Event) → Standing
-standing count events its_lanes ticket =
-    record { tables = count; line = events; lanes = map goes_by its_lanes; begun = option_map own_by ticket }
+abbrev pub standing : ℕ → List LineEvent → List HandleModel → Option (OpenList Event) → Standing
+standing count events its_workers ticket =
+    record { tables = count; line = events; workers = map goes_by its_workers; begun = option_map own_by ticket }
 
 -- The line has this name, and the ticket of the transaction that was begun has the name of the store's tickets.
 pub record HasNames (its_line tickets : Name) (events : Half LineEvent) (ticket : Option (OpenList Event)) : Type 0 where
   pub line : events.name ≡ its_line
   pub begun : MatchOption ticket (Unit {0}) (λ t. t.name ≡ tickets)
 
--- the transaction whose ticket a lane has, by what goes by it and what that has done
-abbrev pub in_lane : Option Given → Option Opened → Option Own
-in_lane (Some given) (Some done) = Some (record { xid = given.xid; done = done })
-in_lane (Some given) None = None
-in_lane None back = None
+-- the transaction whose ticket a worker has, by what goes by it and what that has done
+abbrev pub in_worker : Option Given → Option Opened → Option Own
+in_worker (Some given) (Some done) = Some (record { xid = given.xid; done = done })
+in_worker (Some given) None = None
+in_worker None back = None
 
--- that of a lane
-abbrev pub holds_in : Laned → Option Own
-holds_in l = in_lane l.goes l.back
+-- that of a worker
+abbrev pub holds_in : HandleModel → Option Own
+holds_in l = in_worker l.goes l.back
 
 -- What a transaction that came back has done is a beginning of what was given to it.
-abbrev pub KeepsGiven : Laned → Type 0
+abbrev pub KeepsGiven : HandleModel → Type 0
 KeepsGiven l =
     MatchOption l.goes (Unit {0}) (λ given. MatchOption l.back (Unit {0}) (λ done. IsDoing done given.items))
 
 -- ---- what is there of a transaction
 
--- the items that were given to a transaction, where it goes by this lane
+-- the items that were given to a transaction, where it goes by this worker
 abbrev pub items_of : ℕ → Option Given → List (List Item)
 items_of xid None = []
 items_of xid (Some given) = if is_xid xid given.xid then given.items ∷ [] else []
 
--- those of each lane by which it goes
+-- those of each worker by which it goes
 abbrev pub items_by : ℕ → List (Option Given) → List (List Item)
-items_by xid lanes = flat_map (items_of xid) lanes
+items_by xid workers = flat_map (items_of xid) workers
 
 -- what it has done, where the leader applies it itself
 abbrev pub own_of : ℕ → Option Own → Option Opened
 own_of xid None = None
 own_of xid (Some own) = if is_xid xid own.xid then Some own.done else None
+
+-- The transaction goes by the worker of this place.
+pub record GoesBy (workers : List (Option Given)) (place its_xid : ℕ) : Type 0 where
+  pub within : place < length workers
+  pub had : List Item
+  pub is : slice_index_or workers place None ≡ Some (record { xid = its_xid; items = had })
+
+-- The leader applies it itself.
+pub record IsOwn (t : Standing) (its_xid : ℕ) : Type 0 where
+  pub done : Opened
+  pub is : t.begun ≡ Some (record { xid = its_xid; done = done })
+
+-- Its items come to somebody: it goes by a worker, or the leader applies it itself.
+abbrev pub IsOurs : Standing → ℕ → Type 0
+IsOurs t xid = (items_by xid t.workers ≢ []) ⊎ IsOwn t xid
 
 -- One of a list was this and is that now; the others stay.
 pub record Replaces {X : Type 0} (old new : List X) (was is : X) : Type 0 where
@@ -146,16 +162,16 @@ pub record IsBegun (old : Standing) (its_xid : ℕ) (new : Standing) : Type 0 wh
   pub none : old.begun ≡ None
   pub is : new ≡ record old { line = old.line ++ WasOpened its_xid ∷ []; begun = Some (record { xid = its_xid; done = nothing }) }
 
--- The transaction was opened, and goes by a lane that was free.
+-- The transaction was opened, and goes by a worker that was free.
 pub record IsHandedOut (old : Standing) (its_xid : ℕ) (new : Standing) : Type 0 where
-  pub lanes : Replaces old.lanes new.lanes None (Some (record { xid = its_xid; items = [] }))
-  pub is : new ≡ record old { line = old.line ++ WasOpened its_xid ∷ []; lanes = new.lanes }
+  pub workers : Replaces old.workers new.workers None (Some (record { xid = its_xid; items = [] }))
+  pub is : new ≡ record old { line = old.line ++ WasOpened its_xid ∷ []; workers = new.workers }
 
--- The items were given to the transaction, which goes by a lane.
+-- The items were given to the transaction, which goes by a worker.
 pub record IsGiven (old : Standing) (its_xid : ℕ) (items : List Item) (new : Standing) : Type 0 where
   pub had : List Item
-  pub lanes : Replaces old.lanes new.lanes (Some (record { xid = its_xid; items = had })) (Some (record { xid = its_xid; items = had ++ items }))
-  pub is : new ≡ record old { lanes = new.lanes }
+  pub workers : Replaces old.workers new.workers (Some (record { xid = its_xid; items = had })) (Some (record { xid = its_xid; items = had ++ items }))
+  pub is : new ≡ record old { workers = new.workers }
 
 -- what a transaction has done, with one item more
 abbrev pub with_done : Opened → Item → Opened
@@ -196,11 +212,11 @@ IsMet old xid item new end =
     ((new ≡ old) × IsStopEnd end)
     ⊎ ((done : Opened) × (after : Opened) × IsUndone done item after × OwnDoes old xid done after new × IsStoreEnd (Some xid) end)
 
--- A transaction that goes by a lane was committed, with all that was given to it.
+-- A transaction that goes by a worker was committed, with all that was given to it.
 pub record CommitsGiven (old : Standing) (its_xid : ℕ) (info : CommitInfo) (new : Standing) : Type 0 where
   pub had : List Item
-  pub lanes : Replaces old.lanes new.lanes (Some (record { xid = its_xid; items = had })) None
-  pub is : new ≡ record old { line = old.line ++ WasCommitted its_xid had info ∷ []; lanes = new.lanes }
+  pub workers : Replaces old.workers new.workers (Some (record { xid = its_xid; items = had })) None
+  pub is : new ≡ record old { line = old.line ++ WasCommitted its_xid had info ∷ []; workers = new.workers }
 
 -- The leader's own was committed, with all that it has done.
 pub record CommitsOwn (old : Standing) (its_xid : ℕ) (info : CommitInfo) (new : Standing) : Type 0 where
@@ -211,7 +227,7 @@ pub record CommitsOwn (old : Standing) (its_xid : ℕ) (info : CommitInfo) (new 
 -- One of which nothing was there was opened, did these items, and was committed.
 pub record CommitsSpooled (old : Standing) (its_xid : ℕ) (info : CommitInfo) (items : List Item) (new : Standing) : Type 0 where
   pub none : old.begun ≡ None
-  pub nowhere : items_by its_xid old.lanes ≡ []
+  pub nowhere : items_by its_xid old.workers ≡ []
   pub is : new ≡ record old { line = (old.line ++ WasOpened its_xid ∷ []) ++ WasCommitted its_xid items info ∷ [] }
 
 -- The transaction was committed, with all of its items: those given to it, those done, or, where nothing was there of
@@ -222,19 +238,19 @@ IsCommitted old xid info items new = CommitsGiven old xid info new ⊎ (CommitsO
 -- One of which nothing was there was opened, and has done just these items.
 pub record HasDoneAll (old : Standing) (its_xid : ℕ) (items : List Item) (new : Standing) : Type 0 where
   pub none : old.begun ≡ None
-  pub nowhere : items_by its_xid old.lanes ≡ []
+  pub nowhere : items_by its_xid old.workers ≡ []
   pub is : new ≡ record old { line = old.line ++ WasOpened its_xid ∷ []; begun = Some (record { xid = its_xid; done = record { items = items; wants = None } }) }
 
 -- One of which nothing was there was opened, and has done a beginning of these items.
 pub record HasTried (old : Standing) (its_xid : ℕ) (items : List Item) (new : Standing) : Type 0 where
   pub none : old.begun ≡ None
-  pub nowhere : items_by its_xid old.lanes ≡ []
+  pub nowhere : items_by its_xid old.workers ≡ []
   pub done : Opened
   pub doing : IsDoing done items
   pub is : new ≡ record old { line = old.line ++ WasOpened its_xid ∷ []; begun = Some (record { xid = its_xid; done = done }) }
 
--- A transaction that goes by a lane was dropped.
+-- A transaction that goes by a worker was dropped.
 pub record IsAborted (old : Standing) (its_xid : ℕ) (new : Standing) : Type 0 where
   pub had : List Item
-  pub lanes : Replaces old.lanes new.lanes (Some (record { xid = its_xid; items = had })) None
-  pub is : new ≡ record old { line = old.line ++ WasAborted its_xid ∷ []; lanes = new.lanes }
+  pub workers : Replaces old.workers new.workers (Some (record { xid = its_xid; items = had })) None
+  pub is : new ≡ record old { line = old.line ++ WasAborted its_xid ∷ []; workers = new.workers }

@@ -1,25 +1,33 @@
-// A leader's side of a lane to a worker.
+// The leader's side of a worker.
 ghost use Rattle.std.specs.Prelude.{◌≡◌, ◌≢◌, [], None, Some, OnOk, OnErr, IsSome, MatchBool, MatchOption};
 ghost use Rattle.model.specs.declared.item.Item.TheVariants.{Last};
 ghost use Rattle.worker.specs.declared.outbox.Collected.TheVariants.{All as WasAll};
-ghost use Rattle.dispatch.specs.Lanes.{Given, new_lane, IsIdle, IsHome, HasCount, IsCounted, AddsTo, ComesBack, IsTakenOut, HasAll};
+ghost use Rattle.dispatch.specs.Handle.{Given, new_handle, IsIdle, IsHome, HasCount, IsCounted, AddsTo, ComesBack, IsTakenOut, HasAll};
 ghost use Rattle.dispatch.specs.Standing.{items_of};
 
+use crate::parts::LeaderEnds;
+use crate::shared::WorkerShared;
 use crate::slot::Slot;
 use engine::{StoreNames, Ticket};
 use model::{Item, OutOfMemory, Xid};
 use ring::Taker;
-use std::marker::{Model, PhantomData};
-use std::sync::{Mutex, Wait};
+use std::marker::Model;
+use std::sync::Wait;
 use tokens::Token;
-use worker::{Collected, Job, Outbox, OutboxEvent, OutboxNames, WorkItem, lock_outbox};
+use worker::{Collected, Job, OutboxEvent, OutboxNames, WorkItem, lock_outbox, wait_for_ever};
+use worker_threads::Mailbox;
 
-/// What a leader keeps of a lane: its token of what was given, and the worker's end of its ring while
-/// no worker has it. A clause sees its number, the transaction that goes by it with the items that were
-/// given to it, and what that has done, once its worker gave it back.
+/// The leader's side of a worker: where it hands the worker a job, and gives it items; what was given,
+/// by a token; and the taking end of the worker's ring, while no transaction goes by it. A clause sees
+/// its number, the transaction that goes by it with the items that were given to it, and what that has
+/// done, once its worker gave it back.
+///
+/// PostgreSQL has it as `ParallelApplyWorkerInfo`.
 #[derive(Debug, Drop)]
-pub struct Lane<N: StoreNames, L: OutboxNames> {
+pub struct WorkerHandle<'a, N: StoreNames, L: OutboxNames, G: Drop> {
     number: usize,
+    shared: &'a WorkerShared<N, L, G>,
+    mailbox: &'a Mailbox<Job<N, L>>,
     token: Token<OutboxEvent>,
     taker: Option<Taker<WorkItem<N>>>,
     /// The transaction that goes by it; the last one, where none does.
@@ -28,49 +36,49 @@ pub struct Lane<N: StoreNames, L: OutboxNames> {
     back: Option<Ticket>,
     /// Whether it had done all of its items then.
     collected: Collected,
-    /// How many items were given to it. The last number is no count: where none goes by the lane, or
-    /// there were too many.
+    /// How many items were given to it. The last number is no count: where none goes by it, or there
+    /// were too many.
     count: u64,
-    of: PhantomData<L>,
 }
 
-impl<N: StoreNames, L: OutboxNames> Model for Lane<N, L> {
-    ghost use Rattle.dispatch.specs.Lanes.{Laned, laned, going, IsLane, HasCount};
+impl<'a, N: StoreNames, L: OutboxNames, G: Drop> Model for WorkerHandle<'a, N, L, G> {
+    ghost use Rattle.dispatch.specs.Handle.{HandleModel, handle_model, going, IsHandle, HasCount};
 
-    ghost Value = { Laned };
+    ghost Value = { HandleModel };
 
-    ghost view = { λ l. laned l.number l.xid l.token.list l.taker l.back l.collected };
+    ghost view = { λ h. handle_model h.number h.xid h.token.list h.taker h.back h.collected };
 
-    ghost invariant = { λ l. IsLane (L.ring l.number) (L.outbox l.number) N.tickets l.xid l.token l.taker l.back l.collected
-        × HasCount (going l.xid l.token.list l.taker l.back) (l.xid, l.count) };
+    ghost invariant = { λ h. IsHandle (L.ring h.number) (L.outbox h.number) N.tickets h.xid h.token h.taker h.back h.collected
+        × HasCount (going h.xid h.token.list h.taker h.back) (h.xid, h.count) };
 }
 
-impl<N: StoreNames, L: OutboxNames> Lane<N, L> {
-    /// A lane to which nothing was given.
-    pub fn new(number: usize, token: Token<OutboxEvent>, taker: Taker<WorkItem<N>>) -> Lane<N, L>
-        requires name { token.name ≡ L.outbox number }
-        requires given { token.list ≡ [] }
-        requires ring { taker.ring ≡ L.ring number }
-        requires acked { taker.acked ≡ [] }
-        ensures { result ≡ new_lane number }
+impl<'a, N: StoreNames, L: OutboxNames, G: Drop> WorkerHandle<'a, N, L, G> {
+    /// That of a worker to which nothing was given, by the leader's ends of its ring and its list.
+    pub fn new(
+        ends: LeaderEnds<N, L>,
+        shared: &'a WorkerShared<N, L, G>,
+        mailbox: &'a Mailbox<Job<N, L>>,
+    ) -> WorkerHandle<'a, N, L, G>
+        requires { shared.now ≡ ends }
+        ensures { result ≡ new_handle ends }
     {
-        Lane {
+        let LeaderEnds {
             number,
+            token,
+            taker,
+            ..
+        } = ends;
+        WorkerHandle {
+            number,
+            shared,
+            mailbox,
             token,
             taker: Some(taker),
             xid: 0,
             back: None,
             collected: Collected::Left,
             count: u64::MAX,
-            of: PhantomData,
         }
-    }
-
-    /// Its number.
-    pub fn number(&self) -> usize
-        ensures { result ≡ self.now.number }
-    {
-        self.number
     }
 
     /// Whether no transaction goes by it.
@@ -80,7 +88,7 @@ impl<N: StoreNames, L: OutboxNames> Lane<N, L> {
         self.taker.is_some() && self.back.is_none()
     }
 
-    /// Whether a worker has its transaction.
+    /// Whether the worker has its transaction.
     pub fn is_away(&self) -> bool
         ensures { MatchBool result ((given : Given) × (self.now.goes ≡ Some given) × (self.now.back ≡ None)) (IsHome self.now) }
     {
@@ -103,8 +111,9 @@ impl<N: StoreNames, L: OutboxNames> Lane<N, L> {
         (self.xid, self.count)
     }
 
-    /// A transaction that has done nothing yet is to go by it, as the job of its worker.
-    pub fn open(&mut self, ticket: Ticket) -> Job<N, L>
+    /// A transaction that has done nothing yet goes to the worker, as its job. Its mailbox is empty,
+    /// which a lock hides.
+    pub fn start<R: Wait>(&mut self, rt: &R, ticket: Ticket)
         requires free { IsIdle self.old }
         requires belongs { ticket.name ≡ N.tickets }
         requires first { ticket.list ≡ [] }
@@ -115,53 +124,79 @@ impl<N: StoreNames, L: OutboxNames> Lane<N, L> {
         };
         self.xid = ticket.xid();
         self.count = 0;
-        Job::new(ticket, taker, self.number)
+        let job = Job::new(ticket, taker, self.number);
+        if self.mailbox.give(rt, job).is_err() {
+            wait_for_ever(rt);
+        }
     }
 
-    /// Gives an item of its transaction, which its worker must have. Refused, nothing was given.
-    pub fn give<R: Wait>(
-        &mut self,
-        rt: &R,
-        outbox: &Mutex<Outbox<N, L>>,
-        item: WorkItem<N>,
-    ) -> Result<(), OutOfMemory>
+    /// Gives an item of its transaction, which the worker must have. Refused, nothing was given.
+    pub fn give<R: Wait>(&mut self, rt: &R, item: WorkItem<N>) -> Result<(), OutOfMemory>
+        requires away { self.old.back ≡ None }
+        requires goes { (given : Given) × (self.old.goes ≡ Some given) }
         ensures ok { OnOk result (AddsTo self.old item self.new) }
         ensures err { OnErr result (self.new ≡ self.old) }
     {
-        if !self.is_away() {
-            return Err(OutOfMemory);
-        }
         let is_own = !is_last(item.item());
-        lock_outbox(rt, outbox, self.number).give(&mut self.token, item)?;
+        let shared = self.shared;
+        lock_outbox(rt, &shared.outbox, self.number).give(&mut self.token, item)?;
         if is_own {
             self.count = self.count.saturating_add(1);
         }
         Ok(())
     }
 
-    /// Its worker has given the job back: the transaction's ticket is here from now on. Answers whether
-    /// all items are done.
-    pub fn collect<R: Wait>(
-        &mut self,
-        rt: &R,
-        outbox: &Mutex<Outbox<N, L>>,
-        job: Job<N, L>,
-    ) -> Collected
-        ensures { ComesBack self.old result self.new }
+    /// Tells the worker to give up.
+    pub fn doom<R: Wait>(&self, rt: &R) {
+        let shared = self.shared;
+        shared.outbox.lock(rt).doom();
+    }
+
+    /// Takes its transaction back, if the worker has given it up. Answers whether it is here.
+    pub fn try_collect<R: Wait>(&mut self, rt: &R) -> bool
+        ensures { self.new.goes ≡ self.old.goes }
     {
+        match self.mailbox.try_back(rt) {
+            Some(job) => {
+                self.collect(rt, job);
+                true
+            }
+            None => false,
+        }
+    }
+
+    /// Takes its transaction back, once the worker has given it up. A worker that was told to does; that
+    /// there is a job then, a lock hides.
+    pub fn bring_back<R: Wait>(&mut self, rt: &R)
+        ensures same { self.new.goes ≡ self.old.goes }
+        ensures home { IsHome self.new }
+    {
+        if !self.is_away() {
+            return;
+        }
+        match self.mailbox.wait_back(rt) {
+            Some(job) => self.collect(rt, job),
+            None => wait_for_ever(rt),
+        }
+    }
+
+    // Its worker has given the job back: the transaction's ticket is here from now on.
+    fn collect<R: Wait>(&mut self, rt: &R, job: Job<N, L>)
+        ensures { (its : Collected) × ComesBack self.old its self.new }
+    {
+        let shared = self.shared;
         let job = self.own_job(rt, job);
         let (ticket, taker) = job.split();
-        let (collected, taker) = lock_outbox(rt, outbox, self.number).collect(
+        let (collected, taker) = lock_outbox(rt, &shared.outbox, self.number).collect(
             &mut self.token,
             taker,
         );
         self.taker = Some(taker);
         self.back = Some(ticket);
         self.collected = collected;
-        collected
     }
 
-    // The job, if it is that of its transaction. Nothing ties a desk to a lane, so the numbers are
+    // The job, if it is that of its transaction. A lock hides which one it is, so the numbers are
     // compared.
     fn own_job<R: Wait>(&self, rt: &R, job: Job<N, L>) -> Job<N, L>
         ensures same { result ≡ job }
@@ -172,11 +207,10 @@ impl<N: StoreNames, L: OutboxNames> Lane<N, L> {
         if self.is_away() && job.worker() == self.number && job.xid() == self.xid {
             return job;
         }
-        for _ in rt.forever() {}
-        unreachable!()
+        wait_for_ever(rt)
     }
 
-    /// The ticket of its transaction, if it came back. The lane is free then.
+    /// The ticket of its transaction, if it came back. No transaction goes by it then.
     pub fn take_back(&mut self) -> Option<Ticket>
         ensures { MatchOption result ((self.old.back ≡ None) × (self.new ≡ self.old)) (λ ticket. IsTakenOut N.tickets self.old ticket self.new) }
     {
@@ -197,7 +231,7 @@ impl<N: StoreNames, L: OutboxNames> Lane<N, L> {
     }
 }
 
-impl<N: StoreNames, L: OutboxNames> Slot<N> for Lane<N, L> {
+impl<'a, N: StoreNames, L: OutboxNames, G: Drop> Slot<N> for WorkerHandle<'a, N, L, G> {
     ghost use Rattle.dispatch.specs.Standing.{holds_in, KeepsGiven};
 
     ghost holds = { holds_in };
@@ -205,7 +239,7 @@ impl<N: StoreNames, L: OutboxNames> Slot<N> for Lane<N, L> {
     ghost keeps = { KeepsGiven };
 
     fn into_ticket(self) -> Option<Ticket> {
-        let Lane { back, .. } = self;
+        let WorkerHandle { back, .. } = self;
         back
     }
 }

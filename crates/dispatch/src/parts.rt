@@ -1,21 +1,22 @@
-// What the lanes of a run are made of.
+// What the workers of a run are made of.
 ghost use Rattle.std.specs.Prelude.{◌≡◌, ◌<◌, ◌≤◌, ◌+◌, ◌∷◌, ◌++◌, [], ℕ, All, IfOk, OnOk, length, max, min, slice_index_or, map};
-ghost use Rattle.dispatch.specs.Lanes.{IsIdle, AreNumbered, new_lane};
-ghost use Rattle.dispatch.specs.Parts.{IsFresh, HasSlots, ring_of, outbox_of};
+ghost use Rattle.dispatch.specs.Handle.{IsIdle};
+ghost use Rattle.dispatch.specs.Parts.{IsFresh, HasSlots, AreNumbered, ring_of, outbox_of};
 ghost use Rattle.tokens.specs.Half.{no_name};
 
-use crate::lanes::Lane;
-use crate::shop::Seat;
+use crate::handle::WorkerHandle;
+use crate::shared::WorkerShared;
 use engine::StoreNames;
 use model::{OutOfMemory, Xid};
 use ring::{Ring, Sender, Taker};
 use std::alloc::Global;
-use std::marker::Model;
+use std::marker::{Model, PhantomData};
 use std::sync::Mutex;
 use tokens::{Kept, Token, pair};
-use worker::{Gate, Outbox, OutboxEvent, OutboxNames, WorkItem};
+use worker::{Gate, Job, Outbox, OutboxEvent, OutboxNames, WorkItem};
+use worker_threads::Mailbox;
 
-/// Both ends of a lane's ring, and both halves of the list of what is given to it.
+/// Both ends of a worker's ring, and both halves of the list of what is given to it.
 #[derive(Debug, Drop)]
 pub struct Parts<N: StoreNames> {
     sender: Sender<WorkItem<N>>,
@@ -32,7 +33,7 @@ impl<N: StoreNames> Model for Parts<N> {
     ghost view = { λ p. record { sending = p.sender; taking = p.taker; kept = p.kept; token = p.token } };
 }
 
-/// Those of so many lanes, whose rings have so many slots: at least 1, at most 1024.
+/// Those of so many workers, whose rings have so many slots: at least 1, at most 1024.
 pub fn make_parts<N: StoreNames>(
     alloc: Global,
     count: usize,
@@ -50,7 +51,7 @@ pub fn make_parts<N: StoreNames>(
     Ok(made)
 }
 
-// The parts of a lane.
+// The parts of a worker.
 fn new_parts<N: StoreNames>(alloc: Global, slots: usize) -> Result<Parts<N>, OutOfMemory>
     requires { (1 ≤ slots) × (slots ≤ 1024) }
     ensures fresh { IfOk result IsFresh }
@@ -66,46 +67,66 @@ fn new_parts<N: StoreNames>(alloc: Global, slots: usize) -> Result<Parts<N>, Out
     })
 }
 
-/// The seats and the lanes of a run's workers, and a count of what was given to each.
+/// The leader's ends of a worker's ring and of the list of what is given to it: nothing was given yet.
+/// A clause sees the number of the worker.
 #[derive(Debug, Drop)]
-pub struct Places<N: StoreNames, L: OutboxNames, G: Drop> {
-    pub seats: Vec<Seat<N, L, G>>,
-    pub lanes: Vec<Lane<N, L>>,
+pub struct LeaderEnds<N: StoreNames, L: OutboxNames> {
+    pub(crate) number: usize,
+    pub(crate) token: Token<OutboxEvent>,
+    pub(crate) taker: Taker<WorkItem<N>>,
+    of: PhantomData<L>,
+}
+
+impl<N: StoreNames, L: OutboxNames> Model for LeaderEnds<N, L> {
+    ghost use Rattle.std.specs.Prelude.{ℕ};
+    ghost use Rattle.dispatch.specs.Parts.{AreEnds};
+
+    ghost Value = { ℕ };
+
+    ghost view = { λ e. e.number };
+
+    ghost invariant = { λ e. AreEnds (L.ring e.number) (L.outbox e.number) e.token e.taker };
+}
+
+/// The workers of a run before they start: what each shares, the leader's ends of it, and how many
+/// items were given to it. PostgreSQL has such a pool as `ParallelApplyWorkerPool`.
+#[derive(Debug, Drop)]
+pub struct WorkerPool<N: StoreNames, L: OutboxNames, G: Drop> {
+    pub shared: Vec<WorkerShared<N, L, G>>,
+    pub ends: Vec<LeaderEnds<N, L>>,
     pub given: Vec<(Xid, u64)>,
 }
 
-impl<N: StoreNames, L: OutboxNames, G: Gate + Drop> Places<N, L, G> {
-    /// A seat and a lane for each gate, in their order: the place of a lane is its number.
+impl<N: StoreNames, L: OutboxNames, G: Gate + Drop> WorkerPool<N, L, G> {
+    /// A worker for each gate, in their order: its place is its number.
     pub fn new(
         alloc: Global,
         mut parts: Vec<Parts<N>>,
         mut gates: Vec<G>,
-    ) -> Result<Places<N, L, G>, OutOfMemory>
+    ) -> Result<WorkerPool<N, L, G>, OutOfMemory>
         requires count { length parts.items ≡ length gates.items }
         requires fresh { All IsFresh parts.items }
         requires rings { (i : ℕ) → i < length parts.items → slice_index_or (map ring_of parts.items) i no_name ≡ L.ring i }
         requires outboxes { (i : ℕ) → i < length parts.items → slice_index_or (map outbox_of parts.items) i no_name ≡ L.outbox i }
-        ensures free { IfOk result (λ places. All IsIdle places.lanes.items) }
-        ensures numbered { IfOk result (λ places. AreNumbered 0 places.lanes.items) }
-
-        ensures lanes { IfOk result (λ places. length places.lanes.items ≡ length gates.items) }
-        ensures seats { IfOk result (λ places. length places.seats.items ≡ length gates.items) }
-        ensures given { IfOk result (λ places. length places.given.items ≡ length gates.items) }
+        ensures numbered { IfOk result (λ pool. AreNumbered 0 pool.ends.items × AreNumbered 0 pool.shared.items) }
+        ensures ends { IfOk result (λ pool. length pool.ends.items ≡ length gates.items) }
+        ensures shared { IfOk result (λ pool. length pool.shared.items ≡ length gates.items) }
+        ensures given { IfOk result (λ pool. length pool.given.items ≡ length gates.items) }
     {
-        let mut places = Places {
-            seats: Vec::new(alloc),
-            lanes: Vec::new(alloc),
+        let mut pool = WorkerPool {
+            shared: Vec::new(alloc),
+            ends: Vec::new(alloc),
             given: Vec::new(alloc),
         };
         while let Some(part) = parts.pop() {
             let Some(gate) = gates.pop() else {
                 unreachable!()
             };
-            places.add(alloc, parts.len(), part, gate)?;
+            pool.add(alloc, parts.len(), part, gate)?;
         }
-        places.seats.reverse();
-        places.lanes.reverse();
-        Ok(places)
+        pool.shared.reverse();
+        pool.ends.reverse();
+        Ok(pool)
     }
 
     // One more, of this number.
@@ -119,8 +140,8 @@ impl<N: StoreNames, L: OutboxNames, G: Gate + Drop> Places<N, L, G> {
         requires fresh { IsFresh parts }
         requires ring { parts.sending.ring ≡ L.ring number }
         requires outbox { parts.kept.name ≡ L.outbox number }
-        ensures lanes { OnOk result (self.new.lanes.items ≡ self.old.lanes.items ++ new_lane number ∷ []) }
-        ensures seats { OnOk result (length self.new.seats.items ≡ length self.old.seats.items + 1) }
+        ensures ends { OnOk result (self.new.ends.items ≡ self.old.ends.items ++ number ∷ []) }
+        ensures shared { OnOk result (self.new.shared.items ≡ self.old.shared.items ++ number ∷ []) }
         ensures given { OnOk result (length self.new.given.items ≡ length self.old.given.items + 1) }
     {
         let Parts {
@@ -130,12 +151,40 @@ impl<N: StoreNames, L: OutboxNames, G: Gate + Drop> Places<N, L, G> {
             token,
         } = parts;
         let outbox = Outbox::new(alloc, number, sender, kept);
-        self.seats.push(Seat {
+        self.shared.push(WorkerShared {
+            number,
             outbox: Mutex::new(outbox),
             gate: Mutex::new(gate),
         })?;
-        self.lanes.push(Lane::new(number, token, taker))?;
+        self.ends.push(LeaderEnds {
+            number,
+            token,
+            taker,
+            of: PhantomData,
+        })?;
         self.given.push((0, u64::MAX))?;
         Ok(())
     }
+}
+
+/// The leader's handles of the workers: for each its ends, what it shares, and its mailbox.
+pub fn make_handles<'a, N: StoreNames, L: OutboxNames, G: Drop>(
+    alloc: Global,
+    mut ends: Vec<LeaderEnds<N, L>>,
+    shared: &'a [WorkerShared<N, L, G>],
+    mailboxes: &'a [Mailbox<Job<N, L>>],
+) -> Result<Vec<WorkerHandle<'a, N, L, G>>, OutOfMemory>
+    requires numbered { AreNumbered 0 ends.items × AreNumbered 0 shared.now }
+    requires shared { length shared.now ≡ length ends.items }
+    requires mailboxes { length mailboxes.now ≡ length ends.items }
+    ensures free { IfOk result (λ workers. All IsIdle workers.items) }
+    ensures count { IfOk result (λ workers. length workers.items ≡ length ends.items) }
+{
+    let mut workers = Vec::new(alloc);
+    while let Some(own) = ends.pop() {
+        let (shared, mailbox) = (&shared[ends.len()], &mailboxes[ends.len()]);
+        workers.push(WorkerHandle::new(own, shared, mailbox))?;
+    }
+    workers.reverse();
+    Ok(workers)
 }

@@ -1,5 +1,5 @@
 // The open transactions of a run: which are with a worker, and which with the leader.
-ghost use Rattle.std.specs.Prelude.{◌≡◌, ◌≢◌, ◌<◌, ◌++◌, ◌∷◌, [], None, Some, IfErr, IfOk, IfNone, OnErr, OnOk, ◌⊎◌, All, MatchBool, MatchOption, length, map, option_map};
+ghost use Rattle.std.specs.Prelude.{◌≡◌, ◌≢◌, ◌<◌, ◌++◌, ◌∷◌, [], None, Some, IfErr, IfOk, IfNone, IfSome, OnErr, OnOk, ◌⊎◌, All, MatchBool, MatchOption, length, map, option_map, slice_index_or};
 ghost use Rattle.model.specs.Named.{NamesTables};
 ghost use Rattle.model.specs.declared.item.Item.TheVariants.{Last, Change as ChangeItem, Touch as TouchItem};
 ghost use Rattle.tokens.specs.Lists.{open_list};
@@ -7,40 +7,37 @@ ghost use Rattle.engine.specs.Events.{ends_in};
 ghost use Rattle.model.specs.Beginning.{last_end};
 ghost use Rattle.engine.specs.declared.events.LineEvent.TheVariants.{Opened as WasOpened, Committed as WasCommitted};
 ghost use Rattle.session.specs.Answers.{IsOfTables};
-ghost use Rattle.dispatch.specs.Lanes.{own_item, done_by, IsIdle, IsHome, AreCounted};
-ghost use Rattle.dispatch.specs.Standing.{own_by, goes_by, items_by, with_done, with_wanted, IsUndone, Tries, IsStoreEnd, IsStopEnd, IsBegun, IsHandedOut, IsGiven, IsApplied, IsTaken, IsMet, IsCommitted, CommitsGiven, CommitsOwn, HasDoneAll, HasTried, IsAborted};
+ghost use Rattle.dispatch.specs.Handle.{own_item, done_by, new_handle, IsIdle, IsHome, AreCounted};
+ghost use Rattle.dispatch.specs.Standing.{own_by, goes_by, items_by, GoesBy, IsOwn, IsOurs, with_done, with_wanted, IsUndone, Tries, IsStoreEnd, IsStopEnd, IsBegun, IsHandedOut, IsGiven, IsApplied, IsTaken, IsMet, IsCommitted, CommitsGiven, CommitsOwn, HasDoneAll, HasTried, IsAborted};
 
-use crate::ends::{end_of_fault, end_of_stop};
-use crate::lanes::{Lane, is_last};
+use crate::ends::{end_of_fault, end_of_stop, end_of_unasked};
+use crate::handle::{WorkerHandle, is_last};
 use crate::positions::Positions;
-use crate::shop::Shop;
+use crate::shared::Shared;
 use engine::{Acted, Line, SharedStore, StoreNames, Ticket};
 use model::{Change, CommitInfo, Item, Xid};
 use run::End;
 use std::alloc::Global;
 use std::marker::Model;
 use std::sync::{MutexGuard, Wait};
-use worker::{Collected, Gate, Job, OutboxNames, WorkItem};
-use worker_threads::Mailbox;
+use worker::{Gate, OutboxNames, WorkItem};
 
 /// The open transactions of a run, and the line of its store.
 ///
-/// The items of a streamed transaction that has a lane go to its worker; those of the one between Begin
+/// The items of a streamed transaction that has a worker go to its worker; those of the one between Begin
 /// and Commit, and of one that was spooled, are applied by the leader. It alone opens, commits and
 /// aborts. A clause sees how many tables the store has, what its line tells, which transaction goes by
-/// each lane with the items that were given to it, and what the leader's own has done. What can't be,
-/// such as an item of a transaction that isn't open, ends a run as memory that was refused.
+/// each worker with the items that were given to it, and what the leader's own has done.
 ///
 /// The position behind each commit is published, once that stands and the store's lock was let go.
 #[derive(Debug, Drop)]
 pub struct Transactions<'a, N: StoreNames, L: OutboxNames, R: Wait, G: Gate + Drop> {
     rt: &'a R,
     alloc: Global,
-    shop: &'a Shop<N, L, G>,
-    mailboxes: &'a [Mailbox<Job<N, L>>],
+    shared: &'a Shared<N, L, G>,
     line: Line,
-    lanes: Vec<Lane<N, L>>,
-    /// Of each lane how many items were given to its transaction, as the lane tells it.
+    workers: Vec<WorkerHandle<'a, N, L, G>>,
+    /// Of each worker how many items were given to its transaction, as the worker tells it.
     given: Vec<(Xid, u64)>,
     /// The transaction between Begin and Commit, or one that was spooled while it commits.
     begun: Option<Ticket>,
@@ -56,45 +53,43 @@ impl<'a, N: StoreNames, L: OutboxNames, R: Wait, G: Gate + Drop> Model
 
     ghost Value = { Standing };
 
-    ghost view = { λ t. standing (length N.schema) t.line.list t.lanes.items t.begun };
+    ghost view = { λ t. standing (length N.schema) t.line.list t.workers.items t.begun };
 
     ghost invariant = { λ t. HasNames N.line N.tickets t.line t.begun × (t.positions ≡ ends_in t.line.list) };
 }
 
 /// What a run leaves of its open transactions, once all workers have given up: the store's line, the
-/// ticket of the leader's own, the lanes with the tickets of the others, and of each lane how many items
+/// ticket of the leader's own, the workers with the tickets of the others, and of each worker how many items
 /// were given to its transaction.
 #[derive(Debug, Drop)]
-pub struct Left<N: StoreNames, L: OutboxNames> {
+pub struct Left<'a, N: StoreNames, L: OutboxNames, G: Drop> {
     pub line: Line,
     pub begun: Option<Ticket>,
-    pub lanes: Vec<Lane<N, L>>,
+    pub workers: Vec<WorkerHandle<'a, N, L, G>>,
     pub given: Vec<(Xid, u64)>,
 }
 
 impl<'a, N: StoreNames, L: OutboxNames, R: Wait, G: Gate + Drop> Transactions<'a, N, L, R, G> {
-    /// None is open, and no lane is in use.
+    /// None is open, and no worker is in use.
     pub fn new(
         rt: &'a R,
-        shop: &'a Shop<N, L, G>,
-        mailboxes: &'a [Mailbox<Job<N, L>>],
+        shared: &'a Shared<N, L, G>,
         line: Line,
-        lanes: Vec<Lane<N, L>>,
+        workers: Vec<WorkerHandle<'a, N, L, G>>,
         given: Vec<(Xid, u64)>,
         positions: Positions<'a>,
     ) -> Transactions<'a, N, L, R, G>
         requires name { line.name ≡ N.line }
         requires none { line.list ≡ [] }
         requires unpublished { positions ≡ [] }
-        ensures { result ≡ record { tables = length N.schema; line = []; lanes = map goes_by lanes.items; begun = None } }
+        ensures { result ≡ record { tables = length N.schema; line = []; workers = map goes_by workers.entry.items; begun = None } }
     {
         Transactions {
             rt,
-            alloc: shop.alloc,
-            shop,
-            mailboxes,
+            alloc: shared.alloc,
+            shared,
             line,
-            lanes,
+            workers,
             given,
             begun: None,
             positions,
@@ -103,31 +98,30 @@ impl<'a, N: StoreNames, L: OutboxNames, R: Wait, G: Gate + Drop> Transactions<'a
 
     /// What it leaves. It tells all workers to give up and waits until they have; that they do, they
     /// must still be working.
-    pub fn into_left(self) -> Left<N, L>
+    pub fn into_left(self) -> Left<'a, N, L, G>
         ensures name { result.line.name ≡ N.line }
         ensures list { result.line.list ≡ self.entry.line }
         ensures tickets { MatchOption result.begun (Unit {0}) (λ ticket. ticket.name ≡ N.tickets) }
         ensures begun { option_map own_by result.begun ≡ self.entry.begun }
-        ensures lanes { map goes_by result.lanes.items ≡ self.entry.lanes }
-        ensures home { All IsHome result.lanes.items }
-        ensures given { AreCounted self.entry.lanes result.given.items }
+        ensures workers { map goes_by result.workers.items ≡ self.entry.workers }
+        ensures home { All IsHome result.workers.items }
+        ensures given { AreCounted self.entry.workers result.given.items }
     {
         let Transactions {
             rt,
-            shop,
-            mailboxes,
+            shared,
             line,
-            mut lanes,
+            mut workers,
             mut given,
             begun,
             ..
         } = self;
-        bring_home(rt, shop, mailboxes, &mut lanes);
-        count_given(&lanes, &mut given);
+        bring_home(rt, shared, &mut workers);
+        count_given(&workers, &mut given);
         Left {
             line,
             begun,
-            lanes,
+            workers,
             given,
         }
     }
@@ -136,76 +130,39 @@ impl<'a, N: StoreNames, L: OutboxNames, R: Wait, G: Gate + Drop> Transactions<'a
 
     /// A transaction begins, whose items the leader applies as they come.
     pub fn begin(&mut self, xid: Xid) -> Result<(), End>
+        requires { self.old.begun ≡ None }
         ensures ok { OnOk result (IsBegun self.old xid self.new) }
         ensures same { OnErr result (self.new ≡ self.old) }
         ensures err { IfErr result IsStopEnd }
     {
-        if self.begun.is_some() {
-            return Err(End::OutOfMemory);
-        }
-        let ticket = open_in(self.rt, self.alloc, self.shop, &mut self.line, xid)?;
+        let ticket = open_in(self.rt, self.alloc, self.shared, &mut self.line, xid)?;
         self.begun = Some(ticket);
         Ok(())
     }
 
-    /// A streamed transaction opens, and goes to a worker.
+    /// A streamed transaction opens, and goes to a worker that is free.
     pub fn hand_out(&mut self, xid: Xid) -> Result<(), End>
         ensures ok { OnOk result (IsHandedOut self.old xid self.new) }
-        ensures err { OnErr result ((self.new ≡ self.old) ⊎ IsHandedOut self.old xid self.new) }
-        ensures end { IfErr result IsStopEnd }
+        ensures same { OnErr result (self.new ≡ self.old) }
+        ensures err { IfErr result IsStopEnd }
     {
-        let Some(index) = self.free_lane() else {
-            return Err(End::OutOfMemory);
+        let Some(index) = find_free(&self.workers) else {
+            return Err(end_of_unasked());
         };
-        self.lay_out(index, xid)?;
+        let ticket = open_in(self.rt, self.alloc, self.shared, &mut self.line, xid)?;
+        self.workers[index].start(self.rt, ticket);
         self.note(index);
         Ok(())
     }
 
-    // A lane by which no transaction goes.
-    fn free_lane(&self) -> Option<usize> {
-        for lane in self.lanes.iter() {
-            if lane.is_free() {
-                return Some(lane.number());
-            }
-        }
-        None
-    }
-
-    // A transaction opens and goes by this lane, if that is free: its job is laid on the desk. A desk that
-    // has one already hands it back.
-    fn lay_out(&mut self, index: usize, xid: Xid) -> Result<(), End>
-        ensures ok { OnOk result (IsHandedOut self.old xid self.new) }
-        ensures err { OnErr result ((self.new ≡ self.old) ⊎ IsHandedOut self.old xid self.new) }
-        ensures end { IfErr result IsStopEnd }
-    {
-        let (Some(mailbox), Some(seat)) = (self.mailboxes.get(index), self.shop.seats.get(index))
-        else {
-            return Err(End::OutOfMemory);
-        };
-        let Some(lane) = self.lanes.get_mut(index) else {
-            return Err(End::OutOfMemory);
-        };
-        if !lane.is_free() {
-            return Err(End::OutOfMemory);
-        }
-        let ticket = open_in(self.rt, self.alloc, self.shop, &mut self.line, xid)?;
-        let job = lane.open(ticket);
-        if let Err(job) = mailbox.give(self.rt, job) {
-            lane.collect(self.rt, &seat.outbox, job);
-            return Err(End::OutOfMemory);
-        }
-        Ok(())
-    }
-
-    // Notes how many items were given to the transaction of a lane.
+    // Notes how many items were given to the transaction of a worker.
     fn note(&mut self, index: usize)
         ensures { self.new ≡ self.old }
     {
-        let Some(lane) = self.lanes.get(index) else {
+        let Some(worker) = self.workers.get(index) else {
             return;
         };
-        let told = lane.given();
+        let told = worker.given();
         if let Some(given) = self.given.get_mut(index) {
             *given = told;
         }
@@ -213,82 +170,76 @@ impl<'a, N: StoreNames, L: OutboxNames, R: Wait, G: Gate + Drop> Transactions<'a
 
     // ---- items
 
-    /// An item of an open transaction: to its worker, if it has one, or applied. It can't be that the
-    /// commit was read.
+    /// An item of an open transaction: to its worker, if it has one, or applied.
     pub fn take(&mut self, xid: Xid, item: Item) -> Result<(), End>
-        requires { IsOfTables self.old.tables item }
+        requires named { IsOfTables self.old.tables item }
+        requires ours { IsOurs self.old xid }
         ensures ok { OnOk result (IsTaken self.old xid item self.new) }
         ensures err { IfErr result (IsMet self.old xid item self.new) }
     {
         if is_last(&item) {
-            return Err(End::OutOfMemory);
+            return Err(end_of_unasked());
         }
-        match self.lane_of(xid) {
+        match self.find_worker(xid) {
             Some(index) => self.give(index, xid, item),
             None => self.apply(xid, &item),
         }
     }
 
-    // The lane by which a transaction goes.
-    fn lane_of(&self, xid: Xid) -> Option<usize>
-        ensures { IfNone result (items_by xid self.now.lanes ≡ []) }
+    // The worker by which a transaction goes.
+    fn find_worker(&self, xid: Xid) -> Option<usize>
+        ensures none { IfNone result (items_by xid self.now.workers ≡ []) }
+        ensures found { IfSome result (λ place. GoesBy self.now.workers place xid) }
     {
-        for lane in self.lanes.iter() {
-            if lane.has(xid) {
-                return Some(lane.number());
+        for (index, worker) in self.workers.iter().enumerate() {
+            if worker.has(xid) {
+                return Some(index);
             }
         }
         None
     }
 
-    // Gives an item to the worker of a lane, and counts it.
+    // Gives an item to a worker, and counts it.
     fn give(&mut self, index: usize, xid: Xid, item: Item) -> Result<(), End>
+        requires goes { GoesBy self.old.workers index xid }
         requires named { IsOfTables self.old.tables item }
         requires own { item ≢ Last }
         ensures ok { OnOk result (IsGiven self.old xid (item ∷ []) self.new) }
         ensures same { OnErr result (self.new ≡ self.old) }
         ensures err { IfErr result IsStopEnd }
     {
-        self.outbox(index, xid, item)?;
+        self.send(index, xid, item)?;
         self.note(index);
         Ok(())
     }
 
-    // Gives an item to the worker of a lane by which this transaction goes, or tells it that the commit
-    // was read.
-    fn outbox(&mut self, index: usize, xid: Xid, item: Item) -> Result<(), End>
-        requires { IsOfTables self.old.tables item }
+    // Gives an item to the worker by which this transaction goes, or tells it that the commit was read.
+    fn send(&mut self, index: usize, xid: Xid, item: Item) -> Result<(), End>
+        requires goes { GoesBy self.old.workers index xid }
+        requires named { IsOfTables self.old.tables item }
         ensures ok { OnOk result (IsGiven self.old xid (own_item item) self.new) }
         ensures same { OnErr result (self.new ≡ self.old) }
         ensures err { IfErr result IsStopEnd }
     {
-        let Some(seat) = self.shop.seats.get(index) else {
-            return Err(End::OutOfMemory);
-        };
-        let Some(lane) = self.lanes.get_mut(index) else {
-            return Err(End::OutOfMemory);
-        };
-        if !lane.has(xid) {
-            return Err(End::OutOfMemory);
+        let worker = &mut self.workers[index];
+        if !worker.is_away() {
+            return Err(end_of_unasked());
         }
-        lane.give(self.rt, &seat.outbox, WorkItem::new(item))?;
+        worker.give(self.rt, WorkItem::new(item))?;
         Ok(())
     }
 
     // Applies an item of the leader's own transaction.
     fn apply(&mut self, xid: Xid, item: &Item) -> Result<(), End>
-        requires { IsOfTables self.old.tables item.now }
+        requires named { IsOfTables self.old.tables item.now }
+        requires ours { IsOwn self.old xid }
         ensures ok { OnOk result (IsApplied self.old xid item.now self.new) }
         ensures err { IfErr result (IsMet self.old xid item.now self.new) }
     {
         let Some(mut own) = self.begun.take() else {
-            return Err(End::OutOfMemory);
+            unreachable!()
         };
-        let done = if own.xid() == xid {
-            self.do_item(&mut own, item)
-        } else {
-            Err(End::OutOfMemory)
-        };
+        let done = self.do_item(&mut own, item);
         self.begun = Some(own);
         done
     }
@@ -307,10 +258,10 @@ impl<'a, N: StoreNames, L: OutboxNames, R: Wait, G: Gate + Drop> Transactions<'a
             Item::Change { sub, change } => self.do_change(ticket, *sub, change),
             Item::Touch(sub) => self.touch(ticket, *sub),
             Item::BackTo(sub) => {
-                self.shop.store.lock(self.rt).back_to(ticket, *sub);
+                self.shared.store.lock(self.rt).back_to(ticket, *sub);
                 Ok(())
             }
-            Item::Last => Err(End::OutOfMemory),
+            Item::Last => Err(end_of_unasked()),
         }
     }
 
@@ -325,14 +276,14 @@ impl<'a, N: StoreNames, L: OutboxNames, R: Wait, G: Gate + Drop> Transactions<'a
         ensures end { IfErr result (IsStoreEnd (Some ticket.old.number)) }
     {
         for _ in self.rt.forever() {
-            let rung = self.shop.bell.rung(self.rt);
+            let key = self.shared.moved.prepare_wait();
             if self.try_change(ticket, sub, change)? {
                 return Ok(());
             }
-            if self.shop.was_refused() {
+            if self.shared.was_refused() {
                 return Err(End::OutOfMemory);
             }
-            self.shop.bell.wait_past(self.rt, rung);
+            key.wait(self.rt);
         }
         unreachable!()
     }
@@ -347,7 +298,7 @@ impl<'a, N: StoreNames, L: OutboxNames, R: Wait, G: Gate + Drop> Transactions<'a
         ensures tries { Tries result sub change.now (done_by ticket.old) (done_by ticket.new) }
         ensures end { IfErr result (IsStoreEnd (Some ticket.old.number)) }
     {
-        let mut store = self.shop.store.lock(self.rt);
+        let mut store = self.shared.store.lock(self.rt);
         match store.act(self.alloc, ticket, sub, change) {
             Ok(Acted::Done | Acted::Skipped) => Ok(true),
             Ok(Acted::Held(_)) => {
@@ -370,7 +321,7 @@ impl<'a, N: StoreNames, L: OutboxNames, R: Wait, G: Gate + Drop> Transactions<'a
         ensures err { OnErr result (done_by ticket.new ≡ done_by ticket.old) }
         ensures end { IfErr result IsStopEnd }
     {
-        let mut store = self.shop.store.lock(self.rt);
+        let mut store = self.shared.store.lock(self.rt);
         match store.touch(ticket, sub) {
             Ok(()) => Ok(()),
             Err(fault) => Err(end_of_fault(fault, store.stop())),
@@ -383,12 +334,13 @@ impl<'a, N: StoreNames, L: OutboxNames, R: Wait, G: Gate + Drop> Transactions<'a
     /// far, or, where it was spooled, these. Where the run ends it stays, and has done a beginning of them.
     pub fn commit(&mut self, xid: Xid, info: CommitInfo, items: Vec<Item>) -> Result<(), End>
         requires named { All (IsOfTables self.old.tables) items.items }
+        requires ready { IsOurs self.old xid ⊎ (self.old.begun ≡ None) }
         requires rising { last_end (ends_in self.old.line) < info.end }
         ensures ok { OnOk result (IsCommitted self.old xid info items.items self.new) }
         ensures err { OnErr result ((self.new ≡ self.old) ⊎ HasTried self.old xid items.items self.new) }
         ensures end { IfErr result (IsStoreEnd (Some xid)) }
     {
-        if let Some(index) = self.lane_of(xid) {
+        if let Some(index) = self.find_worker(xid) {
             self.finish(index, xid)?;
             return self.settle(index, xid, info);
         }
@@ -399,7 +351,9 @@ impl<'a, N: StoreNames, L: OutboxNames, R: Wait, G: Gate + Drop> Transactions<'a
     }
 
     // Whether this is the leader's own transaction.
-    fn is_own(&self, xid: Xid) -> bool {
+    fn is_own(&self, xid: Xid) -> bool
+        ensures { MatchBool result (IsOwn self.now xid) (¬ IsOwn self.now xid) }
+    {
         match &self.begun {
             Some(ticket) => ticket.xid() == xid,
             None => false,
@@ -409,7 +363,8 @@ impl<'a, N: StoreNames, L: OutboxNames, R: Wait, G: Gate + Drop> Transactions<'a
     // Opens a transaction that was spooled and applies its items.
     fn unspool(&mut self, xid: Xid, items: Vec<Item>) -> Result<(), End>
         requires named { All (IsOfTables self.old.tables) items.items }
-        requires nowhere { items_by xid self.old.lanes ≡ [] }
+        requires none { self.old.begun ≡ None }
+        requires nowhere { items_by xid self.old.workers ≡ [] }
         ensures ok { OnOk result (HasDoneAll self.old xid items.items self.new) }
         ensures err { OnErr result ((self.new ≡ self.old) ⊎ HasTried self.old xid items.items self.new) }
         ensures end { IfErr result (IsStoreEnd (Some xid)) }
@@ -421,34 +376,21 @@ impl<'a, N: StoreNames, L: OutboxNames, R: Wait, G: Gate + Drop> Transactions<'a
         Ok(())
     }
 
-    // Tells the worker of a lane that the commit was read, and waits until all items are done.
+    // Tells a worker that the commit was read, and waits until it is done with its transaction. The run
+    // ends if the store is stopped meanwhile, or nothing more can come.
     fn finish(&mut self, index: usize, xid: Xid) -> Result<(), End>
+        requires { GoesBy self.old.workers index xid }
         ensures same { self.new ≡ self.old }
         ensures err { IfErr result (IsStoreEnd (Some xid)) }
     {
-        self.outbox(index, xid, Item::Last)?;
-        match self.wait_done(index, xid)? {
-            Collected::All => Ok(()),
-            Collected::Left => {
-                running(self.rt, self.shop)?;
-                Err(End::OutOfMemory)
-            }
-        }
-    }
-
-    // Whether a lane's transaction did all items, once its worker is done with it. The run ends if the
-    // store is stopped meanwhile, or nothing more can come.
-    fn wait_done(&mut self, index: usize, xid: Xid) -> Result<Collected, End>
-        ensures same { self.new ≡ self.old }
-        ensures err { IfErr result (IsStoreEnd (Some xid)) }
-    {
+        self.send(index, xid, Item::Last)?;
         for _ in self.rt.forever() {
-            let rung = self.shop.bell.rung(self.rt);
-            if let Some(collected) = self.try_collect(index) {
-                return Ok(collected);
+            let key = self.shared.moved.prepare_wait();
+            if self.try_collect(index, xid) {
+                return Ok(());
             }
             self.look(xid)?;
-            self.shop.bell.wait_past(self.rt, rung);
+            key.wait(self.rt);
         }
         unreachable!()
     }
@@ -457,38 +399,33 @@ impl<'a, N: StoreNames, L: OutboxNames, R: Wait, G: Gate + Drop> Transactions<'a
     fn look(&self, xid: Xid) -> Result<(), End>
         ensures { IfErr result (IsStoreEnd (Some xid)) }
     {
-        let mut store = running(self.rt, self.shop)?;
+        let mut store = running(self.rt, self.shared)?;
         match store.stop_held(&self.line, xid, self.given.as_slice()) {
             Ok(holder) => Err(End::HeldKey { xid, holder }),
-            Err(_) if self.shop.was_refused() => Err(End::OutOfMemory),
+            Err(_) if self.shared.was_refused() => Err(End::OutOfMemory),
             Err(_) => Ok(()),
         }
     }
 
-    // Takes a lane's transaction back, if its worker has given it up: whether all items were done.
-    fn try_collect(&mut self, index: usize) -> Option<Collected>
+    // Takes a worker's transaction back, if it has given it up.
+    fn try_collect(&mut self, index: usize, xid: Xid) -> bool
+        requires { GoesBy self.old.workers index xid }
         ensures { self.new ≡ self.old }
     {
-        let (mailbox, seat) = (self.mailboxes.get(index)?, self.shop.seats.get(index)?);
-        let lane = self.lanes.get_mut(index)?;
-        let job = mailbox.try_back(self.rt)?;
-        Some(lane.collect(self.rt, &seat.outbox, job))
+        self.workers[index].try_collect(self.rt)
     }
 
-    // Commits the transaction of a lane, if it came back with all items done, unless the store was
-    // stopped.
+    // Commits the transaction of a worker that is done with it, unless the store was stopped. One that
+    // came back with items left, though the store goes on, was refused memory.
     fn settle(&mut self, index: usize, xid: Xid, info: CommitInfo) -> Result<(), End>
-        requires { last_end (ends_in self.old.line) < info.end }
+        requires goes { GoesBy self.old.workers index xid }
+        requires rising { last_end (ends_in self.old.line) < info.end }
         ensures ok { OnOk result (CommitsGiven self.old xid info self.new) }
         ensures same { OnErr result (self.new ≡ self.old) }
         ensures err { IfErr result IsStopEnd }
     {
-        let lane = self.lanes.get_mut(index).ok_or(End::OutOfMemory)?;
-        if !lane.has(xid) {
-            return Err(End::OutOfMemory);
-        }
-        let store = running(self.rt, self.shop)?;
-        let Some(ticket) = lane.take_done() else {
+        let store = running(self.rt, self.shared)?;
+        let Some(ticket) = self.workers[index].take_done() else {
             return Err(End::OutOfMemory);
         };
         self.commit_ticket(store, ticket, info);
@@ -498,19 +435,16 @@ impl<'a, N: StoreNames, L: OutboxNames, R: Wait, G: Gate + Drop> Transactions<'a
 
     // Commits the leader's own transaction, unless the store was stopped.
     fn settle_own(&mut self, xid: Xid, info: CommitInfo) -> Result<(), End>
-        requires { last_end (ends_in self.old.line) < info.end }
+        requires own { IsOwn self.old xid }
+        requires rising { last_end (ends_in self.old.line) < info.end }
         ensures ok { OnOk result (CommitsOwn self.old xid info self.new) }
         ensures same { OnErr result (self.new ≡ self.old) }
         ensures err { IfErr result IsStopEnd }
     {
-        let store = running(self.rt, self.shop)?;
+        let store = running(self.rt, self.shared)?;
         let Some(ticket) = self.begun.take() else {
-            return Err(End::OutOfMemory);
+            unreachable!()
         };
-        if ticket.xid() != xid {
-            self.begun = Some(ticket);
-            return Err(End::OutOfMemory);
-        }
         self.commit_ticket(store, ticket, info);
         Ok(())
     }
@@ -528,7 +462,7 @@ impl<'a, N: StoreNames, L: OutboxNames, R: Wait, G: Gate + Drop> Transactions<'a
         ensures { self.new ≡ record self.old { line = self.old.line ++ WasCommitted ticket.number (done_by ticket).items info ∷ [] } }
     {
         store.commit(&mut self.line, ticket, info);
-        self.shop.changed.notify_all();
+        self.shared.changed.notify_all();
         let commits = count_commits(&*store);
         drop(store);
         self.positions
@@ -537,54 +471,57 @@ impl<'a, N: StoreNames, L: OutboxNames, R: Wait, G: Gate + Drop> Transactions<'a
 
     /// Drops a transaction that has a worker, unless the store was stopped.
     pub fn abort(&mut self, xid: Xid) -> Result<(), End>
+        requires { items_by xid self.old.workers ≢ [] }
         ensures ok { OnOk result (IsAborted self.old xid self.new) }
         ensures same { OnErr result (self.new ≡ self.old) }
         ensures err { IfErr result IsStopEnd }
     {
-        let Some(index) = self.lane_of(xid) else {
-            return Err(End::OutOfMemory);
+        let Some(index) = self.find_worker(xid) else {
+            unreachable!()
         };
-        self.fetch(index);
-        self.drop_back(index, xid)
+        self.drop_given(index, xid)
     }
 
-    // Tells the worker of a lane to give up, and takes its transaction back.
-    fn fetch(&mut self, index: usize)
-        ensures { self.new ≡ self.old }
-    {
-        let Some(lane) = self.lanes.get_mut(index) else {
-            return;
-        };
-        doom_worker(self.rt, self.shop, lane.number());
-        bring_back(self.rt, self.shop, self.mailboxes, lane);
-    }
-
-    // Drops the transaction of a lane, which came back, unless the store was stopped.
-    fn drop_back(&mut self, index: usize, xid: Xid) -> Result<(), End>
+    // Tells a worker to give up, and drops its transaction, unless the store was stopped.
+    fn drop_given(&mut self, index: usize, xid: Xid) -> Result<(), End>
+        requires { GoesBy self.old.workers index xid }
         ensures ok { OnOk result (IsAborted self.old xid self.new) }
         ensures same { OnErr result (self.new ≡ self.old) }
         ensures err { IfErr result IsStopEnd }
     {
-        let lane = self.lanes.get_mut(index).ok_or(End::OutOfMemory)?;
-        if !lane.has(xid) {
-            return Err(End::OutOfMemory);
-        }
-        let mut store = running(self.rt, self.shop)?;
-        let Some(ticket) = lane.take_back() else {
-            return Err(End::OutOfMemory);
+        let worker = &mut self.workers[index];
+        doom_worker(self.rt, self.shared, worker);
+        worker.bring_back(self.rt);
+        let mut store = running(self.rt, self.shared)?;
+        let Some(ticket) = worker.take_back() else {
+            unreachable!()
         };
         store.abort(&mut self.line, ticket);
-        self.shop.changed.notify_all();
+        self.shared.changed.notify_all();
         self.note(index);
         Ok(())
     }
+}
+
+// A worker by which no transaction goes.
+fn find_free<N: StoreNames, L: OutboxNames, G: Drop>(
+    workers: &[WorkerHandle<'_, N, L, G>],
+) -> Option<usize>
+    ensures { IfSome result (λ place. (place < length workers.now) × IsIdle (slice_index_or workers.now place (new_handle 0))) }
+{
+    for (index, worker) in workers.iter().enumerate() {
+        if worker.is_free() {
+            return Some(index);
+        }
+    }
+    None
 }
 
 // A transaction opens in the store.
 fn open_in<N: StoreNames, L: OutboxNames, R: Wait, G: Gate + Drop>(
     rt: &R,
     alloc: Global,
-    shop: &Shop<N, L, G>,
+    shared: &Shared<N, L, G>,
     line: &mut Line,
     xid: Xid,
 ) -> Result<Ticket, End>
@@ -596,7 +533,7 @@ fn open_in<N: StoreNames, L: OutboxNames, R: Wait, G: Gate + Drop>(
     ensures same { OnErr result (line.new.list ≡ line.old.list) }
     ensures err { IfErr result IsStopEnd }
 {
-    let mut store = shop.store.lock(rt);
+    let mut store = shared.store.lock(rt);
     match store.open(alloc, line, xid) {
         Ok(ticket) => Ok(ticket),
         Err(fault) => Err(end_of_fault(fault, store.stop())),
@@ -606,11 +543,11 @@ fn open_in<N: StoreNames, L: OutboxNames, R: Wait, G: Gate + Drop>(
 // The store under its lock, unless it was stopped.
 fn running<'a, N: StoreNames, L: OutboxNames, R: Wait, G: Gate + Drop>(
     rt: &R,
-    shop: &'a Shop<N, L, G>,
+    shared: &'a Shared<N, L, G>,
 ) -> Result<MutexGuard<'a, SharedStore<N>>, End>
     ensures { IfErr result IsStopEnd }
 {
-    let store = shop.store.lock(rt);
+    let store = shared.store.lock(rt);
     match store.stop() {
         Some(stop) => Err(end_of_stop(stop)),
         None => Ok(store),
@@ -625,71 +562,46 @@ fn count_commits<N: StoreNames>(store: &SharedStore<N>) -> u64
     store.journal().len() as u64
 }
 
-// Tells the worker of a lane to give up, and wakes it if it waits for a cell.
+// Tells a worker to give up, and wakes it if it waits for a cell.
 fn doom_worker<N: StoreNames, L: OutboxNames, R: Wait, G: Gate + Drop>(
     rt: &R,
-    shop: &Shop<N, L, G>,
-    lane: usize,
+    shared: &Shared<N, L, G>,
+    worker: &WorkerHandle<'_, N, L, G>,
 ) {
-    if let Some(seat) = shop.seats.get(lane) {
-        seat.outbox.lock(rt).doom();
-    }
-    let _store = shop.store.lock(rt);
-    shop.changed.notify_all();
+    worker.doom(rt);
+    let _store = shared.store.lock(rt);
+    shared.changed.notify_all();
 }
 
 // Tells all workers to give up, and takes their transactions back.
 fn bring_home<N: StoreNames, L: OutboxNames, R: Wait, G: Gate + Drop>(
     rt: &R,
-    shop: &Shop<N, L, G>,
-    mailboxes: &[Mailbox<Job<N, L>>],
-    lanes: &mut Vec<Lane<N, L>>,
+    shared: &Shared<N, L, G>,
+    workers: &mut Vec<WorkerHandle<'_, N, L, G>>,
 )
-    ensures same { map goes_by lanes.new.items ≡ map goes_by lanes.old.items }
-    ensures home { All IsHome lanes.new.items }
+    ensures same { map goes_by workers.new.items ≡ map goes_by workers.old.items }
+    ensures home { All IsHome workers.new.items }
 {
-    for lane in lanes.iter() {
-        if lane.is_away() {
-            doom_worker(rt, shop, lane.number());
+    for worker in workers.iter() {
+        if worker.is_away() {
+            doom_worker(rt, shared, worker);
         }
     }
-    for lane in lanes.iter_mut() {
-        bring_back(rt, shop, mailboxes, lane);
+    for worker in workers.iter_mut() {
+        worker.bring_back(rt);
     }
 }
 
-// Takes the transaction of a lane back, once its worker has given it up. A worker that was told to does,
-// so a lane without a job is none.
-fn bring_back<N: StoreNames, L: OutboxNames, R: Wait, G: Gate + Drop>(
-    rt: &R,
-    shop: &Shop<N, L, G>,
-    mailboxes: &[Mailbox<Job<N, L>>],
-    lane: &mut Lane<N, L>,
+// Tells of each worker how many items were given to its transaction. The list has room for all workers,
+// so it takes no memory.
+fn count_given<N: StoreNames, L: OutboxNames, G: Drop>(
+    workers: &[WorkerHandle<'_, N, L, G>],
+    given: &mut Vec<(Xid, u64)>,
 )
-    ensures same { lane.new.goes ≡ lane.old.goes }
-    ensures home { IsHome lane.new }
-{
-    if !lane.is_away() {
-        return;
-    }
-    let number = lane.number();
-    if let (Some(mailbox), Some(seat)) = (mailboxes.get(number), shop.seats.get(number)) {
-        if let Some(job) = mailbox.wait_back(rt) {
-            lane.collect(rt, &seat.outbox, job);
-            return;
-        }
-    }
-    for _ in rt.forever() {}
-    unreachable!()
-}
-
-// Tells of each lane how many items were given to its transaction. The list has room for all lanes, so it
-// takes no memory.
-fn count_given<N: StoreNames, L: OutboxNames>(lanes: &[Lane<N, L>], given: &mut Vec<(Xid, u64)>)
-    ensures { AreCounted (map goes_by lanes.now) given.new.items }
+    ensures { AreCounted (map goes_by workers.now) given.new.items }
 {
     given.clear();
-    for lane in lanes {
-        let _ = given.push(lane.given());
+    for worker in workers {
+        let _ = given.push(worker.given());
     }
 }

@@ -14,14 +14,14 @@ use Rattle.engine.specs.declared.events.LineEvent.TheVariants.{Opened as WasOpen
 use Rattle.engine.specs.Events.{open_after, is_open_in}
 use Rattle.session.specs.Sized.{item_of}
 use Rattle.session.specs.State.{Direct, Worker, Spooled, Open, OpenTransactions}
-use Rattle.dispatch.specs.Lanes.{Given}
+use Rattle.dispatch.specs.Handle.{Given}
 use Rattle.dispatch.proofs.Numbers.{same_self, same_apart}
 use Rattle.dispatch.specs.Standing.{Standing, items_of, items_by, own_of, Replaces}
 use Rattle.leader.specs.Threads.{IsAssigned, AreAssigned}
 
--- ---- the lanes
+-- ---- the workers
 
--- what a transaction has by all lanes: by those before the one that turned, by that, and by those behind it
+-- what a transaction has by all workers: by those before the one that turned, by that, and by those behind it
 pub record Parted (xid : ℕ) (old new : List (Option Given)) (was is : Option Given) : Type 0 where
   pub front : List (List Item)
   pub back : List (List Item)
@@ -36,7 +36,7 @@ parted xid old new was is t = record {
   new_is = ap (items_by xid) t.new_is ∙ flat_map-append (items_of xid) t.before (is ∷ t.behind);
 }
 
--- a lane that turns into one with the same of a transaction
+-- a worker that turns into one with the same of a transaction
 pub same_turned : (xid : ℕ) (old new : List (Option Given)) (was is : Option Given) → Replaces old new was is → items_of xid was ≡ items_of xid is → items_by xid new ≡ items_by xid old
 same_turned xid old new was is t e =
     let p = parted xid old new was is t in
@@ -46,7 +46,7 @@ empty_by_length : {X : Type 0} (xs : List X) → length xs ≡ 0 → xs ≡ []
 empty_by_length [] e = refl
 empty_by_length (x ∷ xs) e = absurd (omega (arith, e))
 
--- where the lane that turned has all that there is of the transaction
+-- where the worker that turned has all that there is of the transaction
 alone : {X : Type 0} (front mid back : List X) → front ++ (mid ++ back) ≡ mid → (front ≡ []) × (back ≡ [])
 alone front mid back e =
     let counts : length front + (length mid + length back) ≡ length mid =
@@ -60,7 +60,7 @@ all_turned xid old new was is t e =
     let none = alone p.front (items_of xid was) p.back (sym p.old_is ∙ e) in
     p.new_is ∙ ap (λ (f : List (List Item)). f ++ (items_of xid is ++ p.back)) none.0 ∙ ap (λ (b : List (List Item)). items_of xid is ++ b) none.1 ∙ append-nil (items_of xid is)
 
--- a lane by which a transaction goes shows just its items
+-- a worker by which a transaction goes shows just its items
 pub items_here : (xid : ℕ) (items : List Item) → items_of xid (Some (record { xid = xid; items = items })) ≡ items ∷ []
 items_here xid items = ap (λ b. cond b (items ∷ []) []) (same_self xid)
 
@@ -82,13 +82,13 @@ one_of (f ∷ front) back x y e =
     in
     absurd (omega (arith, counts))
 
--- where a transaction goes by a lane and by one alone, it has these items
+-- where a transaction goes by a worker and by one alone, it has these items
 pub had_is : (xid : ℕ) (old new : List (Option Given)) (had items : List Item) (is : Option Given) → Replaces old new (Some (record { xid = xid; items = had })) is → items_by xid old ≡ items ∷ [] → had ≡ items
 had_is xid old new had items is t e =
     let p = parted xid old new (Some (record { xid = xid; items = had })) is t in
     one_of p.front p.back had items (ap (λ (m : List (List Item)). p.front ++ (m ++ p.back)) (sym (items_here xid had)) ∙ sym p.old_is ∙ e)
 
--- it goes by some lane
+-- it goes by some worker
 pub not_nowhere : (xid : ℕ) (old new : List (Option Given)) (had : List Item) (is : Option Given) → Replaces old new (Some (record { xid = xid; items = had })) is → items_by xid old ≡ [] → ⊥
 not_nowhere xid old new had is t e =
     let p = parted xid old new (Some (record { xid = xid; items = had })) is t in
@@ -148,12 +148,12 @@ worker≢spooled e = absurd cc
 direct≢spooled : Direct ≡ Spooled → ⊥
 direct≢spooled e = absurd cc
 
--- one with a worker goes by one lane
-pub by_lane : (o : Open) (i : List (List Item)) (m : Option Opened) (b : Bool) → o.way ≡ Worker → IsAssigned (Some o) i m b → (i ≡ map item_of o.items ∷ []) × (m ≡ None) × (b ≡ true)
-by_lane o [] None false w h = absurd (worker≢spooled (sym w ∙ h))
-by_lane o [] (Some d) true w h = absurd (worker≢direct (sym w ∙ h.0))
-by_lane o (x ∷ []) None true w h = (ap (λ (y : List Item). y ∷ []) h.1, refl, refl)
-by_lane o i m b w h = absurd h
+-- one with a worker goes by one worker
+pub by_worker : (o : Open) (i : List (List Item)) (m : Option Opened) (b : Bool) → o.way ≡ Worker → IsAssigned (Some o) i m b → (i ≡ map item_of o.items ∷ []) × (m ≡ None) × (b ≡ true)
+by_worker o [] None false w h = absurd (worker≢spooled (sym w ∙ h))
+by_worker o [] (Some d) true w h = absurd (worker≢direct (sym w ∙ h.0))
+by_worker o (x ∷ []) None true w h = (ap (λ (y : List Item). y ∷ []) h.1, refl, refl)
+by_worker o i m b w h = absurd h
 
 -- one that goes directly is the leader's own
 pub by_leader : (o : Open) (i : List (List Item)) (m : Option Opened) (b : Bool) → o.way ≡ Direct → IsAssigned (Some o) i m b → (i ≡ []) × (m ≡ Some (record { items = map item_of o.items; wants = None })) × (b ≡ true)
@@ -180,36 +180,36 @@ nothing_there o (x ∷ i) m b e1 e2 h = absurd cc
 
 -- so it is of all, where the map of the open ones and the standing are the same but for one transaction
 pub agreed_but : (xid : ℕ) (s t : OpenTransactions) (old new : Standing) → AreAssigned s old
-    → IsAssigned (finite.get t xid) (items_by xid new.lanes) (own_of xid new.begun) (is_open_in new.line xid)
-    → ((q : ℕ) → (xid ≡ q → ⊥) → (finite.get t q ≡ finite.get s q) × (items_by q new.lanes ≡ items_by q old.lanes) × (own_of q new.begun ≡ own_of q old.begun) × (is_open_in new.line q ≡ is_open_in old.line q))
+    → IsAssigned (finite.get t xid) (items_by xid new.workers) (own_of xid new.begun) (is_open_in new.line xid)
+    → ((q : ℕ) → (xid ≡ q → ⊥) → (finite.get t q ≡ finite.get s q) × (items_by q new.workers ≡ items_by q old.workers) × (own_of q new.begun ≡ own_of q old.begun) × (is_open_in new.line q ≡ is_open_in old.line q))
     → AreAssigned t new
 agreed_but xid s t old new agreed here elsewhere q =
     elim (cases_eq xid q) [
-      | inl e ↦ subst (λ x. IsAssigned (finite.get t x) (items_by x new.lanes) (own_of x new.begun) (is_open_in new.line x)) e here
+      | inl e ↦ subst (λ x. IsAssigned (finite.get t x) (items_by x new.workers) (own_of x new.begun) (is_open_in new.line x)) e here
       | inr ne ↦
           let same = elsewhere q ne in
-          carried (finite.get s q) (finite.get t q) (items_by q old.lanes) (items_by q new.lanes) (own_of q old.begun) (own_of q new.begun) (is_open_in old.line q) (is_open_in new.line q)
+          carried (finite.get s q) (finite.get t q) (items_by q old.workers) (items_by q new.workers) (own_of q old.begun) (own_of q new.begun) (is_open_in old.line q) (is_open_in new.line q)
           (sym same.0) (sym same.1) (sym same.2) (sym same.3) (agreed q)
     ]
 
 -- only what the state has of one changed, and nothing is there of it
-pub agreed_beside : (xid : ℕ) (s t : OpenTransactions) (st : Standing) → AreAssigned s st → (items_by xid st.lanes ≡ []) × (own_of xid st.begun ≡ None) × (is_open_in st.line xid ≡ false)
+pub agreed_beside : (xid : ℕ) (s t : OpenTransactions) (st : Standing) → AreAssigned s st → (items_by xid st.workers ≡ []) × (own_of xid st.begun ≡ None) × (is_open_in st.line xid ≡ false)
     → IsAssigned (finite.get t xid) [] None false → ((q : ℕ) → (xid ≡ q → ⊥) → finite.get t q ≡ finite.get s q) → AreAssigned t st
 agreed_beside xid s t st agreed none here elsewhere =
     agreed_but xid s t st st agreed
-    (carried (finite.get t xid) (finite.get t xid) [] (items_by xid st.lanes) None (own_of xid st.begun) false (is_open_in st.line xid) refl (sym none.0) (sym none.1) (sym none.2) here)
+    (carried (finite.get t xid) (finite.get t xid) [] (items_by xid st.workers) None (own_of xid st.begun) false (is_open_in st.line xid) refl (sym none.0) (sym none.1) (sym none.2) here)
     (λ q ne. (elsewhere q ne, refl, refl, refl))
 
 -- ---- the start
 
-free_lanes : (xid : ℕ) (lanes : List (Option Given)) → All (λ goes. goes ≡ None) lanes → items_by xid lanes ≡ []
-free_lanes xid [] all = refl
-free_lanes xid (goes ∷ lanes) all =
+free_workers : (xid : ℕ) (workers : List (Option Given)) → All (λ goes. goes ≡ None) workers → items_by xid workers ≡ []
+free_workers xid [] all = refl
+free_workers xid (goes ∷ workers) all =
     let P : Option Given → Type 0 = λ g. g ≡ None in
-    ap (λ (g : Option Given). items_of xid g ++ items_by xid lanes) (All-head P goes lanes all) ∙ free_lanes xid lanes (All-tail P goes lanes all)
+    ap (λ (g : Option Given). items_of xid g ++ items_by xid workers) (All-head P goes workers all) ∙ free_workers xid workers (All-tail P goes workers all)
 
 -- before the first item nothing is there of any transaction
-pub start_agreed : (st : Standing) → st.line ≡ [] → All (λ goes. goes ≡ None) st.lanes → st.begun ≡ None → AreAssigned finite.empty st
-start_agreed st line lanes begun xid =
-    carried None (finite.get finite.empty xid) [] (items_by xid st.lanes) None (own_of xid st.begun) false (is_open_in st.line xid)
-    (sym (finite.get-empty nat_cmp xid)) (sym (free_lanes xid st.lanes lanes)) (sym (ap (own_of xid) begun)) (sym (ap (λ l. is_open_in l xid) line)) tt
+pub start_agreed : (st : Standing) → st.line ≡ [] → All (λ goes. goes ≡ None) st.workers → st.begun ≡ None → AreAssigned finite.empty st
+start_agreed st line workers begun xid =
+    carried None (finite.get finite.empty xid) [] (items_by xid st.workers) None (own_of xid st.begun) false (is_open_in st.line xid)
+    (sym (finite.get-empty nat_cmp xid)) (sym (free_workers xid st.workers workers)) (sym (ap (own_of xid) begun)) (sym (ap (λ l. is_open_in l xid) line)) tt

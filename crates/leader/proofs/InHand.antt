@@ -18,8 +18,8 @@ use Rattle.session.specs.State.{Way, Worker, Spooled, Open, State, Setting}
 use Rattle.run_laws.specs.Runs.{CommitsNext}
 use Rattle.run_laws.specs.Threads.{work_of, done_by_commit}
 use Rattle.dispatch.proofs.Among.{none_among, among_cases, among_map}
-use Rattle.dispatch.specs.Lanes.{Given, Laned, IsDoing, IsHome, IsCounted, AreCounted}
-use Rattle.dispatch.specs.Standing.{Own, Standing, own_by, goes_by, items_of, items_by, own_of, in_lane, holds_in, KeepsGiven}
+use Rattle.dispatch.specs.Handle.{Given, HandleModel, IsDoing, IsHome, IsCounted, AreCounted}
+use Rattle.dispatch.specs.Standing.{Own, Standing, own_by, goes_by, items_of, items_by, own_of, in_worker, holds_in, KeepsGiven}
 use Rattle.leader.specs.Threads.{KeepsToWork, IsOpenAtEnd, AreOpenAtEnd}
 use Rattle.leader.specs.Ending.{Hand, AreInHand, AreGiven}
 
@@ -30,17 +30,17 @@ none_is x e = cc
 
 module _ (g : Setting) (s : State) (rest : List CopyItem) (xid : ℕ) where
   -- it is open in the state where something of it is there
-  by_lane : (found : Option Open) (list : List (List Item)) (own : Option Opened) (b : Bool) → IsOpenAtEnd g s rest xid found list own b
+  by_worker : (found : Option Open) (list : List (List Item)) (own : Option Opened) (b : Bool) → IsOpenAtEnd g s rest xid found list own b
       → (items : List Item) → Contains list items → (o : Open) × (found ≡ Some o) × (o.way ≡ Worker) × (items ≡ map item_of o.items)
-  by_lane (Some o) (first ∷ []) None true is items among =
+  by_worker (Some o) (first ∷ []) None true is items among =
       (o, refl, is.0, elim (Contains-push_cases [] first items among) [ inl earlier ↦ absurd (nowhere items earlier) | inr here ↦ sym here ∙ is.1 ])
     where
       nowhere : (items : List Item) → Contains [] items → ⊥
       nowhere items there = omega (arith, there.1)
-  by_lane None [] None false is items among = let no : ⊥ = omega (arith, among.1) in absurd no
-  by_lane (Some o) [] (Some done) true is items among = let no : ⊥ = omega (arith, among.1) in absurd no
-  by_lane (Some o) [] None false is items among = let no : ⊥ = omega (arith, among.1) in absurd no
-  by_lane _ _ _ _ is items among = absurd is
+  by_worker None [] None false is items among = let no : ⊥ = omega (arith, among.1) in absurd no
+  by_worker (Some o) [] (Some done) true is items among = let no : ⊥ = omega (arith, among.1) in absurd no
+  by_worker (Some o) [] None false is items among = let no : ⊥ = omega (arith, among.1) in absurd no
+  by_worker _ _ _ _ is items among = absurd is
 
   by_own : (found : Option Open) (list : List (List Item)) (own : Option Opened) (b : Bool) → IsOpenAtEnd g s rest xid found list own b
       → (done : Opened) → own ≡ Some done
@@ -55,7 +55,7 @@ module _ (g : Setting) (s : State) (rest : List CopyItem) (xid : ℕ) where
   by_own (Some o) [] None false is done e = absurd (none_is done e)
   by_own _ _ _ _ is done e = absurd is
 
-  -- what is open by the line goes by a lane, or is the leader's own
+  -- what is open by the line goes by a worker, or is the leader's own
   by_line : (found : Option Open) (list : List (List Item)) (own : Option Opened) (b : Bool) → IsOpenAtEnd g s rest xid found list own b
       → b ≡ true → ((items : List Item) × Contains list items) ⊎ ((done : Opened) × (own ≡ Some done))
   by_line (Some o) (first ∷ []) None true is e = inl (first, Contains-push [] first)
@@ -76,7 +76,7 @@ module _ (g : Setting) (s : State) (rest : List CopyItem) (xid : ℕ) where
       same a c is = cc
   by_state _ _ _ _ is o e not = absurd is
 
--- ---- among lanes
+-- ---- among workers
 
 map_among : {X Y : Type 0} (f : X → Y) (xs : List X) (z : Y) → Contains (map f xs) z → (x : X) × Contains xs x × (f x ≡ z)
 map_among f [] z is = absurd (none_among z is)
@@ -90,7 +90,7 @@ module _ (xid : ℕ) where
   items_first slot slots =
       flat_map-append (items_of xid) (slot ∷ []) slots ∙ ap (λ is. is ++ items_by xid slots) (append-nil (items_of xid slot))
 
-  -- the items of a lane's transaction are among those of it
+  -- the items of a worker's transaction are among those of it
   items_here : (slots : List (Option Given)) (slot : Option Given) → Contains slots slot → (items : List Item) → Contains (items_of xid slot) items
       → Contains (items_by xid slots) items
   items_here [] slot among items is = absurd (none_among slot among)
@@ -110,17 +110,17 @@ module _ (xid : ℕ) where
         | false ↦ λ same there. absurd (none_among items there)
       ] refl is
 
-  -- and they are those of a lane
-  lane_here : (slots : List (Option Given)) (items : List Item) → Contains (items_by xid slots) items
+  -- and they are those of a worker
+  worker_here : (slots : List (Option Given)) (items : List Item) → Contains (items_by xid slots) items
       → (given : Given) × Contains slots (Some given) × (given.xid ≡ xid)
-  lane_here [] items is = absurd (none_among items is)
-  lane_here (first ∷ slots) items is =
+  worker_here [] items is = absurd (none_among items is)
+  worker_here (first ∷ slots) items is =
       elim (Contains-append_cases (items_of xid first) (items_by xid slots) items (subst (λ is. Contains is items) (items_first first slots) is)) [
         | inl here ↦
             let at = in_slot first items here in
             (at.0, subst (λ o. Contains (first ∷ slots) o) at.1 (Contains-append_left (first ∷ []) slots first (Contains-push [] first)), at.2)
         | inr later ↦
-            let there = lane_here slots items later in
+            let there = worker_here slots items later in
             (there.0, Contains-append_right (first ∷ []) slots (Some there.0) there.1, there.2)
       ]
 
@@ -129,11 +129,11 @@ is_itself xid = unsigned_tied xid xid ∙ eq-eqb xid xid refl
 
 -- ---- all that is in hand
 
-module _ (g : Setting) (s : State) (rest : List CopyItem) (t : Standing) (begun : Option (OpenList Event)) (lanes : List Laned) (held : AreOpenAtEnd g s rest t)
-    (commits : commits_in t.line ≡ map done_by_commit s.past) (begun_is : option_map own_by begun ≡ t.begun) (lanes_are : map goes_by lanes ≡ t.lanes)
-    (home : All IsHome lanes) (keeps : All KeepsGiven lanes) where
+module _ (g : Setting) (s : State) (rest : List CopyItem) (t : Standing) (begun : Option (OpenList Event)) (workers : List HandleModel) (held : AreOpenAtEnd g s rest t)
+    (commits : commits_in t.line ≡ map done_by_commit s.past) (begun_is : option_map own_by begun ≡ t.begun) (workers_are : map goes_by workers ≡ t.workers)
+    (home : All IsHome workers) (keeps : All KeepsGiven workers) where
   abbrev hand : Hand
-  hand = option_map own_by begun ∷ map holds_in lanes
+  hand = option_map own_by begun ∷ map holds_in workers
 
   abbrev IsKept : Own → Type 0
   IsKept h = (o : Open) × (get s.transactions h.xid ≡ Some o) × KeepsToWork g s rest h.xid o h.done
@@ -144,16 +144,16 @@ module _ (g : Setting) (s : State) (rest : List CopyItem) (t : Standing) (begun 
   not_spooled : (o : Open) → o.way ≡ Worker → o.way ≡ Spooled → ⊥
   not_spooled o is e = let no : Worker ≡ Spooled = sym is ∙ e in cc
 
-  -- of a lane
-  lane_kept : (goes : Option Given) (back : Option Opened) → Contains t.lanes goes
-      → MatchOption goes (Unit {0}) (λ given. MatchOption back (Unit {0}) (λ done. IsDoing done given.items)) → IfSome (in_lane goes back) IsKept
-  lane_kept None back among keeps = tt
-  lane_kept (Some given) None among keeps = tt
-  lane_kept (Some given) (Some done) among keeps =
+  -- of a worker
+  worker_kept : (goes : Option Given) (back : Option Opened) → Contains t.workers goes
+      → MatchOption goes (Unit {0}) (λ given. MatchOption back (Unit {0}) (λ done. IsDoing done given.items)) → IfSome (in_worker goes back) IsKept
+  worker_kept None back among keeps = tt
+  worker_kept (Some given) None among keeps = tt
+  worker_kept (Some given) (Some done) among keeps =
       let mine : Contains (items_of given.xid (Some given)) given.items =
       subst (λ (b : Bool). Contains (if b then given.items ∷ [] else []) given.items) (sym (is_itself given.xid)) (Contains-push [] given.items) in
-      let is = by_lane g s rest given.xid (get s.transactions given.xid) (items_by given.xid t.lanes) (own_of given.xid t.begun) (is_open_in t.line given.xid) (held given.xid)
-      given.items (items_here given.xid t.lanes (Some given) among given.items mine) in (
+      let is = by_worker g s rest given.xid (get s.transactions given.xid) (items_by given.xid t.workers) (own_of given.xid t.begun) (is_open_in t.line given.xid) (held given.xid)
+      given.items (items_here given.xid t.workers (Some given) among given.items mine) in (
         is.0,
         is.1,
         (subst (IsDoing done) (is.3 ∙ worker_work given.xid is.0 is.2) keeps, λ e. absurd (not_spooled is.0 is.2 e)),
@@ -165,34 +165,34 @@ module _ (g : Setting) (s : State) (rest : List CopyItem) (t : Standing) (begun 
   own_kept (Some ticket) is =
       let mine : own_of ticket.number t.begun ≡ Some (own_by ticket).done =
       ap (own_of ticket.number) (sym is) ∙ ap (λ (b : Bool). if b then Some (own_by ticket).done else None) (is_itself ticket.number) in
-      let o = by_own g s rest ticket.number (get s.transactions ticket.number) (items_by ticket.number t.lanes) (own_of ticket.number t.begun) (is_open_in t.line ticket.number)
+      let o = by_own g s rest ticket.number (get s.transactions ticket.number) (items_by ticket.number t.workers) (own_of ticket.number t.begun) (is_open_in t.line ticket.number)
       (held ticket.number) (own_by ticket).done mine in
       (o.0, o.1, (o.2, o.3))
 
-  lanes_kept : All (λ slot. IfSome slot IsKept) (map holds_in lanes)
-  lanes_kept = All-map (λ slot. IfSome slot IsKept) holds_in lanes (λ k d short.
-      let l = slice_index_or lanes k d in
-      lane_kept l.goes l.back
-      (subst (λ gs. Contains gs l.goes) lanes_are (among_map goes_by lanes l (All-contains_itself lanes k d short)))
+  workers_kept : All (λ slot. IfSome slot IsKept) (map holds_in workers)
+  workers_kept = All-map (λ slot. IfSome slot IsKept) holds_in workers (λ k d short.
+      let l = slice_index_or workers k d in
+      worker_kept l.goes l.back
+      (subst (λ gs. Contains gs l.goes) workers_are (among_map goes_by workers l (All-contains_itself workers k d short)))
       (keeps k d short))
 
   home_has : (goes : Option Given) (back : Option Opened) (given : Given) → goes ≡ Some given
-      → MatchOption goes (Unit {0}) (λ given. (done : Opened) × (back ≡ Some done)) → (done : Opened) × (in_lane goes back ≡ Some (record { xid = given.xid; done = done }))
+      → MatchOption goes (Unit {0}) (λ given. (done : Opened) × (back ≡ Some done)) → (done : Opened) × (in_worker goes back ≡ Some (record { xid = given.xid; done = done }))
   home_has None back given e is = absurd (none_is given e)
   home_has (Some other) back given e is =
-      (is.0, ap (in_lane (Some other)) is.1 ∙ ap (λ (o : Given). Some (record { xid = o.xid; done = is.0 })) (same other given e))
+      (is.0, ap (in_worker (Some other)) is.1 ∙ ap (λ (o : Given). Some (record { xid = o.xid; done = is.0 })) (same other given e))
     where
       same : (a b : Given) → Some a ≡ Some b → a ≡ b
       same a b is = cc
 
-  in_some_lane : (xid : ℕ) (items : List Item) → Contains (items_by xid t.lanes) items → (h : Own) × Contains hand (Some h) × (h.xid ≡ xid)
-  in_some_lane xid items among =
-      let there = lane_here xid t.lanes items among in
-      let lane = map_among goes_by lanes (Some there.0) (subst (λ gs. Contains gs (Some there.0)) (sym lanes_are) there.1) in
-      let has = home_has lane.0.goes lane.0.back there.0 lane.2 (All-contains IsHome lanes lane.0 home lane.1) in (
+  in_some_worker : (xid : ℕ) (items : List Item) → Contains (items_by xid t.workers) items → (h : Own) × Contains hand (Some h) × (h.xid ≡ xid)
+  in_some_worker xid items among =
+      let there = worker_here xid t.workers items among in
+      let worker = map_among goes_by workers (Some there.0) (subst (λ gs. Contains gs (Some there.0)) (sym workers_are) there.1) in
+      let has = home_has worker.0.goes worker.0.back there.0 worker.2 (All-contains IsHome workers worker.0 home worker.1) in (
         record { xid = there.0.xid; done = has.0 },
-        Contains-append_right (option_map own_by begun ∷ []) (map holds_in lanes) (Some (record { xid = there.0.xid; done = has.0 }))
-            (subst (Contains (map holds_in lanes)) has.1 (among_map holds_in lanes lane.0 lane.1)),
+        Contains-append_right (option_map own_by begun ∷ []) (map holds_in workers) (Some (record { xid = there.0.xid; done = has.0 }))
+            (subst (Contains (map holds_in workers)) has.1 (among_map holds_in workers worker.0 worker.1)),
         there.2,
       )
 
@@ -211,35 +211,35 @@ module _ (g : Setting) (s : State) (rest : List CopyItem) (t : Standing) (begun 
   pub in_hand : AreInHand g s rest t.line hand
   in_hand = record {
     commits = commits;
-    held = All-cons (λ slot. IfSome slot IsKept) (option_map own_by begun) (map holds_in lanes) (own_kept begun begun_is) lanes_kept;
+    held = All-cons (λ slot. IfSome slot IsKept) (option_map own_by begun) (map holds_in workers) (own_kept begun begun_is) workers_kept;
     all = λ xid is_open.
-        elim (by_line g s rest xid (get s.transactions xid) (items_by xid t.lanes) (own_of xid t.begun) (is_open_in t.line xid) (held xid) is_open) [
-          | inl lane ↦ in_some_lane xid lane.0 lane.1
+        elim (by_line g s rest xid (get s.transactions xid) (items_by xid t.workers) (own_of xid t.begun) (is_open_in t.line xid) (held xid) is_open) [
+          | inl worker ↦ in_some_worker xid worker.0 worker.1
           | inr own ↦
               let is = in_own xid begun begun_is own.0 own.1 in (
                 is.0,
-                subst (Contains hand) is.1 (Contains-append_left (option_map own_by begun ∷ []) (map holds_in lanes) (option_map own_by begun) (Contains-push [] (option_map own_by begun))),
+                subst (Contains hand) is.1 (Contains-append_left (option_map own_by begun ∷ []) (map holds_in workers) (option_map own_by begun) (Contains-push [] (option_map own_by begun))),
                 is.2,
               )
         ];
     streamed = λ xid o at not.
-        by_state g s rest xid (get s.transactions xid) (items_by xid t.lanes) (own_of xid t.begun) (is_open_in t.line xid) (held xid) o at not;
+        by_state g s rest xid (get s.transactions xid) (items_by xid t.workers) (own_of xid t.begun) (is_open_in t.line xid) (held xid) o at not;
   }
 
 -- ---- how many items were given
 
 module _ (g : Setting) (s : State) (rest : List CopyItem) (t : Standing) (held : AreOpenAtEnd g s rest t) where
-  -- to the transaction of a lane, by what the lane counts
-  pub lane_given : (xid count : ℕ) (o : Open) (goes : Option Given) → Contains t.lanes goes → IsCounted goes (xid, count) → count < 2 ^ 64 - 1
+  -- to the transaction of a worker, by what the worker counts
+  pub worker_given : (xid count : ℕ) (o : Open) (goes : Option Given) → Contains t.workers goes → IsCounted goes (xid, count) → count < 2 ^ 64 - 1
       → get s.transactions xid ≡ Some o → count ≡ length (work_of xid o.way o.items)
-  lane_given xid count o goes among counted short at =
+  worker_given xid count o goes among counted short at =
       let is = counted short in
       let mine : Contains (items_of xid goes) is.0.items =
       subst (λ (slot : Option Given). Contains (items_of xid slot) is.0.items) (sym is.1)
       (subst (λ (n : ℕ). Contains (items_of n (Some is.0)) is.0.items) is.2
       (subst (λ (b : Bool). Contains (if b then is.0.items ∷ [] else []) is.0.items) (sym (is_itself is.0.xid)) (Contains-push [] is.0.items))) in
-      let there = by_lane g s rest xid (get s.transactions xid) (items_by xid t.lanes) (own_of xid t.begun) (is_open_in t.line xid) (held xid)
-      is.0.items (items_here xid t.lanes goes among is.0.items mine) in
+      let there = by_worker g s rest xid (get s.transactions xid) (items_by xid t.workers) (own_of xid t.begun) (is_open_in t.line xid) (held xid)
+      is.0.items (items_here xid t.workers goes among is.0.items mine) in
       let same : there.0 ≡ o = same_open there.0 o (sym there.1 ∙ at) in
       is.3 ∙ ap length (there.3 ∙ sym (ap (λ (way : Way). work_of xid way there.0.items) there.2) ∙ ap (λ (p : Open). work_of xid p.way p.items) same)
     where
@@ -247,7 +247,7 @@ module _ (g : Setting) (s : State) (rest : List CopyItem) (t : Standing) (held :
       same_open p o e = cc
 
   -- to each
-  pub are_given : (given : List (ℕ × ℕ)) → AreCounted t.lanes given → AreGiven s given
+  pub are_given : (given : List (ℕ × ℕ)) → AreCounted t.workers given → AreGiven s given
   are_given given counted xid count o among short at =
-      let one = All-contains (λ (named : ℕ × ℕ). (goes : Option Given) × Contains t.lanes goes × IsCounted goes named) given (xid, count) counted among in
-      lane_given xid count o one.0 one.1 one.2 short at
+      let one = All-contains (λ (named : ℕ × ℕ). (goes : Option Given) × Contains t.workers goes × IsCounted goes named) given (xid, count) counted among in
+      worker_given xid count o one.0 one.1 one.2 short at

@@ -32,7 +32,7 @@ use Rattle.session.specs.Lawful.{Admits, Refuses}
 use Rattle.session.specs.Table.{new_open}
 use Rattle.session.specs.StreamEvents.{StreamEvent, NoEvent, TransactionOpens, ItemComes, TransactionCommits, TransactionAborts, Tells, IsGiving, IsCommitting, items_handed_out}
 use Rattle.session.specs.Represents.{Represents as SessionRepresents}
-use Rattle.session.specs.Answers.{IsOfTables, Says, IsWithin, AdmitsPayload}
+use Rattle.session.specs.Answers.{IsOfTables, HandsOut, Says, IsWithin, AdmitsPayload}
 use Rattle.run.specs.declared.end.End.{End}
 use Rattle.run.specs.declared.end.End.TheVariants as ends
 use Rattle.run.specs.Ends.{end_of_refusal}
@@ -120,31 +120,62 @@ item_named g told x i within says = absurd cc
 
 -- ---- what is there of all transactions
 
+-- by a step what is there of all transactions goes from this to that
+abbrev pub Agrees : Standing → Standing → Step → Type 0
+Agrees old new step =
+    (g : Setting) (s t : State) (told : StreamEvent) → AreAssigned s.transactions old → Tells s t told → IsWithin g told → Says told step → AreAssigned t.transactions new
+
 -- a message that asks for nothing
-pub nothing_agreed : (g : Setting) (s t : State) (told : StreamEvent) (st : Standing) → AreAssigned s.transactions st → Tells s t told → IsWithin g told → Says told steps.Nothing → AreAssigned t.transactions st
-nothing_agreed g s t NoEvent st agreed tells within says = subst (λ m. AreAssigned m st) (sym tells.transactions) agreed
-nothing_agreed g s t (TransactionOpens xid Spooled) st agreed tells within says = spooled_agreed s t st xid agreed tells
-nothing_agreed g s t (ItemComes xid Spooled item size) st agreed tells within says = kept_agreed s t st xid item size tells.0 agreed tells.1 tells.2
-nothing_agreed g s t (TransactionCommits c) st agreed tells within says = absurd says
-nothing_agreed g s t (TransactionAborts xid Direct) st agreed tells within says = absurd within
-nothing_agreed g s t (TransactionAborts xid Spooled) st agreed tells within says = dropped_agreed s t st xid tells.0 agreed tells.1 tells.2
-nothing_agreed g s t told st agreed tells within says = absurd cc
+pub nothing_agreed : (st : Standing) → Agrees st st steps.Nothing
+nothing_agreed st g s t NoEvent agreed tells within says = subst (λ m. AreAssigned m st) (sym tells.transactions) agreed
+nothing_agreed st g s t (TransactionOpens xid Spooled) agreed tells within says = spooled_agreed s t st xid agreed tells
+nothing_agreed st g s t (ItemComes xid Spooled item size) agreed tells within says = kept_agreed s t st xid item size tells.0 agreed tells.1 tells.2
+nothing_agreed st g s t (TransactionCommits c) agreed tells within says = absurd says
+nothing_agreed st g s t (TransactionAborts xid Direct) agreed tells within says = absurd within
+nothing_agreed st g s t (TransactionAborts xid Spooled) agreed tells within says = dropped_agreed s t st xid tells.0 agreed tells.1 tells.2
+nothing_agreed st g s t told agreed tells within says = absurd cc
+
+-- what was told, by what the session asks for
+abbrev pub IsToldBy : Step → StreamEvent → Type 0
+IsToldBy steps.Nothing told = Unit {0}
+IsToldBy (steps.Begin xid) told = told ≡ TransactionOpens xid Direct
+IsToldBy (steps.Open xid) told = told ≡ TransactionOpens xid Worker
+IsToldBy (steps.Item xid item) told = Unit {0}
+IsToldBy (steps.Commit xid info items) told = Unit {0}
+IsToldBy (steps.Abort xid) told = told ≡ TransactionAborts xid Worker
+
+pub told_by : (g : Setting) (told : StreamEvent) (step : Step) → IsWithin g told → Says told step → IsToldBy step told
+told_by g told step within says = by_told told within says
+  where
+    says_so : (is : Step) (event : StreamEvent) → IsToldBy is event → step ≡ is → IsToldBy step event
+    says_so is event tells e = subst (λ s. IsToldBy s event) (sym e) tells
+
+    handed : (c : Committed) (is : Step) → HandsOut c is → IsToldBy is (TransactionCommits c)
+    handed c steps.Nothing hands = tt
+    handed c (steps.Item xid item) hands = tt
+    handed c (steps.Commit xid info items) hands = tt
+    handed c is hands = absurd hands
+
+    by_told : (event : StreamEvent) → IsWithin g event → Says event step → IsToldBy step event
+    by_told NoEvent within says = says_so steps.Nothing NoEvent tt says
+    by_told (TransactionOpens xid Direct) within says = says_so (steps.Begin xid) (TransactionOpens xid Direct) refl says
+    by_told (TransactionOpens xid Worker) within says = says_so (steps.Open xid) (TransactionOpens xid Worker) refl says
+    by_told (TransactionOpens xid Spooled) within says = says_so steps.Nothing (TransactionOpens xid Spooled) tt says
+    by_told (ItemComes xid Direct item size) within says = says_so (steps.Item xid item) (ItemComes xid Direct item size) tt says
+    by_told (ItemComes xid Worker item size) within says = says_so (steps.Item xid item) (ItemComes xid Worker item size) tt says
+    by_told (ItemComes xid Spooled item size) within says = says_so steps.Nothing (ItemComes xid Spooled item size) tt says
+    by_told (TransactionCommits c) within says = handed c step says
+    by_told (TransactionAborts xid Direct) within says = absurd within
+    by_told (TransactionAborts xid Worker) within says = says_so (steps.Abort xid) (TransactionAborts xid Worker) refl says
+    by_told (TransactionAborts xid Spooled) within says = says_so steps.Nothing (TransactionAborts xid Spooled) tt says
 
 -- one that begins
-pub begin_agreed : (g : Setting) (s t : State) (told : StreamEvent) (x : ℕ) (old new : Standing) → AreAssigned s.transactions old → Tells s t told → IsWithin g told → Says told (steps.Begin x) → IsBegun old x new → AreAssigned t.transactions new
-begin_agreed g s t (TransactionOpens xid Direct) x old new agreed tells within says is = let same : x ≡ xid = cc in begun_agreed s t old new xid agreed tells (subst (λ n. IsBegun old n new) same is)
-begin_agreed g s t (TransactionCommits c) x old new agreed tells within says is = absurd says
-begin_agreed g s t (TransactionAborts xid Direct) x old new agreed tells within says is = absurd within
-begin_agreed g s t (ItemComes xid Direct item size) x old new agreed tells within says is = absurd cc
-begin_agreed g s t told x old new agreed tells within says is = absurd cc
+pub begin_agreed : (x : ℕ) (old new : Standing) → IsBegun old x new → Agrees old new (steps.Begin x)
+begin_agreed x old new is g s t told agreed tells within says = begun_agreed s t old new x agreed (subst (Tells s t) (told_by g told (steps.Begin x) within says) tells) is
 
 -- one that goes to a worker
-pub open_agreed : (g : Setting) (s t : State) (told : StreamEvent) (x : ℕ) (old new : Standing) → AreAssigned s.transactions old → Tells s t told → IsWithin g told → Says told (steps.Open x) → IsHandedOut old x new → AreAssigned t.transactions new
-open_agreed g s t (TransactionOpens xid Worker) x old new agreed tells within says is = let same : x ≡ xid = cc in handed_out_agreed s t old new xid agreed tells (subst (λ n. IsHandedOut old n new) same is)
-open_agreed g s t (TransactionCommits c) x old new agreed tells within says is = absurd says
-open_agreed g s t (TransactionAborts xid Direct) x old new agreed tells within says is = absurd within
-open_agreed g s t (ItemComes xid Direct item size) x old new agreed tells within says is = absurd cc
-open_agreed g s t told x old new agreed tells within says is = absurd cc
+pub open_agreed : (x : ℕ) (old new : Standing) → IsHandedOut old x new → Agrees old new (steps.Open x)
+open_agreed x old new is g s t told agreed tells within says = handed_out_agreed s t old new x agreed (subst (Tells s t) (told_by g told (steps.Open x) within says) tells) is
 
 -- an item that is handed on is given to an open transaction that isn't spooled
 pub record IsHandedOn (s t : State) (xid : ℕ) (item : Item) : Type 0 where
@@ -167,22 +198,21 @@ handed_on g s t (TransactionAborts xid Direct) x i tells within says = absurd wi
 handed_on g s t (TransactionOpens xid Direct) x i tells within says = absurd cc
 handed_on g s t told x i tells within says = absurd cc
 
-pub item_agreed : (s t : State) (xid : ℕ) (item : Item) (old new : Standing) → AreAssigned s.transactions old → IsHandedOn s t xid item → IsTaken old xid item new → AreAssigned t.transactions new
-item_agreed s t xid item old new agreed on is = by_way on.transaction.way refl
+item_given : (s t : State) (xid : ℕ) (item : Item) (old new : Standing) → AreAssigned s.transactions old → IsHandedOn s t xid item → IsTaken old xid item new → AreAssigned t.transactions new
+item_given s t xid item old new agreed on is = by_way on.transaction.way refl
   where
     by_way : (w : Way) → on.transaction.way ≡ w → AreAssigned t.transactions new
     by_way Direct e = applied_agreed s t old new xid item on.size on.transaction agreed e on.gives is
     by_way Worker e = given_agreed s t old new xid item on.size on.transaction agreed e on.gives is
     by_way Spooled e = absurd (on.way e)
 
+pub item_agreed : (x : ℕ) (i : Item) (old new : Standing) → IsTaken old x i new → Agrees old new (steps.Item x i)
+item_agreed x i old new is g s t told agreed tells within says = item_given s t x i old new agreed (handed_on g s t told x i tells within says) is
+
 -- one that is dropped
-pub abort_agreed : (g : Setting) (s t : State) (told : StreamEvent) (x : ℕ) (old new : Standing) → AreAssigned s.transactions old → Tells s t told → IsWithin g told → Says told (steps.Abort x) → IsAborted old x new → AreAssigned t.transactions new
-abort_agreed g s t (TransactionAborts xid Worker) x old new agreed tells within says is = let same : x ≡ xid = cc in aborted_agreed s t old new xid tells.0 agreed tells.1 tells.2 (subst (λ n. IsAborted old n new) same is)
-abort_agreed g s t (TransactionAborts xid Direct) x old new agreed tells within says is = absurd within
-abort_agreed g s t (TransactionCommits c) x old new agreed tells within says is = absurd says
-abort_agreed g s t (TransactionOpens xid Direct) x old new agreed tells within says is = absurd cc
-abort_agreed g s t (ItemComes xid Direct item size) x old new agreed tells within says is = absurd cc
-abort_agreed g s t told x old new agreed tells within says is = absurd cc
+pub abort_agreed : (x : ℕ) (old new : Standing) → IsAborted old x new → Agrees old new (steps.Abort x)
+abort_agreed x old new is g s t told agreed tells within says =
+    let drops = subst (Tells s t) (told_by g told (steps.Abort x) within says) tells in aborted_agreed s t old new x drops.0 agreed drops.1 drops.2 is
 
 -- the leader knows the same, but for its session and for what is open
 pub record IsSameLed (a b : Led) : Type 0 where
@@ -230,6 +260,18 @@ led_by_step g rows a b p payload step at t none same agreed =
 -- the session and what is open are otherwise, and neither tables nor commits
 pub same_but_open : (s : Stream) (v : Session) (old new : Standing) → new.tables ≡ old.tables → commits_in new.line ≡ commits_in old.line → IsSameLed (led s old) (led (record s { session = v }) new)
 same_but_open s v old new tables line = record { catalog = refl; tables = tables; line = line; position = refl; written = refl }
+
+-- whatever the session admits by this step
+abbrev pub Admitting : Stream → Session → List ℕ → Step → Type 0
+Admitting stream v payload step = (g : Setting) (h : State) → g.catalog ≡ stream.catalog.now → SessionRepresents g stream.session h → AdmitsPayload g v h payload step
+
+-- a step that commits nothing was taken
+pub step_taken : (stream : Stream) (v : Session) (old new : Standing) (payload : List ℕ) (step is : Step) → step ≡ is → IsNoCommit is → Admitting stream v payload step → (new.tables ≡ old.tables) × (commits_in new.line ≡ commits_in old.line)
+    → Agrees old new is → (g : Setting) (rows : Rows) (p : Progress) → Represents g rows (led stream old) p → HasTaken g (Represents g rows (led (record stream { session = v }) new)) p payload false
+step_taken stream v old new payload step is e none admits same agrees g rows p at =
+    let t = admits g p.state at.catalog at.session in
+    led_by_step g rows (led stream old) (led (record stream { session = v }) new) p payload step at t (subst IsNoCommit (sym e) none)
+    (same_but_open stream v old new same.0 same.1) (agrees g p.state t.state t.told at.agreed t.tells t.within (subst (Says t.told) e t.says))
 
 -- ---- a message that ends the run
 
@@ -280,6 +322,14 @@ stops_before g rows a b p payload end at same standing is = inl (λ first last m
     let why = stop_end g p.state rest end is in
     (same_commits a b p.state same at.committed, why.0, all_held g p.state rest b.standing (subst (AreAssigned p.state.transactions) (sym standing) at.agreed), why.1))
 
+-- so it does where a call was refused
+pub stays : (stream : Stream) (v : Session) (old new : Standing) (payload : List ℕ) (r : Result Bool End) (end : End) → IsErrAnd r (λ is. is ≡ end) → new ≡ old → IsStopEnd end → (g : Setting) (rows : Rows) (p : Progress) → Represents g rows (led stream old) p
+    → LeadTakes g rows (led (record stream { session = v }) new) p payload r
+stays stream v old new payload r end err same is g rows p at =
+    takes_err g rows (led (record stream { session = v }) new) p payload r end err
+    (stops_before g rows (led stream old) (led (record stream { session = v }) new) p payload end at
+    (same_but_open stream v old new (ap (λ (st : Standing). st.tables) same) (ap (λ (st : Standing). commits_in st.line) same)) same is)
+
 -- it stopped behind the message
 pub stops_behind : (g : Setting) (rows : Rows) (a b : Led) (p : Progress) (payload : List ℕ) (m : Message) (t : State) (end : End) → Represents g rows a p → Admits g p.state payload m t → KeepsOn g p.state t → IsSameLed a b → ((more : List CopyItem) → AreOpenAtEnd g t more b.standing)
     → ((more : List CopyItem) → (end ≢ ends.Clean) × MayEndBy g t more end) → Stops g b p payload end
@@ -296,19 +346,25 @@ stops_behind g rows a b p payload m t end at admits on same held ended =
 
 -- ---- what a step leaves of the line
 
-pub begun_line : (old new : Standing) (xid : ℕ) → IsBegun old xid new → commits_in new.line ≡ commits_in old.line
-begun_line old new xid is = ap (λ (st : Standing). commits_in st.line) is.is ∙ unopened old.line xid
+-- the same tables and commits
+abbrev pub SameCommits : Standing → Standing → Type 0
+SameCommits old new = (new.tables ≡ old.tables) × (commits_in new.line ≡ commits_in old.line)
 
-pub handed_out_line : (old new : Standing) (xid : ℕ) → IsHandedOut old xid new → commits_in new.line ≡ commits_in old.line
-handed_out_line old new xid is = ap (λ (st : Standing). commits_in st.line) is.is ∙ unopened old.line xid
+pub begun_line : (old new : Standing) (xid : ℕ) → IsBegun old xid new → SameCommits old new
+begun_line old new xid is = (ap (λ (st : Standing). st.tables) is.is, ap (λ (st : Standing). commits_in st.line) is.is ∙ unopened old.line xid)
 
-pub taken_line : (old new : Standing) (xid : ℕ) (item : Item) → IsTaken old xid item new → (new.line ≡ old.line) × (new.tables ≡ old.tables)
-taken_line old new xid item (inl is) = (ap (λ (st : Standing). st.line) is.is, ap (λ (st : Standing). st.tables) is.is)
-taken_line old new xid item (inr (done, does)) = (ap (λ (st : Standing). st.line) does.is_own, ap (λ (st : Standing). st.tables) does.is_own)
+pub handed_out_line : (old new : Standing) (xid : ℕ) → IsHandedOut old xid new → SameCommits old new
+handed_out_line old new xid is = (ap (λ (st : Standing). st.tables) is.is, ap (λ (st : Standing). commits_in st.line) is.is ∙ unopened old.line xid)
 
-pub aborted_line : (old new : Standing) (xid : ℕ) → IsAborted old xid new → commits_in new.line ≡ commits_in old.line
-aborted_line old new xid is =
-    ap (λ (st : Standing). commits_in st.line) is.is ∙ flat_map-append past_of old.line (WasAborted xid ∷ []) ∙ append-nil (commits_in old.line)
+pub taken_line : (old new : Standing) (xid : ℕ) (item : Item) → IsTaken old xid item new → SameCommits old new
+taken_line old new xid item (inl is) = (ap (λ (st : Standing). st.tables) is.is, ap (λ (st : Standing). commits_in st.line) is.is)
+taken_line old new xid item (inr (done, does)) = (ap (λ (st : Standing). st.tables) does.is_own, ap (λ (st : Standing). commits_in st.line) does.is_own)
+
+pub aborted_line : (old new : Standing) (xid : ℕ) → IsAborted old xid new → SameCommits old new
+aborted_line old new xid is = (
+  ap (λ (st : Standing). st.tables) is.is,
+  ap (λ (st : Standing). commits_in st.line) is.is ∙ flat_map-append past_of old.line (WasAborted xid ∷ []) ∙ append-nil (commits_in old.line),
+)
 
 -- an item wasn't done: it wasn't given, or it is the leader's own that met another
 pub stops_item : (g : Setting) (rows : Rows) (a b : Led) (p : Progress) (payload : List ℕ) (m : Message) (t : State) (xid : ℕ) (item : Item) (end : End) → Represents g rows a p → Admits g p.state payload m t → KeepsOn g p.state t
@@ -321,17 +377,6 @@ stops_item g rows a b p payload m t xid item end at admits on alone catalog posi
     stops_behind g rows a b p payload m t end at admits on
     (record { catalog = catalog; tables = ap (λ (st : Standing). st.tables) does.is_own; line = ap (λ (st : Standing). commits_in st.line) does.is_own; position = position; written = written })
     (λ more. met.1 more) (λ more. turn_end g t more xid end (inl (alone xid met.0.0 met.0.1 met.0.2)) store)
-
--- a transaction that was to go to a worker: it wasn't opened, or it was and came back
-pub stops_open : (g : Setting) (rows : Rows) (a b : Led) (p : Progress) (payload : List ℕ) (m : Message) (t : State) (told : StreamEvent) (xid : ℕ) (end : End) → Represents g rows a p → Admits g p.state payload m t → KeepsOn g p.state t
-    → b.catalog ≡ a.catalog → b.position ≡ a.position → b.written ≡ a.written → Tells p.state t told → IsWithin g told → Says told (steps.Open xid) → (b.standing ≡ a.standing) ⊎ IsHandedOut a.standing xid b.standing → IsStopEnd end → Stops g b p payload end
-stops_open g rows a b p payload m t told xid end at admits on catalog position written tells within says (inl same) store =
-    stops_before g rows a b p payload end at
-    (record { catalog = catalog; tables = ap (λ (st : Standing). st.tables) same; line = ap (λ (st : Standing). commits_in st.line) same; position = position; written = written }) same store
-stops_open g rows a b p payload m t told xid end at admits on catalog position written tells within says (inr is) store =
-    stops_behind g rows a b p payload m t end at admits on
-    (record { catalog = catalog; tables = ap (λ (st : Standing). st.tables) is.is; line = handed_out_line a.standing b.standing xid is; position = position; written = written })
-    (λ more. all_held g t more b.standing (open_agreed g p.state t told xid a.standing b.standing at.agreed tells within says is)) (λ more. stop_end g t more end store)
 
 -- ---- a commit
 

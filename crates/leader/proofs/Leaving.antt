@@ -41,7 +41,7 @@ use Rattle.run.proofs.Running.{nothing_handled}
 use Rattle.run_laws.specs.Threads.{done_by_commit}
 use Rattle.run_laws.specs.ThreadedRun.{IsThreadedCause}
 use Rattle.run_laws.proofs.Threading.{entries_done, ends_done, changes_told}
-use Rattle.dispatch.specs.Lanes.{Laned, IsHome, AreCounted}
+use Rattle.dispatch.specs.Handle.{HandleModel, IsHome, AreCounted}
 use Rattle.dispatch.specs.Standing.{own_by, goes_by, holds_in, KeepsGiven}
 use Rattle.leader.specs.Threads.{Led, HasCommitted, Represents, AreOpenAtEnd, MayEndBy, HasLedTo}
 use Rattle.leader.specs.Ending.{Hand, IsDecided, HasFinished, AreInHand, AreGiven}
@@ -109,18 +109,18 @@ module _ (g : Setting) (rows : Rows) (old new : DeviceState) (l : Led) (part : S
 
 -- Its open transactions were in hand, and the end was decided: the leader has ended it.
 module _ (g : Setting) (rows : Rows) (old new : DeviceState) (l : Led) (proposed end : End) (over : IsRunOver g (Represents g rows) (HasLedTo g rows) old new l proposed)
-    (valid : IsValid (schema_of g) rows) (begun : Option (OpenList Event)) (lanes : List Laned) (given : List (ℕ × ℕ))
-    (begun_is : option_map own_by begun ≡ l.standing.begun) (lanes_are : map goes_by lanes ≡ l.standing.lanes) (home : All IsHome lanes) (keeps : All KeepsGiven lanes)
-    (counted : AreCounted l.standing.lanes given)
-    (f : HasFinished (schema_of g) rows l.standing.line (option_map own_by begun ∷ map holds_in lanes) given proposed end) where
-  in_hand_at : (s : State) (rest : List CopyItem) → AreOpenAtEnd g s rest l.standing → HasCommitted l s → AreInHand g s rest l.standing.line (option_map own_by begun ∷ map holds_in lanes)
-  in_hand_at s rest left committed = in_hand g s rest l.standing begun lanes left committed.done begun_is lanes_are home keeps
+    (valid : IsValid (schema_of g) rows) (begun : Option (OpenList Event)) (workers : List HandleModel) (given : List (ℕ × ℕ))
+    (begun_is : option_map own_by begun ≡ l.standing.begun) (workers_are : map goes_by workers ≡ l.standing.workers) (home : All IsHome workers) (keeps : All KeepsGiven workers)
+    (counted : AreCounted l.standing.workers given)
+    (f : HasFinished (schema_of g) rows l.standing.line (option_map own_by begun ∷ map holds_in workers) given proposed end) where
+  in_hand_at : (s : State) (rest : List CopyItem) → AreOpenAtEnd g s rest l.standing → HasCommitted l s → AreInHand g s rest l.standing.line (option_map own_by begun ∷ map holds_in workers)
+  in_hand_at s rest left committed = in_hand g s rest l.standing begun workers left committed.done begun_is workers_are home keeps
 
-  at_held : (p : Progress) (rest : List CopyItem) → Represents g rows l p → AreInHand g p.state rest l.standing.line (option_map own_by begun ∷ map holds_in lanes)
+  at_held : (p : Progress) (rest : List CopyItem) → Represents g rows l p → AreInHand g p.state rest l.standing.line (option_map own_by begun ∷ map holds_in workers)
   at_held p rest at = in_hand_at p.state rest (all_held g p.state rest l.standing at.agreed) at.committed
 
   ended_held : (handled : List CopyItem) (p : Progress) (rest : List CopyItem) → HasLedTo g rows l handled p rest proposed
-      → AreInHand g p.state rest l.standing.line (option_map own_by begun ∷ map holds_in lanes) × AreGiven p.state given × MayEndBy g p.state rest proposed
+      → AreInHand g p.state rest l.standing.line (option_map own_by begun ∷ map holds_in workers) × AreGiven p.state given × MayEndBy g p.state rest proposed
   ended_held handled p rest (committed, unclean, left, why) = (in_hand_at p.state rest left committed, are_given g p.state rest l.standing left given counted, why)
 
   pub has_left : (line : List LineEvent) (position : ℕ) → commits_in line ≡ commits_in l.standing.line → position ≡ l.position → LeavesLine g rows old new line position end
@@ -129,8 +129,8 @@ module _ (g : Setting) (rows : Rows) (old new : DeviceState) (l : Led) (proposed
     proposed = proposed;
     over = over;
     world = f.world;
-    is_world = is_world_of g rows (Represents g rows) (HasLedTo g rows) old new l proposed end over valid l.standing.line (option_map own_by begun ∷ map holds_in lanes) given f at_held ended_held;
-    cause = is_cause g rows (Represents g rows) (HasLedTo g rows) old new l proposed end over valid l.standing.line (option_map own_by begun ∷ map holds_in lanes) given f at_held ended_held;
+    is_world = is_world_of g rows (Represents g rows) (HasLedTo g rows) old new l proposed end over valid l.standing.line (option_map own_by begun ∷ map holds_in workers) given f at_held ended_held;
+    cause = is_cause g rows (Represents g rows) (HasLedTo g rows) old new l proposed end over valid l.standing.line (option_map own_by begun ∷ map holds_in workers) given f at_held ended_held;
     committed = f.committed;
     told = told ∙ sym f.commits;
     reached = reached;

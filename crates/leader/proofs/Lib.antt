@@ -1,6 +1,7 @@
 mod Agreeing
 mod Leading
 mod Serving
+mod Asking
 mod Deciding
 mod Held
 mod InHand

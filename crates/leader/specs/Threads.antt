@@ -37,7 +37,7 @@ use Rattle.run.specs.Progress.{Progress, start_progress, commits_from}
 use Rattle.run_laws.specs.Runs.{CommitsNext}
 use Rattle.run_laws.specs.Threads.{work_of, done_by_commit}
 use Rattle.leader.specs.declared.lead.Stream.{Stream}
-use Rattle.dispatch.specs.Lanes.{IsDoing}
+use Rattle.dispatch.specs.Handle.{IsDoing}
 use Rattle.dispatch.specs.Standing.{Standing, items_by, own_of}
 use Rattle.run.specs.Commits.{commit_ends}
 
@@ -82,7 +82,7 @@ AreNamed count transactions =
 
 -- ---- what a state has
 
--- What is there of a transaction is what the state has of it. One with a worker goes by just one lane, with all of its
+-- What is there of a transaction is what the state has of it. One with a worker goes by just one worker, with all of its
 -- items; the leader has done all items of the one that goes directly; of a spooled one nothing is there, nor of one
 -- that isn't open. Just those of which something is there are open in the store.
 abbrev pub IsAssigned : Option Open → List (List Item) → Option Opened → Bool → Type 0
@@ -95,7 +95,7 @@ IsAssigned _ _ _ _ = ⊥
 -- So it is of all.
 abbrev pub AreAssigned : OpenTransactions → Standing → Type 0
 AreAssigned transactions t =
-    (xid : ℕ) → IsAssigned (finite.get transactions xid) (items_by xid t.lanes) (own_of xid t.begun) (is_open_in t.line xid)
+    (xid : ℕ) → IsAssigned (finite.get transactions xid) (items_by xid t.workers) (own_of xid t.begun) (is_open_in t.line xid)
 
 -- Its commits are those of a state, each of a transaction that had done all of its work and nothing else.
 pub record HasCommitted (l : Led) (s : State) : Type 0 where
@@ -130,7 +130,7 @@ abbrev pub KeepsToWork : Setting → State → List CopyItem → ℕ → Open �
 KeepsToWork g s rest xid o done =
     IsDoing done (work_of xid o.way o.items) × (o.way ≡ Spooled → CommitsNext g s rest xid)
 
--- What is there of a transaction where the run ends. One with a worker goes by just one lane, with all of its items. What
+-- What is there of a transaction where the run ends. One with a worker goes by just one worker, with all of its items. What
 -- the leader's own has done is a beginning of its work; a spooled one is the leader's own only once the next message
 -- commits it.
 abbrev pub IsOpenAtEnd : Setting → State → List CopyItem → ℕ → Option Open → List (List Item) → Option Opened → Bool → Type 0
@@ -144,7 +144,7 @@ IsOpenAtEnd g s rest xid _ _ _ _ = ⊥
 -- So it is of all.
 abbrev pub AreOpenAtEnd : Setting → State → List CopyItem → Standing → Type 0
 AreOpenAtEnd g s rest t =
-    (xid : ℕ) → IsOpenAtEnd g s rest xid (finite.get s.transactions xid) (items_by xid t.lanes) (own_of xid t.begun) (is_open_in t.line xid)
+    (xid : ℕ) → IsOpenAtEnd g s rest xid (finite.get s.transactions xid) (items_by xid t.workers) (own_of xid t.begun) (is_open_in t.line xid)
 
 -- It is the turn of this transaction: it was begun, or the next message commits it.
 abbrev pub HasTurn : Setting → State → List CopyItem → ℕ → Type 0

@@ -24,19 +24,25 @@ pub trait Leading<J, W> {
     /// It has led so many, told whether it has all threads, and leaves this.
     ghost lead_gives: { Self → ℕ → Bool → Self.Left → Type 0 };
 
-    /// Leads. It is told whether each desk has a worker, and each watcher a thread.
-    fn lead<R: Wait>(self, rt: &R, mailboxes: &[Mailbox<J>], shop: &W, has_all: bool) -> Self::Left
+    /// Leads. It is told whether each mailbox has a worker, and each watcher a thread.
+    fn lead<R: Wait>(
+        self,
+        rt: &R,
+        mailboxes: &[Mailbox<J>],
+        shared: &W,
+        has_all: bool,
+    ) -> Self::Left
         requires { can_lead self (length mailboxes.now) }
         ensures { lead_gives self (length mailboxes.now) has_all result };
 }
 
-/// Starts a thread for each watcher and a worker for each desk, and lets the leader lead, which tells
+/// Starts a thread for each watcher and a worker for each mailbox, and lets the leader lead, which tells
 /// the watchers the end. It returns when each of them has had its last turn. Without the memory for the
 /// watchers none is started.
 pub fn beside<J, R, W, V, T, X>(
     rt: &R,
     mailboxes: &[Mailbox<J>],
-    shop: &W,
+    shared: &W,
     watching: &Watching,
     watchers: Result<Vec<V>, OutOfMemory>,
     leader: T,
@@ -52,7 +58,7 @@ where
     ensures unwatched { IfErr watchers (λ _. T.lead_gives leader (length mailboxes.now) false result) }
 {
     let Ok(watchers) = watchers else {
-        return beside_workers(rt, mailboxes, shop, leader, false);
+        return beside_workers(rt, mailboxes, shared, leader, false);
     };
     thread::scope(
         thread::scope_env(),
@@ -71,25 +77,20 @@ where
                     break;
                 }
             }
-            beside_workers(rt, mailboxes, shop, leader, are_watching)
+            beside_workers(rt, mailboxes, shared, leader, are_watching)
         },
     )
 }
 
-// Starts a worker for each desk and lets the leader lead, as `with_workers` has it. It is told that it has
-// all threads if those who watch have theirs, and so many desks have a worker as there are.
-fn beside_workers<J, R, W, T, X>(
-    rt: &R,
-    mailboxes: &[Mailbox<J>],
-    shop: &W,
-    leader: T,
-    are_watching: bool,
-) -> X
-where
+// Starts a worker for each mailbox and lets the leader lead, as `with_workers` has it. It is told that it has
+// all threads if those who watch have theirs, and so many mailboxes have a worker as there are.
+fn beside_workers<
     J: Drop + Send,
     R: Threads + Wait + Sync,
     W: Work<J> + Sync,
     T: Leading<J, W, Left = X> + Drop,
+    X,
+>(rt: &R, mailboxes: &[Mailbox<J>], shared: &W, leader: T, are_watching: bool) -> X
     requires { T.can_lead leader (length mailboxes.now) }
     ensures { (serving : ℕ) × T.lead_gives leader (length mailboxes.now) (are_watching && nat_eq serving (length mailboxes.now)) result }
 {
@@ -97,7 +98,7 @@ where
     with_workers(
         rt,
         mailboxes,
-        shop,
+        shared,
         &mut |serving: usize| -> X
             requires { IfNone leader ⊥ × IfSome leader (λ l. T.can_lead l (length mailboxes.now)) }
             ensures { IfSome leader.entry (λ l. T.lead_gives l (length mailboxes.entry.now) (are_watching && nat_eq serving (length mailboxes.entry.now)) result) }
@@ -106,7 +107,7 @@ where
                 unreachable!()
             };
             let has_all = are_watching && serving == mailboxes.len();
-            leader.lead(rt, mailboxes, shop, has_all)
+            leader.lead(rt, mailboxes, shared, has_all)
         },
     )
 }

@@ -19,35 +19,35 @@ use model::Xid;
 use run::End;
 
 /// Ends a run for which this end was proposed: what is open is undone. Answers the end. In hand are the
-/// ticket of the transaction that the leader applied itself, if there is one, and those of the lanes.
-/// `given` is how many items were given to the transactions of the lanes.
+/// ticket of the transaction that the leader applied itself, if there is one, and those of the workers.
+/// `given` is how many items were given to the transactions of the workers.
 ///
 /// Where the input was over, or a change clashed, it is the end of the clash that stopped the store, if
 /// one did and its transaction still wants it. A transaction that waited is asked for again, since
 /// workers still ran when it was found. Where either isn't so any more, memory was refused.
 ///
-/// Of each lane it tells what its type keeps.
+/// Of each worker it tells what its type keeps.
 pub fn finish<N: StoreNames, S: Slot<N> + Drop>(
     store: &mut SharedStore<N>,
     line: &mut Line,
     own: Option<Ticket>,
-    lanes: Vec<S>,
+    workers: Vec<S>,
     given: &[(Xid, u64)],
     proposed: End,
 ) -> End
     requires line { line.old.name ≡ N.line }
     requires own { IfSome own (λ t. t.name ≡ N.tickets) }
-    ensures finished { HasFinished N.schema N.start line.old.list (option_map own_by own ∷ map S.holds lanes.items) given.now proposed result }
-    ensures gone { AreGone store.new.world (option_map own_by own ∷ map S.holds lanes.items) }
+    ensures finished { HasFinished N.schema N.start line.old.list (option_map own_by own ∷ map S.holds workers.items) given.now proposed result }
+    ensures gone { AreGone store.new.world (option_map own_by own ∷ map S.holds workers.items) }
     ensures name { line.new.name ≡ N.line }
     ensures commits { commits_in line.new.list ≡ commits_in line.old.list }
-    ensures keeps { All S.keeps lanes.items }
+    ensures keeps { All S.keeps workers.items }
 {
     let holder = find_holder(store, line, given, proposed);
     store.meet(line);
     store.recall_invariant();
     let stop = store.stop();
-    let noted = undo_all(store, line, own, lanes);
+    let noted = undo_all(store, line, own, workers);
     decide(proposed, stop, holder, noted)
 }
 
@@ -73,19 +73,19 @@ fn undo_all<N: StoreNames, S: Slot<N> + Drop>(
     store: &mut SharedStore<N>,
     line: &mut Line,
     own: Option<Ticket>,
-    lanes: Vec<S>,
+    workers: Vec<S>,
 ) -> Option<Clash>
     requires line { line.old.name ≡ N.line }
     requires own { IfSome own (λ t. t.name ≡ N.tickets) }
-    ensures stood { AreOpenIn store.old.world (option_map own_by own ∷ map S.holds lanes.items) }
-    ensures noted { TellsNoted store.old.world (option_map own_by own ∷ map S.holds lanes.items) result }
-    ensures gone { AreGone store.new.world (option_map own_by own ∷ map S.holds lanes.items) }
+    ensures stood { AreOpenIn store.old.world (option_map own_by own ∷ map S.holds workers.items) }
+    ensures noted { TellsNoted store.old.world (option_map own_by own ∷ map S.holds workers.items) result }
+    ensures gone { AreGone store.new.world (option_map own_by own ∷ map S.holds workers.items) }
     ensures name { line.new.name ≡ N.line }
     ensures commits { commits_in line.new.list ≡ commits_in line.old.list }
-    ensures keeps { All S.keeps lanes.items }
+    ensures keeps { All S.keeps workers.items }
 {
     let mut noted = undo(store, line, own);
-    for slot in lanes {
+    for slot in workers {
         noted = undo(store, line, slot.into_ticket()).or(noted);
     }
     noted

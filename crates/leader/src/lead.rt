@@ -47,11 +47,11 @@ pub struct Lead<'a, N: StoreNames, L: OutboxNames, R: Wait, G: Gate + Drop> {
 }
 
 impl<'a, N: StoreNames, L: OutboxNames, R: Wait, G: Gate + Drop> Lead<'a, N, L, R, G> {
-    ghost use Rattle.dispatch.specs.Lanes.{IsHome, AreCounted};
-    ghost use Rattle.dispatch.specs.Standing.{own_by, goes_by, IsCommitted, HasTried, IsStoreEnd};
+    ghost use Rattle.dispatch.specs.Handle.{IsHome, AreCounted};
+    ghost use Rattle.dispatch.specs.Standing.{own_by, goes_by, IsOurs, IsCommitted, HasTried, IsStoreEnd};
     ghost use Rattle.leader.specs.Threads.{led, after_commit, Represents, RepresentsSome, LeadTakes};
 
-    /// Before the first item: no transaction is open, so many may have a worker, each by a lane, and the
+    /// Before the first item: no transaction is open, so many may have a worker each, and the
     /// spools may keep so many bytes.
     pub fn new(
         alloc: Global,
@@ -62,8 +62,8 @@ impl<'a, N: StoreNames, L: OutboxNames, R: Wait, G: Gate + Drop> Lead<'a, N, L, 
     ) -> Lead<'a, N, L, R, G>
         requires tables { transactions.tables ≡ length catalog.now }
         requires line { transactions.line ≡ [] }
-        requires workers { length transactions.lanes ≡ workers }
-        requires lanes { All (λ goes. goes ≡ None) transactions.lanes }
+        requires workers { length transactions.workers ≡ workers }
+        requires free { All (λ goes. goes ≡ None) transactions.workers }
         requires begun { transactions.begun ≡ None }
         ensures { (rows : Rows) → Represents (setting workers spool catalog.now) rows (led result.stream result.transactions) start_progress }
     {
@@ -82,14 +82,14 @@ impl<'a, N: StoreNames, L: OutboxNames, R: Wait, G: Gate + Drop> Lead<'a, N, L, 
 
     /// What it leaves of its open transactions, and the position that the commits reach. It tells all
     /// workers to give up and waits until they have; that they do, they must still be working.
-    pub fn into_left(self) -> (Left<N, L>, Lsn)
+    pub fn into_left(self) -> (Left<'a, N, L, G>, Lsn)
         ensures name { result.0.line.name ≡ N.line }
         ensures list { result.0.line.list ≡ self.entry.transactions.line }
         ensures tickets { MatchOption result.0.begun (Unit {0}) (λ ticket. ticket.name ≡ N.tickets) }
         ensures begun { option_map own_by result.0.begun ≡ self.entry.transactions.begun }
-        ensures lanes { map goes_by result.0.lanes.items ≡ self.entry.transactions.lanes }
-        ensures home { All IsHome result.0.lanes.items }
-        ensures given { AreCounted self.entry.transactions.lanes result.0.given.items }
+        ensures workers { map goes_by result.0.workers.items ≡ self.entry.transactions.workers }
+        ensures home { All IsHome result.0.workers.items }
+        ensures given { AreCounted self.entry.transactions.workers result.0.given.items }
         ensures position { result.1 ≡ self.entry.stream.position }
     {
         let Lead {
@@ -123,6 +123,7 @@ impl<'a, N: StoreNames, L: OutboxNames, R: Wait, G: Gate + Drop> Lead<'a, N, L, 
     // A transaction commits, and the position with it.
     fn commit(&mut self, xid: Xid, info: CommitInfo, items: Vec<Item>) -> Result<(), End>
         requires named { All (IsOfTables self.old.transactions.tables) items.items }
+        requires ready { IsOurs self.old.transactions xid ⊎ (self.old.transactions.begun ≡ None) }
         requires rising { last_end (ends_in self.old.transactions.line) < info.end }
         ensures commits { OnOk result (IsCommitted self.old.transactions xid info items.items self.new.transactions) }
         ensures ok { OnOk result (led self.new.stream self.new.transactions ≡ after_commit (led self.old.stream self.old.transactions) self.new.transactions info) }

@@ -6,9 +6,9 @@
 // the end of the run; a worker waits for nobody but those that hold a cell, and for its items. Who
 // waits for whom, who wakes it, and in which order locks are taken: docs/architecture.md.
 //
-// Before the leader waits it notes how often the bell was rung, and looks at all that may have moved. It
-// looks too whether the store was stopped, whether nothing more can come, and whether memory was refused
-// to a worker, whose transaction keeps what it holds: each ends the run.
+// Before the leader waits it announces that, and looks at all that may have moved. It looks too whether
+// the store was stopped, whether nothing more can come, and whether memory was refused to a worker, whose
+// transaction keeps what it holds: each ends the run.
 //
 // Those who watch a run read what is committed, each in a thread of its own, and the position that the
 // leader publishes behind each commit. Nobody waits for them but the end of their threads.

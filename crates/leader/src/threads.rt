@@ -8,8 +8,8 @@ ghost use Rattle.run.specs.Devices.{DeviceState, device_state, health};
 ghost use Rattle.run.specs.Handler.{IsRunOver};
 ghost use Rattle.run.specs.Run.{IsRun};
 ghost use Rattle.run.specs.declared.end.End.TheVariants.{OutOfMemory as NoMemory};
-ghost use Rattle.dispatch.specs.Lanes.{IsIdle};
-ghost use Rattle.dispatch.specs.Parts.{IsFresh, HasSlots, ring_of, outbox_of};
+ghost use Rattle.dispatch.specs.Handle.{IsIdle};
+ghost use Rattle.dispatch.specs.Parts.{IsFresh, HasSlots, AreNumbered, ring_of, outbox_of};
 ghost use Rattle.tokens.specs.Half.{no_name};
 ghost use Rattle.leader.specs.Threads.{led, Represents, RepresentsStart, HasLedTo};
 ghost use Rattle.leader.specs.WithWorkers.{LeavesLine, IsRunByWorkers, RunsBy, IsShutSo};
@@ -19,7 +19,11 @@ use crate::ending::finish;
 use crate::lead::Lead;
 use crate::watching::{Audience, Watcher, Watching, make_watchers};
 use catalog::Catalog;
-use dispatch::{Lane, Left, Parts, Places, Positions, Shop, Transactions, make_parts};
+use crossbeam_utils::sync::EventCount;
+use dispatch::{
+    Left, Parts, Positions, Shared, Transactions, WorkerHandle, WorkerPool, make_handles,
+    make_parts,
+};
 use engine::{Line, SharedStore, Store, StoreNames};
 use frames::{Lsn, Sink, Source};
 use model::{OutOfMemory, Xid};
@@ -31,7 +35,7 @@ use std::sync::atomic::AtomicBool;
 use std::sync::{Condvar, Mutex, Wait};
 use std::thread::Threads;
 use worker::{Gate, Job, OutboxNames};
-use worker_threads::{Bell, Mailbox, make_mailboxes};
+use worker_threads::{Mailbox, make_mailboxes};
 
 /// Reads the stream to its end and applies its transactions, streamed ones by workers as their items
 /// come: as many at once as `config` has workers, and gates there are. A streamed transaction more is
@@ -145,15 +149,15 @@ where
 {
     let store = SharedStore::<N>::new(store);
     match make_parts(alloc, gates.len(), config.ring) {
-        Ok(parts) => run_lanes::<N, Brand, R, S, W, C, G, V>(
+        Ok(parts) => run_workers::<N, Brand, R, S, W, C, G, V>(
             rt, alloc, devices, catalog, store, line, config, parts, gates, watchers,
         ),
         Err(_) => shut(store, line, 0, End::OutOfMemory),
     }
 }
 
-// A run by lanes that have names: one for each gate, with as many slots as `config` says.
-fn run_lanes<N, L, R, S, W, C, G, V>(
+// A run by workers that have names: one for each gate, with as many slots as `config` says.
+fn run_workers<N, L, R, S, W, C, G, V>(
     rt: &R,
     alloc: Global,
     devices: &mut Devices<S, W, C>,
@@ -186,10 +190,10 @@ where
     ensures { IsRunByWorkers (setting (length gates.items) config.now.spool catalog.now) N.start devices.old devices.new result }
 {
     let mailboxes = make_mailboxes::<Job<N, L>>(alloc, gates.len());
-    let places = Places::<N, L, G>::new(alloc, parts, gates);
+    let pool = WorkerPool::<N, L, G>::new(alloc, parts, gates);
     let audience = Audience::new(alloc, watchers);
-    match (mailboxes, places, audience) {
-        (Ok(mailboxes), Ok(places), Ok(audience)) => run_places(
+    match (mailboxes, pool, audience) {
+        (Ok(mailboxes), Ok(pool), Ok(audience)) => run_pool(
             rt,
             alloc,
             devices,
@@ -198,15 +202,15 @@ where
             line,
             config.spool,
             mailboxes,
-            places,
+            pool,
             audience,
         ),
         _ => shut(store, line, 0, End::OutOfMemory),
     }
 }
 
-// A run for which all memory was taken, by a worker for each desk.
-fn run_places<N, L, R, S, W, C, G, V>(
+// A run by a pool of workers, with a mailbox for each.
+fn run_pool<N, L, R, S, W, C, G, V>(
     rt: &R,
     alloc: Global,
     devices: &mut Devices<S, W, C>,
@@ -215,7 +219,7 @@ fn run_places<N, L, R, S, W, C, G, V>(
     line: Line,
     spool: u64,
     mailboxes: Vec<Mailbox<Job<N, L>>>,
-    places: Places<N, L, G>,
+    pool: WorkerPool<N, L, G>,
     audience: Audience<V>,
 ) -> Outcome
 where
@@ -229,26 +233,29 @@ where
     V: Watch + Drop + Send,
     requires name { line.name ≡ N.line }
     requires none { line.list ≡ [] }
-    requires free { All IsIdle places.lanes.items }
-    requires lanes { length places.lanes.items ≡ length mailboxes.items }
-    requires seats { length places.seats.items ≡ length mailboxes.items }
-    requires given { length places.given.items ≡ length mailboxes.items }
+    requires numbered { AreNumbered 0 pool.ends.items × AreNumbered 0 pool.shared.items }
+    requires ends { length pool.ends.items ≡ length mailboxes.items }
+    requires shared { length pool.shared.items ≡ length mailboxes.items }
+    requires given { length pool.given.items ≡ length mailboxes.items }
     requires keys { N.schema ≡ map keys_of catalog.now }
     requires valid { IsValid N.schema N.start }
     ensures { IsRunByWorkers (setting (length mailboxes.items) spool catalog.now) N.start devices.old devices.new result }
 {
-    let Places {
-        seats,
-        lanes,
+    let WorkerPool {
+        shared: workers,
+        ends,
         given,
-    } = places;
-    let shop = Shop {
+    } = pool;
+    let shared = Shared {
         alloc,
         store: Mutex::new(store),
         changed: Condvar::new(),
-        seats,
-        bell: Bell::new(),
+        workers,
+        moved: EventCount::new(),
         refused: AtomicBool::new(false),
+    };
+    let Ok(workers) = make_handles(alloc, ends, &shared.workers, &mailboxes) else {
+        return shut_shared(shared, line, 0, End::OutOfMemory);
     };
     let Audience {
         watches,
@@ -260,17 +267,16 @@ where
     let watching = Watching::new(origin);
     let opening = Opening {
         line,
-        lanes,
+        workers,
         given,
         positions: Positions::new(&watching.origin, publisher),
         watching: &watching,
     };
-    let watchers = make_watchers(rt, alloc, &shop.store, &watching.origin, loader, watches);
+    let watchers = make_watchers(rt, alloc, &shared.store, &watching.origin, loader, watches);
     let (end, line, position) = lead_beside(
-        rt, alloc, devices, catalog, spool, &mailboxes, &shop, opening, watchers,
+        rt, alloc, devices, catalog, spool, &mailboxes, &shared, opening, watchers,
     );
-    let Shop { store, .. } = shop;
-    shut(store.into_inner(), line, position, end)
+    shut_shared(shared, line, position, end)
 }
 
 // Leads a run while its workers work and others watch. Answers its end, the line, and the position that
@@ -282,8 +288,8 @@ fn lead_beside<N, L, R, S, W, C, G, V>(
     catalog: &Catalog,
     spool: u64,
     mailboxes: &[Mailbox<Job<N, L>>],
-    shop: &Shop<N, L, G>,
-    opening: Opening<'_, N, L>,
+    shared: &Shared<N, L, G>,
+    opening: Opening<'_, N, L, G>,
     watchers: Result<Vec<Watcher<'_, N, V>>, OutOfMemory>,
 ) -> (End, Line, Lsn)
 where
@@ -298,8 +304,8 @@ where
     requires name { opening.line.name ≡ N.line }
     requires none { opening.line.list ≡ [] }
     requires unpublished { opening.positions ≡ [] }
-    requires free { All IsIdle opening.lanes.items }
-    requires lanes { length opening.lanes.items ≡ length mailboxes.now }
+    requires free { All IsIdle opening.workers.items }
+    requires workers { length opening.workers.items ≡ length mailboxes.now }
     requires keys { N.schema ≡ map keys_of catalog.now }
     requires valid { IsValid N.schema N.start }
     ensures name { result.1.name ≡ N.line }
@@ -313,7 +319,7 @@ where
         spool,
         opening,
     };
-    let (devices, end, line, position) = beside(rt, mailboxes, shop, watching, watchers, leader);
+    let (devices, end, line, position) = beside(rt, mailboxes, shared, watching, watchers, leader);
     take_again(devices);
     (end, line, position)
 }
@@ -325,25 +331,25 @@ fn take_again<D>(devices: &mut D)
 
 // What a leader of a run leads with.
 #[derive(Drop)]
-struct Leader<'a, N: StoreNames, L: OutboxNames, S: Source, W: Sink, C: Clock> {
+struct Leader<'a, N: StoreNames, L: OutboxNames, G: Drop, S: Source, W: Sink, C: Clock> {
     alloc: Global,
     devices: &'a mut Devices<S, W, C>,
     catalog: &'a Catalog,
     spool: u64,
-    opening: Opening<'a, N, L>,
+    opening: Opening<'a, N, L, G>,
 }
 
-// The line of a new store, lanes to which nothing was given, and what is told to those who watch.
+// The line of a new store, workers to which nothing was given, and what is told to those who watch.
 #[derive(Drop)]
-struct Opening<'a, N: StoreNames, L: OutboxNames> {
+struct Opening<'a, N: StoreNames, L: OutboxNames, G: Drop> {
     line: Line,
-    lanes: Vec<Lane<N, L>>,
+    workers: Vec<WorkerHandle<'a, N, L, G>>,
     given: Vec<(Xid, u64)>,
     positions: Positions<'a>,
     watching: &'a Watching,
 }
 
-impl<'a, N, L, S, W, C, G> Leading<Job<N, L>, Shop<N, L, G>> for Leader<'a, N, L, S, W, C>
+impl<'a, N, L, S, W, C, G> Leading<Job<N, L>, Shared<N, L, G>> for Leader<'a, N, L, G, S, W, C>
 where
     N: StoreNames,
     L: OutboxNames,
@@ -355,14 +361,14 @@ where
     ghost use Rattle.std.specs.Prelude.{◌≡◌, [], All, false, length, map};
     ghost use Rattle.model.specs.Rows.{keys_of, IsValid};
     ghost use Rattle.run.specs.declared.end.End.TheVariants.{OutOfMemory as NoMemory};
-    ghost use Rattle.dispatch.specs.Lanes.{IsIdle};
+    ghost use Rattle.dispatch.specs.Handle.{IsIdle};
     ghost use Rattle.leader.specs.WithWorkers.{LeavesLine};
     ghost use Rattle.session.specs.State.{setting};
 
     type Left = (&'a mut Devices<S, W, C>, End, Line, Lsn);
 
     ghost can_lead = { λ l n. (l.opening.line.name ≡ N.line) × (l.opening.line.list ≡ []) × (l.opening.positions ≡ [])
-        × All IsIdle l.opening.lanes.items × (length l.opening.lanes.items ≡ n) × (N.schema ≡ map keys_of l.catalog.now) × IsValid N.schema N.start };
+        × All IsIdle l.opening.workers.items × (length l.opening.workers.items ≡ n) × (N.schema ≡ map keys_of l.catalog.now) × IsValid N.schema N.start };
 
     ghost lead_gives = { λ l n has_all left. (left.0.ghost_name ≡ l.devices.ghost_name) × (left.2.name ≡ N.line)
         × (has_all ≡ false → (left.1 ≡ NoMemory) × (left.0.now ≡ l.devices.now))
@@ -372,7 +378,7 @@ where
         self,
         rt: &R,
         mailboxes: &[Mailbox<Job<N, L>>],
-        shop: &Shop<N, L, G>,
+        shared: &Shared<N, L, G>,
         has_all: bool,
     ) -> (&'a mut Devices<S, W, C>, End, Line, Lsn) {
         let Leader {
@@ -383,7 +389,15 @@ where
             opening,
         } = self;
         let (end, line, position) = lead_all(
-            rt, alloc, devices, catalog, spool, mailboxes, shop, opening, has_all,
+            rt,
+            alloc,
+            devices,
+            catalog,
+            spool,
+            mailboxes.len(),
+            shared,
+            opening,
+            has_all,
         );
         (devices, end, line, position)
     }
@@ -398,9 +412,9 @@ fn lead_all<'a, N, L, R, S, W, C, G>(
     devices: &mut Devices<S, W, C>,
     catalog: &'a Catalog,
     spool: u64,
-    mailboxes: &'a [Mailbox<Job<N, L>>],
-    shop: &'a Shop<N, L, G>,
-    opening: Opening<'a, N, L>,
+    workers: usize,
+    shared: &'a Shared<N, L, G>,
+    opening: Opening<'a, N, L, G>,
     has_all: bool,
 ) -> (End, Line, Lsn)
 where
@@ -414,35 +428,35 @@ where
     requires name { opening.line.name ≡ N.line }
     requires none { opening.line.list ≡ [] }
     requires unpublished { opening.positions ≡ [] }
-    requires free { All IsIdle opening.lanes.items }
-    requires lanes { length opening.lanes.items ≡ length mailboxes.now }
+    requires free { All IsIdle opening.workers.items }
+    requires workers { length opening.workers.items ≡ workers }
     requires keys { N.schema ≡ map keys_of catalog.now }
     requires valid { IsValid N.schema N.start }
     ensures name { result.1.name ≡ N.line }
     ensures unread { has_all ≡ false → (result.0 ≡ NoMemory) × (devices.new ≡ devices.old) }
-    ensures ends { LeavesLine (setting (length mailboxes.now) spool catalog.now) N.start devices.old devices.new result.1.list result.2 result.0 }
+    ensures ends { LeavesLine (setting workers spool catalog.now) N.start devices.old devices.new result.1.list result.2 result.0 }
 {
     let Opening {
         line,
-        lanes,
+        workers: handles,
         given,
         positions,
         watching,
     } = opening;
-    let transactions = Transactions::new(rt, shop, mailboxes, line, lanes, given, positions);
-    let mut lead = Lead::new(alloc, catalog, mailboxes.len(), spool, transactions);
+    let transactions = Transactions::new(rt, shared, line, handles, given, positions);
+    let mut lead = Lead::new(alloc, catalog, workers, spool, transactions);
     let proposed = lead_stream(alloc, devices, &mut lead, has_all);
     let (left, position) = lead.into_left();
     let Left {
         mut line,
         begun,
-        lanes,
+        workers: handles,
         given,
     } = left;
-    let mut store = shop.store.lock(rt);
-    let end = finish(&mut *store, &mut line, begun, lanes, &given, proposed);
+    let mut store = shared.store.lock(rt);
+    let end = finish(&mut *store, &mut line, begun, handles, &given, proposed);
     drop(store);
-    watching.signal_end(rt);
+    watching.signal_end();
     (end, line, position)
 }
 
@@ -473,6 +487,22 @@ where
         Ok(()) => End::Clean,
         Err(end) => end,
     }
+}
+
+// What a run leaves whose store was shared.
+fn shut_shared<N: StoreNames, L: OutboxNames, G: Drop>(
+    shared: Shared<N, L, G>,
+    line: Line,
+    position: Lsn,
+    end: End,
+) -> Outcome
+    requires { line.name ≡ N.line }
+    ensures shut { IsShutSo N.schema N.start line.list result }
+    ensures position { result.position ≡ position }
+    ensures end { result.end ≡ end }
+{
+    let Shared { store, .. } = shared;
+    shut(store.into_inner(), line, position, end)
 }
 
 // What a run leaves: all that is still open is undone.

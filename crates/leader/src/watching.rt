@@ -6,14 +6,15 @@
 ghost use Rattle.std.specs.Prelude.{◌≡◌, [], IfOk, length};
 ghost use Rattle.origin.specs.Commits.{commits_of};
 
+use crossbeam_utils::sync::EventCount;
 use engine::{SharedStore, StoreNames};
 use model::OutOfMemory;
 use origin::{Loader, Origin, Publisher};
 use snapshot::{Reader, Watch};
 use std::alloc::Global;
+use std::sync::atomic::{AtomicBool, Ordering};
 use std::sync::{Mutex, Wait};
 use std::thread;
-use worker_threads::Bell;
 
 /// Those who are to watch a run, and the position that it is to publish.
 #[derive(Drop)]
@@ -56,7 +57,9 @@ impl Watch for NoWatch {
 #[derive(Drop)]
 pub struct Watching {
     pub origin: Origin,
-    ended: Bell,
+    has_ended: AtomicBool,
+    /// Wakes those who wait for the end.
+    ended: EventCount,
 }
 
 impl Watching {
@@ -66,21 +69,29 @@ impl Watching {
     {
         Watching {
             origin,
-            ended: Bell::new(),
+            has_ended: AtomicBool::new(false),
+            ended: EventCount::new(),
         }
     }
 
     /// Tells that the run has ended: no transaction is open.
-    pub fn signal_end<R: Wait>(&self, rt: &R) {
-        self.ended.ring(rt);
+    pub fn signal_end(&self) {
+        self.has_ended.store(true, Ordering::SeqCst);
+        self.ended.notify_all();
     }
 
-    fn has_ended<R: Wait>(&self, rt: &R) -> bool {
-        self.ended.rung(rt) > 0
+    fn has_ended(&self) -> bool {
+        self.has_ended.load(Ordering::SeqCst)
     }
 
     fn wait_end<R: Wait>(&self, rt: &R) {
-        self.ended.wait_past(rt, 0);
+        for _ in rt.forever() {
+            let key = self.ended.prepare_wait();
+            if self.has_ended() {
+                return;
+            }
+            key.wait(rt);
+        }
     }
 }
 
@@ -130,7 +141,7 @@ impl<'a, N: StoreNames, V: Watch + Drop> Turn for Watcher<'a, N, V> {
 /// Gives a watcher its turns.
 pub fn give_turns<T: Turn + Drop, R: Wait>(rt: &R, watching: &Watching, mut watcher: T) {
     for _ in rt.forever() {
-        if watching.has_ended(rt) || !watcher.turn(rt) {
+        if watching.has_ended() || !watcher.turn(rt) {
             break;
         }
         thread::yield_now();

@@ -14,7 +14,7 @@ pub returns-clause-finished : goal.returns-clause-finished
 returns-clause-finished g c =
     let e = c.meet.new.self in
     let line_is : e.line ≡ c.args.line.now = ap (λ (x : Engine). x.line) c.meet.ensures.same ∙ sym c.meet.ensures.met in
-    let hand = option_map own_by c.args.own ∷ map g.S.Slot.holds c.args.lanes.items in
+    let hand = option_map own_by c.args.own ∷ map g.S.Slot.holds c.args.workers.items in
     record {
       world = e.world;
       reached = subst (λ (x : Engine). ∥ Reaches g.N.StoreNames.schema (starting g.N.StoreNames.start) x.world ∥₁) (sym c.meet.ensures.same) c.meet.ensures.reached;

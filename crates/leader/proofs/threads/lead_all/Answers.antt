@@ -5,7 +5,7 @@ use Rattle.std.proofs.lemmas.List.Elements.{All-map}
 use Rattle.model.specs.Rows.{Schema, IsValid}
 use Rattle.engine.specs.declared.events.LineEvent.{LineEvent}
 use Rattle.engine.specs.Events.{commits_in}
-use Rattle.dispatch.specs.Lanes.{AreCounted}
+use Rattle.dispatch.specs.Handle.{AreCounted}
 use Rattle.dispatch.specs.Standing.{Standing, own_by, goes_by, holds_in}
 use Rattle.leader.specs.Threads.{led}
 use Rattle.leader.specs.Ending.{HasFinished}
@@ -15,15 +15,15 @@ use Rattle.leader.proofs.threads.lead_all.Goals as goal
 
 pub new-lead-requires-clause-workers : goal.new-lead-requires-clause-workers
 new-lead-requires-clause-workers g c =
-    ap (λ (t : Standing). length t.lanes) c.new-transactions.ensures ∙ length-map c.args.opening.lanes.items goes_by ∙ c.requires.lanes
+    ap (λ (t : Standing). length t.workers) c.new-transactions.ensures ∙ length-map c.args.opening.workers.items goes_by ∙ c.requires.workers
 
-pub new-lead-requires-clause-lanes : goal.new-lead-requires-clause-lanes
-new-lead-requires-clause-lanes g c =
-    subst (All (λ goes. goes ≡ None)) (sym (ap (λ (t : Standing). t.lanes) c.new-transactions.ensures))
-    (All-map (λ goes. goes ≡ None) goes_by c.args.opening.lanes.items (λ k d lt. (c.requires.free k d lt).0))
+pub new-lead-requires-clause-free : goal.new-lead-requires-clause-free
+new-lead-requires-clause-free g c =
+    subst (All (λ goes. goes ≡ None)) (sym (ap (λ (t : Standing). t.workers) c.new-transactions.ensures))
+    (All-map (λ goes. goes ≡ None) goes_by c.args.opening.workers.items (λ k d lt. (c.requires.free k d lt).0))
 
 pub lead_stream-proposed-requires : goal.lead_stream-proposed-requires
-lead_stream-proposed-requires g c = (setting (length c.args.mailboxes.now) c.args.spool c.args.catalog.now, g.N.StoreNames.start, c.new-lead.ensures g.N.StoreNames.start)
+lead_stream-proposed-requires g c = (setting c.args.workers c.args.spool c.args.catalog.now, g.N.StoreNames.start, c.new-lead.ensures g.N.StoreNames.start)
 
 pub returns-clause-unread : goal.returns-clause-unread
 returns-clause-unread g c = λ told.
@@ -32,7 +32,7 @@ returns-clause-unread g c = λ told.
 
 pub returns-clause-ends : goal.returns-clause-ends
 returns-clause-ends g c =
-    let s = setting (length c.args.mailboxes.now) c.args.spool c.args.catalog.now in
+    let s = setting c.args.workers c.args.spool c.args.catalog.now in
     let start = g.N.StoreNames.start in
     let read = c.lead_stream-proposed in
     let l = led read.new.lead.stream read.new.lead.transactions in
@@ -40,9 +40,9 @@ returns-clause-ends g c =
     let left_so = c.into_left-left.ensures in
     let end = c.finish-end in
     has_left s start c.args.devices.now read.new.devices l read.result end.result (read.ensures.over s start (c.new-lead.ensures start))
-    (subst (λ (keys : Schema). IsValid keys start) c.requires.keys c.requires.valid) left.begun left.lanes.items c.deref.result.now
-    left_so.begun left_so.lanes left_so.home end.ensures.keeps (subst (AreCounted read.new.lead.transactions.lanes) (sym c.deref.ensures.value) left_so.given)
-    (subst (λ (keys : Schema). HasFinished keys start read.new.lead.transactions.line (option_map own_by left.begun ∷ map holds_in left.lanes.items) c.deref.result.now read.result end.result) c.requires.keys
-    (subst (λ (events : List LineEvent). HasFinished g.N.StoreNames.schema start events (option_map own_by left.begun ∷ map holds_in left.lanes.items) c.deref.result.now read.result end.result) left_so.list
+    (subst (λ (keys : Schema). IsValid keys start) c.requires.keys c.requires.valid) left.begun left.workers.items c.deref.result.now
+    left_so.begun left_so.workers left_so.home end.ensures.keeps (subst (AreCounted read.new.lead.transactions.workers) (sym c.deref.ensures.value) left_so.given)
+    (subst (λ (keys : Schema). HasFinished keys start read.new.lead.transactions.line (option_map own_by left.begun ∷ map holds_in left.workers.items) c.deref.result.now read.result end.result) c.requires.keys
+    (subst (λ (events : List LineEvent). HasFinished g.N.StoreNames.schema start events (option_map own_by left.begun ∷ map holds_in left.workers.items) c.deref.result.now read.result end.result) left_so.list
     end.ensures.finished))
     end.new.line.list c.into_left-left.result.1 (end.ensures.commits ∙ ap commits_in left_so.list) left_so.position

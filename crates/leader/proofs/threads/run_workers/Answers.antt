@@ -1,7 +1,7 @@
 use Rattle.std.proofs.Common.{length}
 use Rattle.session.specs.State.{setting}
 use Rattle.leader.proofs.Leaving.{none_run}
-use Rattle.leader.proofs.threads.run_lanes.Goals as goal
+use Rattle.leader.proofs.threads.run_workers.Goals as goal
 
 pub returns-in_default : goal.returns-in_default
 returns-in_default g c =

@@ -1,5 +1,5 @@
 use Rattle.dispatch.proofs.Giving.{whose}
-use Rattle.dispatch.proofs.lanes.Lane.is_away.Goals as goal
+use Rattle.dispatch.proofs.handle.WorkerHandle.is_away.Goals as goal
 
 pub returns : goal.returns
 returns g c =

@@ -1,6 +1,6 @@
 use Rattle.std.proofs.Common.{sym, ◌∙◌}
 use Rattle.dispatch.proofs.Giving.{free_here, away_here}
-use Rattle.dispatch.proofs.lanes.Lane.is_free.Goals as goal
+use Rattle.dispatch.proofs.handle.WorkerHandle.is_free.Goals as goal
 
 pub returns-then-is_some : goal.returns-then-is_some
 returns-then-is_some g c =

@@ -1,12 +1,12 @@
 use Rattle.std.proofs.Common.{Some, refl, sym, subst, ◌∙◌}
-use Rattle.dispatch.specs.Lanes.{going, IsLane, HasCount}
+use Rattle.dispatch.specs.Handle.{going, IsHandle, HasCount}
 use Rattle.dispatch.proofs.Giving.{taken_out, emptied}
-use Rattle.dispatch.proofs.lanes.Lane.take_back.Goals as goal
+use Rattle.dispatch.proofs.handle.WorkerHandle.take_back.Goals as goal
 
 pub invariant_of-self : goal.invariant_of-self
 invariant_of-self g c =
     let l = c.self.inside in
-    subst (λ ticket. IsLane (g.L.RingNames.ring l.number) (g.L.OutboxNames.outbox l.number) g.N.StoreNames.tickets l.xid l.token l.taker ticket l.collected
+    subst (λ ticket. IsHandle (g.L.RingNames.ring l.number) (g.L.OutboxNames.outbox l.number) g.N.StoreNames.tickets l.xid l.token l.taker ticket l.collected
     × HasCount (going l.xid l.token.list l.taker ticket) (l.xid, l.count)) (sym c.take.ensures.value ∙ c.in_err-ticket.was ∙ sym c.take.ensures.after) c.self.invariant
 
 pub invariant_of-self-2 : goal.invariant_of-self-2

@@ -1,7 +1,7 @@
 use Rattle.std.proofs.Common.{◌≡◌, refl, rules}
 use Rattle.worker.specs.declared.outbox.Collected.TheVariants.{All as WasAll}
 use Rattle.dispatch.proofs.Giving.{has_all}
-use Rattle.dispatch.proofs.lanes.Lane.take_done.Goals as goal
+use Rattle.dispatch.proofs.handle.WorkerHandle.take_done.Goals as goal
 
 pub returns-clause-taken : goal.returns-clause-taken
 returns-clause-taken g c =

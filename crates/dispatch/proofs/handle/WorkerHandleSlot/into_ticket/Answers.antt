@@ -1,6 +1,6 @@
 use Rattle.std.proofs.Common.{refl}
 use Rattle.dispatch.proofs.Giving.{held_in}
-use Rattle.dispatch.proofs.lanes.LaneSlot.into_ticket.Goals as goal
+use Rattle.dispatch.proofs.handle.WorkerHandleSlot.into_ticket.Goals as goal
 
 pub returns-clause-belongs : goal.returns-clause-belongs
 returns-clause-belongs g c =

@@ -1,6 +1,6 @@
 use Rattle.std.proofs.Common.{◌≡◌}
 use Rattle.model.specs.declared.item.Item.TheVariants.{Change}
-use Rattle.dispatch.specs.Lanes.{done_by}
+use Rattle.dispatch.specs.Handle.{done_by}
 use Rattle.dispatch.specs.Standing.{IsUndone}
 use Rattle.dispatch.proofs.transactions.Transactions.do_change.Given as goal
 

@@ -1,10 +1,12 @@
 use Rattle.std.proofs.Common.{refl, ◌∙◌}
-use Rattle.dispatch.proofs.Turning.{found, committed_by}
+use Rattle.dispatch.proofs.Turning.{in_place, goes_here, committed_by}
 use Rattle.dispatch.proofs.transactions.Transactions.settle.Goals as goal
 
 pub returns-clause-ok : goal.returns-clause-ok
 returns-clause-ok g c =
     let t = c.self.inside in
-    let at = found t.lanes.items c.args.index c.get_mut.result c.in_ok-lane.lane c.in_ok-lane.ensures.ok_part c.get_mut.ensures.item in
-    committed_by _ t.line.list t.lanes.items c.args.index t.begun c.args.self.now c.self.view_is c.in_ok-lane.lane.now c.take_done.new.self at.0 at.1
-    c.note.new.self _ g.N.StoreNames.tickets c.in-Some.ticket c.args.xid c.args.info (c.note.ensures ∙ c.commit_ticket.ensures) refl c.if-not-has.ensures c.in-Some.ensures.taken
+    let worker = c.index_mut.result.now in
+    let within = in_place _ t.line.list t.workers.items c.args.index t.begun c.args.self.now c.self.view_is c.args.xid c.requires.goes in
+    let goes = goes_here _ t.line.list t.workers.items c.args.index t.begun c.args.self.now c.self.view_is c.args.xid c.requires.goes worker c.index_mut.ensures.value in
+    committed_by _ t.line.list t.workers.items c.args.index t.begun c.args.self.now c.self.view_is worker c.take_done.new.self within c.index_mut.ensures.value
+    c.note.new.self _ g.N.StoreNames.tickets c.in-Some.ticket c.args.xid c.args.info (c.note.ensures ∙ c.commit_ticket.ensures) refl goes c.in-Some.ensures.taken

@@ -13,7 +13,7 @@ returns g c = λ rows. record {
   tables = c.requires.tables;
   session = c.new.ensures (setting c.args.workers c.args.spool c.args.catalog.now) refl refl;
   named = λ xid o there. let none : None ≡ Some o = sym (finite.get-empty nat_cmp xid) ∙ there in absurd cc;
-  agreed = start_agreed c.args.transactions c.requires.line c.requires.lanes c.requires.begun;
+  agreed = start_agreed c.args.transactions c.requires.line c.requires.free c.requires.begun;
   committed = record { commits = ap numbers_in c.requires.line; done = ap commits_in c.requires.line; position = refl };
   reached = refl;
   seen = refl;

@@ -1,6 +1,6 @@
 use Rattle.std.proofs.Common.{refl, sym, ◌∙◌}
 use Rattle.dispatch.proofs.Giving.{opened}
-use Rattle.dispatch.proofs.lanes.Lane.open.Goals as goal
+use Rattle.dispatch.proofs.handle.WorkerHandle.start.Goals as goal
 
 pub invariant_of-self : goal.invariant_of-self
 invariant_of-self g c =

@@ -1,5 +1,5 @@
 use Rattle.std.proofs.Common.{◌≡◌}
-use Rattle.dispatch.proofs.transactions.Transactions.wait_done.Given as goal
+use Rattle.dispatch.proofs.transactions.Transactions.finish.Given as goal
 
 abbrev pub invariant-loop : goal.invariant-loop
 invariant-loop g l = l.self ≡ l.initial.self
