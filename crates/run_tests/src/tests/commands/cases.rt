@@ -15,8 +15,8 @@ use testing::asserts::assert_same;
 /// A stream and its report.
 struct Case {
     name: &'static str,
-    /// Whether `ROWS` come first.
-    has_rows: bool,
+    /// The payloads that come first.
+    opening: &'static [&'static str],
     payloads: &'static [&'static str],
     spool: u64,
     /// Workers, or their schedule, may make it another one.
@@ -40,11 +40,54 @@ static ROWS: [&str; 5] = [
     "4300000000000000010000000000000001400000000000000000",
 ];
 
+/// S(700,1) 700:R 700:I(1,a,n) 711:I(2,b,n)
+static TWO_INSERTS: [&str; 4] = [
+    "53000002bc01",
+    "52000002bc000040017075626c6963006163636f756e7473006400030169640000000017ffffffff00656d61696c0000000019ffffffff006e6f74650000000019ffffffff",
+    "49000002bc000040014e000374000000013174000000016174000000016e",
+    "49000002c7000040014e000374000000013274000000016274000000016e",
+];
+
+/// E A(700,711) S(700,0) 700:I(3,c,n) E c(700,0/200,0/220)
+static ROLLED_BACK_AND_GONE_ON: [&str; 6] = [
+    "45",
+    "41000002bc000002c700000000000000000000000000000000",
+    "53000002bc00",
+    "49000002bc000040014e000374000000013374000000016374000000016e",
+    "45",
+    "63000002bc00000000000000020000000000000002200000000000000000",
+];
+
+/// P S(700,1) 700:D(1) E S(701,1) 701:I(3,a,n) E
+static MOVED_EMAIL: [&str; 11] = [
+    "4200000000000001000000000000000000000001f4",
+    ACCOUNTS,
+    "49000040014e000374000000013174000000016174000000016e",
+    "49000040014e000374000000013274000000016274000000016e",
+    "4300000000000000010000000000000001400000000000000000",
+    "53000002bc01",
+    "44000002bc000040014b00037400000001316e6e",
+    "45",
+    "53000002bd01",
+    "49000002bd000040014e000374000000013374000000016174000000016e",
+    "45",
+];
+
+/// What most cases have.
+const PLAIN: Case = Case {
+    name: "",
+    opening: &[],
+    payloads: &[],
+    spool: SPOOL,
+    without_workers: false,
+    report: "",
+    status: 0,
+};
+
 static CASES: [Case; 28] = [
     // B(900,0/100) R I(1,a,n) I(2,b,NULL) I(3,NULL,) C(0/100,0/120)
     Case {
         name: "nulls and empty texts",
-        has_rows: false,
         payloads: &[
             "420000000000000100000000000000000000000384",
             ACCOUNTS,
@@ -53,28 +96,25 @@ static CASES: [Case; 28] = [
             "49000040014e00037400000001336e7400000000",
             "4300000000000000010000000000000001200000000000000000",
         ],
-        spool: SPOOL,
-        without_workers: false,
         report: "table public.accounts 3\n1|a|n\n2|b|\\N\n3|\\N|\nposition 0/120\nend 0 Clean\n",
-        status: 0,
+        ..PLAIN
     },
     // P B(600,0/130) C(0/130,0/140)
     Case {
         name: "a commit that is not newer",
-        has_rows: true,
+        opening: &ROWS,
         payloads: &[
             "420000000000000130000000000000000000000258",
             "4300000000000000013000000000000001400000000000000000",
         ],
-        spool: SPOOL,
-        without_workers: false,
         report: "table public.accounts 2\n1|a|n\n2|b|n\nposition 0/140\nend 3 Session OldCommit\n",
         status: 2,
+        ..PLAIN
     },
     // P B(600,0/200) I(3,NULL,n) I(4,NULL,n) C(0/200,0/220) B(601,0/300) I(5,b,n) C(0/300,0/320)
     Case {
         name: "two nulls in a unique key, then a clash",
-        has_rows: true,
+        opening: &ROWS,
         payloads: &[
             "420000000000000200000000000000000000000258",
             "49000040014e00037400000001336e74000000016e",
@@ -84,203 +124,162 @@ static CASES: [Case; 28] = [
             "49000040014e000374000000013574000000016274000000016e",
             "4300000000000000030000000000000003200000000000000000",
         ],
-        spool: SPOOL,
-        without_workers: false,
         report: "table public.accounts 4\n1|a|n\n2|b|n\n3|\\N|n\n4|\\N|n\nposition 0/220\nend 5 Unique public.accounts 1\n",
         status: 3,
+        ..PLAIN
     },
     // P B(600,0/200) U(K:1;9,a,u) C(0/200,0/220)
     Case {
         name: "an update that moves a key",
-        has_rows: true,
+        opening: &ROWS,
         payloads: &[
             "420000000000000200000000000000000000000258",
             "55000040014b00037400000001316e6e4e000374000000013974000000016175",
             "4300000000000000020000000000000002200000000000000000",
         ],
-        spool: SPOOL,
-        without_workers: false,
         report: "table public.accounts 2\n2|b|n\n9|a|n\nposition 0/220\nend 0 Clean\n",
-        status: 0,
+        ..PLAIN
     },
     // w:62
     Case {
         name: "a two-phase message",
-        has_rows: false,
         payloads: &["62"],
-        spool: SPOOL,
-        without_workers: false,
         report: "table public.accounts 0\nposition 0/0\nend 2 Msg TwoPhase\n",
         status: 2,
+        ..PLAIN
     },
     // P B(600,0/200) U(7,g,v) C(0/200,0/220)
     Case {
         name: "an update of a missing row",
-        has_rows: true,
+        opening: &ROWS,
         payloads: &[
             "420000000000000200000000000000000000000258",
             "55000040014e0003740000000137740000000167740000000176",
             "4300000000000000020000000000000002200000000000000000",
         ],
-        spool: SPOOL,
-        without_workers: false,
         report: "table public.accounts 2\n1|a|n\n2|b|n\nposition 0/220\nend 0 Clean\n",
-        status: 0,
+        ..PLAIN
     },
     // P B(600,0/200) I(+07,\N,) C(0/200,0/220)
     Case {
         name: "an insert with escapes",
-        has_rows: true,
+        opening: &ROWS,
         payloads: &[
             "420000000000000200000000000000000000000258",
             "49000040014e000374000000032b303774000000025c4e7400000000",
             "4300000000000000020000000000000002200000000000000000",
         ],
-        spool: SPOOL,
-        without_workers: false,
         report: "table public.accounts 3\n1|a|n\n2|b|n\n7|\\\\N|\nposition 0/220\nend 0 Clean\n",
-        status: 0,
+        ..PLAIN
     },
     // P B(600,0/200) I(NULL,g,n) C(0/200,0/220)
     Case {
         name: "a null in the primary key",
-        has_rows: true,
+        opening: &ROWS,
         payloads: &[
             "420000000000000200000000000000000000000258",
             "49000040014e00036e74000000016774000000016e",
             "4300000000000000020000000000000002200000000000000000",
         ],
-        spool: SPOOL,
-        without_workers: false,
         report: "table public.accounts 2\n1|a|n\n2|b|n\nposition 0/140\nend 6 NullKey public.accounts\n",
         status: 3,
+        ..PLAIN
     },
     // S(700,0)
     Case {
         name: "a block of an unknown transaction",
-        has_rows: false,
         payloads: &["53000002bc00"],
-        spool: SPOOL,
-        without_workers: false,
         report: "table public.accounts 0\nposition 0/0\nend 3 Session UnknownTransaction\n",
         status: 2,
+        ..PLAIN
     },
     // A(700,700)
     Case {
         name: "an abort of an unknown transaction",
-        has_rows: false,
         payloads: &["41000002bc000002bc00000000000000000000000000000000"],
-        spool: SPOOL,
-        without_workers: false,
         report: "table public.accounts 0\nposition 0/0\nend 0 Clean\n",
-        status: 0,
+        ..PLAIN
     },
     // B(600,0/200) Ra I(a,1) C(0/200,0/220)
     Case {
         name: "columns in another order, the third by its default",
-        has_rows: false,
         payloads: &[
             "420000000000000200000000000000000000000258",
             "52000040017075626c6963006163636f756e74730064000200656d61696c0000000019ffffffff0169640000000017ffffffff",
             "49000040014e0002740000000161740000000131",
             "4300000000000000020000000000000002200000000000000000",
         ],
-        spool: SPOOL,
-        without_workers: false,
         report: "table public.accounts 1\n1|a|x\nposition 0/220\nend 0 Clean\n",
-        status: 0,
+        ..PLAIN
     },
     // B(600,0/200) Rb C(0/200,0/220)
     Case {
         name: "a column that the table lacks, unused",
-        has_rows: false,
         payloads: &[
             "420000000000000200000000000000000000000258",
             "52000040017075626c6963006163636f756e7473006400040169640000000017ffffffff00656d61696c0000000019ffffffff006e6f74650000000019ffffffff007a69700000000019ffffffff",
             "4300000000000000020000000000000002200000000000000000",
         ],
-        spool: SPOOL,
-        without_workers: false,
         report: "table public.accounts 0\nposition 0/220\nend 0 Clean\n",
-        status: 0,
+        ..PLAIN
     },
     // B(600,0/200) Rb I(1,a,n,z) C(0/200,0/220)
     Case {
         name: "a column that the table lacks",
-        has_rows: false,
         payloads: &[
             "420000000000000200000000000000000000000258",
             "52000040017075626c6963006163636f756e7473006400040169640000000017ffffffff00656d61696c0000000019ffffffff006e6f74650000000019ffffffff007a69700000000019ffffffff",
             "49000040014e000474000000013174000000016174000000016e74000000017a",
             "4300000000000000020000000000000002200000000000000000",
         ],
-        spool: SPOOL,
-        without_workers: false,
         report: "table public.accounts 0\nposition 0/0\nend 4 Rel ColumnMissing\n",
         status: 2,
+        ..PLAIN
     },
     // B(600,0/200) Rn U(1,a,n) C(0/200,0/220)
     Case {
         name: "a key that is not flagged",
-        has_rows: false,
         payloads: &[
             "420000000000000200000000000000000000000258",
             "52000040017075626c6963006163636f756e7473006400030069640000000017ffffffff00656d61696c0000000019ffffffff006e6f74650000000019ffffffff",
             "55000040014e000374000000013174000000016174000000016e",
             "4300000000000000020000000000000002200000000000000000",
         ],
-        spool: SPOOL,
-        without_workers: false,
         report: "table public.accounts 0\nposition 0/0\nend 4 Rel KeyNotSent\n",
         status: 2,
+        ..PLAIN
     },
     // S(700,1) 700:R 700:I(1,a,n) 711:I(2,b,n) 700:I(3,c,n) E A(700,711) c(700,0/200,0/220)
     Case {
         name: "a rolled back subtransaction",
-        has_rows: false,
+        opening: &TWO_INSERTS,
         payloads: &[
-            "53000002bc01",
-            "52000002bc000040017075626c6963006163636f756e7473006400030169640000000017ffffffff00656d61696c0000000019ffffffff006e6f74650000000019ffffffff",
-            "49000002bc000040014e000374000000013174000000016174000000016e",
-            "49000002c7000040014e000374000000013274000000016274000000016e",
             "49000002bc000040014e000374000000013374000000016374000000016e",
             "45",
             "41000002bc000002c700000000000000000000000000000000",
             "63000002bc00000000000000020000000000000002200000000000000000",
         ],
-        spool: SPOOL,
-        without_workers: false,
         report: "table public.accounts 1\n1|a|n\nposition 0/220\nend 0 Clean\n",
-        status: 0,
+        ..PLAIN
     },
     // S(700,1) 700:R 700:I(1,a,n) 711:I(2,b,n) 700:I(3,c,n) E A(700,712) c(700,0/200,0/220)
     Case {
         name: "the rollback of an unknown subtransaction",
-        has_rows: false,
+        opening: &TWO_INSERTS,
         payloads: &[
-            "53000002bc01",
-            "52000002bc000040017075626c6963006163636f756e7473006400030169640000000017ffffffff00656d61696c0000000019ffffffff006e6f74650000000019ffffffff",
-            "49000002bc000040014e000374000000013174000000016174000000016e",
-            "49000002c7000040014e000374000000013274000000016274000000016e",
             "49000002bc000040014e000374000000013374000000016374000000016e",
             "45",
             "41000002bc000002c800000000000000000000000000000000",
             "63000002bc00000000000000020000000000000002200000000000000000",
         ],
-        spool: SPOOL,
-        without_workers: false,
         report: "table public.accounts 3\n1|a|n\n2|b|n\n3|c|n\nposition 0/220\nend 0 Clean\n",
-        status: 0,
+        ..PLAIN
     },
     // S(700,1) 700:R 700:I(1,a,n) 711:I(2,b,n) E A(700,711) S(700,0) 711:I(4,d,n) E c(700,0/200,0/220)
     Case {
         name: "a subtransaction named again after its rollback",
-        has_rows: false,
+        opening: &TWO_INSERTS,
         payloads: &[
-            "53000002bc01",
-            "52000002bc000040017075626c6963006163636f756e7473006400030169640000000017ffffffff00656d61696c0000000019ffffffff006e6f74650000000019ffffffff",
-            "49000002bc000040014e000374000000013174000000016174000000016e",
-            "49000002c7000040014e000374000000013274000000016274000000016e",
             "45",
             "41000002bc000002c700000000000000000000000000000000",
             "53000002bc00",
@@ -288,15 +287,13 @@ static CASES: [Case; 28] = [
             "45",
             "63000002bc00000000000000020000000000000002200000000000000000",
         ],
-        spool: SPOOL,
-        without_workers: false,
         report: "table public.accounts 2\n1|a|n\n4|d|n\nposition 0/220\nend 0 Clean\n",
-        status: 0,
+        ..PLAIN
     },
     // P S(700,1) 711:U(1,a,v) E A(700,711) B(900,0/200) U(1,a,w) C(0/200,0/220) S(700,0) 700:I(3,c,n) E c(700,0/300,0/320)
     Case {
         name: "a row let go by a rollback",
-        has_rows: true,
+        opening: &ROWS,
         payloads: &[
             "53000002bc01",
             "55000002c7000040014e0003740000000131740000000161740000000176",
@@ -310,15 +307,13 @@ static CASES: [Case; 28] = [
             "45",
             "63000002bc00000000000000030000000000000003200000000000000000",
         ],
-        spool: SPOOL,
-        without_workers: false,
         report: "table public.accounts 3\n1|a|w\n2|b|n\n3|c|n\nposition 0/320\nend 0 Clean\n",
-        status: 0,
+        ..PLAIN
     },
     // P S(700,1) 700:U(7,g,v) E B(900,0/200) I(7,g,n) C(0/200,0/220)
     Case {
         name: "two open transactions at one key",
-        has_rows: true,
+        opening: &ROWS,
         payloads: &[
             "53000002bc01",
             "55000002bc000040014e0003740000000137740000000167740000000176",
@@ -327,53 +322,39 @@ static CASES: [Case; 28] = [
             "49000040014e000374000000013774000000016774000000016e",
             "4300000000000000020000000000000002200000000000000000",
         ],
-        spool: SPOOL,
         without_workers: true,
         report: "table public.accounts 3\n1|a|n\n2|b|n\n7|g|n\nposition 0/220\nend 0 Clean\n",
-        status: 0,
+        ..PLAIN
     },
     // P S(700,1) 700:D(1) E S(701,1) 701:I(3,a,n) E c(700,0/200,0/220) c(701,0/300,0/320)
     Case {
         name: "commits in the order of their messages",
-        has_rows: true,
+        opening: &MOVED_EMAIL,
         payloads: &[
-            "53000002bc01",
-            "44000002bc000040014b00037400000001316e6e",
-            "45",
-            "53000002bd01",
-            "49000002bd000040014e000374000000013374000000016174000000016e",
-            "45",
             "63000002bc00000000000000020000000000000002200000000000000000",
             "63000002bd00000000000000030000000000000003200000000000000000",
         ],
-        spool: SPOOL,
         without_workers: true,
         report: "table public.accounts 2\n2|b|n\n3|a|n\nposition 0/320\nend 0 Clean\n",
-        status: 0,
+        ..PLAIN
     },
     // P S(700,1) 700:D(1) E S(701,1) 701:I(3,a,n) E c(701,0/200,0/220) c(700,0/300,0/320)
     Case {
         name: "a conflict by the order of commits",
-        has_rows: true,
+        opening: &MOVED_EMAIL,
         payloads: &[
-            "53000002bc01",
-            "44000002bc000040014b00037400000001316e6e",
-            "45",
-            "53000002bd01",
-            "49000002bd000040014e000374000000013374000000016174000000016e",
-            "45",
             "63000002bd00000000000000020000000000000002200000000000000000",
             "63000002bc00000000000000030000000000000003200000000000000000",
         ],
-        spool: SPOOL,
         without_workers: true,
         report: "table public.accounts 2\n1|a|n\n2|b|n\nposition 0/140\nend 5 Unique public.accounts 1\n",
         status: 3,
+        ..PLAIN
     },
     // P S(700,1) 711:T 711:I(5,a,n) E A(700,711) c(700,0/200,0/220) B(600,0/300) I(6,a,n) C(0/300,0/320)
     Case {
         name: "an index entry that comes back",
-        has_rows: true,
+        opening: &ROWS,
         payloads: &[
             "53000002bc01",
             "54000002c7000000010000004001",
@@ -385,15 +366,14 @@ static CASES: [Case; 28] = [
             "49000040014e000374000000013674000000016174000000016e",
             "4300000000000000030000000000000003200000000000000000",
         ],
-        spool: SPOOL,
-        without_workers: false,
         report: "table public.accounts 2\n1|a|n\n2|b|n\nposition 0/220\nend 5 Unique public.accounts 1\n",
         status: 3,
+        ..PLAIN
     },
     // P S(700,1) 711:I(3,b,n) E A(700,711) c(700,0/200,0/220)
     Case {
         name: "a conflict that was rolled back",
-        has_rows: true,
+        opening: &ROWS,
         payloads: &[
             "53000002bc01",
             "49000002c7000040014e000374000000013374000000016274000000016e",
@@ -401,71 +381,46 @@ static CASES: [Case; 28] = [
             "41000002bc000002c700000000000000000000000000000000",
             "63000002bc00000000000000020000000000000002200000000000000000",
         ],
-        spool: SPOOL,
         without_workers: true,
         report: "table public.accounts 2\n1|a|n\n2|b|n\nposition 0/220\nend 0 Clean\n",
-        status: 0,
+        ..PLAIN
     },
     // P S(700,1) 700:I(3,b,n) E
     Case {
         name: "a conflict of a transaction that is still open at the end",
-        has_rows: true,
+        opening: &ROWS,
         payloads: &[
             "53000002bc01",
             "49000002bc000040014e000374000000013374000000016274000000016e",
             "45",
         ],
-        spool: SPOOL,
         without_workers: true,
         report: "table public.accounts 2\n1|a|n\n2|b|n\nposition 0/140\nend 0 Clean\n",
-        status: 0,
+        ..PLAIN
     },
     // S(700,1) 700:R 700:I(1,a,n) 711:I(2,b,n) E A(700,711) S(700,0) 700:I(3,c,n) E c(700,0/200,0/220)
     Case {
         name: "a spool just large enough",
-        has_rows: false,
-        payloads: &[
-            "53000002bc01",
-            "52000002bc000040017075626c6963006163636f756e7473006400030169640000000017ffffffff00656d61696c0000000019ffffffff006e6f74650000000019ffffffff",
-            "49000002bc000040014e000374000000013174000000016174000000016e",
-            "49000002c7000040014e000374000000013274000000016274000000016e",
-            "45",
-            "41000002bc000002c700000000000000000000000000000000",
-            "53000002bc00",
-            "49000002bc000040014e000374000000013374000000016374000000016e",
-            "45",
-            "63000002bc00000000000000020000000000000002200000000000000000",
-        ],
+        opening: &TWO_INSERTS,
+        payloads: &ROLLED_BACK_AND_GONE_ON,
         spool: 129,
-        without_workers: false,
         report: "table public.accounts 2\n1|a|n\n3|c|n\nposition 0/220\nend 0 Clean\n",
-        status: 0,
+        ..PLAIN
     },
     // S(700,1) 700:R 700:I(1,a,n) 711:I(2,b,n) E A(700,711) S(700,0) 700:I(3,c,n) E c(700,0/200,0/220)
     Case {
         name: "a spool that is full",
-        has_rows: false,
-        payloads: &[
-            "53000002bc01",
-            "52000002bc000040017075626c6963006163636f756e7473006400030169640000000017ffffffff00656d61696c0000000019ffffffff006e6f74650000000019ffffffff",
-            "49000002bc000040014e000374000000013174000000016174000000016e",
-            "49000002c7000040014e000374000000013274000000016274000000016e",
-            "45",
-            "41000002bc000002c700000000000000000000000000000000",
-            "53000002bc00",
-            "49000002bc000040014e000374000000013374000000016374000000016e",
-            "45",
-            "63000002bc00000000000000020000000000000002200000000000000000",
-        ],
+        opening: &TWO_INSERTS,
+        payloads: &ROLLED_BACK_AND_GONE_ON,
         spool: 128,
         without_workers: true,
         report: "table public.accounts 0\nposition 0/0\nend 3 Session SpoolFull\n",
         status: 2,
+        ..PLAIN
     },
     // S(700,1) 711:R 711:I(1,a,n) E A(700,711) S(700,0) 700:I(2,b,n) E c(700,0/200,0/220)
     Case {
         name: "a relation that first names a subtransaction, which is rolled back",
-        has_rows: false,
         payloads: &[
             "53000002bc01",
             "52000002c7000040017075626c6963006163636f756e7473006400030169640000000017ffffffff00656d61696c0000000019ffffffff006e6f74650000000019ffffffff",
@@ -477,15 +432,12 @@ static CASES: [Case; 28] = [
             "45",
             "63000002bc00000000000000020000000000000002200000000000000000",
         ],
-        spool: SPOOL,
-        without_workers: false,
         report: "table public.accounts 1\n2|b|n\nposition 0/220\nend 0 Clean\n",
-        status: 0,
+        ..PLAIN
     },
     // S(700,1) E A(700,712) S(700,0) 700:R 700:I(1,a,n) E c(700,0/200,0/220)
     Case {
         name: "an empty block, and the rollback of a subtransaction that was never named",
-        has_rows: false,
         payloads: &[
             "53000002bc01",
             "45",
@@ -496,19 +448,15 @@ static CASES: [Case; 28] = [
             "45",
             "63000002bc00000000000000020000000000000002200000000000000000",
         ],
-        spool: SPOOL,
-        without_workers: false,
         report: "table public.accounts 1\n1|a|n\nposition 0/220\nend 0 Clean\n",
-        status: 0,
+        ..PLAIN
     },
 ];
 
 /// The stream of a case.
 fn stream_of(alloc: Global, case: &Case) -> Result<Vec<u8>, Fail> {
     let mut stream = Vec::new(alloc);
-    if case.has_rows {
-        push_frames(&mut stream, alloc, &ROWS)?;
-    }
+    push_frames(&mut stream, alloc, case.opening)?;
     push_frames(&mut stream, alloc, case.payloads)?;
     Ok(stream)
 }
