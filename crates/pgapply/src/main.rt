@@ -12,10 +12,10 @@
 // standard error.
 #![tactic(auto)]
 
-use frames::{ReadSource, WriteSink};
+use frames::{ReadSource, Source, WriteSink};
 use leader::Devices;
 use pgapply_command::account::Account;
-use pgapply_command::execute::{Nobody, execute_on};
+use pgapply_command::execute::{Hearer, Nobody, execute_on};
 use pgapply_command::options::{Input, Options, parse};
 use pgapply_command::output::{Failure, print, say_failure};
 use pgapply_command::progress::Progress;
@@ -87,26 +87,13 @@ fn run_stream<T: Threads + Wait + RandomSource + Sync>(
     stream: Stream,
     updates: Updates,
 ) -> io::Result<u8> {
+    let sink = WriteSink::new(updates);
     if options.verbose || options.progress {
-        return run_watched(rt, threads, options, catalog, stream, updates);
+        let source = ReadSource::new(BufReader::new(rt.alloc(), stream)?);
+        return run_watched(rt, threads, options, catalog, source, sink);
     }
-    let mut out = Vec::new(rt.alloc());
-    let mut devices = Devices::new(
-        ReadSource::new(stream),
-        WriteSink::new(updates),
-        SystemClock::new(rt),
-    );
-    let ended = execute_on(
-        threads,
-        rt.alloc(),
-        options.spooled,
-        &options.config,
-        catalog,
-        &mut devices,
-        &mut Nobody,
-        &mut out,
-    );
-    print(rt, options.verbose, &mut rt.stdout(), out.as_slice(), ended)
+    let devices = Devices::new(ReadSource::new(stream), sink, SystemClock::new(rt));
+    run_over(rt, threads, options, catalog, devices, &mut Nobody)
 }
 
 /// `run_stream` of a stream that is watched, with lines on standard error behind the report.
@@ -115,28 +102,15 @@ fn run_watched<T: Threads + Wait + RandomSource + Sync>(
     threads: &T,
     options: &Options<'_>,
     catalog: &[u8],
-    stream: Stream,
-    updates: Updates,
+    source: ReadSource<BufReader<Stream>>,
+    sink: WriteSink<Updates>,
 ) -> io::Result<u8> {
-    let mut out = Vec::new(rt.alloc());
     let mut trace = Trace::new(rt.alloc());
     let mut progress = Progress::new(rt.clone()?, options.progress);
     let mut account = Account::new(rt.alloc());
-    let source = ReadSource::new(BufReader::new(rt.alloc(), stream)?);
     let watched = Watched::new(source, &mut trace, &mut progress, options.verbose);
-    let mut devices = Devices::new(watched, WriteSink::new(updates), SystemClock::new(rt));
-    let ended = execute_on(
-        threads,
-        rt.alloc(),
-        options.spooled,
-        &options.config,
-        catalog,
-        &mut devices,
-        &mut account,
-        &mut out,
-    );
-    drop(devices);
-    let status = print(rt, options.verbose, &mut rt.stdout(), out.as_slice(), ended)?;
+    let devices = Devices::new(watched, sink, SystemClock::new(rt));
+    let status = run_over(rt, threads, options, catalog, devices, &mut account)?;
     progress.say(&trace);
     if options.verbose {
         if status >= 2 {
@@ -147,4 +121,27 @@ fn run_watched<T: Threads + Wait + RandomSource + Sync>(
         eprint!(rt; "{text}")?;
     }
     Ok(status)
+}
+
+/// Runs what the options ask for over these devices, tells the hearer why it ended, and prints.
+fn run_over<T: Threads + Wait + RandomSource + Sync, S: Source + Drop, H: Hearer>(
+    rt: &HostRuntime,
+    threads: &T,
+    options: &Options<'_>,
+    catalog: &[u8],
+    mut devices: Devices<S, WriteSink<Updates>, SystemClock<'_, HostRuntime>>,
+    hearer: &mut H,
+) -> io::Result<u8> {
+    let mut out = Vec::new(rt.alloc());
+    let ended = execute_on(
+        threads,
+        rt.alloc(),
+        options.spooled,
+        &options.config,
+        catalog,
+        &mut devices,
+        hearer,
+        &mut out,
+    );
+    print(rt, options.verbose, &mut rt.stdout(), out.as_slice(), ended)
 }

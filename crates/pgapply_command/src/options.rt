@@ -70,6 +70,22 @@ pub fn command<'a>(alloc: Global) -> Result<Command<'a>, AllocError> {
         .subcommand(replay(alloc)?)
 }
 
+/// What the words ask for, or the text of a usage fault, of help or of the version.
+pub fn parse<'a>(alloc: Global, words: &'a [String]) -> Result<Options<'a>, Error> {
+    let mut program = command(alloc)?;
+    let matches = program.try_get_matches_from_mut(words)?;
+    let Some((name, given)) = matches.subcommand() else {
+        return Err(program.error(ErrorKind::MissingSubcommand, "a command is missing")?);
+    };
+    if let Some((option, text)) = first_with_sign(given) {
+        let message = format!(in alloc;
+            "invalid value '{text}' for '--{option} <N>': only digits are allowed"
+        )?;
+        return Err(program.error(ErrorKind::ValueValidation, message.as_str())?);
+    }
+    Ok(options_of(name == "replay", given))
+}
+
 fn apply<'a>(alloc: Global) -> Result<Command<'a>, AllocError> {
     let command = reading(alloc, "apply", stream_file(alloc))?
         .about("Apply a stream from a file, streamed transactions while they come")
@@ -187,22 +203,6 @@ fn number<'a>(
         .value_parser(limits)
         .default_value(default)
         .action(ArgAction::Set)
-}
-
-/// What the words ask for, or the text of a usage fault, of help or of the version.
-pub fn parse<'a>(alloc: Global, words: &'a [String]) -> Result<Options<'a>, Error> {
-    let mut program = command(alloc)?;
-    let matches = program.try_get_matches_from_mut(words)?;
-    let Some((name, given)) = matches.subcommand() else {
-        return Err(program.error(ErrorKind::MissingSubcommand, "a command is missing")?);
-    };
-    if let Some((option, text)) = first_with_sign(given) {
-        let message = format!(in alloc;
-            "invalid value '{text}' for '--{option} <N>': only digits are allowed"
-        )?;
-        return Err(program.error(ErrorKind::ValueValidation, message.as_str())?);
-    }
-    Ok(options_of(name == "replay", given))
 }
 
 /// The first number that is given with a sign, and its text: `apply --ring +1`.
