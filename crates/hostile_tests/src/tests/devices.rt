@@ -87,7 +87,7 @@ fn each_write_takes_a_part_or_fails(rt: HostRuntime) -> Result<(), Fail> {
     let sent = whole.sent.as_slice();
     assert_same(sent.len(), 5 * UPDATE, "sent")?;
     for taken in 1..=UPDATE {
-        for writes in 0..=5 * UPDATE.div_ceil(taken) {
+        for writes in 0..=UPDATE.div_ceil(taken).saturating_mul(5) {
             fails_at_write(&rt, rt.alloc(), bytes, sent, (taken, writes))?;
         }
     }

@@ -77,6 +77,11 @@ impl Thousand {
     }
 }
 
+// The first 500 of a list, and the rest.
+fn halves<T>(list: &[T]) -> (&[T], &[T]) {
+    list.split_at(HALF.min(list.len()))
+}
+
 const OPEN_700: &[Message] = &[
     Message::Start(700, true),
     Message::Other(b'R', 700, RELATION),
@@ -99,8 +104,8 @@ fn is_played<R: Threads + Wait + Sync>(
     let Ok(thousand) = Thousand::new(alloc) else {
         return Ok(false);
     };
-    let (first, second) = thousand.inserts.as_slice().split_at(HALF);
-    let (_, second_rows) = thousand.rows.as_slice().split_at(HALF);
+    let (first, second) = halves(thousand.inserts.as_slice());
+    let (_, second_rows) = halves(thousand.rows.as_slice());
     let later = Commit {
         xid: 701,
         at: 0x200,
