@@ -1,8 +1,8 @@
 // The files, and what each tests or gives the others.
 //
 //   left      what a run leaves: rows, look-ups and the journal, looked at without memory
+//   worked    worked streams, and what each of their commits leaves
 //   runs      a run over devices of its own
-//   rows      worked streams, and what each of their commits leaves
 //   memory    runs to which memory is refused
 //   cuts      streams that are cut, or whose reads fail
 //   devices   sinks that take a part, and connections that fail
@@ -16,5 +16,5 @@ mod gates;
 mod holds;
 mod left;
 mod memory;
-mod rows;
 mod runs;
+mod worked;

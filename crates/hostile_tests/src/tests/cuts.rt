@@ -1,7 +1,7 @@
 // Streams that are cut at each byte, and reads that fail: what is left is that of the commits before.
 use super::left::{assert_left, left};
-use super::rows::{CUT, FIRST, LEARNT, Row};
 use super::runs::{Plan, config_of, run_by};
+use super::worked::{CUT, FIRST, LEARNT, Row};
 use leader::{End, FrameFault, Lsn, OutOfMemory};
 use std::alloc::Global;
 use std::sync::Wait;

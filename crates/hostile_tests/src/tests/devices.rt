@@ -1,8 +1,8 @@
 // A run by workers whose sink takes a part of what it is given and fails at each write, and a connection
 // that fails at each read.
 use super::left::{Commit, assert_left, left};
-use super::rows::{FIRST, FIRST_COMMIT, LEARNT, P, SECOND, THIRD, UNNAMED_FOURTH};
 use super::runs::{Plan, catalog, config_of, open_gates, run_all, run_by};
+use super::worked::{FIRST, FIRST_COMMIT, LEARNT, P, SECOND, THIRD, UNNAMED_FOURTH};
 use leader::{End, FrameFault, OutOfMemory, Outcome, ReadSource, Tables};
 use std::alloc::Global;
 use std::io::{ErrorKind, Read, Write};

@@ -3,8 +3,8 @@
 // work is undone, a hundred times.
 use super::gates::{Hold, Place, Sign, Withheld, doors};
 use super::left::assert_left;
-use super::rows::{BEGUN, FIRST, NOTE, P, SECOND, THIRD, unnamed};
 use super::runs::{Plan, catalog, config_of, run_all, run_by};
+use super::worked::{BEGUN, FIRST, NOTE, P, SECOND, THIRD, unnamed};
 use leader::{Config, End, Lsn, OutOfMemory, Outcome, Point, Tables, Xid};
 use std::alloc::Global;
 use std::rt::Clock as Host;
@@ -111,10 +111,10 @@ const HELD: End = End::HeldKey {
     holder: 701,
 };
 
-fn cross<R: Threads + Wait + Sync + Host>(
-    rt: &R,
+fn cross<'a, R: Threads + Wait + Sync + Host>(
+    rt: &'a R,
     alloc: Global,
-    stream: &[u8],
+    stream: &'a [u8],
     ring: usize,
 ) -> Result<(), Fail> {
     let signs = [

@@ -5,8 +5,8 @@
 // `tools/refuse.py` refuses each allocation in turn, and then all from each one on: so what is looked at is
 // made before the run. What a test itself is refused says nothing.
 use super::left::{Commit, Email, assert_made, emails};
-use super::rows::{REFUSED, Row, unnamed};
 use super::runs::{Plan, catalog, config_of, open_gates, run_over, tables_of};
+use super::worked::{REFUSED, Row, unnamed};
 use leader::{Config, End, OutOfMemory, Outcome, Xid};
 use std::alloc::Global;
 use std::sync::Wait;
