@@ -1,6 +1,5 @@
 // The files, and what each tests or gives the others.
 //
-//   streams     a stream by its messages
 //   runs        a run, with devices of its own, and what it leaves
 //   schedules   gates, and bytes that are withheld; streams whose schedule is held
 //   worked      streams that end the same on each schedule, worked by hand
@@ -17,7 +16,6 @@ mod many;
 mod memory;
 mod runs;
 mod schedules;
-mod streams;
 mod stress;
 mod texts;
 mod watchers;

@@ -2,7 +2,6 @@
 // workers does, whose contract says how.
 use super::features::FEATURES;
 use super::runs::{Plan, config_of, is_same, run_by};
-use super::streams::Stream;
 use super::worked::ROWS;
 use leader::{End, FrameFault, OutOfMemory};
 use std::alloc::Global;
@@ -10,6 +9,7 @@ use std::process::Abort;
 use std::rt::Clock as Host;
 use std::sync::Wait;
 use std::thread::Threads;
+use streams::Stream;
 
 // The run by two workers is that without one. Answers whether the device failed.
 fn fails_alike<R: Threads + Wait + Abort + Sync + Host>(

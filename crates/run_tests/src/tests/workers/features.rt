@@ -3,10 +3,11 @@
 // a block, notices, origins, logged messages, whole old rows, columns that are not sent, options of a
 // truncate, and work that is open at the end.
 use super::runs::{reports, same_by_all};
-use super::streams::{ACCOUNTS, Column, Message, Stream, Tuple, WHOLE, append};
 use super::worked::{FIRST, NOTE};
 use leader::OutOfMemory;
 use std::alloc::Global;
+use streams::{Column, Message, Stream, Tuple, WHOLE, append};
+use testing::accounts::RELATION;
 
 const ORIGIN: &[u8] = b"\x00\x00\x00\x00\x00\x00\x00\x00elsewhere\x00";
 
@@ -35,14 +36,14 @@ const BLOCKS: &[Message] = &[
     Message::At(0x500),
     Message::Begin(600, 0x100),
     Message::Other(b'O', 0, ORIGIN),
-    Message::Other(b'R', 0, ACCOUNTS),
+    Message::Other(b'R', 0, RELATION),
     Message::Insert(0, FIRST),
     Message::Insert(0, (Column::Number(2), Column::Text("b"), NOTE)),
     Message::Commit(0x100, 0x140),
     Message::Keepalive(0x150, true),
     Message::At(0x300),
     Message::Start(700, true),
-    Message::Other(b'R', 711, ACCOUNTS),
+    Message::Other(b'R', 711, RELATION),
     Message::Other(b'Y', 712, TYPE),
     Message::Stop,
     Message::Start(700, false),
@@ -68,7 +69,7 @@ const SUBTRANSACTIONS: &[Message] = &[
     Message::Other(b'M', 0, LOGGED_OUTSIDE),
     Message::Abort(700, 713),
     Message::Start(700, false),
-    Message::Other(b'R', 714, ACCOUNTS),
+    Message::Other(b'R', 714, RELATION),
     Message::Other(b'T', 714, CASCADING),
     Message::Insert(714, (Column::Number(9), A, NOTE)),
     Message::Stop,
@@ -85,7 +86,7 @@ const COMMITS: &[Message] = &[
     Message::StreamCommit(700, 0x300, 0x320),
     Message::At(0),
     Message::Begin(601, 0x400),
-    Message::Other(b'R', 0, ACCOUNTS),
+    Message::Other(b'R', 0, RELATION),
     Message::DeleteAt(0, b'O', FIFTH),
     Message::Insert(0, (Column::Number(7), Column::Null, NOTE)),
     Message::Commit(0x400, 0x420),

@@ -1,15 +1,16 @@
 // Two streamed transactions of 500 items each: by one worker the second is spooled, and commits first.
 use super::runs::{reports, same_by_all};
-use super::streams::{ACCOUNTS, Column, Message, Stream};
 use super::worked::NOTE;
 use crate::tests::reports::thousand_rows;
 use leader::{OutOfMemory, Xid};
 use std::alloc::Global;
+use streams::{Column, Message, Stream};
+use testing::accounts::RELATION;
 
 // A block of rows, each with a null and a note: their keys begin at one number and end before another.
 fn push_block(stream: &mut Stream, xid: Xid, first: u32, behind: u32) -> Result<(), OutOfMemory> {
     stream.push(&Message::Start(xid, true))?;
-    stream.push(&Message::Other(b'R', xid, ACCOUNTS))?;
+    stream.push(&Message::Other(b'R', xid, RELATION))?;
     for key in first..behind {
         stream.push(&Message::Insert(xid, (Column::Number(key), Column::Null, NOTE)))?;
     }

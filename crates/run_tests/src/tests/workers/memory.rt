@@ -3,7 +3,6 @@
 // nothing.
 use super::runs::{Plan, Ran, config_of, run_by, run_on};
 use super::schedules::{NOWHERE, Place, Sign, Withheld, doors};
-use super::streams::{Column, Message, Stream};
 use super::worked::{NOTE, P, ROWS};
 use leader::{End, NoWatch, OutOfMemory, Point};
 use std::alloc::Global;
@@ -11,6 +10,7 @@ use std::process::Abort;
 use std::rt::Clock as Host;
 use std::sync::Wait;
 use std::thread::Threads;
+use streams::{Column, Message, Stream};
 
 // A row of the worked ones, by its number there; what is reported after so many of its commits, but for
 // the end; and how it ends.

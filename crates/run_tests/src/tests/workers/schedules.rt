@@ -1,7 +1,6 @@
 // Streams whose schedule is held: by gates at which a worker waits, and by bytes that are withheld until
 // a worker came somewhere.
 use super::runs::{Ran, config_of, reports, run_on};
-use super::streams::{Column, Message, Stream, Tuple};
 use super::worked::{NOTE, P};
 use leader::{Failed, Gate, NoWatch, OutOfMemory, Point, Source, Xid};
 use std::alloc::Global;
@@ -11,6 +10,7 @@ use std::sync::atomic::{AtomicBool, Ordering};
 use std::thread;
 use std::thread::Threads;
 use std::time::Duration;
+use streams::{Column, Message, Stream, Tuple};
 
 /// A point that a transaction's worker passes.
 #[derive(Clone, Copy, PartialEq, Eq)]

@@ -3,7 +3,6 @@
 // does. Where they meet it may end as its schedule has it: but what it leaves is what the run without
 // workers makes of the stream up to its last commit.
 use super::runs::{Draws, Plan, Ran, config_of, run_by, same_by_all};
-use super::streams::{Column, Message, Stream, WHOLE};
 use super::worked::P;
 use leader::{End, OutOfMemory, Xid};
 use std::alloc::Global;
@@ -11,6 +10,7 @@ use std::process::Abort;
 use std::rt::Clock as Host;
 use std::sync::Wait;
 use std::thread::Threads;
+use streams::{Column, Message, Stream, WHOLE};
 
 // A stream as it is drawn.
 #[derive(Drop)]

@@ -1,7 +1,6 @@
 // Those who watch a run: what they read while it goes on, and in their last turn.
 use super::runs::{Plan, Ran, config_of, one, reports, run_on, run_watched};
 use super::schedules::{NOWHERE, Place, Sign, TURNS, Withheld, doors};
-use super::streams::{ACCOUNTS, Column, Message, Stream};
 use super::worked::{NOTE, P};
 use leader::{
     Key, OutOfMemory, Point, Position, ReadFault, Reader, Row, StoreNames, Value, ValueRef, Watch,
@@ -13,6 +12,8 @@ use std::process::Abort;
 use std::rt::Clock as Host;
 use std::sync::{Mutex, Wait};
 use std::thread::Threads;
+use streams::{Column, Message, Stream};
+use testing::accounts::RELATION;
 
 // 700 changes the first row, and is still open.
 const OPEN: &[Message] = &[
@@ -155,7 +156,7 @@ fn position_of(commits: u64) -> Position {
 // The stream of all of them: each inserts the row with its number.
 fn committing(alloc: Global) -> Result<Stream, OutOfMemory> {
     let mut stream = Stream::new(alloc);
-    stream.push(&Message::Other(b'R', 0, ACCOUNTS))?;
+    stream.push(&Message::Other(b'R', 0, RELATION))?;
     for number in 1..COMMITS + 1 {
         let xid = number as Xid;
         let end = position_of(number).end_lsn;

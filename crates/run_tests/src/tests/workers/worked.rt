@@ -1,7 +1,8 @@
 // Streams that end the same on each schedule, and what is reported of them.
 use super::runs::{reports, same_by_all};
-use super::streams::{ACCOUNTS, Column, Message, Stream, Tuple, WHOLE};
 use leader::OutOfMemory;
+use streams::{Column, Message, Stream, Tuple, WHOLE};
+use testing::accounts::RELATION;
 
 pub const NOTE: Column = Column::Text("n");
 
@@ -15,7 +16,7 @@ const THIRD: Tuple = (Column::Number(3), Column::Text("c"), NOTE);
 /// Commits two rows at 0/140.
 pub const P: &[Message] = &[
     Message::Begin(500, 0x100),
-    Message::Other(b'R', 0, ACCOUNTS),
+    Message::Other(b'R', 0, RELATION),
     Message::Insert(0, FIRST),
     Message::Insert(0, SECOND),
     Message::Commit(0x100, 0x140),
@@ -24,7 +25,7 @@ pub const P: &[Message] = &[
 // Opens 700, with a row of its own and one of the subtransaction 711.
 const OPENED: &[Message] = &[
     Message::Start(700, true),
-    Message::Other(b'R', 700, ACCOUNTS),
+    Message::Other(b'R', 700, RELATION),
     Message::Insert(700, FIRST),
     Message::Insert(711, SECOND),
 ];
@@ -32,7 +33,7 @@ const OPENED: &[Message] = &[
 // Begins 900, with one row.
 const ONE_ROW: &[Message] = &[
     Message::Begin(900, 0x100),
-    Message::Other(b'R', 0, ACCOUNTS),
+    Message::Other(b'R', 0, RELATION),
     Message::Insert(0, FIRST),
 ];
 

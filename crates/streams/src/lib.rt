@@ -1,5 +1,14 @@
-// A stream by its messages, as a publisher sends them: of the one table of these tests.
-use leader::{OutOfMemory, Xid};
+#![tactic(auto)]
+
+// Streams of the tests, by their messages, as a publisher sends them: of one table with the columns id,
+// email and note. No program stands on it.
+//
+// Each message stands in a frame of its own. A stream takes memory only as its bytes grow, so that a test
+// in which memory is refused asks for little itself.
+//
+// It stands on `model` for what a message names, and on `itoa`.
+use itoa::Buffer;
+use model::{Lsn, OutOfMemory, Xid};
 use std::alloc::Global;
 
 /// A column of a tuple.
@@ -19,13 +28,13 @@ pub type Tuple = (Column, Column, Column);
 #[derive(Clone, Copy)]
 pub enum Message {
     /// The number and the final position.
-    Begin(Xid, u64),
+    Begin(Xid, Lsn),
     /// Its own position and the end.
-    Commit(u64, u64),
+    Commit(Lsn, Lsn),
     /// Whether it is the first block of the transaction.
     Start(Xid, bool),
     Stop,
-    StreamCommit(Xid, u64, u64),
+    StreamCommit(Xid, Lsn, Lsn),
     /// A transaction and a subtransaction of it, or itself.
     Abort(Xid, Xid),
     Insert(Xid, Tuple),
@@ -37,18 +46,14 @@ pub enum Message {
     /// Any other message: its tag, and what stands behind the subtransaction.
     Other(u8, Xid, &'static [u8]),
     /// The end of the log, and whether a reply is wanted.
-    Keepalive(u64, bool),
+    Keepalive(Lsn, bool),
     /// Bytes in no frame.
     Raw(&'static [u8]),
     /// The positions of the frames from here on.
-    At(u64),
+    At(Lsn),
 }
 
-/// What stands in the relation `public.accounts`, with its three columns.
-pub const ACCOUNTS: &[u8] =
-    b"\x00\x00\x40\x01public\x00accounts\x00d\x00\x03\x01id\x00\x00\x00\x00\x17\xff\xff\xff\xff\x00email\x00\x00\x00\x00\x19\xff\xff\xff\xff\x00note\x00\x00\x00\x00\x19\xff\xff\xff\xff";
-
-/// What stands in a truncate of it.
+/// What stands in a truncate of the table.
 pub const WHOLE: &[u8] = b"\x00\x00\x00\x01\x00\x00\x00\x40\x01";
 
 /// The number of the relation.
@@ -57,16 +62,14 @@ const OID: &[u8] = b"\x00\x00\x40\x01";
 /// A stream as it is written.
 #[derive(Drop)]
 pub struct Stream {
-    alloc: Global,
     bytes: Vec<u8>,
     in_block: bool,
-    position: u64,
+    position: Lsn,
 }
 
 impl Stream {
     pub fn new(alloc: Global) -> Stream {
         Stream {
-            alloc,
             bytes: Vec::new(alloc),
             in_block: false,
             position: 0,
@@ -116,24 +119,26 @@ impl Stream {
         }
     }
 
-    // Appends the message in a frame of its own.
+    // Appends the message in a frame of its own, whose length is known once the message stands.
     fn push_framed(&mut self, message: &Message) -> Result<(), OutOfMemory> {
-        let mut payload = Vec::new(self.alloc);
-        spell(&mut payload, message, self.in_block)?;
-        let length = u32::try_from(payload.len().saturating_add(29)).unwrap_or(u32::MAX);
+        let start = self.bytes.len();
         let position = self.position.to_be_bytes();
         append(
             &mut self.bytes,
-            &[
-                b"d",
-                &length.to_be_bytes(),
-                b"w",
-                &position,
-                &position,
-                &[0; 8],
-                payload.as_slice(),
-            ],
-        )
+            &[b"d\x00\x00\x00\x00w", &position, &position, &[0; 8]],
+        )?;
+        spell(&mut self.bytes, message, self.in_block)?;
+        let length = self.bytes.len().saturating_sub(start).saturating_sub(1);
+        let length = u32::try_from(length).unwrap_or(u32::MAX).to_be_bytes();
+        for (byte, of_length) in self
+            .bytes
+            .iter_mut()
+            .skip(start.saturating_add(1))
+            .zip(length)
+        {
+            *byte = of_length;
+        }
+        Ok(())
     }
 }
 
@@ -232,11 +237,7 @@ fn push_column(out: &mut Vec<u8>, column: Column) -> Result<(), OutOfMemory> {
         Column::Null => append(out, &[b"n"]),
         Column::Kept => append(out, &[b"u"]),
         Column::Text(text) => push_text(out, text),
-        Column::Number(number) => {
-            let alloc: Global = *out.allocator();
-            let text = format!(in alloc; "{number}")?;
-            push_text(out, text.as_str())
-        }
+        Column::Number(number) => push_text(out, Buffer::new().format(number)),
     }
 }
 
