@@ -80,6 +80,9 @@ ENDS, APART = 300, 97
 # A test whose memory is refused ends within so many seconds.
 SECONDS = 60
 
+# A test at which so many refusals went wrong is given up.
+WRONG = 5
+
 # More than every allocation of a test.
 ALL = 2**62
 
@@ -126,15 +129,23 @@ class Refusal:
         if total > MANY:
             numbers = sorted({*numbers[:ENDS], *numbers[ENDS::APART], *numbers[-ENDS:]})
             words = f"{total} allocations, the first {ENDS}, each {APART}th and the last {ENDS}"
-        wrong = [why for _, why in pool.map(lambda number: self.refuse(number, is_from), numbers) if why]
+        wrong = []
+
+        def refuse(number):
+            """Refuses this one, unless enough went wrong, and returns whether there was one to refuse."""
+            if len(wrong) >= WRONG:
+                return False
+            is_met, why = self.refuse(number, is_from)
+            wrong.extend([why] if why else [])
+            return is_met
+
+        list(pool.map(refuse, numbers))
         # (how many there are may depend on the schedule: until three runs in a row ask for no more)
         idle = 0
         for number in itertools.count(total + 1):
             if idle == 3 or wrong:
                 break
-            is_met, why = self.refuse(number, is_from)
-            idle = 0 if is_met else idle + 1
-            wrong += [why] if why else []
+            idle = 0 if refuse(number) else idle + 1
         return words, wrong
 
 
@@ -177,9 +188,9 @@ def judge(program, test, library, pool):
     if not test.endswith(AGAIN) and not wrong:
         _, wrong = Refusal(program, test, library).in_turn(True, pool)
         done += ", and all from it on"
-    for it in wrong[:5]:
+    for it in wrong:
         print(f"{name}: {it}", flush=True)
-    print(f"{name}: {len(wrong)} runs FAILED" if wrong else f"{name}: {done}", flush=True)
+    print(f"{name}: {'FAILED' if wrong else done}", flush=True)
     return not wrong
 
 
