@@ -5,9 +5,8 @@
 
 The programs are those of tests that `rt ci` leaves (`crates/NAME/out/NAME_tests`); without any, those of all crates
 that have such a test. Each test runs with its first allocation refused, then with its second, and so on until a run
-asks for no more. One named `.._whatever_memory_is_refused` runs once more for each of them, with all refused from there
-on. The start of a thread counts as an allocation. Of a test that asks for many, the first and the last are refused and
-some between, which its line says.
+asks for no more; and once more for each of them, with all refused from there on. The start of a thread counts as an
+allocation. Of a test that asks for many, the first and the last are refused and some between, which its line says.
 
 A `malloc`, a `realloc` and a `pthread_create` stand before the C library's by LD_PRELOAD; so a C compiler is needed, and
 where there is none the last line counts a failure. Its last line is `refuse: N passed, M failed`, by tests.
@@ -73,7 +72,7 @@ void _exit(int status) {
 """
 
 # More allocations than these are not refused one by one.
-MANY = 2000
+MANY = 4000
 
 # Of many the first so many and the last are refused, and each one so far apart between.
 ENDS, APART = 300, 97
@@ -81,11 +80,14 @@ ENDS, APART = 300, 97
 # A test whose memory is refused ends within so many seconds.
 SECONDS = 60
 
+# A test at which so many refusals went wrong is given up.
+WRONG = 5
+
 # More than every allocation of a test.
 ALL = 2**62
 
-# Tests of calls that take no memory: they stand it too where all is refused from one allocation on.
-WITHOUT = ("ends_where_memory_is_refused", "an_undo_where_memory_is_refused")
+# A test that makes a refused call again, which then has to succeed: there not all may be refused.
+AGAIN = ("cells_where_memory_is_refused",)
 
 NAMED = re.compile(r"fn (\w*memory_is_refused)\b")
 
@@ -127,15 +129,23 @@ class Refusal:
         if total > MANY:
             numbers = sorted({*numbers[:ENDS], *numbers[ENDS::APART], *numbers[-ENDS:]})
             words = f"{total} allocations, the first {ENDS}, each {APART}th and the last {ENDS}"
-        wrong = [why for _, why in pool.map(lambda number: self.refuse(number, is_from), numbers) if why]
+        wrong = []
+
+        def refuse(number):
+            """Refuses this one, unless enough went wrong, and returns whether there was one to refuse."""
+            if len(wrong) >= WRONG:
+                return False
+            is_met, why = self.refuse(number, is_from)
+            wrong.extend([why] if why else [])
+            return is_met
+
+        list(pool.map(refuse, numbers))
         # (how many there are may depend on the schedule: until three runs in a row ask for no more)
         idle = 0
         for number in itertools.count(total + 1):
             if idle == 3 or wrong:
                 break
-            is_met, why = self.refuse(number, is_from)
-            idle = 0 if is_met else idle + 1
-            wrong += [why] if why else []
+            idle = 0 if refuse(number) else idle + 1
         return words, wrong
 
 
@@ -175,12 +185,12 @@ def judge(program, test, library, pool):
     """Refuses a test's allocations, says what came of it, and returns whether all is well."""
     name = f"{os.path.basename(program)} {test}"
     done, wrong = Refusal(program, test, library).in_turn(False, pool)
-    if test.endswith(("whatever_memory_is_refused", *WITHOUT)) and not wrong:
+    if not test.endswith(AGAIN) and not wrong:
         _, wrong = Refusal(program, test, library).in_turn(True, pool)
         done += ", and all from it on"
-    for it in wrong[:5]:
+    for it in wrong:
         print(f"{name}: {it}", flush=True)
-    print(f"{name}: {len(wrong)} runs FAILED" if wrong else f"{name}: {done}", flush=True)
+    print(f"{name}: {'FAILED' if wrong else done}", flush=True)
     return not wrong
 
 
