@@ -32,7 +32,7 @@ const ACCOUNTS: &str =
     "52000040017075626c6963006163636f756e7473006400030169640000000017ffffffff00656d61696c0000000019ffffffff006e6f74650000000019ffffffff";
 
 /// The rows 1 and 2 are committed at 0/140.
-static ROWS: [&str; 5] = [
+const ROWS: &[&str] = &[
     "4200000000000001000000000000000000000001f4",
     ACCOUNTS,
     "49000040014e000374000000013174000000016174000000016e",
@@ -41,7 +41,7 @@ static ROWS: [&str; 5] = [
 ];
 
 /// S(700,1) 700:R 700:I(1,a,n) 711:I(2,b,n)
-static TWO_INSERTS: [&str; 4] = [
+const TWO_INSERTS: &[&str] = &[
     "53000002bc01",
     "52000002bc000040017075626c6963006163636f756e7473006400030169640000000017ffffffff00656d61696c0000000019ffffffff006e6f74650000000019ffffffff",
     "49000002bc000040014e000374000000013174000000016174000000016e",
@@ -49,7 +49,7 @@ static TWO_INSERTS: [&str; 4] = [
 ];
 
 /// E A(700,711) S(700,0) 700:I(3,c,n) E c(700,0/200,0/220)
-static ROLLED_BACK_AND_GONE_ON: [&str; 6] = [
+const ROLLED_BACK_AND_GONE_ON: &[&str] = &[
     "45",
     "41000002bc000002c700000000000000000000000000000000",
     "53000002bc00",
@@ -59,7 +59,7 @@ static ROLLED_BACK_AND_GONE_ON: [&str; 6] = [
 ];
 
 /// P S(700,1) 700:D(1) E S(701,1) 701:I(3,a,n) E
-static MOVED_EMAIL: [&str; 11] = [
+const MOVED_EMAIL: &[&str] = &[
     "4200000000000001000000000000000000000001f4",
     ACCOUNTS,
     "49000040014e000374000000013174000000016174000000016e",
@@ -102,7 +102,7 @@ static CASES: [Case; 28] = [
     // P B(600,0/130) C(0/130,0/140)
     Case {
         name: "a commit that is not newer",
-        opening: &ROWS,
+        opening: ROWS,
         payloads: &[
             "420000000000000130000000000000000000000258",
             "4300000000000000013000000000000001400000000000000000",
@@ -114,7 +114,7 @@ static CASES: [Case; 28] = [
     // P B(600,0/200) I(3,NULL,n) I(4,NULL,n) C(0/200,0/220) B(601,0/300) I(5,b,n) C(0/300,0/320)
     Case {
         name: "two nulls in a unique key, then a clash",
-        opening: &ROWS,
+        opening: ROWS,
         payloads: &[
             "420000000000000200000000000000000000000258",
             "49000040014e00037400000001336e74000000016e",
@@ -131,7 +131,7 @@ static CASES: [Case; 28] = [
     // P B(600,0/200) U(K:1;9,a,u) C(0/200,0/220)
     Case {
         name: "an update that moves a key",
-        opening: &ROWS,
+        opening: ROWS,
         payloads: &[
             "420000000000000200000000000000000000000258",
             "55000040014b00037400000001316e6e4e000374000000013974000000016175",
@@ -151,7 +151,7 @@ static CASES: [Case; 28] = [
     // P B(600,0/200) U(7,g,v) C(0/200,0/220)
     Case {
         name: "an update of a missing row",
-        opening: &ROWS,
+        opening: ROWS,
         payloads: &[
             "420000000000000200000000000000000000000258",
             "55000040014e0003740000000137740000000167740000000176",
@@ -163,7 +163,7 @@ static CASES: [Case; 28] = [
     // P B(600,0/200) I(+07,\N,) C(0/200,0/220)
     Case {
         name: "an insert with escapes",
-        opening: &ROWS,
+        opening: ROWS,
         payloads: &[
             "420000000000000200000000000000000000000258",
             "49000040014e000374000000032b303774000000025c4e7400000000",
@@ -175,7 +175,7 @@ static CASES: [Case; 28] = [
     // P B(600,0/200) I(NULL,g,n) C(0/200,0/220)
     Case {
         name: "a null in the primary key",
-        opening: &ROWS,
+        opening: ROWS,
         payloads: &[
             "420000000000000200000000000000000000000258",
             "49000040014e00036e74000000016774000000016e",
@@ -252,7 +252,7 @@ static CASES: [Case; 28] = [
     // S(700,1) 700:R 700:I(1,a,n) 711:I(2,b,n) 700:I(3,c,n) E A(700,711) c(700,0/200,0/220)
     Case {
         name: "a rolled back subtransaction",
-        opening: &TWO_INSERTS,
+        opening: TWO_INSERTS,
         payloads: &[
             "49000002bc000040014e000374000000013374000000016374000000016e",
             "45",
@@ -265,7 +265,7 @@ static CASES: [Case; 28] = [
     // S(700,1) 700:R 700:I(1,a,n) 711:I(2,b,n) 700:I(3,c,n) E A(700,712) c(700,0/200,0/220)
     Case {
         name: "the rollback of an unknown subtransaction",
-        opening: &TWO_INSERTS,
+        opening: TWO_INSERTS,
         payloads: &[
             "49000002bc000040014e000374000000013374000000016374000000016e",
             "45",
@@ -278,7 +278,7 @@ static CASES: [Case; 28] = [
     // S(700,1) 700:R 700:I(1,a,n) 711:I(2,b,n) E A(700,711) S(700,0) 711:I(4,d,n) E c(700,0/200,0/220)
     Case {
         name: "a subtransaction named again after its rollback",
-        opening: &TWO_INSERTS,
+        opening: TWO_INSERTS,
         payloads: &[
             "45",
             "41000002bc000002c700000000000000000000000000000000",
@@ -293,7 +293,7 @@ static CASES: [Case; 28] = [
     // P S(700,1) 711:U(1,a,v) E A(700,711) B(900,0/200) U(1,a,w) C(0/200,0/220) S(700,0) 700:I(3,c,n) E c(700,0/300,0/320)
     Case {
         name: "a row let go by a rollback",
-        opening: &ROWS,
+        opening: ROWS,
         payloads: &[
             "53000002bc01",
             "55000002c7000040014e0003740000000131740000000161740000000176",
@@ -313,7 +313,7 @@ static CASES: [Case; 28] = [
     // P S(700,1) 700:U(7,g,v) E B(900,0/200) I(7,g,n) C(0/200,0/220)
     Case {
         name: "two open transactions at one key",
-        opening: &ROWS,
+        opening: ROWS,
         payloads: &[
             "53000002bc01",
             "55000002bc000040014e0003740000000137740000000167740000000176",
@@ -329,7 +329,7 @@ static CASES: [Case; 28] = [
     // P S(700,1) 700:D(1) E S(701,1) 701:I(3,a,n) E c(700,0/200,0/220) c(701,0/300,0/320)
     Case {
         name: "commits in the order of their messages",
-        opening: &MOVED_EMAIL,
+        opening: MOVED_EMAIL,
         payloads: &[
             "63000002bc00000000000000020000000000000002200000000000000000",
             "63000002bd00000000000000030000000000000003200000000000000000",
@@ -341,7 +341,7 @@ static CASES: [Case; 28] = [
     // P S(700,1) 700:D(1) E S(701,1) 701:I(3,a,n) E c(701,0/200,0/220) c(700,0/300,0/320)
     Case {
         name: "a conflict by the order of commits",
-        opening: &MOVED_EMAIL,
+        opening: MOVED_EMAIL,
         payloads: &[
             "63000002bd00000000000000020000000000000002200000000000000000",
             "63000002bc00000000000000030000000000000003200000000000000000",
@@ -354,7 +354,7 @@ static CASES: [Case; 28] = [
     // P S(700,1) 711:T 711:I(5,a,n) E A(700,711) c(700,0/200,0/220) B(600,0/300) I(6,a,n) C(0/300,0/320)
     Case {
         name: "an index entry that comes back",
-        opening: &ROWS,
+        opening: ROWS,
         payloads: &[
             "53000002bc01",
             "54000002c7000000010000004001",
@@ -373,7 +373,7 @@ static CASES: [Case; 28] = [
     // P S(700,1) 711:I(3,b,n) E A(700,711) c(700,0/200,0/220)
     Case {
         name: "a conflict that was rolled back",
-        opening: &ROWS,
+        opening: ROWS,
         payloads: &[
             "53000002bc01",
             "49000002c7000040014e000374000000013374000000016274000000016e",
@@ -388,7 +388,7 @@ static CASES: [Case; 28] = [
     // P S(700,1) 700:I(3,b,n) E
     Case {
         name: "a conflict of a transaction that is still open at the end",
-        opening: &ROWS,
+        opening: ROWS,
         payloads: &[
             "53000002bc01",
             "49000002bc000040014e000374000000013374000000016274000000016e",
@@ -401,8 +401,8 @@ static CASES: [Case; 28] = [
     // S(700,1) 700:R 700:I(1,a,n) 711:I(2,b,n) E A(700,711) S(700,0) 700:I(3,c,n) E c(700,0/200,0/220)
     Case {
         name: "a spool just large enough",
-        opening: &TWO_INSERTS,
-        payloads: &ROLLED_BACK_AND_GONE_ON,
+        opening: TWO_INSERTS,
+        payloads: ROLLED_BACK_AND_GONE_ON,
         spool: 129,
         report: "table public.accounts 2\n1|a|n\n3|c|n\nposition 0/220\nend 0 Clean\n",
         ..PLAIN
@@ -410,8 +410,8 @@ static CASES: [Case; 28] = [
     // S(700,1) 700:R 700:I(1,a,n) 711:I(2,b,n) E A(700,711) S(700,0) 700:I(3,c,n) E c(700,0/200,0/220)
     Case {
         name: "a spool that is full",
-        opening: &TWO_INSERTS,
-        payloads: &ROLLED_BACK_AND_GONE_ON,
+        opening: TWO_INSERTS,
+        payloads: ROLLED_BACK_AND_GONE_ON,
         spool: 128,
         without_workers: true,
         report: "table public.accounts 0\nposition 0/0\nend 3 Session SpoolFull\n",
