@@ -195,9 +195,9 @@ impl Keeper {
         Keeper { alloc, target }
     }
 
-    /// Whether it is a file that has nothing yet.
+    /// Whether nothing was put before: an earlier capture left more than nothing.
     fn is_new(&self) -> bool {
-        matches!(self.target, Target::File(_, 0))
+        matches!(self.target, Target::File(_, 0) | Target::Stdout(_))
     }
 }
 
