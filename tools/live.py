@@ -6,13 +6,15 @@ publication with `publisher capture` while sessions work on its tables side by s
 that are streamed, savepoints, rollbacks, truncates, changes of keys, long texts that stay, odd texts.
 Beside it `pgapply follow` takes the same work from `publisher serve` while it comes. Then it shuts the
 server down, which ends both, applies the file with `pgapply replay` and `pgapply apply`, and prints a line
-for each table. A second capture, of a slot that was made before the work and is read after it, is applied
-too. It exits with 0 where all rows are right.
+for each table. Further captures are applied too: of a slot that was made before the work and is read after
+it; one with `--copy`, of a slot that is made while sessions write to tables that have rows; and one that is
+killed again and again, the server once too, each time with `--append` behind it. A follower that reads
+slowly stays to the shutdown, and has to hear its end. It exits with 0 where all rows are right.
 
 Needs: python3 (3.11), PostgreSQL's programs (Debian: postgresql-16 or later) in --bin, and the built
 programs `publisher` and `pgapply` (`rt run` or `rt ci` leave them in crates/NAME/out).
 """
-import argparse, json, os, random, shutil, subprocess, sys, tempfile, threading, time, tomllib
+import argparse, json, os, random, shutil, socket, struct, subprocess, sys, tempfile, threading, time, tomllib
 
 FORMS = ("-c datestyle=ISO -c intervalstyle=postgres -c extra_float_digits=3 -c timezone=UTC "
          "-c bytea_output=hex")
@@ -53,18 +55,21 @@ class Server:
         return subprocess.run(prefix + [os.path.join(self.bin, name), *words], check=True,
                               stdout=subprocess.DEVNULL, **more)
 
-    def start(self):
+    def set_up(self):
         self.program("initdb", "-D", self.data, "-U", "postgres", "-A", "trust", "--no-sync", "-E", "UTF8",
                      "--locale=C")
+        self.start()
+
+    def start(self):
         settings = (f"-c port={self.port} -c listen_addresses=127.0.0.1 -c unix_socket_directories={self.folder} "
                     "-c wal_level=logical -c logical_decoding_work_mem=64kB -c fsync=off")
         self.program("pg_ctl", "-D", self.data, "-l", os.path.join(self.folder, "log"), "-w", "-o", settings,
                      "start")
         self.runs = True
 
-    def stop(self):
+    def stop(self, mode="fast"):
         self.runs = False
-        self.program("pg_ctl", "-D", self.data, "-m", "fast", "-w", "stop")
+        self.program("pg_ctl", "-D", self.data, "-m", mode, "-w", "-t", "300", "stop")
 
     def sql(self, text):
         words = ["psql", "-X", "-q", "-At", "-v", "ON_ERROR_STOP=1", "-h", "127.0.0.1", "-p", str(self.port), "-U",
@@ -208,7 +213,7 @@ class Follower:
         address = f"127.0.0.1:{options.port + 1}"
         self.serve = subprocess.Popen([options.publisher, "serve", *where, "--slot", "followed", "--create",
                                        "--listen", address, "--once"])
-        # The slot is made when a follower has come, and a follower that comes too early is refused.
+        # A follower that comes before anybody listens is refused.
         while True:
             self.follow = subprocess.Popen([options.pgapply, "follow", "--config", catalog_file, "--connect", address],
                                            stdout=subprocess.PIPE, stderr=subprocess.PIPE)
@@ -227,6 +232,127 @@ class Follower:
         return report.decode(), self.follow.returncode
 
 
+def open_address(options, number):
+    return f"127.0.0.1:{options.port + number}"
+
+
+class Slow:
+    """A follower of the test's own that reads some ten kilobytes a second until the stream ends."""
+
+    def __init__(self, options, where):
+        address = open_address(options, 2)
+        self.serve = subprocess.Popen([options.publisher, "serve", *where, "--slot", "slow", "--create",
+                                       "--listen", address, "--once"], stderr=subprocess.PIPE)
+        self.serve.stderr.readline()
+        host, port = address.split(":")
+        self.socket = socket.create_connection((host, int(port)))
+        self.frames, self.applied, self.seen, self.end = {}, 0, 0, "nothing"
+        self.thread = threading.Thread(target=self.read)
+        self.hurries = False
+        self.thread.start()
+
+    def read(self):
+        rest = b""
+        try:
+            while chunk := self.socket.recv(1000 if not self.hurries else 65536):
+                rest = self.take(rest + chunk)
+                if not self.hurries:
+                    time.sleep(0.1)
+            self.end = "the end"
+        except OSError as error:
+            self.end = repr(error)
+
+    def take(self, rest):
+        while len(rest) >= 5 and len(rest) >= (length := struct.unpack(">I", rest[1:5])[0] + 1):
+            frame, rest = rest[:length], rest[length:]
+            kind = frame[:1].decode() + (frame[5:6].decode() if frame[:1] == b"d" else "")
+            self.frames[kind] = self.frames.get(kind, 0) + 1
+            if kind == "dk":
+                self.seen = max(self.seen, struct.unpack(">Q", frame[6:14])[0])
+            if kind == "dw":
+                self.seen = max(self.seen, *struct.unpack(">QQ", frame[6:22]))
+                if frame[30:31] in b"Cc":
+                    self.applied = struct.unpack(">Q", frame[40:48] if frame[30:31] == b"C" else frame[44:52])[0]
+            if kind == "dk" and frame[22] or kind == "dw" and frame[30:31] in b"Cc":
+                places = struct.pack(">QQQQB", self.seen, self.applied, self.applied, 0, 0)
+                self.socket.sendall(b"d\0\0\0\x26r" + places)
+        return rest
+
+    def is_right(self):
+        """Whether it heard CopyDone and then the end, and not a keepalive for each answer."""
+        self.thread.join(timeout=120)
+        said = self.serve.communicate(timeout=60)[1].decode().strip()
+        keepalives = self.frames.get("dk", 0)
+        right = self.end == "the end" and self.frames.get("c") == 1 and keepalives < 2000
+        print(f"slow: {self.frames.get('dw', 0)} pieces, {keepalives} keepalives, then {self.end}; {said}: "
+              f"{'right' if right else 'WRONG'}")
+        return right
+
+
+class Killed:
+    """A capture that is killed at drawn moments, and goes on with --append."""
+
+    def __init__(self, server, options, where, path, seed):
+        self.words = [options.publisher, "capture", *where, "--slot", "killed", "--out", path]
+        self.path, self.server, self.kills, self.chance = path, server, 0, random.Random(seed)
+        self.goes_on = True
+        self.capture = subprocess.Popen([*self.words, "--create", "--copy"], stderr=subprocess.DEVNULL)
+        wait_for_slot(server, "killed", self.capture)
+        self.thread = threading.Thread(target=self.kill)
+        self.thread.start()
+
+    def kill(self):
+        while self.goes_on:
+            time.sleep(self.chance.uniform(0.05, 0.9))
+            self.capture.kill()
+            self.capture.wait()
+            self.kills += 1
+            self.capture = self.append()
+
+    def append(self):
+        return subprocess.Popen([*self.words, "--append"], stderr=subprocess.DEVNULL)
+
+    def finish(self, until):
+        """No kill more; then the server is killed too, and the file is brought up to the place."""
+        self.goes_on = False
+        self.thread.join()
+        self.server.stop("immediate")
+        self.capture.wait(timeout=60)
+        self.server.start()
+        subprocess.run([*self.words, "--append", "--until", until], check=True)
+        print(f"killed: {self.kills} times, and the server once")
+
+
+def wait_for_slot(server, slot, process):
+    """Waits until the slot's stream has begun: it is also active while it is made."""
+    streams = ("SELECT 1 FROM pg_replication_slots s JOIN pg_stat_replication r ON r.pid = s.active_pid "
+               f"WHERE s.slot_name = '{slot}' AND r.state IN ('catchup', 'streaming');")
+    while not server.sql(streams)[0]:
+        time.sleep(0.1)
+        if process.poll() is not None:
+            sys.exit(f"the capture of {slot} ended before the work")
+
+
+def work(server, options, sessions, seed, title):
+    """Sessions that write side by side."""
+    failures = []
+    began = time.monotonic()
+    threads = [threading.Thread(target=session_work, args=(server, s, options.turns, seed, failures))
+               for s in sessions]
+    for thread in threads:
+        thread.start()
+    return threads, failures, began, title
+
+
+def finish_work(going, options):
+    threads, failures, began, title = going
+    for thread in threads:
+        thread.join()
+    if failures:
+        sys.exit("a session failed: " + failures[0])
+    print(f"{title}: {len(threads)} sessions, {options.turns} turns each, {time.monotonic() - began:.1f} s")
+
+
 def main():
     parser = argparse.ArgumentParser(description=__doc__, formatter_class=argparse.RawDescriptionHelpFormatter)
     parser.add_argument("--bin", default="/usr/lib/postgresql/16/bin")
@@ -242,7 +368,7 @@ def main():
     options = parser.parse_args()
     server = Server(options)
     try:
-        server.start()
+        server.set_up()
         sys.exit(0 if run(server, options) else 1)
     finally:
         if server.runs:
@@ -264,34 +390,35 @@ def run(server, options):
     subprocess.run([*late, "--create", "--out", place("none"), "--seconds", "1"], check=True)
     live = subprocess.Popen([options.publisher, "capture", *where, "--slot", "live", "--create", "--out",
                              place("live.stream")])
-    while not server.sql("SELECT 1 FROM pg_replication_slots WHERE slot_name = 'live' AND active;")[0]:
-        time.sleep(0.1)
-        if live.poll() is not None:
-            sys.exit("the capture ended before the work")
+    wait_for_slot(server, "live", live)
     follower = Follower(server, options, where, place("catalog.toml"))
-    failures = []
-    began = time.monotonic()
-    threads = [threading.Thread(target=session_work, args=(server, s, options.turns, options.seed, failures))
-               for s in range(1, options.sessions + 1)]
-    for thread in threads:
-        thread.start()
-    for thread in threads:
-        thread.join()
-    if failures:
-        sys.exit("a session failed: " + failures[0])
-    print(f"work: {options.sessions} sessions, {options.turns} turns each, {time.monotonic() - began:.1f} s")
-    until = server.sql("SELECT pg_current_wal_lsn();")[0].strip()
+    finish_work(work(server, options, range(1, options.sessions + 1), options.seed, "work"), options)
+    # Tables that have rows, and sessions that write to them while they are copied.
+    going = work(server, options, range(options.sessions + 1, 2 * options.sessions + 1), options.seed, "more work")
+    time.sleep(0.3)
+    copied = subprocess.Popen([options.publisher, "capture", *where, "--slot", "copied", "--create", "--copy",
+                               "--out", place("copied.stream")])
+    slow = Slow(options, where)
+    killed = Killed(server, options, where, place("killed.stream"), options.seed)
+    finish_work(going, options)
+    until = server.sql("SELECT pg_current_wal_insert_lsn();")[0].strip()
     began = time.monotonic()
     subprocess.run([*late, "--out", place("late.stream"), "--until", until], check=True)
     seconds = time.monotonic() - began
     size = os.path.getsize(place("late.stream"))
     print(f"late: captured up to {until} in {seconds:.2f} s ({size / 1e6 / seconds:.1f} MB/s)")
     wanted = expected(server, tomllib.loads(catalog.stdout.decode()))
-    server.stop()
-    if live.wait(timeout=60) != 0:
-        sys.exit("the capture failed")
-    right = [compare("follow", *follower.report(), wanted)]
-    for name in ["live", "late"]:
+    stopping = threading.Thread(target=server.stop)
+    stopping.start()
+    time.sleep(2)
+    slow.hurries = True
+    stopping.join()
+    if live.wait(timeout=60) != 0 or copied.wait(timeout=60) != 0:
+        sys.exit("a capture failed")
+    right = [compare("follow", *follower.report(), wanted), slow.is_right()]
+    server.start()
+    killed.finish(until)
+    for name in ["live", "late", "copied", "killed"]:
         for verb in ["replay", "apply"]:
             right.append(compare_file(name, verb, options, place("catalog.toml"), place(f"{name}.stream"), wanted))
     return all(right)

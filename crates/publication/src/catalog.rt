@@ -3,11 +3,13 @@ use crate::columns::{DefaultValue, Kind, ServerType, read_default};
 use crate::keys::{Key, read_keys};
 use crate::sql;
 use crate::toml_text::{push_comma, push_string, push_strings};
+use server::checks::{check_publication, check_version};
 use server::connection::Connection;
 use server::fault::Fault;
 use server::line::Line;
 use server::query::{Row, rows};
 use server::quoting::literal;
+use server::shown::Shown;
 use std::alloc::Global;
 
 /// A catalog, and what it leaves out.
@@ -29,6 +31,11 @@ pub struct Answers {
 /// The oldest server: 14.
 const OLDEST: u32 = 140_000;
 
+/// How many tables are asked for at most, and how many columns a table of the server may have.
+const MOST_TABLES: usize = 1024;
+
+const MOST_COLUMNS: usize = 1600;
+
 /// How many unique keys a table of the subscriber has at most, beside the primary key.
 const MOST_UNIQUES: usize = 16;
 
@@ -38,35 +45,25 @@ pub fn ask<L: Line + Drop>(
     publication: &str,
 ) -> Result<Answers, Fault> {
     let alloc = connection.alloc();
-    let version = number_of(&rows(connection, "SHOW server_version_num")?)?;
-    if version < OLDEST {
-        return Err(Fault::OldServer(version));
-    }
+    let version = check_version(connection, OLDEST)?;
+    check_publication(connection, publication)?;
     let name = literal(alloc, publication)?;
-    let name = name.as_str();
-    let found = format!(in alloc;
-        "SELECT count(*) FROM pg_catalog.pg_publication WHERE pubname = {name}"
-    )?;
-    if number_of(&rows(connection, found.as_str())?)? == 0 {
-        return Err(Fault::NoPublication);
-    }
-    let listed = sql::listed(alloc, name, version)?;
+    let listed = sql::listed(alloc, name.as_str(), version)?;
+    let listed = listed.as_str();
+    let most = MOST_TABLES * MOST_COLUMNS;
     Ok(Answers {
-        tables: rows(connection, sql::tables(alloc, listed.as_str())?.as_str())?,
-        columns: rows(connection, sql::columns(alloc, listed.as_str())?.as_str())?,
+        tables: rows(
+            connection,
+            sql::tables(alloc, listed)?.as_str(),
+            MOST_TABLES,
+        )?,
+        columns: rows(connection, sql::columns(alloc, listed)?.as_str(), most)?,
         keys: rows(
             connection,
-            sql::keys(alloc, listed.as_str(), version)?.as_str(),
+            sql::keys(alloc, listed, version)?.as_str(),
+            most,
         )?,
     })
-}
-
-/// The number in the first column of the first row.
-fn number_of(rows: &[Row]) -> Result<u32, Fault> {
-    match rows.first() {
-        Some(row) => row.number(0),
-        None => Err(Fault::Nonsense(server::fault::Nonsense::BadRow)),
-    }
 }
 
 /// The catalog of these tables. With `text`, columns of other types are kept as text where that is sound.
@@ -176,7 +173,7 @@ fn kept_columns(
                 })?;
             }
             Err(reason) => {
-                let type_name = row.text(10)?;
+                let type_name = Shown(row.text(10)?);
                 let mut note = format!(in alloc; "table {label}: column ")?;
                 push_string(&mut note, name)?;
                 write!(note, " of type {type_name} is left out, {reason}")?;

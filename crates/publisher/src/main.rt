@@ -2,13 +2,15 @@
 // bytes of its stream. The program has the crate's name, publisher: it talks to the publisher.
 //
 //     publisher catalog --publication P [--text]
-//     publisher capture --publication P --slot S [--create] --out F [--until LSN] [--seconds N]
-//     publisher serve   --publication P --slot S [--create] --listen A [--once]
+//     publisher capture --publication P --slot S [--create [--copy]] --out F [--append]
+//                       [--until LSN] [--seconds N]
+//     publisher serve   --publication P --slot S [--create [--copy]] --listen A [--listen-any] [--once]
+//                       [--until LSN] [--seconds N]
 //
-// Each takes --host, --port, --user and --dbname, or libpq's PGHOST, PGPORT, PGUSER and PGDATABASE, and
-// --timeout, the seconds that the server may be silent. A password is taken from PGPASSWORD alone. There
-// is no TLS: a password in clear text and the rows go over the wire as they are, so go through a tunnel
-// (ssh -L 5433:localhost:5432 HOST, then --host localhost --port 5433) or a Unix socket.
+// Each takes --host, --port, --user and --dbname, or libpq's PGHOST, PGPORT, PGUSER and PGDATABASE,
+// --require-auth or PGREQUIREAUTH, --allow-cleartext, and --timeout, the seconds that an answer may take. A
+// password is taken from PGPASSWORD alone. There is no TLS: the rows go over the wire as they are, so go
+// through a tunnel (ssh -L 5433:localhost:5432 HOST, then --host localhost --port 5433) or a Unix socket.
 //
 // What is promised: it is safe and total, whatever the server sends, and each refusal has a name on
 // standard error and status 1. It writes only whole frames.
@@ -19,10 +21,10 @@
 
 use publication::catalog::Printed;
 use publisher_command::{Job, Options, Variables};
+use server::auth::Ways;
 use server::capture::{Destination, capture};
 use server::fault::Fault;
 use server::host::Server;
-use server::relay::Bounds;
 use server::serve::serve;
 use server::stream::Subscription;
 use std::alloc::AllocError;
@@ -77,37 +79,34 @@ fn run_job(rt: &HostRuntime, options: &Options<'_>, server: &Server) -> Result<(
         Job::Capture {
             slot,
             out,
-            until,
-            millis,
+            append,
+            bounds,
         } => {
-            let destination = if *out == "-" {
-                Destination::Stdout(rt.stdout())
-            } else {
-                Destination::File(*out)
-            };
-            let bounds = Bounds {
-                until: *until,
-                millis: *millis,
+            let destination = match *out {
+                out if *append => Destination::Behind(out),
+                "-" => Destination::Stdout(rt.stdout()),
+                out => Destination::File(out),
             };
             let asked = Subscription {
                 server,
                 publication,
                 slot: *slot,
             };
-            capture(rt.alloc(), rt, &asked, destination, bounds)
+            capture(rt.alloc(), rt, &asked, destination, *bounds)
         }
-        Job::Serve { slot, listen, once } => {
+        Job::Serve { slot, service } => {
             let asked = Subscription {
                 server,
                 publication,
                 slot: *slot,
             };
-            serve(rt.alloc(), rt, &asked, *listen, *once)
+            serve(rt.alloc(), rt, &asked, service)
         }
     }
 }
 
-/// libpq's variables. One that is empty, or is not UTF-8, counts as not set.
+/// libpq's variables. One that is empty, or is not UTF-8, counts as not set. Of ways to authenticate that
+/// libpq refuses none is taken.
 fn read_variables(rt: &HostRuntime) -> Variables {
     Variables {
         host: read_variable(rt, "PGHOST"),
@@ -115,6 +114,13 @@ fn read_variables(rt: &HostRuntime) -> Variables {
         user: read_variable(rt, "PGUSER"),
         database: read_variable(rt, "PGDATABASE"),
         password: read_variable(rt, "PGPASSWORD"),
+        ways: read_variable(rt, "PGREQUIREAUTH").map(|text| publisher_command::read_ways(
+            text.as_str(),
+        ).unwrap_or(Ways::NONE)),
+        tls: match read_variable(rt, "PGSSLMODE") {
+            Some(mode) => !["disable", "allow", "prefer"].contains(&mode.as_str()),
+            None => false,
+        },
         login: read_variable(rt, "USER"),
     }
 }

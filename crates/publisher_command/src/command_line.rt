@@ -1,8 +1,14 @@
 // The commands with their options, and what the words of a command line ask for.
 ghost use Rattle.std.specs.Prelude.{◌≡◌, ◌≤◌, IfSome, Some, None};
 
+use crate::ways::read_ways;
+use clap::builder::ValueParser;
 use clap::error::ErrorKind;
 use clap::{Arg, ArgAction, ArgMatches, Command, Error};
+use server::auth::Ways;
+use server::place::read_place;
+use server::relay::Bounds;
+use server::serve::Service;
 use server::stream::Slot;
 use std::alloc::{AllocError, Global};
 
@@ -15,7 +21,11 @@ pub struct Options<'a> {
     pub(crate) port: Option<&'a str>,
     pub(crate) user: Option<&'a str>,
     pub(crate) database: Option<&'a str>,
-    /// How many milliseconds the server may be silent.
+    /// The ways to authenticate that are taken, if that was said.
+    pub(crate) ways: Option<Ways>,
+    /// Whether the password may be sent in clear text over TCP.
+    pub(crate) clear_text: bool,
+    /// How many milliseconds an answer may take.
     pub(crate) limit: u64,
     ghost a_second: { 1000 ≤ limit },
 }
@@ -31,17 +41,14 @@ pub enum Job<'a> {
         slot: Slot<'a>,
         /// A file that isn't there yet, or `-` for standard output.
         out: &'a str,
-        /// The place in the server's log where the capture ends.
-        until: Option<u64>,
-        /// How many milliseconds the capture lasts.
-        millis: Option<u64>,
+        /// Whether the file is there, from an earlier capture that this one goes on from.
+        append: bool,
+        /// Where and when the capture ends.
+        bounds: Bounds,
     },
     Serve {
         slot: Slot<'a>,
-        /// The address at which a follower connects.
-        listen: &'a str,
-        /// Whether it ends with the first follower.
-        once: bool,
+        service: Service<'a>,
     },
 }
 
@@ -54,14 +61,20 @@ enum Choice {
     Required(&'static str, &'static str, &'static str),
     /// One that has a value.
     Named(&'static str, &'static str, &'static str),
-    /// One that has a value, and the value that it has where none is given.
-    Defaulted(&'static str, &'static str, &'static str, &'static str),
+    /// A number of seconds.
+    Seconds(&'static str, &'static str),
+    /// The same, and the number that it is where none is given.
+    DefaultSeconds(&'static str, &'static str, &'static str),
     /// One without a value.
     Flag(&'static str, &'static str),
+    /// One without a value that goes with another, the last name, alone.
+    FlagWith(&'static str, &'static str, &'static str),
+    /// One without a value that doesn't go with another.
+    FlagWithout(&'static str, &'static str, &'static str),
 }
 
 /// What all commands take.
-static COMMON: [Choice; 6] = [
+static COMMON: [Choice; 8] = [
     Choice::Required("publication", "P", "The publication"),
     Choice::Named(
         "host",
@@ -71,18 +84,31 @@ static COMMON: [Choice; 6] = [
     Choice::Named("port", "N", "Port [PGPORT]"),
     Choice::Named("user", "U", "User [PGUSER]"),
     Choice::Named("dbname", "D", "Database [PGDATABASE]"),
-    Choice::Defaulted(
+    Choice::Named(
+        "require-auth",
+        "M",
+        "Ways to authenticate, as libpq has them: scram-sha-256, or a list, or !password [PGREQUIREAUTH]",
+    ),
+    Choice::Flag(
+        "allow-cleartext",
+        "Send the password in clear text over TCP if the server asks for it",
+    ),
+    Choice::DefaultSeconds(
         "timeout",
-        "N",
-        "Seconds that the server may be silent",
+        "Seconds that an answer may take, and that a stream's server may be silent",
         "30",
     ),
 ];
 
 /// What a command takes that reads a slot's stream.
-static STREAMING: [Choice; 2] = [
+static STREAMING: [Choice; 3] = [
     Choice::Required("slot", "S", "The replication slot"),
     Choice::Flag("create", "Make the slot first"),
+    Choice::FlagWith(
+        "copy",
+        "Begin with the rows that are there as the slot is made; with --create",
+        "create",
+    ),
 ];
 
 static CATALOG: [Choice; 1] = [Choice::Flag(
@@ -90,28 +116,46 @@ static CATALOG: [Choice; 1] = [Choice::Flag(
     "Keep columns of other types as text where their text stands for the value",
 )];
 
-static CAPTURE: [Choice; 3] = [
+static CAPTURE: [Choice; 2] = [
     Choice::Required(
         "out",
         "F",
         "A file that is not there yet, - for standard output",
     ),
+    Choice::FlagWithout(
+        "append",
+        "Go on behind an earlier capture of the slot, which the file has",
+        "create",
+    ),
+];
+
+/// Where a stream ends.
+static BOUNDS: [Choice; 2] = [
     Choice::Named(
         "until",
         "LSN",
-        "End at this place of the server's log, as 1/2A",
+        "End the stream before what commits at this place of the server's log, as 1/2A",
     ),
-    Choice::Named("seconds", "N", "End after N seconds"),
+    Choice::Seconds("seconds", "End the stream after N seconds"),
 ];
 
-static SERVE: [Choice; 2] = [
-    Choice::Required("listen", "A", "The address to listen at, HOST:PORT"),
+static SERVE: [Choice; 3] = [
+    Choice::Required(
+        "listen",
+        "A",
+        "The address to listen at, HOST:PORT; whoever connects is given all rows",
+    ),
+    Choice::Flag(
+        "listen-any",
+        "Listen at an address that other machines reach",
+    ),
     Choice::Flag("once", "End with the first follower"),
 ];
 
 /// The commands and their options.
 fn command<'a>(alloc: Global) -> Result<Command<'a>, AllocError> {
     let program = Command::new(alloc, "publisher")
+        .version("0.1.0")
         .about(
             "Makes inputs for pgapply from a live PostgreSQL server, 14 or later. The password is \
                 taken from PGPASSWORD. There is no TLS: go through a tunnel, as ssh -L.",
@@ -129,14 +173,14 @@ fn command<'a>(alloc: Global) -> Result<Command<'a>, AllocError> {
         program,
         "capture",
         "Write the bytes of a publication's stream to a file (PostgreSQL 16 or later)",
-        &[&COMMON, &STREAMING, &CAPTURE],
+        &[&COMMON, &STREAMING, &CAPTURE, &BOUNDS],
     )?;
     with_subcommand(
         alloc,
         program,
         "serve",
         "Give the stream to one follower at a time (PostgreSQL 16 or later)",
-        &[&COMMON, &STREAMING, &SERVE],
+        &[&COMMON, &STREAMING, &SERVE, &BOUNDS],
     )
 }
 
@@ -161,26 +205,37 @@ fn with_choices<'a>(
     let mut command = command;
     for choices in lists {
         for choice in *choices {
-            command = command.arg(argument(alloc, *choice))?;
+            command = command.arg(argument(alloc, *choice)?)?;
         }
     }
     Ok(command)
 }
 
-fn argument<'a>(alloc: Global, choice: Choice) -> Arg<'a> {
-    match choice {
+fn argument<'a>(alloc: Global, choice: Choice) -> Result<Arg<'a>, AllocError> {
+    Ok(match choice {
         Choice::Required(name, value, help) => {
             value_argument(alloc, name, value, help).required(true)
         }
         Choice::Named(name, value, help) => value_argument(alloc, name, value, help),
-        Choice::Defaulted(name, value, help, default) => {
-            value_argument(alloc, name, value, help).default_value(default)
+        Choice::Seconds(name, help) => seconds_argument(alloc, name, help),
+        Choice::DefaultSeconds(name, help, default) => {
+            seconds_argument(alloc, name, help).default_value(default)
         }
-        Choice::Flag(name, help) => Arg::new(alloc, name)
-            .long(name)
-            .help(help)
-            .action(ArgAction::SetTrue),
-    }
+        Choice::Flag(name, help) => flag_argument(alloc, name, help),
+        Choice::FlagWith(name, help, other) => {
+            flag_argument(alloc, name, help).requires_arg(other)?
+        }
+        Choice::FlagWithout(name, help, other) => {
+            flag_argument(alloc, name, help).conflicts_with(other)?
+        }
+    })
+}
+
+fn flag_argument<'a>(alloc: Global, name: &'a str, help: &'a str) -> Arg<'a> {
+    Arg::new(alloc, name)
+        .long(name)
+        .help(help)
+        .action(ArgAction::SetTrue)
 }
 
 fn value_argument<'a>(alloc: Global, name: &'a str, value: &'a str, help: &'a str) -> Arg<'a> {
@@ -189,6 +244,10 @@ fn value_argument<'a>(alloc: Global, name: &'a str, value: &'a str, help: &'a st
         .value_name(value)
         .help(help)
         .action(ArgAction::Set)
+}
+
+fn seconds_argument<'a>(alloc: Global, name: &'a str, help: &'a str) -> Arg<'a> {
+    value_argument(alloc, name, "N", help).value_parser(ValueParser::unsigned(1, MOST_SECONDS))
 }
 
 /// What the words ask for, or the text of a usage fault or of help.
@@ -227,6 +286,11 @@ fn first_refused<'a>(matches: &ArgMatches<'a>) -> Option<(&'static str, &'a str,
         let wanted = "an LSN as 1/2A";
         return Some(("until", given.get_str("until")?, wanted));
     }
+    if ways(given.get_str("require-auth")).is_none() {
+        let wanted =
+            "a list of password, md5, scram-sha-256, gss, sspi and none, or of these each behind !";
+        return Some(("require-auth", given.get_str("require-auth")?, wanted));
+    }
     None
 }
 
@@ -239,6 +303,8 @@ fn given_options<'a>(matches: &ArgMatches<'a>) -> Option<Options<'a>> {
         port: given.get_str("port"),
         user: given.get_str("user"),
         database: given.get_str("dbname"),
+        ways: ways(given.get_str("require-auth"))?,
+        clear_text: given.get_flag("allow-cleartext"),
         limit: seconds(given.get_str("timeout"))??,
     })
 }
@@ -251,21 +317,33 @@ fn given_job<'a>(name: &str, given: &ArgMatches<'a>) -> Option<Job<'a>> {
         "capture" => Some(Job::Capture {
             slot: given_slot(given)?,
             out: given.get_str("out")?,
-            until: place(given.get_str("until"))?,
-            millis: seconds(given.get_str("seconds"))?,
+            append: given.get_flag("append"),
+            bounds: given_bounds(given)?,
         }),
         _ => Some(Job::Serve {
             slot: given_slot(given)?,
-            listen: given.get_str("listen")?,
-            once: given.get_flag("once"),
+            service: Service {
+                listen: given.get_str("listen")?,
+                any: given.get_flag("listen-any"),
+                once: given.get_flag("once"),
+                bounds: given_bounds(given)?,
+            },
         }),
     }
+}
+
+fn given_bounds(given: &ArgMatches<'_>) -> Option<Bounds> {
+    Some(Bounds {
+        until: place(given.get_str("until"))?,
+        millis: seconds(given.get_str("seconds"))?,
+    })
 }
 
 fn given_slot<'a>(given: &ArgMatches<'a>) -> Option<Slot<'a>> {
     Some(Slot {
         name: given.get_str("slot")?,
         create: given.get_flag("create"),
+        copy: given.get_flag("copy"),
     })
 }
 
@@ -294,17 +372,16 @@ fn place(text: Option<&str>) -> Option<Option<u64>>
 {
     match text {
         None => Some(None),
-        Some(text) => {
-            let (high, low) = text.split_once('/')?;
-            Some(Some(u64::from(half(high)?) << 32 | u64::from(half(low)?)))
-        }
+        Some(text) => Some(Some(read_place(text)?)),
     }
 }
 
-/// The half of a place: one to eight hexadecimal digits.
-fn half(text: &str) -> Option<u32> {
-    if !text.bytes().all(|byte| byte.is_ascii_hexdigit()) {
-        return None;
+/// Ways to authenticate, if some were given.
+fn ways(text: Option<&str>) -> Option<Option<Ways>>
+    ensures { text.entry ≡ None → result ≡ Some None }
+{
+    match text {
+        None => Some(None),
+        Some(text) => Some(Some(read_ways(text)?)),
     }
-    u32::from_str_radix(text, 16).ok()
 }

@@ -12,11 +12,14 @@
 //! It stands on `server`, for what a slot and a server are, and on the kit's `clap`.
 //!
 //!   command_line   the commands with their options, and what the words ask for
+//!   ways           the ways to authenticate that are taken
 //!   variables      libpq's variables, and the server that is meant
 #![tactic(auto)]
 
 mod command_line;
 mod variables;
+mod ways;
 
 pub use command_line::{Job, Options, parse};
 pub use variables::{Variables, choose_server};
+pub use ways::read_ways;

@@ -3,6 +3,7 @@ ghost use Rattle.std.specs.Prelude.{◌≡◌, ◌≤◌, None, IfOk, IfSome, Ma
 ghost use Rattle.publisher_command.specs.Choosing.{named_user, IsMeant};
 
 use crate::command_line::Options;
+use server::auth::Ways;
 use server::host::Server;
 use std::alloc::{AllocError, Global};
 use std::fmt;
@@ -15,6 +16,10 @@ pub struct Variables {
     pub user: Option<String>,
     pub database: Option<String>,
     pub password: Option<String>,
+    /// The ways to authenticate of PGREQUIREAUTH.
+    pub ways: Option<Ways>,
+    /// Whether PGSSLMODE asks for TLS: it is set, and not to `disable`, `allow` or `prefer`.
+    pub tls: bool,
     /// The name of who is logged in, `USER`.
     pub login: Option<String>,
 }
@@ -26,6 +31,8 @@ impl fmt::Debug for Variables {
             .field("port", &self.port)
             .field("user", &self.user)
             .field("database", &self.database)
+            .field("ways", &self.ways)
+            .field("tls", &self.tls)
             .field("login", &self.login)
             .finish_non_exhaustive()
     }
@@ -67,5 +74,8 @@ pub fn choose_server(
             None => None,
         },
         limit: options.limit,
+        ways: options.ways.or(variables.ways).unwrap_or(Ways::ALL),
+        clear_text: options.clear_text,
+        tls: variables.tls,
     }))
 }

@@ -20,6 +20,35 @@ pub struct Login<'a> {
     pub password: Option<&'a str>,
     /// Whether the connection takes replication commands.
     pub replication: bool,
+    pub ways: Ways,
+    /// Whether the password may be sent in clear text.
+    pub clear_text: bool,
+}
+
+/// Which ways to authenticate are taken, as libpq's `require_auth` has it. `none` is that the server asks
+/// for no proof.
+#[derive(Clone, Copy, Debug, PartialEq, Eq)]
+pub struct Ways {
+    pub none: bool,
+    pub password: bool,
+    pub md5: bool,
+    pub scram: bool,
+}
+
+impl Ways {
+    pub const ALL: Ways = Ways {
+        none: true,
+        password: true,
+        md5: true,
+        scram: true,
+    };
+
+    pub const NONE: Ways = Ways {
+        none: false,
+        password: false,
+        md5: false,
+        scram: false,
+    };
 }
 
 /// Without the password.
@@ -69,14 +98,22 @@ fn authenticate<L: Line + Drop>(
     let alloc = connection.alloc();
     let request = receive_request(connection)?;
     match request.kind {
-        0 => return Ok(()),
-        3 => send_password(connection, needed(login.password)?)?,
+        0 => return taken(login.ways.none, "none"),
+        3 => {
+            taken(login.ways.password, "password")?;
+            if !login.clear_text {
+                return Err(Fault::ClearText);
+            }
+            send_password(connection, needed(login.password)?)?;
+        }
         5 => {
+            taken(login.ways.md5, "md5")?;
             let password = needed(login.password)?;
             let salted = md5_password(alloc, login.user, password, request.content())?;
             send_password(connection, salted.as_str())?;
         }
         10 => {
+            taken(login.ways.scram, "scram-sha-256")?;
             let password = needed(login.password)?;
             authenticate_by_scram(connection, password, &request, random)?;
         }
@@ -85,6 +122,15 @@ fn authenticate<L: Line + Drop>(
     match receive_request(connection)?.kind {
         0 => Ok(()),
         _ => Err(Fault::Nonsense(Nonsense::Unexpected)),
+    }
+}
+
+/// Refuses a way to authenticate, by libpq's name, that is not taken.
+fn taken(is_taken: bool, way: &'static str) -> Result<(), Fault> {
+    if is_taken {
+        Ok(())
+    } else {
+        Err(Fault::Excluded(way))
     }
 }
 
@@ -136,8 +182,8 @@ pub fn md5_password(
     password: &str,
     salt: &[u8],
 ) -> Result<String, Fault> {
-    let inner = hexadecimal(alloc, &md5_of(password.as_bytes(), user.as_bytes()))?;
-    let outer = hexadecimal(alloc, &md5_of(inner.as_bytes(), salt))?;
+    let inner = hex::encode(alloc, &md5_of(password.as_bytes(), user.as_bytes()))?;
+    let outer = hex::encode(alloc, &md5_of(inner.as_bytes(), salt))?;
     Ok(format!(in alloc; "md5{outer}")?)
 }
 
@@ -146,14 +192,6 @@ fn md5_of(first: &[u8], second: &[u8]) -> [u8; 16] {
     hasher.update(first);
     hasher.update(second);
     hasher.finalize()
-}
-
-fn hexadecimal(alloc: Global, bytes: &[u8]) -> Result<String, Fault> {
-    let mut text = String::new(alloc);
-    for byte in bytes {
-        write!(text, "{:02x}", *byte)?;
-    }
-    Ok(text)
 }
 
 fn authenticate_by_scram<L: Line + Drop>(

@@ -1,12 +1,21 @@
 // Capture: the stream's frames, as they came, in a file or on standard output.
+use crate::checks::check_stream;
+use crate::connection::Connection;
+use crate::copy::copy_rows;
 use crate::fault::Fault;
-use crate::relay::{Bounds, Output, Relayed, relay};
-use crate::stream::{Subscription, start, status};
+use crate::kept::{Kept, aborts, label, read_kept};
+use crate::line::Line;
+use crate::place::Place;
+use crate::relay::{Bounds, Output, Relayed, relay, whole_frames};
+use crate::slots::{drop_made, make_if_asked};
+use crate::stream::{Subscription, confirmed, identify, start, status};
 use crate::summary::say;
+use crate::wire;
 use std::alloc::Global;
 use std::fs::{File, Files};
-use std::io::{Stdout, Write};
+use std::io::{Seek, SeekFrom, Stdout, Write};
 use std::net::{Net, TcpStream};
+use std::os::unix::fs::OpenOptionsExt;
 use std::random::RandomSource;
 use std::rt::Clock;
 
@@ -15,11 +24,13 @@ use std::rt::Clock;
 pub enum Destination<'a> {
     /// A file that isn't there yet.
     File(&'a str),
+    /// Behind what can be kept of a file that an earlier capture left.
+    Behind(&'a str),
     Stdout(Stdout),
 }
 
-/// Captures a stream until it ends, and says on standard error what was captured. Nothing is left of the
-/// file where the stream can't be started.
+/// Captures a stream until it ends, and says on standard error what was captured. Nothing is left of a file
+/// nor of a slot that was made for it, where the stream can't be started.
 pub fn capture<H: Net<Stream = TcpStream> + Clock + RandomSource + Files<File = File> + Eprint>(
     alloc: Global,
     host: &H,
@@ -28,26 +39,140 @@ pub fn capture<H: Net<Stream = TcpStream> + Clock + RandomSource + Files<File = 
     bounds: Bounds,
 ) -> Result<(), Fault> {
     let mut connection = asked.server.connect(alloc, host, true)?;
-    let (target, path) = match destination {
-        Destination::File(path) => {
-            let file = File::create_new(host, path).map_err(Fault::CannotWrite)?;
-            (Target::File(file, 0), Some(path))
-        }
-        Destination::Stdout(stdout) => (Target::Stdout(stdout), None),
-    };
+    check_stream(&mut connection, asked.publication, asked.slot)?;
+    let identifier = identify(&mut connection)?.identifier;
+    let identifier = identifier.as_str();
+    let mut relayed = Relayed::NOTHING;
+    let (target, path) = open(alloc, host, asked, identifier, destination, &mut relayed)?;
     let mut keeper = Keeper::new(alloc, target);
-    if let Err(fault) = start(&mut connection, asked.publication, asked.slot) {
+    let mut made = false;
+    let begun = begin(
+        &mut connection,
+        asked,
+        identifier,
+        &mut keeper,
+        &mut relayed,
+        &mut made,
+    );
+    if let Err(fault) = begun {
+        drop(connection);
         if let Some(path) = path {
-            // The file is ours and empty; the fault says more than one of removing it.
+            // The file is ours; the fault says more than one of removing it.
             let _ = std::fs::remove_file(host, path);
+        }
+        if made {
+            drop_made(alloc, host, asked)?;
         }
         return Err(fault);
     }
-    let mut relayed = Relayed::NOTHING;
     let ended = relay(&mut connection, &mut keeper, bounds, &mut relayed);
     say(host, &relayed, &ended)?;
     ended?;
     Ok(())
+}
+
+/// Opens what the frames go to. The path is that of a file that was made. Behind an earlier capture
+/// `relayed` is where that one came to.
+fn open<'a, H: Files<File = File>>(
+    alloc: Global,
+    host: &H,
+    asked: &Subscription<'_>,
+    identifier: &str,
+    destination: Destination<'a>,
+    relayed: &mut Relayed,
+) -> Result<(Target, Option<&'a str>), Fault> {
+    match destination {
+        Destination::File(path) => Ok((Target::File(create(host, path)?, 0), Some(path))),
+        Destination::Stdout(stdout) => Ok((Target::Stdout(stdout), None)),
+        Destination::Behind(path) => {
+            let kept = read_file(alloc, host, asked, identifier, path)?;
+            relayed.position = kept.position;
+            relayed.committed = kept.committed;
+            Ok((cut(alloc, host, path, &kept)?, None))
+        }
+    }
+}
+
+/// Makes a file that nobody else may read: it has all rows of the stream.
+fn create<H: Files<File = File>>(host: &H, path: &str) -> Result<File, Fault> {
+    let mut options = File::options();
+    options.write(true).create_new(true).mode(0o600);
+    options.open(host, path).map_err(Fault::CannotWrite)
+}
+
+/// What can be kept of a file, which has to be of this stream, and whose copy of the rows, if it begins
+/// with one, has to be whole.
+fn read_file<H: Files<File = File>>(
+    alloc: Global,
+    host: &H,
+    asked: &Subscription<'_>,
+    identifier: &str,
+    path: &str,
+) -> Result<Kept, Fault> {
+    let file = File::open(host, path).map_err(Fault::CannotRead)?;
+    let plain = label(alloc, asked, identifier, false)?;
+    let copied = label(alloc, asked, identifier, true)?;
+    let (kept, is_copied) = read_kept(alloc, file, plain.as_slice(), copied.as_slice())?;
+    if is_copied && kept.committed == 0 {
+        return Err(Fault::HalfCopy);
+    }
+    Ok(kept)
+}
+
+/// Cuts the file back to what is kept, and ends the streamed transactions that are open there.
+fn cut<H: Files<File = File>>(
+    alloc: Global,
+    host: &H,
+    path: &str,
+    kept: &Kept,
+) -> Result<Target, Fault> {
+    let mut options = File::options();
+    options.write(true);
+    let mut file: File = options.open(host, path).map_err(Fault::CannotWrite)?;
+    file.set_len(kept.length).map_err(Fault::CannotWrite)?;
+    file.seek(SeekFrom::Start(kept.length))
+        .map_err(Fault::CannotWrite)?;
+    let ends = aborts(alloc, kept.open.as_slice(), kept.position)?;
+    file.write_all(ends.as_slice()).map_err(Fault::CannotWrite)?;
+    let length = kept.length.saturating_add(ends.len() as u64);
+    Ok(Target::File(file, length))
+}
+
+/// Makes the slot and copies the rows, if that is asked, and starts the stream. Whether a slot was made is
+/// said in any case.
+fn begin<L: Line + Drop>(
+    connection: &mut Connection<L>,
+    asked: &Subscription<'_>,
+    identifier: &str,
+    keeper: &mut Keeper,
+    relayed: &mut Relayed,
+    made: &mut bool,
+) -> Result<(), Fault> {
+    let point = make_if_asked(connection, asked.slot)?;
+    *made = point.is_some();
+    let stands = match point {
+        Some(point) => point,
+        None => confirmed(connection, asked.slot.name)?,
+    };
+    if keeper.is_new() {
+        let alloc = connection.alloc();
+        let title = label(alloc, asked, identifier, asked.slot.copy)?;
+        keeper.put(&title[..whole_frames(title.as_slice())])?;
+        let place = wire::keepalive(alloc, stands, false)?;
+        keeper.put(&place[..whole_frames(place.as_slice())])?;
+        relayed.position = stands;
+    } else if stands > relayed.position {
+        return Err(Fault::Lost(Place(stands), Place(relayed.position)));
+    }
+    if asked.slot.copy {
+        copy_rows(connection, asked.publication, stands, keeper, relayed)?;
+    }
+    start(
+        connection,
+        asked.publication,
+        asked.slot.name,
+        relayed.committed,
+    )
 }
 
 /// Where the frames go.
@@ -68,6 +193,11 @@ pub struct Keeper {
 impl Keeper {
     pub fn new(alloc: Global, target: Target) -> Keeper {
         Keeper { alloc, target }
+    }
+
+    /// Whether nothing was put before: an earlier capture left more than nothing.
+    fn is_new(&self) -> bool {
+        matches!(self.target, Target::File(_, 0) | Target::Stdout(_))
     }
 }
 

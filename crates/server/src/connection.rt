@@ -29,6 +29,8 @@ pub struct Connection<L: Line> {
     line: L,
     alloc: Global,
     limit: u64,
+    /// When the answer was asked for that is due.
+    asked: u64,
     bytes: Vec<u8>,
     start: usize,
     end: usize,
@@ -46,14 +48,17 @@ impl<L: Line> fmt::Debug for Connection<L> {
 }
 
 impl<L: Line + Drop> Connection<L> {
-    /// A connection that has read nothing yet. `limit` is how many milliseconds the server may be silent.
+    /// A connection that has read nothing yet. `limit` is how many milliseconds a whole answer may take.
     pub fn new(alloc: Global, line: L, limit: u64) -> Result<Connection<L>, Fault> {
+        let mut line = line;
+        let asked = line.millis();
         let mut bytes = Vec::new(alloc);
         bytes.resize(CHUNK, 0)?;
         Ok(Connection {
             line,
             alloc,
             limit,
+            asked,
             bytes,
             start: 0,
             end: 0,
@@ -64,7 +69,7 @@ impl<L: Line + Drop> Connection<L> {
         self.alloc
     }
 
-    /// How many milliseconds the server may be silent.
+    /// How many milliseconds a whole answer may take.
     pub fn limit(&self) -> u64 {
         self.limit
     }
@@ -119,15 +124,21 @@ impl<L: Line + Drop> Connection<L> {
         Ok(())
     }
 
-    /// Sends bytes.
+    /// Sends bytes. The answer to them is due from now on.
     pub fn send(&mut self, bytes: &[u8]) -> Result<(), Fault> {
-        self.line.write_whole(bytes)
+        self.line.write_whole(bytes)?;
+        self.go_on();
+        Ok(())
     }
 
-    /// The next message, whole. A server that is silent, or sends less than a message within the
-    /// time limit, has timed out.
+    /// Begins the time limit anew, in an answer that may go on as long as the server isn't silent.
+    pub fn go_on(&mut self) {
+        self.asked = self.line.millis();
+    }
+
+    /// The next message, whole. A server that sends less within the time limit, which begins with what
+    /// was sent to it, has timed out: so the limit is one of the whole answer.
     pub fn receive(&mut self) -> Result<Message, Fault> {
-        let began = self.millis();
         for _ in 0..u64::MAX {
             if let Some(message) = self.first_message()? {
                 return Ok(message);
@@ -136,7 +147,7 @@ impl<L: Line + Drop> Connection<L> {
                 Came::End => return Err(Fault::Closed),
                 Came::Bytes | Came::Nothing => {}
             }
-            if self.millis().saturating_sub(began) > self.limit {
+            if self.millis().saturating_sub(self.asked) > self.limit {
                 return Err(Fault::TimedOut);
             }
         }

@@ -1,5 +1,5 @@
 // Where a server is, and a connection to it that has logged in.
-use crate::auth::{Login, log_in};
+use crate::auth::{Login, Ways, log_in};
 use crate::connection::Connection;
 use crate::fault::Fault;
 use crate::line::{Socket, SocketLine};
@@ -23,8 +23,13 @@ pub struct Server {
     pub user: String,
     pub database: String,
     pub password: Option<String>,
-    /// How many milliseconds the server may be silent.
+    /// How many milliseconds an answer may take, and how long a stream's server may be silent.
     pub limit: u64,
+    pub ways: Ways,
+    /// Whether the password may be sent in clear text over TCP.
+    pub clear_text: bool,
+    /// Whether TLS is asked for, which is refused but for a Unix socket.
+    pub tls: bool,
 }
 
 /// Without the password.
@@ -48,6 +53,10 @@ impl Server {
         host: &'a H,
         replication: bool,
     ) -> Result<Connection<SocketLine<'a, H>>, Fault> {
+        let is_local = self.host.as_str().starts_with("/");
+        if self.tls && !is_local {
+            return Err(Fault::NoTls);
+        }
         let wait = Duration::from_millis(self.limit);
         let socket = self
             .open_socket(alloc, host, wait)
@@ -63,6 +72,8 @@ impl Server {
             database: self.database.as_str(),
             password: self.password.as_deref(),
             replication,
+            ways: self.ways,
+            clear_text: self.clear_text || is_local,
         };
         log_in(&mut connection, &login, &random)?;
         Ok(connection)

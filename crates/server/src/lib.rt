@@ -6,27 +6,39 @@
 // How it works. `wire` has the messages of the frontend/backend protocol as bytes, `line` a socket and a
 // clock, `connection` whole messages within a time limit; `scram` and `auth` say who connects, and `host`
 // opens a connection that has logged in. `query` asks for rows, and `quoting` spells the names in a question.
-// `stream` starts replication and says what a frame is; `relay` hands the frames to whoever takes them:
-// `capture` to a file or to standard output, `serve` to one follower after another.
+// `checks` asks what has to be there before `slots` makes a slot. `stream` starts replication and says what
+// a frame is, `marks` what a message opens or closes; `copy` makes the first transaction of the rows that are
+// there (`tuples`). `relay` hands the frames to whoever takes them: `capture` to a file, behind what `kept`
+// keeps of it, or to standard output, `serve` to one `follower` after another. `shown` and `place` print
+// texts of others and places of the log.
 //
 // There is no TLS: a password in clear text and the rows go over the wire as they are.
 //
-// It stands on `md5`, `sha2` and `base64` for the ways to log in, `thiserror` for the texts of faults, and
-// std's sockets. What needs no socket is tried by scripted servers, in the crate `server_tests`.
+// It stands on `md5`, `sha2`, `base64` and `hex` for the ways to log in, `thiserror` for the texts of faults,
+// and std's sockets. What needs no socket is tried by scripted servers, in the crate `server_tests`.
 #![tactic(auto)]
 
 pub mod auth;
 pub mod capture;
+pub mod checks;
 pub mod connection;
+pub mod copy;
 pub mod fault;
+pub mod follower;
 pub mod host;
+pub mod kept;
 pub mod line;
+pub mod marks;
+pub mod place;
 pub mod query;
 pub mod quoting;
 pub mod relay;
 pub mod report;
 pub mod scram;
 pub mod serve;
+pub mod shown;
+pub mod slots;
 pub mod stream;
 mod summary;
+mod tuples;
 pub mod wire;

@@ -48,22 +48,54 @@ impl Row {
     }
 }
 
-/// Runs one text of SQL, and answers its rows.
-pub fn rows<L: Line + Drop>(connection: &mut Connection<L>, sql: &str) -> Result<Vec<Row>, Fault> {
+/// How much memory the rows of one answer may take, about.
+const MOST_BYTES: usize = 64 * 1024 * 1024;
+
+/// What a row takes beside the bytes of its message, and what each of its values takes.
+const OVERHEAD: usize = 48;
+
+/// Runs one text of SQL, and answers its rows, at most so many: more are refused.
+pub fn rows<L: Line + Drop>(
+    connection: &mut Connection<L>,
+    sql: &str,
+    most: usize,
+) -> Result<Vec<Row>, Fault> {
     let alloc = connection.alloc();
     let query = wire::query(alloc, sql)?;
     connection.send(query.as_slice())?;
     let mut rows = Vec::new(alloc);
+    let mut size = 0usize;
     for _ in 0..u64::MAX {
         let message = connection.receive_answer()?;
         match message.tag {
-            b'D' => rows.push(read_row(alloc, message.body.as_slice())?)?,
+            b'D' => {
+                let row = read_row(alloc, message.body.as_slice())?;
+                size = size.saturating_add(cost(&row, message.body.len()));
+                if rows.len() >= most || size > MOST_BYTES {
+                    return Err(Fault::TooManyRows);
+                }
+                rows.push(row)?;
+            }
             b'T' | b'C' | b'I' => {}
             b'Z' => return Ok(rows),
             _ => return Err(Fault::Nonsense(Nonsense::Unexpected)),
         }
     }
     Err(Fault::TimedOut)
+}
+
+/// Runs one text of SQL whose answer is one row with a number.
+pub fn number<L: Line + Drop>(connection: &mut Connection<L>, sql: &str) -> Result<u32, Fault> {
+    match rows(connection, sql, 1)?.first() {
+        Some(row) => row.number(0),
+        None => Err(Fault::Nonsense(Nonsense::BadRow)),
+    }
+}
+
+/// About how many bytes a row takes that came in a message of so many.
+fn cost(row: &Row, length: usize) -> usize {
+    let values = row.values.len().saturating_add(1);
+    length.saturating_add(values.saturating_mul(OVERHEAD))
 }
 
 /// DataRow.

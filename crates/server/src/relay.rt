@@ -5,6 +5,7 @@ ghost use Rattle.server.specs.Frames.{AreFrames};
 use crate::connection::{Came, Connection};
 use crate::fault::Fault;
 use crate::line::Line;
+use crate::marks::{Mark, Phase};
 use crate::report::read_report;
 use crate::stream::{Sent, read_frame};
 use crate::wire;
@@ -24,7 +25,7 @@ pub trait Output {
 /// When a relay ends by itself.
 #[derive(Clone, Copy, Debug)]
 pub struct Bounds {
-    /// Once the stream is past this place of the log.
+    /// Outside of transactions, once the next would commit at this place of the log or behind it.
     pub until: Option<u64>,
     /// After so many milliseconds.
     pub millis: Option<u64>,
@@ -75,10 +76,14 @@ pub enum End {
 }
 
 /// CopyDone.
-const COPY_DONE: [u8; 5] = [b'c', 0, 0, 0, 4];
+pub const COPY_DONE: [u8; 5] = [b'c', 0, 0, 0, 4];
 
 /// How often the server is asked for a keepalive, at least: milliseconds.
 const ASKING: u64 = 1000;
+
+/// How long keepalives that come alone wait for an answer after the last: milliseconds. A server that shuts
+/// down asks again at each answer.
+const PACE: u64 = 10;
 
 /// Where a relay stands.
 #[derive(Clone, Copy)]
@@ -88,6 +93,11 @@ struct Standing {
     /// When bytes last came, and when status updates were last asked for: milliseconds.
     heard: u64,
     told: u64,
+    /// When status updates were last sent.
+    sent: Option<u64>,
+    /// Whether a keepalive waits for an answer.
+    owes: bool,
+    phase: Phase,
 }
 
 impl Standing {
@@ -98,6 +108,9 @@ impl Standing {
             began,
             heard: began,
             told: began,
+            sent: None,
+            owes: false,
+            phase: Phase::Outside,
         }
     }
 }
@@ -130,13 +143,15 @@ fn turn<L: Line + Drop, O: Output>(
 ) -> Result<Option<End>, Fault> {
     let alloc = connection.alloc();
     let unread = connection.unread();
-    let scan = go_over(unread, bounds.until);
+    let scan = go_over(unread, bounds.until, standing.phase);
     let ended = put_scanned(alloc, unread, output, scan, &mut standing.relayed)?;
+    standing.phase = scan.phase;
     connection.take(scan.ready);
     if let Some(end) = ended {
         return Ok(Some(end));
     }
-    if !tell_server(connection, output, scan.due, standing)? {
+    standing.owes = standing.owes || scan.due;
+    if !tell_server(connection, output, scan.is_quiet, standing)? {
         return Ok(Some(End::Enough));
     }
     let now = connection.millis();
@@ -168,6 +183,10 @@ struct Scan {
     committed: u64,
     /// Whether one of them wants a status update.
     due: bool,
+    /// Whether none of them has a piece of the log.
+    is_quiet: bool,
+    /// The phase behind them.
+    phase: Phase,
     stop: Stop,
 }
 
@@ -184,8 +203,8 @@ enum Stop {
     Nonsense(crate::fault::Nonsense),
 }
 
-/// Goes over the whole frames at the front of these bytes.
-fn go_over(bytes: &[u8], until: Option<u64>) -> Scan
+/// Goes over the whole frames at the front of these bytes, which stand in this phase.
+fn go_over(bytes: &[u8], until: Option<u64>, phase: Phase) -> Scan
     ensures within { result.ready ≤ length bytes.now }
     ensures whole { AreFrames (take result.ready bytes.now) }
 {
@@ -195,6 +214,8 @@ fn go_over(bytes: &[u8], until: Option<u64>) -> Scan
         position: 0,
         committed: 0,
         due: false,
+        is_quiet: true,
+        phase,
         stop: Stop::Part,
     };
     'frames: for _ in 0..bytes.len() {
@@ -225,18 +246,20 @@ fn judge(scan: &mut Scan, frame: &[u8], until: Option<u64>) -> (bool, Option<Sto
     ensures { scan.new.ready ≡ scan.old.ready }
 {
     match read_frame(frame) {
-        Ok(Sent::Data { start, end, commit }) => {
-            if is_past(start, until) {
+        Ok(Sent::Data { start, end, mark }) => {
+            if scan.phase == Phase::Outside && is_past(start, mark, until) {
                 return (false, Some(Stop::End(End::Reached)));
             }
+            scan.phase = scan.phase.after(mark);
+            scan.is_quiet = false;
             scan.position = scan.position.max(start).max(end);
-            scan.committed = scan.committed.max(commit.unwrap_or(0));
+            scan.committed = scan.committed.max(mark.commit_end().unwrap_or(0));
             (true, None)
         }
         Ok(Sent::Keepalive { end, reply }) => {
             scan.position = scan.position.max(end);
             scan.due = scan.due || reply;
-            let reached = until.is_some_and(|place| end >= place);
+            let reached = scan.phase == Phase::Outside && until.is_some_and(|place| end >= place);
             (
                 true,
                 if reached {
@@ -254,8 +277,11 @@ fn judge(scan: &mut Scan, frame: &[u8], until: Option<u64>) -> (bool, Option<Sto
     }
 }
 
-fn is_past(start: u64, until: Option<u64>) -> bool {
-    until.is_some_and(|place| start > place)
+/// Whether a message outside of transactions is of one that commits at the place or behind it: one that
+/// doesn't say where it commits began behind all that commits before the place.
+fn is_past(start: u64, mark: Mark, until: Option<u64>) -> bool {
+    let commit = mark.commit().unwrap_or(start);
+    until.is_some_and(|place| commit >= place)
 }
 
 /// Puts what was scanned of the unread bytes. It answers the end that stands behind, or the fault.
@@ -293,7 +319,7 @@ pub fn whole_frames(bytes: &[u8]) -> usize
     ensures within { result ≤ length bytes.now }
     ensures whole { AreFrames (take result bytes.now) }
 {
-    go_over(bytes, None).ready
+    go_over(bytes, None, Phase::Outside).ready
 }
 
 /// The ErrorResponse that begins here.
@@ -304,22 +330,31 @@ fn report_at(alloc: Global, bytes: &[u8], start: usize) -> Result<Fault, Fault> 
     Ok(Fault::Server(read_report(alloc, body)?))
 }
 
-/// Sends what the output has to tell, and answers whether it wants more.
+/// Sends what the output has to tell, and answers whether it wants more. Where nothing but keepalives came,
+/// it waits for a while after the last time.
 fn tell_server<L: Line + Drop, O: Output>(
     connection: &mut Connection<L>,
     output: &mut O,
-    due: bool,
+    is_quiet: bool,
     standing: &mut Standing,
 ) -> Result<bool, Fault> {
     let now = connection.millis();
+    if is_quiet
+        && let Some(sent) = standing.sent
+        && now.saturating_sub(sent) < PACE
+    {
+        return Ok(true);
+    }
     let asking = ASKING.min(connection.limit() / 4);
-    let due = due || now.saturating_sub(standing.told) >= asking;
+    let due = standing.owes || now.saturating_sub(standing.told) >= asking;
     let mut updates = Vec::new(connection.alloc());
     let wanted = output.tell(&standing.relayed, due, &mut updates)?;
     if due {
         standing.told = now;
+        standing.owes = false;
     }
     if !updates.is_empty() {
+        standing.sent = Some(now);
         connection.send(updates.as_slice())?;
     }
     Ok(wanted)

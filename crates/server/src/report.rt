@@ -1,5 +1,6 @@
 // An error as the server tells it.
 use crate::fault::Fault;
+use crate::shown::Shown;
 use crate::wire::Fields;
 use std::alloc::Global;
 use std::fmt;
@@ -17,9 +18,9 @@ pub struct ServerReport {
 
 impl fmt::Display for ServerReport {
     fn fmt<W: fmt::Write>(&self, f: &mut fmt::Formatter<W>) -> fmt::Result {
-        let severity = self.severity.as_str();
-        let code = self.code.as_str();
-        let message = self.message.as_str();
+        let severity = Shown(self.severity.as_str());
+        let code = Shown(self.code.as_str());
+        let message = Shown(self.message.as_str());
         write!(f, "{severity} {code}: {message}")
     }
 }

@@ -5,8 +5,11 @@ use sha2::{Digest, Sha256};
 use std::alloc::Global;
 use std::fmt;
 
-/// How many rounds a server may ask for: a thousand times its default would take minutes.
+/// How many rounds a server may ask for, which take a second or two.
 const MOST_ROUNDS: u32 = 1_000_000;
+
+/// How many it has to ask for: PostgreSQL's own default. From fewer a password is cheap to guess.
+const LEAST_ROUNDS: u32 = 4096;
 
 const BLOCK: usize = 64;
 
@@ -149,11 +152,11 @@ impl Exchange {
             return Err(bad);
         };
         // The server has to go on from the client's nonce, with more of its own.
-        if !nonce.starts_with(self.nonce.as_str())
-            || nonce.len() == self.nonce.len()
-            || rounds == 0
-        {
+        if !nonce.starts_with(self.nonce.as_str()) || nonce.len() == self.nonce.len() {
             return Err(bad);
+        }
+        if rounds < LEAST_ROUNDS {
+            return Err(Fault::TooFewRounds(rounds));
         }
         if rounds > MOST_ROUNDS {
             return Err(Fault::TooManyRounds(rounds));

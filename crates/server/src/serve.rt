@@ -1,247 +1,216 @@
 // Serve: the stream's frames to a follower, and its status updates to the server.
+use crate::checks::check_stream;
+use crate::connection::Connection;
+use crate::copy::copy_rows;
 use crate::fault::Fault;
-use crate::relay::{Bounds, End, Output, Relayed, relay, whole_frames};
-use crate::stream::{Slot, Subscription, start, status};
+use crate::follower::Follower;
+use crate::line::SocketLine;
+use crate::place::Place;
+use crate::relay::{Bounds, COPY_DONE, End, Output, Relayed, relay, whole_frames};
+use crate::slots::{drop_made, make_if_asked};
+use crate::stream::{Subscription, identify, start};
 use crate::summary::say;
-use crate::wire;
 use std::alloc::Global;
-use std::io::{ErrorKind, Read, Write};
-use std::net::{Net, TcpListener, TcpStream};
+use std::io;
+use std::io::ErrorKind;
+use std::net::{Net, TcpListener, TcpStream, ToSocketAddrs};
 use std::random::RandomSource;
 use std::rt::Clock;
 use std::time::Duration;
 
-/// Serves one follower after another at this address, or one alone. A fault of one is said, and the next
-/// may come; what was put is said of each.
+/// Where followers come, and for how long one is served.
+#[derive(Clone, Copy, Debug)]
+pub struct Service<'a> {
+    /// HOST:PORT.
+    pub listen: &'a str,
+    /// Whether other machines may reach the address.
+    pub any: bool,
+    /// Whether the first follower is the last.
+    pub once: bool,
+    /// Where each follower's stream ends, with CopyDone.
+    pub bounds: Bounds,
+}
+
+/// Serves one follower after another, or one alone. It logs in and makes the slot, if that is asked, before
+/// it listens. A fault of one follower is said, and the next may come; what was put is said of each.
 pub fn serve<H: Net<Stream = TcpStream, Listener = TcpListener> + Clock + RandomSource + Eprint>(
     alloc: Global,
     host: &H,
     asked: &Subscription<'_>,
-    listen: &str,
-    once: bool,
+    service: &Service<'_>,
 ) -> Result<(), Fault> {
-    let listener = TcpListener::bind(host, listen).map_err(Fault::CannotWrite)?;
-    let mut asked = *asked;
+    let mut connection = asked.server.connect(alloc, host, true)?;
+    check_stream(&mut connection, asked.publication, asked.slot)?;
+    let made = make_if_asked(&mut connection, asked.slot)?;
+    let snapshot = match made {
+        Some(place) if asked.slot.copy => Some(Snapshot { connection, place }),
+        _ => {
+            drop(connection);
+            None
+        }
+    };
+    match open(host, service) {
+        Ok(listener) => serve_all(alloc, host, asked, service, &listener, snapshot),
+        Err(fault) => {
+            drop(snapshot);
+            if made.is_some() {
+                drop_made(alloc, host, asked)?;
+            }
+            Err(fault)
+        }
+    }
+}
+
+/// A connection whose transaction sees the rows as they are at a slot's consistent point.
+#[derive(Drop)]
+struct Snapshot<'a, H: Clock> {
+    connection: Connection<SocketLine<'a, H>>,
+    place: u64,
+}
+
+/// Listens, and says where.
+fn open<H: Net<Stream = TcpStream, Listener = TcpListener> + Eprint>(
+    host: &H,
+    service: &Service<'_>,
+) -> Result<TcpListener, Fault> {
+    let listener = listen(host, service)?;
+    let address = listener.local_addr().map_err(Fault::CannotListen)?;
+    eprintln!(host; "publisher: listening at {address}").map_err(Fault::CannotWrite)?;
+    Ok(listener)
+}
+
+/// Listens at the first address that can be bound. One that other machines reach has to be allowed.
+pub fn listen<H: Net<Stream = TcpStream, Listener = TcpListener>>(
+    host: &H,
+    service: &Service<'_>,
+) -> Result<TcpListener, Fault> {
+    let mut last = io::Error::from(ErrorKind::NotFound);
+    for address in service
+        .listen
+        .to_socket_addrs(host)
+        .map_err(Fault::CannotListen)?
+    {
+        if !service.any && !address.ip().is_loopback() {
+            return Err(Fault::NotLoopback);
+        }
+        match TcpListener::bind(host, address) {
+            Ok(listener) => return Ok(listener),
+            Err(error) => last = error,
+        }
+    }
+    Err(Fault::CannotListen(last))
+}
+
+/// A copy of the rows is for the first follower. Where it isn't whole, the slot is of no use.
+fn serve_all<'a, H: Net<Stream = TcpStream> + Clock + RandomSource + Eprint>(
+    alloc: Global,
+    host: &'a H,
+    asked: &Subscription<'_>,
+    service: &Service<'_>,
+    listener: &TcpListener,
+    snapshot: Option<Snapshot<'a, H>>,
+) -> Result<(), Fault> {
+    let mut snapshot = snapshot;
     for stream in listener.incoming() {
-        let stream = stream.map_err(Fault::CannotWrite)?;
-        let served = serve_one(alloc, host, &asked, stream);
-        if once {
+        let stream = match stream {
+            Ok(stream) => stream,
+            // Whoever it was has gone.
+            Err(error) if error.kind() == ErrorKind::ConnectionAborted => continue,
+            Err(error) => return Err(Fault::CannotListen(error)),
+        };
+        listener.set_nonblocking(true).map_err(Fault::CannotListen)?;
+        let follower = Follower::new(alloc, stream, Some(listener));
+        let mut relayed = Relayed::NOTHING;
+        let copies = snapshot.is_some();
+        let source = Source {
+            bounds: service.bounds,
+            snapshot: snapshot.take(),
+        };
+        let served = serve_one(alloc, host, asked, source, follower, &mut relayed);
+        listener
+            .set_nonblocking(false)
+            .map_err(Fault::CannotListen)?;
+        if copies && relayed.committed == 0 {
+            drop_made(alloc, host, asked)?;
             return served;
         }
-        match served {
-            Ok(()) => {
-                asked.slot = Slot {
-                    create: false,
-                    ..asked.slot
-                }
-            }
-            Err(fault) => eprintln!(host; "publisher: {fault}").map_err(Fault::CannotWrite)?,
+        if service.once {
+            return served;
+        }
+        if let Err(fault) = served {
+            eprintln!(host; "publisher: {fault}").map_err(Fault::CannotWrite)?;
         }
     }
     Ok(())
 }
 
+/// What a follower is given.
+#[derive(Drop)]
+struct Source<'a, H: Clock> {
+    bounds: Bounds,
+    /// Where its stream begins with a copy of the rows.
+    snapshot: Option<Snapshot<'a, H>>,
+}
+
 /// Hands the stream to one follower. It hears of a fault as of an error of the server.
-fn serve_one<H: Net<Stream = TcpStream> + Clock + RandomSource + Eprint>(
+fn serve_one<'a, H: Net<Stream = TcpStream> + Clock + RandomSource + Eprint>(
     alloc: Global,
-    host: &H,
+    host: &'a H,
     asked: &Subscription<'_>,
-    stream: TcpStream,
+    source: Source<'a, H>,
+    follower: Follower<'_>,
+    relayed: &mut Relayed,
 ) -> Result<(), Fault> {
-    let wait = Duration::from_millis(asked.server.limit);
-    if stream.set_write_timeout(Some(wait)).is_err() {
-        return Err(Fault::Follower("its time limit can't be set"));
+    let mut follower = follower;
+    let limit = asked.server.limit;
+    follower.set_limit(limit)?;
+    let ended = hand_over(alloc, host, asked, source, &mut follower, relayed);
+    match &ended {
+        Err(fault) => follower.tell_fault(fault)?,
+        // Of a stream that the server didn't end the follower hears here that it is over.
+        Ok(End::Reached | End::Elapsed) => {
+            let _ = follower.put(&COPY_DONE[..whole_frames(&COPY_DONE)]);
+        }
+        Ok(_) => {}
     }
-    let mut follower = Follower::new(alloc, stream);
-    let mut relayed = Relayed::NOTHING;
-    let ended = hand_over(alloc, host, asked, &mut follower, &mut relayed);
-    if let Err(fault) = &ended {
-        // A follower that can't be told has gone, and the fault itself is answered.
-        let farewell = farewell(alloc, fault)?;
-        let _ = follower.put(&farewell[..whole_frames(farewell.as_slice())]);
-    }
-    say(host, &relayed, &ended)?;
+    follower.part(host, limit);
+    say(host, relayed, &ended)?;
     ended?;
     Ok(())
 }
 
-fn hand_over<H: Net<Stream = TcpStream> + Clock + RandomSource>(
+/// Begins the stream at the place up to which the follower has it, and hands it on.
+fn hand_over<'a, H: Net<Stream = TcpStream> + Clock + RandomSource>(
     alloc: Global,
-    host: &H,
+    host: &'a H,
     asked: &Subscription<'_>,
-    follower: &mut Follower,
+    source: Source<'a, H>,
+    follower: &mut Follower<'_>,
     relayed: &mut Relayed,
 ) -> Result<End, Fault> {
-    let mut connection = asked.server.connect(alloc, host, true)?;
-    start(&mut connection, asked.publication, asked.slot)?;
-    relay(&mut connection, follower, Bounds::NONE, relayed)
-}
-
-/// What a status update's frame begins with: CopyData of 38 bytes, 'r'.
-const STATUS: [u8; 6] = [b'd', 0, 0, 0, 38, b'r'];
-
-/// How many bytes a status update's frame has.
-const STATUS_LENGTH: usize = 39;
-
-/// What a follower told.
-#[derive(Debug, Drop)]
-pub struct Told {
-    /// The beginning of a frame that isn't whole.
-    part: Vec<u8>,
-    /// The place up to which the server was told that the log is flushed; 0 before the first update.
-    flushed: u64,
-}
-
-impl Told {
-    pub fn new(alloc: Global) -> Told {
-        Told {
-            part: Vec::new(alloc),
-            flushed: 0,
-        }
-    }
-
-    /// Appends the status updates that are whole with these bytes, of a stream whose commits were put
-    /// up to `committed`. It answers whether the follower goes on: CopyDone ends it.
-    ///
-    /// A follower tells where the last commit ends that it applied, and how far it saw the log. Where it
-    /// has applied all commits that were put, nothing of what it saw is needed again, and the server is
-    /// told that it is flushed: else one that shuts down would wait for ever.
-    pub fn hear(
-        &mut self,
-        bytes: &[u8],
-        committed: u64,
-        updates: &mut Vec<u8>,
-    ) -> Result<bool, Fault> {
-        self.part.extend_from_slice(bytes)?;
-        let mut taken = 0;
-        let mut goes_on = true;
-        for _ in 0..self.part.len() {
-            let rest = self.part.as_slice().get(taken..).unwrap_or(&[]);
-            let Ok(first) = wire::first_length(rest) else {
-                return Err(Fault::Follower("it sent what is no frame"));
-            };
-            let Some(frame) = first.and_then(|length| rest.get(..length)) else {
-                break;
-            };
-            if frame.first() == Some(&b'c') {
-                goes_on = false;
-                break;
+    let Source { bounds, snapshot } = source;
+    let place = follower.ask_place(host, asked.server.limit)?;
+    let mut connection = match snapshot {
+        Some(snapshot) => {
+            let mut connection = snapshot.connection;
+            if place > 0 {
+                return Err(Fault::Follower("it has rows, and the copy is for one that has none"));
             }
-            self.flushed = flushed_by(frame, committed)?;
-            push_update(frame, self.flushed, updates)?;
-            taken += frame.len();
+            copy_rows(
+                &mut connection,
+                asked.publication,
+                snapshot.place,
+                follower,
+                relayed,
+            )?;
+            connection
         }
-        self.part.drain(..taken.min(self.part.len()));
-        Ok(goes_on)
+        None => asked.server.connect(alloc, host, true)?,
+    };
+    let end = identify(&mut connection)?.log_end;
+    if place > end {
+        return Err(Fault::Ahead(Place(place), Place(end)));
     }
-}
-
-/// The place up to which the log is flushed by a status update, of a stream whose commits were put up to
-/// `committed`.
-fn flushed_by(frame: &[u8], committed: u64) -> Result<u64, Fault> {
-    let refused = Fault::Follower("it sent what is no status update");
-    if frame.len() != STATUS_LENGTH || !frame.starts_with(&STATUS) {
-        return Err(refused);
-    }
-    match (place_at(frame, WRITTEN), place_at(frame, FLUSHED)) {
-        (Some(written), Some(flushed)) if flushed >= committed => Ok(flushed.max(written)),
-        (Some(_), Some(flushed)) => Ok(flushed),
-        _ => Err(refused),
-    }
-}
-
-/// Where a status update's frame has the places written, flushed and applied, and what stands behind.
-const WRITTEN: usize = 6;
-
-const FLUSHED: usize = 14;
-
-const BEHIND: usize = 30;
-
-/// The place in the log that stands here.
-fn place_at(frame: &[u8], start: usize) -> Option<u64> {
-    let bytes = frame.get(start..)?.first_chunk::<8>()?;
-    Some(u64::from_be_bytes(*bytes))
-}
-
-/// Appends a status update that says the log is flushed and applied up to this place.
-fn push_update(frame: &[u8], flushed: u64, updates: &mut Vec<u8>) -> Result<(), Fault> {
-    updates.extend_from_slice(frame.get(..FLUSHED).unwrap_or(&[]))?;
-    for _ in 0..2 {
-        updates.extend_from_slice(&flushed.to_be_bytes())?;
-    }
-    updates.extend_from_slice(frame.get(BEHIND..).unwrap_or(&[]))?;
-    Ok(())
-}
-
-/// A follower that is connected.
-#[derive(Debug, Drop)]
-pub struct Follower {
-    alloc: Global,
-    stream: TcpStream,
-    told: Told,
-}
-
-impl Follower {
-    pub fn new(alloc: Global, stream: TcpStream) -> Follower {
-        Follower {
-            alloc,
-            stream,
-            told: Told::new(alloc),
-        }
-    }
-
-    /// Reads what has come, and waits for nothing. None at the end.
-    fn read_ready(&mut self, buf: &mut [u8]) -> Result<Option<usize>, Fault> {
-        let broken = "it can't be read";
-        if self.stream.set_nonblocking(true).is_err() {
-            return Err(Fault::Follower(broken));
-        }
-        let came = self.stream.read(buf);
-        if self.stream.set_nonblocking(false).is_err() {
-            return Err(Fault::Follower(broken));
-        }
-        match came {
-            Ok(0) => Ok(None),
-            Ok(count) => Ok(Some(count)),
-            Err(error) => match error.kind() {
-                ErrorKind::WouldBlock | ErrorKind::Interrupted => Ok(Some(0)),
-                _ => Err(Fault::Follower(broken)),
-            },
-        }
-    }
-}
-
-impl Output for Follower {
-    fn put(&mut self, frames: &[u8]) -> Result<(), Fault> {
-        match self.stream.write_all(frames) {
-            Ok(()) => Ok(()),
-            Err(_) => Err(Fault::Follower("it closed, or took nothing within the time limit")),
-        }
-    }
-
-    fn tell(&mut self, put: &Relayed, due: bool, updates: &mut Vec<u8>) -> Result<bool, Fault> {
-        let mut buf = [0u8; 4096];
-        let Some(count) = self.read_ready(&mut buf)? else {
-            return Ok(false);
-        };
-        let heard = buf.as_slice().get(..count).unwrap_or(&[]);
-        let goes_on = self.told.hear(heard, put.committed, updates)?;
-        if due && updates.is_empty() {
-            let update = status(self.alloc, self.told.flushed, true)?;
-            updates.extend_from_slice(update.as_slice())?;
-        }
-        Ok(goes_on)
-    }
-}
-
-/// An ErrorResponse of our own, which ends a follower's run with a server's error.
-pub fn farewell(alloc: Global, fault: &Fault) -> Result<Vec<u8>, Fault> {
-    let text = format!(in alloc; "{fault}")?;
-    let mut body = Vec::new(alloc);
-    wire::push_zero_ended(&mut body, "SFATAL")?;
-    wire::push_zero_ended(&mut body, "C08006")?;
-    body.push(b'M')?;
-    wire::push_zero_ended(&mut body, text.as_str())?;
-    body.push(0)?;
-    wire::frame(alloc, b'E', body.as_slice())
+    start(&mut connection, asked.publication, asked.slot.name, place)?;
+    relay(&mut connection, follower, bounds, relayed)
 }

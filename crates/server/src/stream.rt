@@ -4,6 +4,9 @@ use crate::connection::Connection;
 use crate::fault::{Fault, Nonsense};
 use crate::host::Server;
 use crate::line::Line;
+use crate::marks::Mark;
+use crate::place::{Place, read_place};
+use crate::query::Row;
 use crate::quoting::{identifier, literal};
 use crate::wire::Fields;
 use crate::{query, wire};
@@ -15,6 +18,8 @@ pub struct Slot<'a> {
     pub name: &'a str,
     /// Whether it is made first.
     pub create: bool,
+    /// Whether its stream begins with a copy of the rows that are there as it is made.
+    pub copy: bool,
 }
 
 /// A stream to ask for: of which server, which publication, through which slot.
@@ -25,25 +30,105 @@ pub struct Subscription<'a> {
     pub slot: Slot<'a>,
 }
 
-/// Makes the slot, if that is asked, and starts the stream where the slot stands.
-pub fn start<L: Line + Drop>(
+/// Makes a slot, and answers its consistent point: its stream has the transactions that commit behind it.
+/// With a copy a transaction begins that sees the rows as they are there.
+pub fn make_slot<L: Line + Drop>(
     connection: &mut Connection<L>,
-    publication: &str,
     slot: Slot<'_>,
-) -> Result<(), Fault> {
+) -> Result<u64, Fault> {
     let alloc = connection.alloc();
     let name = identifier(alloc, slot.name)?;
     let name = name.as_str();
-    if slot.create {
-        let create = format!(in alloc;
-            "CREATE_REPLICATION_SLOT {name} LOGICAL pgoutput NOEXPORT_SNAPSHOT"
+    if slot.copy {
+        query::rows(
+            connection,
+            "BEGIN READ ONLY ISOLATION LEVEL REPEATABLE READ",
+            0,
         )?;
-        query::rows(connection, create.as_str())?;
     }
+    let snapshot = if slot.copy {
+        "USE_SNAPSHOT"
+    } else {
+        "NOEXPORT_SNAPSHOT"
+    };
+    let create = format!(in alloc; "CREATE_REPLICATION_SLOT {name} LOGICAL pgoutput {snapshot}")?;
+    let rows = query::rows(connection, create.as_str(), 1)?;
+    match rows.first() {
+        Some(row) => place_of(row, 1),
+        None => Err(Fault::Nonsense(Nonsense::BadRow)),
+    }
+}
+
+/// The place of the log in a column.
+fn place_of(row: &Row, column: usize) -> Result<u64, Fault> {
+    match read_place(row.text(column)?) {
+        Some(place) => Ok(place),
+        None => Err(Fault::Nonsense(Nonsense::BadRow)),
+    }
+}
+
+/// Drops a slot, as soon as nobody streams through it.
+pub fn drop_slot<L: Line + Drop>(connection: &mut Connection<L>, name: &str) -> Result<(), Fault> {
+    let alloc = connection.alloc();
+    let name = identifier(alloc, name)?;
+    let name = name.as_str();
+    let text = format!(in alloc; "DROP_REPLICATION_SLOT {name} WAIT")?;
+    query::rows(connection, text.as_str(), 0)?;
+    Ok(())
+}
+
+/// What a server says of itself.
+#[derive(Debug, Drop)]
+pub struct System {
+    /// Its system identifier, a number that is drawn where its files are made.
+    pub identifier: String,
+    /// Where its log ends that is on its disk.
+    pub log_end: u64,
+}
+
+/// Asks the server who it is.
+pub fn identify<L: Line + Drop>(connection: &mut Connection<L>) -> Result<System, Fault> {
+    let alloc = connection.alloc();
+    let rows = query::rows(connection, "IDENTIFY_SYSTEM", 1)?;
+    let Some(row) = rows.first() else {
+        return Err(Fault::Nonsense(Nonsense::BadRow));
+    };
+    Ok(System {
+        identifier: String::from_str(alloc, row.text(0)?)?,
+        log_end: place_of(row, 2)?,
+    })
+}
+
+/// The place up to which the slot's reader has confirmed the log.
+pub fn confirmed<L: Line + Drop>(connection: &mut Connection<L>, slot: &str) -> Result<u64, Fault> {
+    let alloc = connection.alloc();
+    let name = literal(alloc, slot)?;
+    let name = name.as_str();
+    let text = format!(in alloc;
+        "SELECT confirmed_flush_lsn FROM pg_catalog.pg_replication_slots WHERE slot_name = {name}"
+    )?;
+    let rows = query::rows(connection, text.as_str(), 1)?;
+    match rows.first() {
+        Some(row) => place_of(row, 0),
+        None => Err(Fault::NoSlot),
+    }
+}
+
+/// Starts the stream of a slot at this place of the log, or where the slot stands if that is behind it.
+pub fn start<L: Line + Drop>(
+    connection: &mut Connection<L>,
+    publication: &str,
+    slot: &str,
+    from: u64,
+) -> Result<(), Fault> {
+    let alloc = connection.alloc();
+    let name = identifier(alloc, slot)?;
+    let name = name.as_str();
+    let from = Place(from);
     let names = literal(alloc, identifier(alloc, publication)?.as_str())?;
     let names = names.as_str();
     let start = format!(in alloc;
-        "START_REPLICATION SLOT {name} LOGICAL 0/0 \
+        "START_REPLICATION SLOT {name} LOGICAL {from} \
         (proto_version '4', streaming 'parallel', publication_names {names})"
     )?;
     connection.send(wire::query(alloc, start.as_str())?.as_slice())?;
@@ -57,18 +142,10 @@ pub fn start<L: Line + Drop>(
 /// What a frame of the stream is.
 #[derive(Clone, Copy, Debug, PartialEq, Eq)]
 pub enum Sent {
-    /// A piece of the log: where it starts, where the log ended when it was sent, and where the commit
-    /// ends that it is, if it is one.
-    Data {
-        start: u64,
-        end: u64,
-        commit: Option<u64>,
-    },
+    /// A piece of the log: where it starts, where the log ended when it was sent, and what it is.
+    Data { start: u64, end: u64, mark: Mark },
     /// Where the log ends, and whether an answer is wanted.
-    Keepalive {
-        end: u64,
-        reply: bool,
-    },
+    Keepalive { end: u64, reply: bool },
     /// A notice or a parameter, which a subscriber skips.
     Skipped,
     /// CopyDone.
@@ -104,7 +181,7 @@ fn read_copy_data(fields: Fields<'_>) -> Result<Sent, Nonsense> {
             Ok(Sent::Data {
                 start,
                 end,
-                commit: commit_end(fields),
+                mark: Mark::of(fields),
             })
         }
         b'k' => {
@@ -118,21 +195,6 @@ fn read_copy_data(fields: Fields<'_>) -> Result<Sent, Nonsense> {
         }
         _ => Err(Nonsense::Unexpected),
     }
-}
-
-/// Where the commit ends that this message is, if it is Commit or Stream Commit.
-fn commit_end(message: Fields<'_>) -> Option<u64> {
-    let mut fields = message;
-    match fields.byte().ok()? {
-        b'C' => {}
-        b'c' => {
-            fields.int32().ok()?;
-        }
-        _ => return None,
-    }
-    fields.byte().ok()?;
-    fields.int64().ok()?;
-    fields.int64().ok()
 }
 
 /// A status update's clock, in microseconds since 2000-01-01: left at its start, since no server goes by it.

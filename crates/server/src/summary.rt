@@ -1,5 +1,6 @@
 // What is said of a stream when it has ended.
 use crate::fault::Fault;
+use crate::place::Place;
 use crate::relay::{End, Relayed};
 
 /// Says on standard error what was put and what ended it.
@@ -10,8 +11,7 @@ pub fn say<H: Eprint>(
 ) -> Result<(), Fault> {
     let frames = relayed.frames;
     let bytes = relayed.bytes;
-    let high = relayed.position >> 32;
-    let low = relayed.position & 0xffff_ffff;
+    let place = Place(relayed.position);
     let reason = match ended {
         Ok(End::Reached) => "the place was reached",
         Ok(End::Elapsed) => "the time is over",
@@ -20,7 +20,7 @@ pub fn say<H: Eprint>(
         Ok(End::Shutdown) => "the server shut down",
         Err(_) => "a fault",
     };
-    eprintln!(host;
-        "publisher: {frames} frames, {bytes} bytes, up to {high:X}/{low:X}: {reason}"
-    ).map_err(Fault::CannotWrite)
+    eprintln!(host; "publisher: {frames} frames, {bytes} bytes, up to {place}: {reason}").map_err(
+        Fault::CannotWrite,
+    )
 }

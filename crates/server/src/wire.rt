@@ -9,7 +9,7 @@ use std::alloc::Global;
 pub const MAX_LENGTH: u32 = 67108864;
 
 /// The bytes of tag and length.
-const HEADER: usize = 5;
+pub const HEADER: usize = 5;
 
 /// Protocol version 3.0.
 const VERSION: u32 = 196608;
@@ -38,6 +38,19 @@ pub fn first_length(bytes: &[u8]) -> Result<Option<usize>, Nonsense>
     }
 }
 
+/// How many bytes the message has that begins with this header.
+pub fn declared_length(header: &[u8; HEADER]) -> Result<usize, Nonsense> {
+    let [_, first, second, third, last] = *header;
+    let length = u32::from_be_bytes([first, second, third, last]);
+    if length < 4 {
+        Err(Nonsense::BadLength)
+    } else if length > MAX_LENGTH {
+        Err(Nonsense::TooLong)
+    } else {
+        Ok(length as usize + 1)
+    }
+}
+
 /// A message: its tag, and its content behind the length.
 #[derive(Debug, Drop)]
 pub struct Message {
@@ -51,6 +64,28 @@ pub fn frame(alloc: Global, tag: u8, body: &[u8]) -> Result<Vec<u8>, Fault> {
     bytes.push(tag)?;
     push_counted(&mut bytes, body)?;
     Ok(bytes)
+}
+
+/// A keepalive as a server sends it: where its log ends, and whether an answer is wanted.
+pub fn keepalive(alloc: Global, end: u64, reply: bool) -> Result<Vec<u8>, Fault> {
+    let mut body = Vec::new(alloc);
+    body.push(b'k')?;
+    body.extend_from_slice(&end.to_be_bytes())?;
+    body.extend_from_slice(&[0; 8])?;
+    body.push(if reply { 1 } else { 0 })?;
+    frame(alloc, b'd', body.as_slice())
+}
+
+/// A piece of the log as a server sends it, with this message: CopyData, 'w', the place twice, and a clock
+/// that is left at its start.
+pub fn data(alloc: Global, place: u64, message: &[u8]) -> Result<Vec<u8>, Fault> {
+    let mut body = Vec::new(alloc);
+    body.push(b'w')?;
+    body.extend_from_slice(&place.to_be_bytes())?;
+    body.extend_from_slice(&place.to_be_bytes())?;
+    body.extend_from_slice(&[0; 8])?;
+    body.extend_from_slice(message)?;
+    frame(alloc, b'd', body.as_slice())
 }
 
 /// Appends a length that counts itself, and the content.

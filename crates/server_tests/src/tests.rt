@@ -7,9 +7,12 @@
 //   options    `publisher_command`
 //   refusals   `server`, what a login, a question and a stream make of other answers
 //   relays     `server`, the stream
+//   copies     `server`, rows that are there as a slot is made, and what of a file can be kept
 //   script     a line in memory: what the server says is written before
+//   slots      `server`, what commands leave of slots and files
 //   vectors    `server`, hashes and SCRAM
 mod catalogs;
+mod copies;
 mod lines;
 mod logins;
 mod loopback;
@@ -17,4 +20,5 @@ mod options;
 mod refusals;
 mod relays;
 mod script;
+mod slots;
 mod vectors;

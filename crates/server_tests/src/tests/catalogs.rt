@@ -49,7 +49,7 @@ const COLUMNS: [&str; 13] = [
     "4|6|hidden|23|b|0| |f|f|\\N|integer",
     "4|7|price|1700|b|0| |f|t|0.5|numeric",
     "4|8|face|99999|e|0| |f|t|\\N|mood",
-    "4|9|page|142|b|0| |f|t|\\N|xml",
+    "4|9|page|142|b|0| |f|t|\\N|\u{1b}xml",
     "5|1|id|23|b|0| |f|t|\\N|integer",
 ];
 

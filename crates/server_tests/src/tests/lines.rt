@@ -1,10 +1,13 @@
 // Questions to a scripted server.
-use super::script::{Behind, connect, say, say_row};
+use super::script::{Behind, assert_fault, connect, say, say_row};
 use server::fault::Fault;
 use server::query::{Row, rows};
 use std::alloc::Global;
 use std::test::Fail;
 use testing::asserts::{assert_holds, assert_same};
+
+/// How many rows these questions ask for.
+const MOST: usize = 40;
 
 /// The rows of one question to a server that says this.
 pub fn question(
@@ -14,13 +17,37 @@ pub fn question(
 ) -> Result<Result<Vec<Row>, Fault>, Fail> {
     let mut sent = Vec::new(alloc);
     let mut connection = connect(input, piece, Behind::Close, &mut sent)?;
-    let answer = rows(&mut connection, "SELECT 1");
+    let answer = rows(&mut connection, "SELECT 1", MOST);
     drop(connection);
     if sent.as_slice() != b"Q\x00\x00\x00\x0dSELECT 1\0".as_slice() {
         return Err(Fail::from("another question"));
     }
     Ok(answer)
 }
+
+/// An answer that never ends is refused at the first row that wasn't asked for, and one of many values by
+/// the memory that they take.
+#[test]
+fn more_rows_than_were_asked_for(rt: HostRuntime) -> Result<(), Fail> {
+    let mut input = Vec::new(rt.alloc());
+    for _ in 0..=MOST {
+        say_row(&mut input, "a")?;
+    }
+    let answer = question(rt.alloc(), input.as_slice(), 9)?;
+    assert_fault(rt.alloc(), answer, "TooManyRows", 0)?;
+    let mut input = Vec::new(rt.alloc());
+    let mut row = Vec::new(rt.alloc());
+    row.resize(NULLS, 255)?;
+    for _ in 0..MOST {
+        say(&mut input, b'D', row.as_slice())?;
+    }
+    let answer = question(rt.alloc(), input.as_slice(), 1 << 20)?;
+    assert_fault(rt.alloc(), answer, "TooManyRows", 1)
+}
+
+/// How long the message of a row is that has 65535 nulls. Fewer than forty of these take all the memory
+/// that one answer may have.
+const NULLS: usize = 2 + 4 * 65535;
 
 /// Two rows of two values, with a notice between them.
 fn two_rows(alloc: Global) -> Result<Vec<u8>, Fail> {

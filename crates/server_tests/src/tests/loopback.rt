@@ -1,25 +1,25 @@
 // The same over sockets of this machine. What each side writes fits the system's buffers, so one thread
 // plays both; only where the client connects by itself, another thread is the server.
 use super::script::{Message, SLOT, assert_fault, name_of, spell};
-use server::auth::{Login, log_in};
-use server::capture::{Destination, Keeper, Target, capture};
+use server::auth::{Login, Ways, log_in};
+use server::capture::{Keeper, Target};
 use server::connection::Connection;
+use server::fault::Fault;
+use server::follower::{Follower, farewell};
 use server::host::Server;
 use server::line::{Socket, SocketLine};
 use server::relay::{Bounds, End, Output, Relayed, relay, whole_frames};
-use server::serve::Follower;
-use server::stream::{Subscription, start};
+use server::serve::{Service, listen};
+use server::stream::start;
 use std::alloc::Global;
-use std::fs::{File, Files};
+use std::fs::File;
 use std::io::{Read, Write};
-use std::net::{Net, TcpListener, TcpStream};
-use std::os::unix::net::UnixListener;
-use std::random::RandomSource;
+use std::net::{TcpListener, TcpStream};
 use std::rt::Clock;
 use std::test::Fail;
+use std::thread;
 use std::thread::Threads;
 use std::time::Duration;
-use std::{env, fs, io, process, thread};
 use testing::asserts::{assert_holds, assert_same};
 
 const LOGIN: Login<'static> = Login {
@@ -27,6 +27,8 @@ const LOGIN: Login<'static> = Login {
     database: "shop",
     password: None,
     replication: true,
+    ways: Ways::ALL,
+    clear_text: false,
 };
 
 const RANDOM: [u8; 18] = [7; 18];
@@ -67,7 +69,7 @@ fn read_all(alloc: Global, stream: &mut TcpStream) -> Result<Vec<u8>, Fail> {
 }
 
 /// What a server says to a login that it trusts.
-const WELCOME: &[u8] = b"R\0\0\0\x08\0\0\0\0Z\0\0\0\x05I";
+pub const WELCOME: &[u8] = b"R\0\0\0\x08\0\0\0\0Z\0\0\0\x05I";
 
 #[test]
 fn a_login_and_a_stall(rt: HostRuntime) -> Result<(), Fail> {
@@ -108,8 +110,8 @@ const COMMAND: &[u8] =
 
 /// Starts a stream, and hands it to a follower until the server shuts down; then both connections close.
 fn follow(alloc: Global, mut connection: Client<'_>, near: TcpStream) -> Result<(), Fail> {
-    start(&mut connection, "it's \"p\"", SLOT)?;
-    let mut follower = Follower::new(alloc, near);
+    start(&mut connection, "it's \"p\"", SLOT.name, 0)?;
+    let mut follower = Follower::new(alloc, near, None);
     let mut relayed = Relayed::NOTHING;
     match relay(&mut connection, &mut follower, Bounds::NONE, &mut relayed)? {
         End::Shutdown => Ok(()),
@@ -152,7 +154,7 @@ fn a_full_device_is_named(rt: HostRuntime) -> Result<(), Fail> {
 }
 
 /// A server at a host and a port, or at a folder's Unix socket.
-fn server_at(alloc: Global, host: &str, port: &str) -> Result<Server, Fail> {
+pub fn server_at(alloc: Global, host: &str, port: &str) -> Result<Server, Fail> {
     Ok(Server {
         host: String::from_str(alloc, host)?,
         port: String::from_str(alloc, port)?,
@@ -160,116 +162,113 @@ fn server_at(alloc: Global, host: &str, port: &str) -> Result<Server, Fail> {
         database: String::from_str(alloc, "shop")?,
         password: None,
         limit: 30000,
+        ways: Ways::ALL,
+        clear_text: false,
+        tls: false,
     })
 }
 
-/// Hosts and ports where no server is.
-static NOWHERE: [(&str, &str); 3] = [("127.0.0.1", "0"), ("127.0.0.1", "x"), ("/nowhere", "5432")];
+/// Hosts and ports where no server is, whether TLS is asked for, and the fault.
+static NOWHERE: [(&str, &str, bool, &str); 5] = [
+    ("127.0.0.1", "0", false, "CannotConnect"),
+    ("127.0.0.1", "x", false, "CannotConnect"),
+    ("127.0.0.1", "0", true, "NoTls"),
+    ("/nowhere", "5432", false, "CannotConnect"),
+    ("/nowhere", "5432", true, "CannotConnect"),
+];
 
 #[test]
 fn where_no_server_is(rt: HostRuntime) -> Result<(), Fail> {
-    for (case, (host, port)) in NOWHERE.iter().enumerate() {
-        let server = server_at(rt.alloc(), *host, *port)?;
+    for (case, (host, port, tls, want)) in NOWHERE.iter().enumerate() {
+        let mut server = server_at(rt.alloc(), *host, *port)?;
+        server.tls = *tls;
         let answer = server.connect(rt.alloc(), &rt, false);
-        assert_fault(rt.alloc(), answer, "CannotConnect", case)?;
+        assert_fault(rt.alloc(), answer, *want, case)?;
     }
     Ok(())
 }
 
-/// Welcomes who connects, says this, and hears until that side closes.
-fn tell(alloc: Global, listener: &UnixListener, said: &[u8]) -> io::Result<Vec<u8>> {
-    let (mut peer, _) = listener.accept()?;
-    peer.write_all(WELCOME)?;
-    peer.write_all(said)?;
-    let mut heard = Vec::new(alloc);
-    peer.read_to_end(&mut heard)?;
-    Ok(heard)
-}
-
-/// A capture from a server that says this: the fault, and whether it was asked for anything.
-fn captured<'a, R>(
-    alloc: Global,
-    rt: &'a R,
-    place: &'a Place,
-    said: &'a [u8],
-) -> Result<(String, bool), Fail>
-where
-    R: Threads + Net<Stream = TcpStream> + Clock + RandomSource + Files<File = File> + Eprint,
-{
-    let asked = Subscription {
-        server: &place.server,
-        publication: "p",
-        slot: SLOT,
-    };
-    let destination = Destination::File(place.file.as_str());
-    let (heard, answer) = thread::join(
-        rt,
-        move || tell(alloc, &place.listener, said),
-        move || capture(alloc, rt, &asked, destination, Bounds::NONE),
-    );
-    let was_asked = heard?.contains(&b'Q');
-    Ok((name_of(alloc, answer)?, was_asked))
-}
-
-/// What a server says to one capture after another, the fault, whether the server was asked for a stream,
-/// and how long the file then is. One that is there is refused before anything is asked for.
-static CAPTURES: [(&[u8], &str, bool, Option<u64>); 3] = [
-    (
-        b"E\0\0\0\x19SERROR\0C42704\0Mgone\0\0",
-        "Server",
-        true,
-        None,
-    ),
-    (
-        b"W\0\0\0\x07\0\0\0c\0\0\0\x04C\0\0\0\x05\0",
-        "none",
-        true,
-        Some(5),
-    ),
-    (b"", "CannotWrite", false, Some(5)),
+/// Where a service listens, whether other machines may reach it, and the fault.
+static ADDRESSES: [(&str, bool, &str); 6] = [
+    ("127.0.0.1:0", false, "none"),
+    ("[::1]:0", false, "none"),
+    ("0.0.0.0:0", false, "NotLoopback"),
+    ("0.0.0.0:0", true, "none"),
+    ("127.0.0.1", false, "CannotListen"),
+    (":7703", false, "CannotListen"),
 ];
 
-/// Where captures go: a server at a Unix socket of this machine, and a file.
-#[derive(Drop)]
-struct Place {
-    server: Server,
-    listener: UnixListener,
-    socket: String,
-    file: String,
-}
-
-impl Place {
-    /// A run that failed may have left its files there: this one's have names of its own.
-    fn new(rt: &HostRuntime) -> Result<Place, Fail> {
-        let alloc = rt.alloc();
-        let folder = env::temp_dir(rt)?;
-        let folder = folder.as_str();
-        let port = format!(in alloc; "{}", process::id(rt.process()))?;
-        let socket = format!(in alloc; "{folder}/.s.PGSQL.{port}")?;
-        Ok(Place {
-            server: server_at(alloc, folder, port.as_str())?,
-            listener: UnixListener::bind(rt, socket.as_str())?,
-            socket,
-            file: format!(in alloc; "{folder}/stream-{port}")?,
-        })
+#[test]
+fn a_service_is_for_this_machine_alone(rt: HostRuntime) -> Result<(), Fail> {
+    for (address, any, want) in &ADDRESSES {
+        let service = Service {
+            listen: *address,
+            any: *any,
+            once: false,
+            bounds: Bounds::NONE,
+        };
+        let name = name_of(rt.alloc(), listen(&rt, &service))?;
+        // A machine may have no addresses of version 6.
+        let is_right = name.as_str() == *want
+            || (*address == "[::1]:0" && name.as_str() == "CannotListen");
+        assert_holds(is_right, *address)?;
     }
-
-    /// How long the file is, if there is one.
-    fn length(&self, rt: &HostRuntime) -> Option<u64> {
-        fs::metadata(rt, self.file.as_str()).ok().map(|it| it.len())
-    }
+    Ok(())
 }
 
 #[test]
-fn a_capture_makes_its_file(rt: HostRuntime) -> Result<(), Fail> {
-    let place = Place::new(&rt)?;
-    for (said, want, asks, length) in &CAPTURES {
-        let (name, was_asked) = captured(rt.alloc(), &rt, &place, *said)?;
-        assert_same(name.as_str(), *want, *want)?;
-        assert_same(was_asked, *asks, *want)?;
-        assert_same(place.length(&rt), *length, *want)?;
+fn another_follower_is_turned_away(rt: HostRuntime) -> Result<(), Fail> {
+    let listener = TcpListener::bind(&rt, "127.0.0.1:0")?;
+    listener.set_nonblocking(true)?;
+    let mut stranger = TcpStream::connect(&rt, listener.local_addr()?)?;
+    let (near, _far) = pair(&rt)?;
+    let mut follower = Follower::new(rt.alloc(), near, Some(&listener));
+    let mut updates = Vec::new(rt.alloc());
+    assert_holds(
+        follower.tell(&Relayed::NOTHING, false, &mut updates)?,
+        "goes on",
+    )?;
+    let heard = read_all(rt.alloc(), &mut stranger)?;
+    let want = farewell(rt.alloc(), &Fault::Busy)?;
+    assert_same(heard.as_slice(), want.as_slice(), "heard")
+}
+
+#[test]
+fn a_follower_says_how_far_it_is(rt: HostRuntime) -> Result<(), Fail> {
+    let (near, mut far) = pair(&rt)?;
+    far.write_all(&UPDATE)?;
+    let mut follower = Follower::new(rt.alloc(), near, None);
+    assert_same(follower.ask_place(&rt, LIMIT)?, 9, "place")?;
+    assert_fault(rt.alloc(), follower.ask_place(&rt, 1), "Follower", 0)
+}
+
+/// What a follower that lags hears of frames, while what it said itself was not read.
+fn lagging<R: Threads + Clock + Sync>(
+    alloc: Global,
+    rt: &R,
+    near: TcpStream,
+    far: TcpStream,
+) -> Result<(), Fail> {
+    let mut near = Follower::new(alloc, near, None);
+    let mut far = far;
+    for _ in 0..100 {
+        far.write_all(&UPDATE)?;
     }
-    fs::remove_file(&rt, place.file.as_str())?;
-    fs::remove_file(&rt, place.socket.as_str())?;
-    Ok(())
+    let frames = spell(alloc, &[&FOLLOWER])?;
+    near.put(&frames[..whole_frames(frames.as_slice())])?;
+    let (_, heard) = thread::join(
+        rt,
+        move || {
+            near.part(rt, 30000);
+            drop(near);
+        },
+        move || read_all(alloc, &mut far),
+    );
+    assert_same(heard?.as_slice(), frames.as_slice(), "heard")
+}
+
+#[test]
+fn a_follower_that_lags_hears_the_end(rt: HostRuntime) -> Result<(), Fail> {
+    let (near, far) = pair(&rt)?;
+    lagging(rt.alloc(), &rt, near, far)
 }

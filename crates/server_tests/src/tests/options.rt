@@ -15,7 +15,7 @@ fn words(alloc: Global, line: &str) -> Result<Vec<String>, Fail> {
 }
 
 /// An option of `capture` with its value, and whether it is read.
-static VALUES: [(&str, bool); 12] = [
+static VALUES: [(&str, bool); 21] = [
     ("--timeout 1", true),
     ("--timeout 0", false),
     ("--timeout 1000000001", false),
@@ -28,6 +28,15 @@ static VALUES: [(&str, bool); 12] = [
     ("--until 12A", false),
     ("--until 1/100000000", false),
     ("--until 1/", false),
+    ("--require-auth scram-sha-256,md5", true),
+    ("--require-auth !password,!none", true),
+    ("--require-auth !password,none", false),
+    ("--require-auth kerberos", false),
+    ("--require-auth ", false),
+    ("--create --copy", true),
+    ("--copy", false),
+    ("--append", true),
+    ("--create --append", false),
 ];
 
 #[test]
@@ -67,17 +76,18 @@ fn a_place_is_two_halves(rt: HostRuntime) -> Result<(), Fail> {
     let Job::Capture {
         slot,
         out,
-        until,
-        millis,
+        append,
+        bounds,
     } = options.job
     else {
         return Err(Fail::from("another command"));
     };
     assert_holds(
-        slot.name == "s" && slot.create && out == "f",
+        slot.name == "s" && slot.create && !slot.copy && out == "f" && !append,
         "slot and file",
     )?;
-    assert_same((until, millis), (Some(0x1_0000_002a), Some(7000)), "bounds")
+    let found = (bounds.until, bounds.millis);
+    assert_same(found, (Some(0x1_0000_002a), Some(7000)), "bounds")
 }
 
 /// The server of an option for the port, and of variables for the host, the password and who is logged in.
@@ -88,6 +98,8 @@ fn chosen(alloc: Global) -> Result<Server, Fail> {
         user: None,
         database: None,
         password: Some(String::from_str(alloc, "secret")?),
+        ways: None,
+        tls: false,
         login: Some(String::from_str(alloc, "carol")?),
     };
     let words = words(alloc, "publisher catalog --publication p --port 5433")?;

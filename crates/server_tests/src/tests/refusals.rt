@@ -80,7 +80,7 @@ static REFUSALS: [(Message<'static>, Outcome); 27] = [
 fn started(alloc: Global, input: &[u8]) -> Result<Result<(), Fault>, Fail> {
     let mut sent = Vec::new(alloc);
     let mut connection = connect(input, 4, Behind::Close, &mut sent)?;
-    Ok(start(&mut connection, "p", SLOT))
+    Ok(start(&mut connection, "p", SLOT.name, 0))
 }
 
 #[test]

@@ -1,8 +1,8 @@
 // A stream from a scripted server, in pieces of each length, cut anywhere, and whatever ends it.
 use super::script::{Behind, Message, assert_fault, connect, name_of, say, spell};
 use server::fault::Fault;
+use server::follower::{Told, farewell};
 use server::relay::{Bounds, End, Output, Relayed, relay};
-use server::serve::{Told, farewell};
 use server::stream::status;
 use std::alloc::Global;
 use std::io;
@@ -258,9 +258,9 @@ fn what_ends_a_stream(rt: HostRuntime) -> Result<(), Fail> {
 /// A place where a stream is to end, how much is put at most, what ends it, and the name of the fault.
 static PLACES: [(u64, usize, Option<End>, &str); 4] = [
     (8, 0, Some(End::Reached), "none"),
-    (16, 98, Some(End::Reached), "none"),
-    (48, 107, Some(End::Reached), "none"),
-    (64, 151, None, "Closed"),
+    (17, 45, Some(End::Reached), "none"),
+    (64, 107, Some(End::Reached), "none"),
+    (65, 151, None, "Closed"),
 ];
 
 #[test]
@@ -276,9 +276,70 @@ fn a_place_where_a_stream_ends(rt: HostRuntime) -> Result<(), Fail> {
         let came = trial.run(rt.alloc())?;
         assert_same(came.end, *end, *place)?;
         assert_same(came.fault.as_str(), *want, *place)?;
-        assert_holds(came.put.len() <= *put, *place)?;
+        assert_same(came.put.len(), *put, *place)?;
     }
     Ok(())
+}
+
+/// Two transactions, which begin at 16 and at 64 and commit at 48 and 80, the first with a keepalive within it
+/// that says 60: 4 + 3 frames.
+static TRANSACTIONS: [Message<'static>; 7] = [
+    (
+        b'd',
+        b"w\0\0\0\0\0\0\0\x10\0\0\0\0\0\0\0\x10\0\0\0\0\0\0\0\0B\0\0\0\0\0\0\0\x30\0\0\0\0\0\0\0\0\0\0\x02\xbc",
+    ),
+    (
+        b'd',
+        b"w\0\0\0\0\0\0\0\x20\0\0\0\0\0\0\0\x20\0\0\0\0\0\0\0\0I",
+    ),
+    (b'd', b"k\0\0\0\0\0\0\0\x3c\0\0\0\0\0\0\0\0\0"),
+    (
+        b'd',
+        b"w\0\0\0\0\0\0\0\x40\0\0\0\0\0\0\0\x40\0\0\0\0\0\0\0\0C\0\0\0\0\0\0\0\0\x30\0\0\0\0\0\0\0\x40\0\0\0\0\0\0\0\0",
+    ),
+    (
+        b'd',
+        b"w\0\0\0\0\0\0\0\x40\0\0\0\0\0\0\0\x40\0\0\0\0\0\0\0\0B\0\0\0\0\0\0\0\x50\0\0\0\0\0\0\0\0\0\0\x02\xbd",
+    ),
+    (
+        b'd',
+        b"w\0\0\0\0\0\0\0\x48\0\0\0\0\0\0\0\x48\0\0\0\0\0\0\0\0S\0\0\x02\xbe\x01",
+    ),
+    (
+        b'd',
+        b"w\0\0\0\0\0\0\0\x58\0\0\0\0\0\0\0\x58\0\0\0\0\0\0\0\0C\0\0\0\0\0\0\0\0\x50\0\0\0\0\0\0\0\x58\0\0\0\0\0\0\0\0",
+    ),
+];
+
+/// A place, and how many transactions are put where the stream is to end there.
+static BETWEEN: [(u64, u64); 4] = [(48, 0), (49, 4), (64, 4), (80, 4)];
+
+#[test]
+fn a_place_is_no_end_within_a_transaction(rt: HostRuntime) -> Result<(), Fail> {
+    let input = spell(rt.alloc(), &[&TRANSACTIONS])?;
+    for (place, frames) in &BETWEEN {
+        let mut trial = Trial::of(input.as_slice());
+        trial.bounds.until = Some(*place);
+        let came = trial.run(rt.alloc())?;
+        assert_same(came.end, Some(End::Reached), *place)?;
+        assert_same(came.relayed.frames, *frames, *place)?;
+    }
+    Ok(())
+}
+
+/// How many keepalives a server sends that asks for an answer with each.
+const PINGS: usize = 1000;
+
+#[test]
+fn keepalives_alone_are_answered_now_and_then(rt: HostRuntime) -> Result<(), Fail> {
+    let pings = [(b'd', b"k\0\0\0\0\0\0\0\x20\0\0\0\0\0\0\0\0\x01".as_slice()); PINGS];
+    let input = spell(rt.alloc(), &[&pings])?;
+    let mut trial = Trial::of(input.as_slice());
+    trial.piece = 23;
+    let came = trial.run(rt.alloc())?;
+    assert_same(came.relayed.frames, PINGS as u64, "frames")?;
+    // The clock of these tests stands still while there are words.
+    assert_same(came.sent.as_slice(), update_at(32).as_slice(), "answers")
 }
 
 /// Whether more is wanted, and what ends a stream whose server is silent behind it.
@@ -317,13 +378,22 @@ fn a_disk_that_is_full_at_each_byte(rt: HostRuntime) -> Result<(), Fail> {
     Ok(())
 }
 
+/// What was put of a stream up to this place, with commits up to that one.
+fn put_up_to(position: u64, committed: u64) -> Relayed {
+    Relayed {
+        position,
+        committed,
+        ..Relayed::NOTHING
+    }
+}
+
 /// What a follower is understood to say in pieces of this length, and whether it goes on behind them.
 fn heard(alloc: Global, said: &[u8], piece: usize) -> Result<(Vec<u8>, bool), Fail> {
     let mut told = Told::new(alloc);
     let mut heard = Vec::new(alloc);
     let mut goes_on = true;
     for part in said.chunks(piece.max(1)) {
-        goes_on = told.hear(part, 0, &mut heard)?;
+        goes_on = told.hear(part, &put_up_to(48, 0), &mut heard)?;
     }
     Ok((heard, goes_on))
 }
@@ -355,7 +425,7 @@ fn what_no_follower_says_is_refused(rt: HostRuntime) -> Result<(), Fail> {
     for (case, bytes) in NO_FOLLOWER.iter().enumerate() {
         let mut told = Told::new(rt.alloc());
         let mut heard = Vec::new(rt.alloc());
-        let answer = told.hear(*bytes, 0, &mut heard);
+        let answer = told.hear(*bytes, &put_up_to(48, 0), &mut heard);
         assert_holds(heard.is_empty(), case)?;
         assert_fault(rt.alloc(), answer, "Follower", case)?;
     }
@@ -393,7 +463,7 @@ fn all_commits_applied_is_all_flushed(rt: HostRuntime) -> Result<(), Fail> {
     for (committed, flushed) in [(0, 48), (32, 48), (33, 32)] {
         let mut told = Told::new(rt.alloc());
         let mut heard = Vec::new(rt.alloc());
-        told.hear(&update_of(48, 32), committed, &mut heard)?;
+        told.hear(&update_of(48, 32), &put_up_to(48, committed), &mut heard)?;
         assert_same(
             heard.as_slice(),
             update_of(48, flushed).as_slice(),
@@ -401,6 +471,35 @@ fn all_commits_applied_is_all_flushed(rt: HostRuntime) -> Result<(), Fail> {
         )?;
     }
     Ok(())
+}
+
+/// What was put, what a follower says is written and flushed, and the fault.
+static AHEAD: [(u64, u8, u8, &str); 4] = [
+    (47, 48, 32, "Ahead"),
+    (47, 32, 48, "Ahead"),
+    (48, 48, 48, "none"),
+    (0, 48, 48, "Ahead"),
+];
+
+#[test]
+fn an_update_beyond_what_was_put_is_refused(rt: HostRuntime) -> Result<(), Fail> {
+    for (case, (put, written, flushed, want)) in AHEAD.iter().enumerate() {
+        let mut told = Told::new(rt.alloc());
+        let mut heard = Vec::new(rt.alloc());
+        let update = update_of(*written, *flushed);
+        let answer = told.hear(&update, &put_up_to(*put, 0), &mut heard);
+        assert_same(heard.is_empty(), *want == "Ahead", case)?;
+        assert_fault(rt.alloc(), answer, *want, case)?;
+    }
+    // What the follower had before the stream began it may confirm again.
+    let mut told = Told::new(rt.alloc());
+    assert_same(told.begin(&update_at(48)[..20])?, None, "a part")?;
+    assert_same(told.begin(&update_at(48)[20..])?, Some(48), "begun")?;
+    let mut heard = Vec::new(rt.alloc());
+    assert_holds(
+        told.hear(&update_at(48), &Relayed::NOTHING, &mut heard)?,
+        "again",
+    )
 }
 
 #[test]

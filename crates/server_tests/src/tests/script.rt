@@ -12,6 +12,7 @@ use testing::asserts::assert_same;
 pub const SLOT: Slot<'static> = Slot {
     name: "s\"1",
     create: false,
+    copy: false,
 };
 
 /// A message: its tag and its body.
@@ -24,6 +25,8 @@ pub enum Behind {
     Close,
     /// The server is silent: each read takes a second.
     Silence,
+    /// Each read takes a second from the beginning on; then the server closes.
+    Slow,
 }
 
 /// Gives what the server says in pieces of one length, and keeps what the client says.
@@ -56,10 +59,13 @@ pub fn connect<'a>(
 
 impl Line for Script<'_> {
     fn read_some(&mut self, buf: &mut [u8]) -> Result<usize, Unread> {
+        if let Behind::Slow = self.behind {
+            self.clock = self.clock.saturating_add(1000);
+        }
         let count = self.piece.min(self.input.len()).min(buf.len());
         if count == 0 {
             return match self.behind {
-                Behind::Close => Ok(0),
+                Behind::Close | Behind::Slow => Ok(0),
                 Behind::Silence => {
                     self.clock = self.clock.saturating_add(1000);
                     Err(Unread::NotYet)

@@ -63,12 +63,9 @@ static HASHED: [(&[u8], &[u8], &[u8], &str); 2] = [
 
 #[test]
 fn hmac_is_that_of_rfc_4231(rt: HostRuntime) -> Result<(), Fail> {
-    for (key, first, second, hex) in &HASHED {
-        let mut text = String::new(rt.alloc());
-        for byte in &hmac(*key, *first, *second) {
-            write!(text, "{:02x}", *byte)?;
-        }
-        assert_same(text.as_str(), *hex, *hex)?;
+    for (key, first, second, want) in &HASHED {
+        let text = hex::encode(rt.alloc(), &hmac(*key, *first, *second))?;
+        assert_same(text.as_str(), *want, *want)?;
     }
     Ok(())
 }
