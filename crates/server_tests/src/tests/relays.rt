@@ -319,7 +319,10 @@ fn a_place_is_no_end_within_a_transaction(rt: HostRuntime) -> Result<(), Fail> {
     let input = spell(rt.alloc(), &[&TRANSACTIONS])?;
     for (place, frames) in &BETWEEN {
         let mut trial = Trial::of(input.as_slice());
-        trial.bounds.until = Some(*place);
+        trial.bounds = Bounds {
+            until: Some(*place),
+            millis: None,
+        };
         let came = trial.run(rt.alloc())?;
         assert_same(came.end, Some(End::Reached), *place)?;
         assert_same(came.relayed.frames, *frames, *place)?;
