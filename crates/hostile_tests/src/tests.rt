@@ -8,10 +8,8 @@
 //   devices   sinks that take a part, and connections that fail
 //   gates     signs, gates that wait for them, and bytes that are withheld
 //   holds     transactions that wait for each other, that clash, and that are aborted at each item
-//   forms     both forms of a row store, undone to marks
 mod cuts;
 mod devices;
-mod forms;
 mod gates;
 mod holds;
 mod left;

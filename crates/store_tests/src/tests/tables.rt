@@ -4,7 +4,8 @@
 //   cells        `change`, the cells of changes
 //   changes      `change`
 //   holds        `keyholds`
-//   row_stores   `rows`
+//   row_stores   `rows`, what both forms of a store show
+//   row_forms    both forms, undone to marks
 //   savepoints   `savepoint`
 //   shown        what tables show: rows, and what look-ups find
 //   stores       `engine`
@@ -13,6 +14,7 @@ mod calls;
 mod cells;
 mod changes;
 mod holds;
+mod row_forms;
 mod row_stores;
 mod savepoints;
 mod shown;

@@ -8,7 +8,7 @@ use std::process::Abort;
 use std::test::Fail;
 
 /// A row of a number, a text of it, a truth and a null.
-fn row(alloc: Global, number: i64) -> Result<Row, OutOfMemory> {
+pub(super) fn row(alloc: Global, number: i64) -> Result<Row, OutOfMemory> {
     let text = format!(in alloc; "row {number}")?;
     let mut values = Vec::new(alloc);
     values.push(Some(Value::Int(number)))?;
@@ -18,7 +18,7 @@ fn row(alloc: Global, number: i64) -> Result<Row, OutOfMemory> {
     Row::from_values(values)
 }
 
-fn key(alloc: Global, number: i64) -> Result<Key, OutOfMemory> {
+pub(super) fn key(alloc: Global, number: i64) -> Result<Key, OutOfMemory> {
     Ok(Key::from_value(alloc, Value::Int(number))?)
 }
 

@@ -1,6 +1,7 @@
 // Both forms of a row store, by one run of changes and undos to marks. Tables have one form alone: the other
 // is there so that the two can be compared.
-use model::{KeptText, Key, OutOfMemory, Row, Value, ValueRef};
+use super::row_stores::{key, row};
+use model::{Key, OutOfMemory, Row, ValueRef};
 use rows::{HashedRows, OrderedRows, RowStore, RowView};
 use std::alloc::Global;
 use std::cmp::Ordering;
@@ -50,21 +51,6 @@ fn count_after(number: usize) -> usize {
     } else {
         0
     }
-}
-
-/// A row of a number, a text of it, a truth and a null.
-fn row(alloc: Global, number: i64) -> Result<Row, OutOfMemory> {
-    let text = format!(in alloc; "row {number}")?;
-    let mut values = Vec::new(alloc);
-    values.push(Some(Value::Int(number)))?;
-    values.push(Some(Value::Text(KeptText::from_str(alloc, text.as_str())?)))?;
-    values.push(Some(Value::Bool(number % 2 == 0)))?;
-    values.push(None)?;
-    Row::from_values(values)
-}
-
-fn key(alloc: Global, number: i64) -> Result<Key, OutOfMemory> {
-    Ok(Key::from_value(alloc, Value::Int(number))?)
 }
 
 /// Makes a change, and tells what takes it back.
