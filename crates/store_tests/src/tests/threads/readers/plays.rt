@@ -4,12 +4,12 @@ ghost use Rattle.model.specs.Named.{NamesTables};
 ghost use Rattle.origin.specs.Commits.{commits_of};
 
 use super::scene::{Parts, Scene, Shared, remove, written};
-use super::watchers::watch_in_two;
+use super::watchers::{position, watch_in_two};
 use crate::tests::asserts::{assert_holds, assert_same};
 use crate::tests::threads::table::{TABLE, key, put};
 use engine::{EngineFault, SharedStore, StoreNames};
 use model::{Change, Key, Lsn, Xid};
-use origin::{Origin, Position, Publisher};
+use origin::{Origin, Publisher};
 use snapshot::{ReadFault, Reader};
 use std::alloc::Global;
 use std::marker::Brand;
@@ -28,214 +28,154 @@ pub(super) enum Scenario {
     Watched,
 }
 
-// The rows of the table as text.
-fn rows_of<N: StoreNames, R: Wait>(
-    rt: &R,
+// A scene, and one who reads it on the same thread.
+#[derive(Drop)]
+struct Stage<'a, N: StoreNames, R> {
+    rt: &'a R,
     alloc: Global,
-    reader: &mut Reader<'_, N>,
-) -> Result<String, Fail> {
-    let rows = reader.rows(rt, alloc, TABLE)?;
-    Ok(written(alloc, rows.as_slice())?)
+    scene: Scene<'a, N>,
+    reader: Reader<'a, N>,
 }
 
-// The row at a key as text.
-fn row_of<N: StoreNames, R: Wait>(
-    rt: &R,
-    alloc: Global,
-    reader: &mut Reader<'_, N>,
-    id: i64,
-) -> Result<String, Fail> {
-    match reader.get(rt, TABLE, &key(alloc, id)?)? {
-        None => Ok(String::new(alloc)),
-        Some(row) => Ok(written(alloc, &[row])?),
+impl<N: StoreNames, R: Abort + Wait> Stage<'_, N, R> {
+    // The rows of the table as text.
+    fn rows(&mut self) -> Result<String, Fail> {
+        let rows = self.reader.rows(self.rt, self.alloc, TABLE)?;
+        Ok(written(self.alloc, rows.as_slice())?)
     }
-}
 
-// The rows at a position as text.
-fn rows_at<N: StoreNames, R: Wait>(
-    rt: &R,
-    alloc: Global,
-    reader: &mut Reader<'_, N>,
-    position: Lsn,
-) -> Result<String, Fail> {
-    let rows = reader.rows_at(rt, alloc, TABLE, position)?;
-    Ok(written(alloc, rows.as_slice())?)
-}
-
-// The rows of the table are these.
-fn rows_are<N: StoreNames, R: Abort + Wait>(
-    rt: &R,
-    alloc: Global,
-    reader: &mut Reader<'_, N>,
-    (rows, case): (&str, &str),
-) -> Result<(), Fail> {
-    let read = rows_of(rt, alloc, reader)?;
-    assert_same(rt, read.as_str(), rows, case);
-    Ok(())
-}
-
-// The row at each of these keys is this one, or none is there.
-fn each_row_is<N: StoreNames, R: Abort + Wait>(
-    rt: &R,
-    alloc: Global,
-    reader: &mut Reader<'_, N>,
-    wanted: &[(i64, &str)],
-) -> Result<(), Fail> {
-    for (id, row) in wanted {
-        let read = row_of(rt, alloc, reader, *id)?;
-        assert_same(rt, read.as_str(), *row, *id);
+    // The row at a key as text.
+    fn row(&mut self, id: i64) -> Result<String, Fail> {
+        match self.reader.get(self.rt, TABLE, &key(self.alloc, id)?)? {
+            None => Ok(String::new(self.alloc)),
+            Some(row) => Ok(written(self.alloc, &[row])?),
+        }
     }
-    Ok(())
-}
 
-// A transaction puts two rows, and commits.
-fn reads_the_first<N: StoreNames, R: Abort + Wait>(
-    rt: &R,
-    alloc: Global,
-    scene: &mut Scene<'_, N>,
-    reader: &mut Reader<'_, N>,
-) -> Result<(), Fail> {
-    let (one, two) = (put(alloc, 1, 10)?, put(alloc, 2, 20)?);
-    let mut first = scene.open(rt, alloc, 1)?;
-    scene.act(rt, alloc, &mut first, &one)?;
-    scene.act(rt, alloc, &mut first, &two)?;
-    rows_are(rt, alloc, reader, ("", "while the first is open"))?;
-    scene.commit(rt, first, 16);
-    rows_are(rt, alloc, reader, ("1|10 2|20", "the first"))
-}
-
-// Between the changes and the commits of two transactions.
-fn reads_between<N: StoreNames, R: Abort + Wait>(
-    rt: &R,
-    alloc: Global,
-    scene: &mut Scene<'_, N>,
-    reader: &mut Reader<'_, N>,
-) -> Result<(), Fail> {
-    reads_the_first(rt, alloc, scene, reader)?;
-    let (three, no_one) = (put(alloc, 3, 30)?, remove(alloc, 1)?);
-    let mut one = scene.open(rt, alloc, 700)?;
-    let mut other = scene.open(rt, alloc, 900)?;
-    scene.act(rt, alloc, &mut one, &three)?;
-    scene.act(rt, alloc, &mut other, &no_one)?;
-    each_row_is(rt, alloc, reader, &[(3, ""), (1, "1|10")])?;
-    rows_are(rt, alloc, reader, ("1|10 2|20", "while two are open"))?;
-    scene.commit(rt, other, 32);
-    each_row_is(rt, alloc, reader, &[(1, ""), (3, "")])?;
-    rows_are(rt, alloc, reader, ("2|20", "the other"))?;
-    scene.commit(rt, one, 48);
-    each_row_is(rt, alloc, reader, &[(3, "3|30")])?;
-    rows_are(rt, alloc, reader, ("2|20 3|30", "all"))
-}
-
-// A transaction of one change that ends here.
-fn commit_one<N: StoreNames, R: Abort + Wait>(
-    rt: &R,
-    alloc: Global,
-    scene: &mut Scene<'_, N>,
-    xid: Xid,
-    change: &Change,
-    end: Lsn,
-) -> Result<(), Fail>
-    requires { NamesTables 1 change.now }
-{
-    let mut ticket = scene.open(rt, alloc, xid)?;
-    scene.act(rt, alloc, &mut ticket, change)?;
-    scene.commit(rt, ticket, end);
-    Ok(())
-}
-
-// Three transactions that commit.
-fn commit_three<N: StoreNames, R: Abort + Wait>(
-    rt: &R,
-    alloc: Global,
-    scene: &mut Scene<'_, N>,
-) -> Result<(), Fail> {
-    commit_one(rt, alloc, scene, 701, &put(alloc, 2, 20)?, 16)?;
-    commit_one(rt, alloc, scene, 702, &put(alloc, 1, 10)?, 40)?;
-    commit_one(rt, alloc, scene, 703, &remove(alloc, 2)?, 64)
-}
-
-// The rows at positions.
-fn reads_rows_at<N: StoreNames, R: Abort + Wait>(
-    rt: &R,
-    alloc: Global,
-    reader: &mut Reader<'_, N>,
-    wanted: &[(Lsn, &str)],
-) -> Result<(), Fail> {
-    for (position, rows) in wanted {
-        let read = rows_at(rt, alloc, reader, *position)?;
-        assert_same(rt, read.as_str(), *rows, *position);
+    // The rows at a position as text.
+    fn rows_at(&mut self, position: Lsn) -> Result<String, Fail> {
+        let rows = self.reader.rows_at(self.rt, self.alloc, TABLE, position)?;
+        Ok(written(self.alloc, rows.as_slice())?)
     }
-    Ok(())
-}
 
-// Where no commit ends.
-fn reads_no_position<N: StoreNames, R: Abort + Wait>(
-    rt: &R,
-    alloc: Global,
-    reader: &mut Reader<'_, N>,
-) {
-    for position in [1, 15, 17, 41, 63, 65, Lsn::MAX] {
-        let answer = reader.rows_at(rt, alloc, TABLE, position).err();
-        assert_same(rt, answer, Some(ReadFault::PositionUnknown), position);
+    // The rows of the table are these.
+    fn assert_rows(&mut self, rows: &str, case: &str) -> Result<(), Fail> {
+        let read = self.rows()?;
+        assert_same(self.rt, read.as_str(), rows, case);
+        Ok(())
     }
-}
 
-// At each position of three commits, while another transaction is open.
-fn reads_positions<N: StoreNames, R: Abort + Wait>(
-    rt: &R,
-    alloc: Global,
-    scene: &mut Scene<'_, N>,
-    reader: &mut Reader<'_, N>,
-) -> Result<(), Fail> {
-    let mut open = scene.open(rt, alloc, 900)?;
-    scene.act(rt, alloc, &mut open, &put(alloc, 9, 90)?)?;
-    commit_three(rt, alloc, scene)?;
-    let before = [(0, ""), (16, "2|20"), (40, "1|10 2|20"), (64, "1|10")];
-    reads_rows_at(rt, alloc, reader, &before)?;
-    reads_no_position(rt, alloc, reader);
-    scene.commit(rt, open, 65);
-    reads_rows_at(rt, alloc, reader, &[(65, "1|10 9|90"), (16, "2|20")])
-}
+    // The row at each of these keys is this one, or none is there.
+    fn assert_each_row(&mut self, wanted: &[(i64, &str)]) -> Result<(), Fail> {
+        for (id, row) in wanted {
+            let read = self.row(*id)?;
+            assert_same(self.rt, read.as_str(), *row, *id);
+        }
+        Ok(())
+    }
 
-// Commits a row, or gives up for memory.
-fn commit_a_row<N: StoreNames, R: Abort + Wait>(
-    rt: &R,
-    alloc: Global,
-    scene: &mut Scene<'_, N>,
-) -> Result<Key, EngineFault> {
-    let mut ticket = scene.open(rt, alloc, 1)?;
-    scene.act(rt, alloc, &mut ticket, &put(alloc, 1, 10)?)?;
-    scene.commit(rt, ticket, 16);
-    Ok(key(alloc, 1)?)
-}
+    // The rows at positions.
+    fn assert_rows_at(&mut self, wanted: &[(Lsn, &str)]) -> Result<(), Fail> {
+        for (position, rows) in wanted {
+            let read = self.rows_at(*position)?;
+            assert_same(self.rt, read.as_str(), *rows, *position);
+        }
+        Ok(())
+    }
 
-// The rows of a commit, where one allocation may be refused: then they are read again. `get` takes no
-// memory. Where it was refused before, there is nothing to read.
-fn reads_refused<N: StoreNames, R: Abort + Wait>(
-    rt: &R,
-    alloc: Global,
-    scene: &mut Scene<'_, N>,
-    reader: &mut Reader<'_, N>,
-) -> Result<(), Fail> {
-    let Ok(key) = commit_a_row(rt, alloc, scene) else {
-        return Ok(());
-    };
-    let refused = Some(ReadFault::OutOfMemory);
-    let first = reader.rows(rt, alloc, TABLE).err();
-    assert_holds(rt, first.is_none() || first == refused, "first");
-    assert_holds(
-        rt,
-        matches!(reader.get(rt, TABLE, &key), Ok(Some(_))),
-        "the row",
-    );
-    let second = reader.rows(rt, alloc, TABLE).err();
-    assert_holds(
-        rt,
-        second.is_none() || (second == refused && first.is_none()),
-        "second",
-    );
-    Ok(())
+    // Where no commit ends.
+    fn assert_no_position(&mut self) {
+        for position in [1, 15, 17, 41, 63, 65, Lsn::MAX] {
+            let answer = self
+                .reader
+                .rows_at(self.rt, self.alloc, TABLE, position)
+                .err();
+            assert_same(self.rt, answer, Some(ReadFault::PositionUnknown), position);
+        }
+    }
+
+    // A transaction puts two rows, and commits.
+    fn read_the_first(&mut self) -> Result<(), Fail> {
+        let (one, two) = (put(self.alloc, 1, 10)?, put(self.alloc, 2, 20)?);
+        let mut first = self.scene.open(self.rt, self.alloc, 1)?;
+        self.scene.act(self.rt, self.alloc, &mut first, &one)?;
+        self.scene.act(self.rt, self.alloc, &mut first, &two)?;
+        self.assert_rows("", "while the first is open")?;
+        self.scene.commit(self.rt, first, 16);
+        self.assert_rows("1|10 2|20", "the first")
+    }
+
+    // Between the changes and the commits of two transactions.
+    fn read_between(&mut self) -> Result<(), Fail> {
+        self.read_the_first()?;
+        let (three, no_one) = (put(self.alloc, 3, 30)?, remove(self.alloc, 1)?);
+        let mut one = self.scene.open(self.rt, self.alloc, 700)?;
+        let mut other = self.scene.open(self.rt, self.alloc, 900)?;
+        self.scene.act(self.rt, self.alloc, &mut one, &three)?;
+        self.scene.act(self.rt, self.alloc, &mut other, &no_one)?;
+        self.assert_each_row(&[(3, ""), (1, "1|10")])?;
+        self.assert_rows("1|10 2|20", "while two are open")?;
+        self.scene.commit(self.rt, other, 32);
+        self.assert_each_row(&[(1, ""), (3, "")])?;
+        self.assert_rows("2|20", "the other")?;
+        self.scene.commit(self.rt, one, 48);
+        self.assert_each_row(&[(3, "3|30")])?;
+        self.assert_rows("2|20 3|30", "all")
+    }
+
+    // A transaction of one change that ends here.
+    fn commit_one(&mut self, xid: Xid, change: &Change, end: Lsn) -> Result<(), Fail>
+        requires { NamesTables 1 change.now }
+    {
+        let mut ticket = self.scene.open(self.rt, self.alloc, xid)?;
+        self.scene.act(self.rt, self.alloc, &mut ticket, change)?;
+        self.scene.commit(self.rt, ticket, end);
+        Ok(())
+    }
+
+    // Three transactions that commit.
+    fn commit_three(&mut self) -> Result<(), Fail> {
+        self.commit_one(701, &put(self.alloc, 2, 20)?, 16)?;
+        self.commit_one(702, &put(self.alloc, 1, 10)?, 40)?;
+        self.commit_one(703, &remove(self.alloc, 2)?, 64)
+    }
+
+    // At each position of three commits, while another transaction is open.
+    fn read_positions(&mut self) -> Result<(), Fail> {
+        let mut open = self.scene.open(self.rt, self.alloc, 900)?;
+        self.scene
+            .act(self.rt, self.alloc, &mut open, &put(self.alloc, 9, 90)?)?;
+        self.commit_three()?;
+        self.assert_rows_at(&[(0, ""), (16, "2|20"), (40, "1|10 2|20"), (64, "1|10")])?;
+        self.assert_no_position();
+        self.scene.commit(self.rt, open, 65);
+        self.assert_rows_at(&[(65, "1|10 9|90"), (16, "2|20")])
+    }
+
+    // Commits a row, or gives up for memory.
+    fn commit_a_row(&mut self) -> Result<Key, EngineFault> {
+        let mut ticket = self.scene.open(self.rt, self.alloc, 1)?;
+        self.scene
+            .act(self.rt, self.alloc, &mut ticket, &put(self.alloc, 1, 10)?)?;
+        self.scene.commit(self.rt, ticket, 16);
+        Ok(key(self.alloc, 1)?)
+    }
+
+    // The rows of a commit, where one allocation may be refused: then they are read again. `get` takes no
+    // memory. Where it was refused before, there is nothing to read.
+    fn read_refused(&mut self) {
+        let Ok(key) = self.commit_a_row() else {
+            return;
+        };
+        let refused = Some(ReadFault::OutOfMemory);
+        let first = self.reader.rows(self.rt, self.alloc, TABLE).err();
+        assert_holds(self.rt, first.is_none() || first == refused, "first");
+        let row = self.reader.get(self.rt, TABLE, &key);
+        assert_holds(self.rt, matches!(row, Ok(Some(_))), "the row");
+        let second = self.reader.rows(self.rt, self.alloc, TABLE).err();
+        let is_once = second.is_none() || (second == refused && first.is_none());
+        assert_holds(self.rt, is_once, "second");
+    }
 }
 
 // A position that is published is loaded, and what was seen is given back.
@@ -250,10 +190,7 @@ fn reads_published<N: StoreNames, R: Abort + Wait>(
     requires reader { reader.published ≡ commits_of origin.now [] }
 {
     assert_same(rt, reader.position(rt).commits, 0, "commits");
-    let first = Position {
-        commits: 1,
-        end_lsn: 16,
-    };
+    let first = position(1);
     origin.publish(rt, &mut publisher, first);
     assert_same(rt, reader.position(rt), first, "position");
     let (mut seen, mut loader) = reader.into_parts();
@@ -271,14 +208,22 @@ fn play_alone<N: StoreNames, R: Abort + Wait>(
     let (line, publisher, loader) = (shared.line, shared.publisher, shared.loader);
     let (store, origin) = (&shared.store, &shared.origin);
     let seen = store.lock(rt).watch();
-    let mut reader = Reader::new(store, seen, origin, loader);
-    let mut scene = Scene::new(store, line);
+    let reader = Reader::new(store, seen, origin, loader);
+    if let Scenario::Published = which {
+        reads_published(rt, store, origin, publisher, reader);
+        return Ok(());
+    }
+    let mut stage = Stage {
+        rt,
+        alloc,
+        scene: Scene::new(store, line),
+        reader,
+    };
     match which {
-        Scenario::Between => reads_between(rt, alloc, &mut scene, &mut reader),
-        Scenario::Positions => reads_positions(rt, alloc, &mut scene, &mut reader),
-        Scenario::Refused => reads_refused(rt, alloc, &mut scene, &mut reader),
+        Scenario::Between => stage.read_between(),
+        Scenario::Positions => stage.read_positions(),
         _ => {
-            reads_published(rt, store, origin, publisher, reader);
+            stage.read_refused();
             Ok(())
         }
     }

@@ -20,8 +20,8 @@ use std::thread::Threads;
 // How many transactions are committed while others read.
 const COMMITS: u64 = 100;
 
-// The position behind so many commits, each of which takes 16 bytes of the log.
-fn position(commits: u64) -> Position
+/// The position behind so many commits, each of which takes 16 bytes of the log.
+pub(super) fn position(commits: u64) -> Position
     ensures { result.commits ≡ commits }
 {
     Position {
