@@ -1,11 +1,11 @@
 // Two streamed transactions of 500 items each: by one worker the second is spooled, and commits first.
 use super::runs::{reports, same_by_all};
 use super::worked::NOTE;
-use crate::tests::reports::thousand_rows;
 use leader::{OutOfMemory, Xid};
 use std::alloc::Global;
+use std::test::Fail;
 use streams::{Column, Message, Stream};
-use testing::accounts::RELATION;
+use testing::accounts::{RELATION, thousand_rows};
 
 // A block of rows, each with a null and a note: their keys begin at one number and end before another.
 fn push_block(stream: &mut Stream, xid: Xid, first: u32, behind: u32) -> Result<(), OutOfMemory> {
@@ -28,7 +28,7 @@ fn two_large(alloc: Global) -> Result<Stream, OutOfMemory> {
 }
 
 #[test]
-fn a_thousand_items_through_rings_of_few_slots(rt: HostRuntime) -> Result<(), OutOfMemory> {
+fn a_thousand_items_through_rings_of_few_slots(rt: HostRuntime) -> Result<(), Fail> {
     let stream = two_large(rt.alloc())?;
     let want = thousand_rows(rt.alloc())?;
     let ran = same_by_all(&rt, rt.alloc(), stream.bytes(), 1, "a thousand")?;

@@ -1,6 +1,6 @@
 // What `--progress` says, by a clock of the test's own.
-use crate::tests::commands::devices::ONE_INSERT;
-use crate::tests::commands::runs::framed;
+use crate::tests::devices::ONE_INSERT;
+use crate::tests::runs::framed;
 use pgapply_command::progress::Progress;
 use std::alloc::Global;
 use std::cell::{Cell, RefCell};

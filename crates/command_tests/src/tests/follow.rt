@@ -1,8 +1,8 @@
 // A stream that comes over a connection, and the status updates that go back: a sender listens on a
 // socket of this machine, in a thread of its own.
-use crate::tests::commands::devices::{KEEPALIVE, ONE_INSERT};
-use crate::tests::commands::runs::{CONFIG, Stopped, framed, push_frames, spelled};
-use leader::Config;
+use crate::tests::devices::{KEEPALIVE, ONE_INSERT};
+use crate::tests::runs::{CONFIG, framed, push_frames, spelled};
+use leader::{Config, StillClock};
 use pgapply_command::execute::{Ended, execute};
 use std::alloc::Global;
 use std::io::{Read, Write};
@@ -106,7 +106,7 @@ fn follow<T: Threads + Wait + RandomSource + Sync>(
         CATALOG.as_bytes(),
         connection.source(),
         connection.sink(),
-        Stopped(5),
+        StillClock(5),
         &mut out,
     );
     (ended, out)

@@ -1,9 +1,6 @@
 // How streams come: in pieces, cut short, from a source or to a sink that fails; and catalogs that are refused.
-use crate::tests::commands::runs::{
-    CONFIG, Stopped, framed, printed, printed_from, push_frame, push_frames, spelled,
-};
-use crate::tests::reports::thousand_rows;
-use leader::Config;
+use crate::tests::runs::{CONFIG, framed, printed, printed_from, push_frame, push_frames, spelled};
+use leader::{Config, StillClock};
 use pgapply_command::execute::{Ended, execute};
 use std::alloc::Global;
 use std::ops::Range;
@@ -11,7 +8,7 @@ use std::random::RandomSource;
 use std::sync::Wait;
 use std::test::Fail;
 use std::thread::Threads;
-use testing::accounts::CATALOG;
+use testing::accounts::{CATALOG, thousand_rows};
 use testing::asserts::{assert_holds, assert_same};
 use testing::devices::Pieces;
 
@@ -292,7 +289,7 @@ fn printed_by<R: Threads + Wait + RandomSource + Sync>(
         CATALOG.as_bytes(),
         Pieces::with_reads(stream, 40, reads_before_failure),
         Broken { failures: 0 },
-        Stopped(5),
+        StillClock(5),
         out,
     )
 }

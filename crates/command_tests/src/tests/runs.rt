@@ -1,5 +1,5 @@
 // Commands of these tests: their streams, their clock, and what they print.
-use leader::{Clock, Config};
+use leader::{Config, StillClock};
 use pgapply_command::execute::{Ended, execute};
 use std::alloc::Global;
 use std::random::RandomSource;
@@ -9,25 +9,12 @@ use std::thread::Threads;
 use testing::accounts::CATALOG;
 use testing::devices::{Kept, Pieces};
 
+/// Without workers.
 pub const CONFIG: Config = Config {
     workers: 0,
     ring: 64,
     spool: 1 << 30,
 };
-
-/// A clock that stands still.
-#[derive(Drop)]
-pub struct Stopped(pub i64);
-
-impl Clock for Stopped {
-    ghost use Rattle.std.specs.Prelude.{None};
-
-    ghost told = { λ _. None };
-
-    fn micros(&mut self) -> i64 {
-        self.0
-    }
-}
 
 /// The payloads, each in an XLogData frame whose positions and clock are 0.
 pub fn framed(alloc: Global, payloads: &[&str]) -> Result<Vec<u8>, Fail> {
@@ -100,7 +87,7 @@ pub fn printed_from<R: Threads + Wait + RandomSource + Sync>(
         catalog,
         reader,
         Kept::new(&mut written),
-        Stopped(5),
+        StillClock(5),
         &mut out,
     );
     (ended, out, written)

@@ -1,5 +1,5 @@
 // What a command says where it can't go on, and what it writes at its end.
-use crate::tests::commands::progress::Host;
+use crate::tests::progress::Host;
 use pgapply_command::execute::Ended;
 use pgapply_command::output::{Failure, print, say_failure};
 use std::io;

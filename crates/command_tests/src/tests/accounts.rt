@@ -1,9 +1,9 @@
 // What `--verbose` says of a command that did not end well.
-use crate::tests::commands::runs::{CONFIG, Stopped, framed};
+use crate::tests::runs::{CONFIG, framed};
 use catalog::{Catalog, CatalogFault};
 use frames::{ReadSource, WriteSink};
 use indexes::Tables;
-use leader::{Config, Devices, End, Outcome};
+use leader::{Config, Devices, End, Outcome, StillClock};
 use pgapply_command::account::Account;
 use pgapply_command::execute::{Hearer, execute_on};
 use pgapply_command::stream::Updates;
@@ -38,7 +38,7 @@ fn said<R: Threads + Wait + RandomSource + Sync>(
     let mut account = Account::new(alloc);
     let source = ReadSource::new(Cursor::new(stream));
     let watched = Watched::new(source, &mut trace, &mut quiet, true);
-    let mut devices = Devices::new(watched, WriteSink::new(Updates::Nowhere), Stopped(5));
+    let mut devices = Devices::new(watched, WriteSink::new(Updates::Nowhere), StillClock(5));
     let config = Config { workers, ..CONFIG };
     let ended = execute_on(
         rt,

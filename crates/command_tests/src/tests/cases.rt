@@ -3,7 +3,7 @@
 // In the comments: `B` Begin, `R` the relation, `I` `U` `D` `T` changes, `C` Commit, `S` `E` a block of a streamed
 // transaction, `c` Stream Commit, `A` Stream Abort; `P` is `ROWS`.
 
-use crate::tests::commands::runs::{CONFIG, printed, push_frames};
+use crate::tests::runs::{CONFIG, printed, push_frames};
 use leader::Config;
 use std::alloc::Global;
 use std::random::RandomSource;
