@@ -11,6 +11,9 @@ use std::time::Duration;
 #[derive(Clone, Copy, PartialEq, Eq)]
 pub struct Place(pub Xid, pub Point);
 
+/// A place that no worker passes.
+pub const NOWHERE: Place = Place(0, Point::Before(0));
+
 /// Whether a place was passed.
 #[derive(Drop)]
 pub struct Sign {
@@ -19,9 +22,9 @@ pub struct Sign {
 }
 
 impl Sign {
-    pub fn new(xid: Xid, at: Point) -> Sign {
+    pub fn new(place: Place) -> Sign {
         Sign {
-            place: Place(xid, at),
+            place,
             passed: AtomicBool::new(false),
         }
     }
@@ -30,9 +33,13 @@ impl Sign {
         self.passed.load(Ordering::SeqCst)
     }
 
+    pub fn pass(&self) {
+        self.passed.store(true, Ordering::SeqCst);
+    }
+
     // Waits until it was passed. Says whether it was, within so many turns.
-    fn wait<H: Host>(&self, host: &H) -> bool {
-        for _ in 0..TURNS {
+    fn wait<H: Host>(&self, host: &H, turns: u32) -> bool {
+        for _ in 0..turns {
             if self.is_passed() {
                 return true;
             }
@@ -42,8 +49,11 @@ impl Sign {
     }
 }
 
-/// So many turns without success, and a wait is given up: many seconds.
+// So many turns without success, and a wait is given up: many seconds.
 const TURNS: u32 = 400_000;
+
+// A while: more than a worker needs for what memory is there for.
+const SOME_TURNS: u32 = 1000;
 
 /// A place at which a worker waits until a sign was passed, by its index.
 #[derive(Clone, Copy)]
@@ -68,12 +78,12 @@ impl<H: Host> Gate for Door<'_, H> {
                 let _ = self
                     .signs
                     .get(hold.until)
-                    .is_some_and(|sign| sign.wait(self.host));
+                    .is_some_and(|sign| sign.wait(self.host, TURNS));
             }
         }
         for sign in self.signs {
             if sign.place == here {
-                sign.passed.store(true, Ordering::SeqCst);
+                sign.pass();
             }
         }
     }
@@ -94,39 +104,48 @@ pub fn doors<'a, H: Host>(
     Ok(doors)
 }
 
-/// Gives the front of a stream, and the back once a sign was passed. Where it was not in time, it fails.
+/// When bytes that are withheld may be given.
+#[derive(Clone, Copy)]
+pub enum Due<'a> {
+    Now,
+    /// Once a sign was passed. Where it was not in time, the read fails.
+    Passed(&'a Sign),
+    /// Once it was passed, or after a while.
+    PassedOrLate(&'a Sign),
+}
+
+/// Gives the front of a stream, and the back once it is due.
 #[derive(Drop)]
 pub struct Withheld<'a, H: Host> {
     host: &'a H,
     front: &'a [u8],
     back: &'a [u8],
-    until: Option<&'a Sign>,
+    due: Due<'a>,
     failures: u64,
     failed_last: bool,
 }
 
 impl<'a, H: Host> Withheld<'a, H> {
-    /// Where there is no sign, nothing is withheld.
-    pub fn new(
-        host: &'a H,
-        (front, back): (&'a [u8], &'a [u8]),
-        until: Option<&'a Sign>,
-    ) -> Withheld<'a, H> {
+    pub fn new(host: &'a H, (front, back): (&'a [u8], &'a [u8]), due: Due<'a>) -> Withheld<'a, H> {
         Withheld {
             host,
             front,
             back,
-            until,
+            due,
             failures: 0,
             failed_last: false,
         }
     }
 
-    // Whether the back may be given.
+    // Whether the back may be given, where the front was.
     fn is_due(&self) -> bool {
-        match self.until {
-            Some(sign) => sign.wait(self.host),
-            None => true,
+        match self.due {
+            Due::Now => true,
+            Due::Passed(sign) => sign.wait(self.host, TURNS),
+            Due::PassedOrLate(sign) => {
+                let _ = sign.wait(self.host, SOME_TURNS);
+                true
+            }
         }
     }
 }
@@ -149,6 +168,7 @@ impl<H: Host> Source for Withheld<'_, H> {
             return Err(Failed);
         }
         if self.front.is_empty() {
+            self.due = Due::Now;
             self.front = self.back;
             self.back = &[];
         }

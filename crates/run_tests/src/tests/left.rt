@@ -16,12 +16,11 @@ const ACCOUNTS: TableId = 0;
 
 const EMAILS: usize = 1;
 
-/// A commit: whose, where, its changes by the messages that ask for them, and the rows that it leaves.
+/// A commit: its changes by the messages that ask for them, and the rows that it leaves.
 #[derive(Clone, Copy)]
 pub struct Commit<'a> {
-    pub xid: Xid,
-    pub at: Lsn,
-    pub end: Lsn,
+    /// Whose, where it stands, and where it ends.
+    pub stamp: (Xid, Lsn, Lsn),
     pub changes: &'a [Message],
     pub rows: &'a [Tuple],
 }
@@ -47,7 +46,7 @@ pub fn emails(alloc: Global) -> Result<Vec<Email>, OutOfMemory> {
 /// What a run leaves after so many commits: the rows and the position.
 pub fn left<'a>(commits: &[Commit<'a>], start: &'a [Tuple], made: usize) -> (&'a [Tuple], Lsn) {
     match made.checked_sub(1).and_then(|last| commits.get(last)) {
-        Some(commit) => (commit.rows, commit.end),
+        Some(commit) => (commit.rows, commit.stamp.2),
         None => (start, 0),
     }
 }
@@ -166,9 +165,10 @@ fn are_first(journal: &[Entry], commits: &[Commit<'_>]) -> bool {
 }
 
 fn is_entry(entry: &Entry, commit: &Commit<'_>) -> bool {
-    entry.xid == commit.xid
-        && entry.commit == commit.at
-        && entry.end == commit.end
+    let (xid, at, end) = commit.stamp;
+    entry.xid == xid
+        && entry.commit == at
+        && entry.end == end
         && are_changes(&entry.changes, commit.changes)
 }
 

@@ -1,6 +1,6 @@
 // Those who watch a run: what they read while it goes on, and in their last turn.
-use super::runs::{Plan, Ran, config_of, one, reports, run_on, run_watched};
-use super::schedules::{NOWHERE, Place, Sign, TURNS, Withheld, doors};
+use super::gates::{Due, NOWHERE, Place, Sign, Withheld, doors};
+use super::runs::{Plan, Ran, TAKES_ALL, config_of, one, reports, run_on, run_watched};
 use super::worked::{NOTE, P};
 use leader::{
     Key, OutOfMemory, Point, Position, ReadFault, Reader, Row, StoreNames, Value, ValueRef, Watch,
@@ -112,21 +112,22 @@ fn looked_on<R: Threads + Wait + Sync + Host>(
 ) -> Result<(String, Ran), OutOfMemory> {
     let front = Stream::of(alloc, &[P, OPEN])?;
     let back = Stream::of(alloc, &[COMMIT])?;
-    let changed = Sign::new(Place(700, Point::After(1)));
+    let signs = [Sign::new(Place(700, Point::After(1)))];
     let read = Sign::new(NOWHERE);
     let notes = Mutex::new(String::new(alloc));
-    let gates = doors(rt, alloc, &changed, NOWHERE, 1)?;
+    let gates = doors(rt, alloc, &signs, &[], 1)?;
     let onlooker = Onlooker {
         alloc,
-        changed: &changed,
+        changed: &signs[0],
         read: &read,
         notes: &notes,
         times: 0,
     };
     let watchers = one(alloc, onlooker)?;
-    let source = Withheld::new(rt, &read, front.bytes(), back.bytes(), TURNS, true);
+    let due = Due::Passed(&read);
+    let source = Withheld::new(rt, (front.bytes(), back.bytes()), due);
     let config = config_of(1, 1);
-    let ran = run_on(rt, alloc, source, u64::MAX, &config, gates, watchers)?;
+    let ran = run_on(rt, alloc, source, TAKES_ALL, &config, gates, watchers)?;
     Ok((notes.into_inner(), ran))
 }
 
@@ -243,8 +244,8 @@ fn followed<R: Threads + Wait + Sync + Host>(
         wants_more: false,
         log: &idle,
     })?;
-    let config = config_of(workers, 1);
-    let _ran = run_watched(rt, alloc, &Plan::new(stream), &config, 1, watchers)?;
+    let plan = Plan::new(stream, config_of(workers, 1));
+    let _ran = run_watched(rt, alloc, &plan, 1, watchers)?;
     Ok((eager.into_inner(), idle.into_inner()))
 }
 
@@ -323,8 +324,8 @@ fn noted<R: Threads + Wait + Sync + Host>(
         notes: &notes,
     };
     let watchers = one(alloc, historian)?;
-    let config = config_of(workers, 1);
-    let _ran = run_watched(rt, alloc, &Plan::new(stream), &config, 1, watchers)?;
+    let plan = Plan::new(stream, config_of(workers, 1));
+    let _ran = run_watched(rt, alloc, &plan, 1, watchers)?;
     Ok(notes.into_inner())
 }
 

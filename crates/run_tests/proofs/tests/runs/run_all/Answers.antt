@@ -5,7 +5,7 @@ use Rattle.run.specs.declared.outcome.Config.{Config}
 use Rattle.run.specs.declared.outcome.Outcome.{Outcome}
 use Rattle.run.specs.Devices.{DeviceState}
 use Rattle.leader.specs.WithWorkers.{RunsBy}
-use Rattle.hostile_tests.proofs.tests.runs.run_all.Goals as goal
+use Rattle.run_tests.proofs.tests.runs.run_all.Goals as goal
 
 -- a run leaves tables of the catalog, by as many workers as it may be
 of_catalog : (n v : ℕ) (catalog : List Definition) (config : Config) (rows : Rows) (old new : DeviceState) (o : Outcome)

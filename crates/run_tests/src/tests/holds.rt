@@ -1,11 +1,12 @@
 // Transactions that are in each other's way, by schedules that gates hold: two that wait for each other,
 // one that is aborted at each of its items, and one of three that clashes at each of its places. All open
 // work is undone, a hundred times.
-use super::gates::{Hold, Place, Sign, Withheld, doors};
+use super::commits::BEGUN;
+use super::gates::{Due, Hold, Place, Sign, Withheld, doors};
 use super::left::assert_left;
-use super::runs::{Plan, catalog, config_of, run_all, run_by};
-use super::worked::{BEGUN, FIRST, NOTE, P, SECOND, THIRD, unnamed};
-use leader::{Config, End, Lsn, OutOfMemory, Outcome, Point, Tables, Xid};
+use super::runs::{Plan, config_of, run_by, run_unwatched};
+use super::worked::{FIRST, NOTE, P, SECOND, THIRD, unnamed};
+use leader::{End, Lsn, OutOfMemory, Point, Xid};
 use std::alloc::Global;
 use std::rt::Clock as Host;
 use std::sync::Wait;
@@ -13,33 +14,8 @@ use std::test::Fail;
 use std::thread::Threads;
 use streams::{Column, Message, Stream, Tuple};
 use testing::asserts::{assert_holds, assert_same};
-use testing::devices::Kept;
 
 const TIMES: u32 = 100;
-
-// A run over empty tables whose schedule is held: its stream, and its workers at their gates.
-fn run_held<R: Threads + Wait + Sync + Host>(
-    rt: &R,
-    alloc: Global,
-    source: Withheld<'_, R>,
-    (signs, holds): (&[Sign], &[Hold]),
-    config: &Config,
-) -> Result<Outcome, OutOfMemory> {
-    let catalog = catalog(alloc)?;
-    let start = Tables::empty(alloc, &catalog)?;
-    let gates = doors(rt, alloc, signs, holds, config.workers)?;
-    let mut sent = Vec::new(alloc);
-    Ok(run_all(
-        rt,
-        alloc,
-        source,
-        Kept::new(&mut sent),
-        &catalog,
-        start,
-        config,
-        gates,
-    ))
-}
 
 const V: Column = Column::Text("v");
 
@@ -118,12 +94,13 @@ fn cross<'a, R: Threads + Wait + Sync + Host>(
     ring: usize,
 ) -> Result<(), Fail> {
     let signs = [
-        Sign::new(700, Point::After(1)),
-        Sign::new(701, Point::After(1)),
+        Sign::new(Place(700, Point::After(1))),
+        Sign::new(Place(701, Point::After(1))),
     ];
-    let source = Withheld::new(rt, (stream, &[]), None);
-    let outcome = run_held(rt, alloc, source, (&signs, &CROSSED), &config_of(2, ring))?;
-    assert_left(&outcome, (BEGUN, 0x140), HELD, "crossed")
+    let source = Withheld::new(rt, (stream, &[]), Due::Now);
+    let gates = doors(rt, alloc, &signs, &CROSSED, 2)?;
+    let ran = run_unwatched(rt, alloc, source, &config_of(2, ring), gates)?;
+    assert_left(&ran.outcome, (BEGUN, 0x140), HELD, "crossed")
 }
 
 #[test]
@@ -169,12 +146,17 @@ fn abort_at<R: Threads + Wait + Sync + Host>(
     (workers, ring): (usize, usize),
 ) -> Result<(), Fail> {
     let signs = [
-        Sign::new(700, Point::After(items)),
-        Sign::new(703, Point::After(1)),
+        Sign::new(Place(700, Point::After(items))),
+        Sign::new(Place(703, Point::After(1))),
     ];
-    let until = if items == 0 { None } else { Some(&signs[0]) };
-    let source = Withheld::new(rt, (front.bytes(), back.bytes()), until);
-    let outcome = run_held(rt, alloc, source, (&signs, &[]), &config_of(workers, ring))?;
+    let due = if items == 0 {
+        Due::Now
+    } else {
+        Due::Passed(&signs[0])
+    };
+    let source = Withheld::new(rt, (front.bytes(), back.bytes()), due);
+    let gates = doors(rt, alloc, &signs, &[], workers)?;
+    let ran = run_unwatched(rt, alloc, source, &config_of(workers, ring), gates)?;
     let has_next = workers == 1;
     assert_same(signs[1].is_passed(), has_next, "the next one's worker")?;
     let left = if has_next {
@@ -182,7 +164,7 @@ fn abort_at<R: Threads + Wait + Sync + Host>(
     } else {
         (BEGUN, 0x140)
     };
-    assert_left(&outcome, left, End::Clean, items)
+    assert_left(&ran.outcome, left, End::Clean, items)
 }
 
 // Aborts at each item, each a hundred times.
@@ -248,10 +230,9 @@ fn by_turns(alloc: Global, clashing: u32) -> Result<Stream, OutOfMemory> {
             } else {
                 10 * number + 10 + turn
             };
-            let row = (Column::Number(key), Column::Null, NOTE);
             let xid = 700 + number;
             stream.push(&Message::Start(xid, turn == 0))?;
-            stream.push(&Message::Insert(xid, row))?;
+            stream.push(&Message::Insert(xid, unnamed(key)))?;
             stream.push(&Message::Stop)?;
         }
     }
@@ -267,10 +248,12 @@ fn clash_at<R: Threads + Wait + Sync + Host>(
     alloc: Global,
     stream: &Stream,
     clashing: u32,
+    seed: u32,
 ) -> Result<(), Fail> {
-    let ran = run_by(rt, alloc, &Plan::new(stream.bytes(), config_of(3, 64)))?;
+    let plan = Plan::new(stream.bytes(), config_of(3, 64));
+    let ran = run_by(rt, alloc, &plan, u64::from(seed))?;
     let before = (clashing / ROWS_EACH) as usize;
-    let made = ran.outcome.journal.len();
+    let made = ran.commits().len();
     assert_holds(1 <= made && made <= before + 1, clashing)?;
     let made = made.clamp(1, 3) - 1;
     let rows = 2 + 4 * made;
@@ -281,8 +264,8 @@ fn clash_at<R: Threads + Wait + Sync + Host>(
 fn a_clash_at_each_place_of_three_transactions(rt: HostRuntime) -> Result<(), Fail> {
     for clashing in 0..OPEN * ROWS_EACH {
         let stream = by_turns(rt.alloc(), clashing)?;
-        for _ in 0..TIMES {
-            clash_at(&rt, rt.alloc(), &stream, clashing)?;
+        for seed in 0..TIMES {
+            clash_at(&rt, rt.alloc(), &stream, clashing, seed)?;
         }
     }
     Ok(())

@@ -1,20 +1,85 @@
-// A run by workers whose sink takes a part of what it is given and fails at each write, and a connection
-// that fails at each read.
+// Runs by workers over devices that fail. Each read fails in turn, and each write: they end as the run
+// without workers does, whose contract says how. A sink takes a part of what it is given, and fails; and a
+// connection fails at each read.
+use super::commits::FIRST_COMMIT;
+use super::features::FEATURES;
 use super::left::{Commit, assert_left, left};
-use super::runs::{Plan, catalog, config_of, open_gates, run_all, run_by};
-use super::worked::{FIRST, FIRST_COMMIT, LEARNT, P, SECOND, THIRD, UNNAMED_FOURTH};
-use leader::{End, FrameFault, OutOfMemory, Outcome, ReadSource, Tables};
+use super::runs::{Plan, Ran, config_of, is_same, open_gates, run_by, run_unwatched};
+use super::worked::{FIRST, ONE_INSERT, P, ROWS, SECOND, THIRD, UNNAMED_FOURTH};
+use leader::{End, FrameFault, OutOfMemory, ReadSource};
 use std::alloc::Global;
+use std::io;
 use std::io::{ErrorKind, Read, Write};
 use std::net::{TcpListener, TcpStream};
+use std::process::Abort;
+use std::rt::Clock as Host;
 use std::sync::Wait;
 use std::test::Fail;
 use std::thread::Threads;
-use std::{io, thread};
 use streams::{Message, Stream, Tuple};
-use tcp::{Connection, Retried};
+use tcp::Retried;
 use testing::asserts::assert_same;
-use testing::devices::Kept;
+
+const FAILED: End = End::Frame(FrameFault::Device);
+
+// The run by two workers is that without one. Answers whether the device failed.
+fn fails_alike<R: Threads + Wait + Abort + Sync + Host>(
+    rt: &R,
+    alloc: Global,
+    mut plan: Plan<'_>,
+    name: &str,
+) -> Result<bool, OutOfMemory> {
+    let alone = run_by(rt, alloc, &plan, 0)?;
+    plan.config = config_of(2, 1);
+    let ran = run_by(rt, alloc, &plan, plan.reads ^ plan.writes)?;
+    is_same(rt, &ran, &alone, name);
+    Ok(ran.outcome.end == FAILED)
+}
+
+// How many calls of a device there are: each fails in turn, from the first on, until a run has none that
+// does.
+fn count_calls<R: Threads + Wait + Abort + Sync + Host>(
+    rt: &R,
+    alloc: Global,
+    stream: &[u8],
+    are_reads: bool,
+    name: &str,
+) -> Result<u64, OutOfMemory> {
+    for call in 0..1000u64 {
+        let mut plan = Plan::new(stream, config_of(0, 1));
+        plan.size = 64;
+        if are_reads {
+            plan.reads = call;
+        } else {
+            plan.writes = call;
+        }
+        if !fails_alike(rt, alloc, plan, name)? {
+            return Ok(call);
+        }
+    }
+    Ok(1000)
+}
+
+#[test]
+fn each_read_and_each_write_fails(rt: HostRuntime) -> Result<(), OutOfMemory> {
+    for row in &ROWS {
+        let stream = Stream::of(rt.alloc(), row.parts)?;
+        let reads = count_calls(&rt, rt.alloc(), stream.bytes(), true, row.name)?;
+        let writes = count_calls(&rt, rt.alloc(), stream.bytes(), false, row.name)?;
+        assert!(rt; reads < 100 && writes < 10, "{}", row.name);
+    }
+    Ok(())
+}
+
+#[test]
+fn each_read_and_each_write_of_a_real_stream_fails(rt: HostRuntime) -> Result<(), OutOfMemory> {
+    let stream = Stream::of(rt.alloc(), FEATURES)?;
+    let reads = count_calls(&rt, rt.alloc(), stream.bytes(), true, "reads")?;
+    let writes = count_calls(&rt, rt.alloc(), stream.bytes(), false, "writes")?;
+    assert!(rt; reads > 20 && reads < 100);
+    assert_eq!(rt; writes, 6);
+    Ok(())
+}
 
 // Three commits and two keepalives that want a reply: five status updates, of 39 bytes each.
 const MORE: &[Message] = &[
@@ -37,25 +102,19 @@ const COMMITTED: [usize; 5] = [1, 1, 1, 2, 3];
 static COMMITS: [Commit<'static>; 3] = [
     FIRST_COMMIT,
     Commit {
-        xid: 700,
-        at: 0x200,
-        end: 0x220,
+        stamp: (700, 0x200, 0x220),
         changes: &[Message::Insert(700, THIRD)],
         rows: &[FIRST, SECOND, THIRD],
     },
     Commit {
-        xid: 900,
-        at: 0x300,
-        end: 0x320,
+        stamp: (900, 0x300, 0x320),
         changes: &[Message::Insert(0, UNNAMED_FOURTH)],
         rows: &[FIRST, SECOND, THIRD, UNNAMED_FOURTH],
     },
 ];
 
-const FAILED: End = End::Frame(FrameFault::Device);
-
 // A run whose writes take so many bytes, and fail after so many. `sent` is what is sent where none fails.
-fn fails_at_write<R: Threads + Wait + Sync>(
+fn fails_at_write<R: Threads + Wait + Sync + Host>(
     rt: &R,
     alloc: Global,
     stream: &[u8],
@@ -65,7 +124,7 @@ fn fails_at_write<R: Threads + Wait + Sync>(
     let mut plan = Plan::new(stream, config_of(2, 1));
     plan.taken = taken;
     plan.writes = writes as u64;
-    let ran = run_by(rt, alloc, &plan)?;
+    let ran = run_by(rt, alloc, &plan, plan.writes)?;
     let each = UPDATE.div_ceil(taken.max(1));
     let (whole, parts) = (writes / each.max(1), writes % each.max(1));
     let (end, commits) = match COMMITTED.get(whole) {
@@ -83,7 +142,7 @@ fn fails_at_write<R: Threads + Wait + Sync>(
 fn each_write_takes_a_part_or_fails(rt: HostRuntime) -> Result<(), Fail> {
     let stream = Stream::of(rt.alloc(), &[P, MORE])?;
     let bytes = stream.bytes();
-    let whole = run_by(&rt, rt.alloc(), &Plan::new(bytes, config_of(2, 1)))?;
+    let whole = run_by(&rt, rt.alloc(), &Plan::new(bytes, config_of(2, 1)), 0)?;
     let sent = whole.sent.as_slice();
     assert_same(sent.len(), 5 * UPDATE, "sent")?;
     for taken in 1..=UPDATE {
@@ -113,64 +172,37 @@ impl Read for Breaking<'_> {
     }
 }
 
-// Both sides of a connection of this machine.
-fn pair(rt: &HostRuntime) -> Result<(TcpStream, TcpStream), Fail> {
-    let listener = TcpListener::bind(rt, "127.0.0.1:0")?;
-    let address = format!(in rt.alloc(); "{}", listener.local_addr()?)?;
-    let near = TcpStream::connect(rt, address.as_str())?;
-    let (far, _) = listener.accept()?;
-    Ok((near, far))
-}
-
-const ONE_INSERT: &[Message] = &[
-    Message::Begin(900, 0x100),
-    LEARNT,
-    Message::Insert(0, FIRST),
-    Message::Commit(0x100, 0x120),
-];
-
 static ONE_ROW: [Tuple; 1] = [FIRST];
 
-// A run by two workers of what comes over a connection, whose updates go nowhere.
+// A run by two workers of what comes over a connection, which breaks after so many reads.
 fn follow<R: Threads + Wait + Sync>(
     rt: &R,
     alloc: Global,
     stream: &TcpStream,
     reads: usize,
-    sent: &mut Vec<u8>,
-) -> Result<Outcome, OutOfMemory> {
-    let catalog = catalog(alloc)?;
-    let start = Tables::empty(alloc, &catalog)?;
-    let gates = open_gates(alloc, 2)?;
+) -> Result<Ran, OutOfMemory> {
     let source = ReadSource::new(Retried::new(Breaking { stream, reads }));
-    let sink = Kept::new(sent);
-    Ok(run_all(
-        rt,
-        alloc,
-        source,
-        sink,
-        &catalog,
-        start,
-        &config_of(2, 1),
-        gates,
-    ))
+    let gates = open_gates(alloc, 2)?;
+    run_unwatched(rt, alloc, source, &config_of(2, 1), gates)
 }
 
 #[test]
 fn each_read_of_a_connection_fails(rt: HostRuntime) -> Result<(), Fail> {
     let stream = Stream::of(rt.alloc(), &[ONE_INSERT])?;
     let bytes = stream.bytes();
+    let listener = TcpListener::bind(&rt, "127.0.0.1:0")?;
+    let address = format!(in rt.alloc(); "{}", listener.local_addr()?)?;
     for reads in 0..=bytes.len() {
-        let (near, mut far) = pair(&rt)?;
+        let near = TcpStream::connect(&rt, address.as_str())?;
+        let (mut far, _) = listener.accept()?;
         far.write_all(bytes)?;
-        let mut sent = Vec::new(rt.alloc());
-        let outcome = follow(&rt, rt.alloc(), &near, reads, &mut sent)?;
-        let (rows, position) = if reads == bytes.len() {
+        let ran = follow(&rt, rt.alloc(), &near, reads)?;
+        let left = if reads == bytes.len() {
             (&ONE_ROW[..], 0x120)
         } else {
             (&ONE_ROW[..0], 0)
         };
-        assert_left(&outcome, (rows, position), FAILED, reads)?;
+        assert_left(&ran.outcome, left, FAILED, reads)?;
     }
     Ok(())
 }

@@ -1,23 +1,18 @@
 // Streams that are cut at each byte, and reads that fail: what is left is that of the commits before.
+use super::commits::{CUT, Case};
 use super::left::{assert_left, left};
 use super::runs::{Plan, config_of, run_by};
-use super::worked::{CUT, FIRST, LEARNT, Row};
+use super::worked::{FIRST, ONE_INSERT};
 use leader::{End, FrameFault, Lsn, OutOfMemory};
 use std::alloc::Global;
+use std::rt::Clock as Host;
 use std::sync::Wait;
 use std::test::Fail;
 use std::thread::Threads;
 use streams::{Message, Stream, Tuple};
 use testing::asserts::assert_same;
 
-// A begun transaction of one insert: 258 bytes, in frames that end at 51, 146, 202 and 258.
-const ONE_INSERT: &[Message] = &[
-    Message::Begin(900, 0x100),
-    LEARNT,
-    Message::Insert(0, FIRST),
-    Message::Commit(0x100, 0x120),
-];
-
+// Of one insert, and where its frames end.
 const LENGTH: usize = 258;
 
 const EDGES: [usize; 5] = [0, 51, 146, 202, LENGTH];
@@ -38,7 +33,7 @@ fn after(bytes: usize) -> (&'static [Tuple], Lsn) {
 }
 
 // The stream cut at a length.
-fn cut_at<R: Threads + Wait + Sync>(
+fn cut_at<R: Threads + Wait + Sync + Host>(
     rt: &R,
     alloc: Global,
     stream: &[u8],
@@ -46,7 +41,7 @@ fn cut_at<R: Threads + Wait + Sync>(
     workers: usize,
 ) -> Result<(), Fail> {
     let plan = Plan::new(&stream[..length.min(stream.len())], config_of(workers, 1));
-    let ran = run_by(rt, alloc, &plan)?;
+    let ran = run_by(rt, alloc, &plan, length as u64)?;
     let end = if EDGES.contains(&length) {
         End::Clean
     } else {
@@ -56,7 +51,7 @@ fn cut_at<R: Threads + Wait + Sync>(
 }
 
 // The stream byte by byte, until so many reads were made.
-fn fails_after<R: Threads + Wait + Sync>(
+fn fails_after<R: Threads + Wait + Sync + Host>(
     rt: &R,
     alloc: Global,
     stream: &[u8],
@@ -66,7 +61,7 @@ fn fails_after<R: Threads + Wait + Sync>(
     let mut plan = Plan::new(stream, config_of(workers, 1));
     plan.size = 1;
     plan.reads = reads as u64;
-    let ran = run_by(rt, alloc, &plan)?;
+    let ran = run_by(rt, alloc, &plan, plan.reads)?;
     assert_left(&ran.outcome, after(reads), FAILED, reads)
 }
 
@@ -120,33 +115,35 @@ fn last_edge(edges: &[Edge], place: usize) -> Edge {
     last
 }
 
-// The row cut at each byte, by two workers.
-fn cut_everywhere<R: Threads + Wait + Sync>(
+// The stream cut behind so many bytes, by two workers.
+fn cut_behind<R: Threads + Wait + Sync + Host>(
     rt: &R,
     alloc: Global,
-    row: &Row<'_>,
+    case: &Case<'_>,
+    (bytes, edges): (&[u8], &[Edge]),
 ) -> Result<(), Fail> {
-    let (stream, edges) = with_edges(alloc, row.parts)?;
-    let bytes = stream.bytes();
-    for cut in 0..=bytes.len() {
-        let edge = last_edge(edges.as_slice(), cut);
-        let end = if edge.at == cut {
-            End::Clean
-        } else {
-            TRUNCATED
-        };
-        let ran = run_by(rt, alloc, &Plan::new(&bytes[..cut], config_of(2, 1)))?;
-        assert_same(ran.outcome.journal.len(), edge.commits, row.name)?;
-        let want = left(row.commits, row.start, edge.commits);
-        assert_left(&ran.outcome, want, end, cut)?;
-    }
-    Ok(())
+    let cut = bytes.len();
+    let edge = last_edge(edges, cut);
+    let end = if edge.at == cut {
+        End::Clean
+    } else {
+        TRUNCATED
+    };
+    let ran = run_by(rt, alloc, &Plan::new(bytes, config_of(2, 1)), cut as u64)?;
+    assert_same(ran.commits().len(), edge.commits, case.name)?;
+    let want = left(case.commits, case.start, edge.commits);
+    assert_left(&ran.outcome, want, end, cut)
 }
 
 #[test]
 fn worked_streams_cut_at_each_byte(rt: HostRuntime) -> Result<(), Fail> {
-    for row in &CUT {
-        cut_everywhere(&rt, rt.alloc(), row)?;
+    for case in &CUT {
+        let (stream, edges) = with_edges(rt.alloc(), case.parts)?;
+        let bytes = stream.bytes();
+        for cut in 0..=bytes.len() {
+            let front = (&bytes[..cut], edges.as_slice());
+            cut_behind(&rt, rt.alloc(), case, front)?;
+        }
     }
     Ok(())
 }

@@ -151,7 +151,7 @@ impl Drawn {
         let last = commits.checked_sub(1);
         let cut = last.and_then(|last| self.cuts.as_slice().get(last).copied());
         let (stream, _) = bytes.split_at(cut.unwrap_or(0).min(bytes.len()));
-        run_by(rt, alloc, &Plan::new(stream), &config_of(0, 1), 0)
+        run_by(rt, alloc, &Plan::new(stream, config_of(0, 1)), 0)
     }
 }
 
@@ -196,9 +196,9 @@ fn all_lawful<R: Threads + Wait + Abort + Sync + Host>(
     drawn: &Drawn,
     workers: usize,
 ) -> Result<(), OutOfMemory> {
-    let plan = Plan::new(drawn.stream.bytes());
     for ring in 1..3 {
-        let ran = run_by(rt, alloc, &plan, &config_of(workers, ring), 1)?;
+        let plan = Plan::new(drawn.stream.bytes(), config_of(workers, ring));
+        let ran = run_by(rt, alloc, &plan, 1)?;
         let past = drawn.past(rt, alloc, ran.commits().len())?;
         is_lawful(rt, &ran, &past, drawn.cuts.len());
     }
