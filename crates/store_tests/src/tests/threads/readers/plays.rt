@@ -28,16 +28,16 @@ pub(super) enum Scenario {
     Watched,
 }
 
-// A scene, and one who reads it on the same thread.
+// A scene, and one who reads it on the same thread. The host is there longer than these are.
 #[derive(Drop)]
-struct Stage<'a, N: StoreNames, R> {
+struct Stage<'a, 'b, N: StoreNames, R> {
     rt: &'a R,
     alloc: Global,
-    scene: Scene<'a, N>,
-    reader: Reader<'a, N>,
+    scene: Scene<'b, N>,
+    reader: Reader<'b, N>,
 }
 
-impl<N: StoreNames, R: Abort + Wait> Stage<'_, N, R> {
+impl<N: StoreNames, R: Abort + Wait> Stage<'_, '_, N, R> {
     // The rows of the table as text.
     fn rows(&mut self) -> Result<String, Fail> {
         let rows = self.reader.rows(self.rt, self.alloc, TABLE)?;
