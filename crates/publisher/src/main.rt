@@ -21,7 +21,7 @@
 
 use publication::catalog::Printed;
 use publisher_command::{Job, Options, Variables};
-use server::auth::Ways;
+use server::auth::{Password, Ways};
 use server::capture::{Destination, capture};
 use server::fault::Fault;
 use server::host::Server;
@@ -113,7 +113,7 @@ fn read_variables(rt: &HostRuntime) -> Variables {
         port: read_variable(rt, "PGPORT"),
         user: read_variable(rt, "PGUSER"),
         database: read_variable(rt, "PGDATABASE"),
-        password: read_variable(rt, "PGPASSWORD"),
+        password: read_variable(rt, "PGPASSWORD").map(|text| Password { text }),
         ways: read_variable(rt, "PGREQUIREAUTH").map(|text| publisher_command::read_ways(
             text.as_str(),
         ).unwrap_or(Ways::NONE)),

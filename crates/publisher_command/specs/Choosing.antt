@@ -28,7 +28,7 @@ pub record IsMeant (o : Options) (v : Variables) (s : Server) : Type 0 where
   pub host : string_bytes s.host ≡ meant (option_map (λ t. t.now) o.host) (option_map (λ t. string_bytes t) v.host) (codes "/var/run/postgresql")
   pub port : string_bytes s.port ≡ meant (option_map (λ t. t.now) o.port) (option_map (λ t. string_bytes t) v.port) (codes "5432")
   pub database : string_bytes s.database ≡ meant (option_map (λ t. t.now) o.database) (option_map (λ t. string_bytes t) v.database) (string_bytes s.user)
-  pub password : option_map (λ t. string_bytes t) s.password ≡ option_map (λ t. string_bytes t) v.password
+  pub password : option_map (λ p. string_bytes p.text) s.password ≡ option_map (λ p. string_bytes p.text) v.password
   pub limit : s.limit ≡ o.limit
   pub ways : s.ways ≡ unwrap_or (option_or o.ways v.ways) all_ways
   pub clear_text : s.clear_text ≡ o.clear_text

@@ -3,39 +3,29 @@ ghost use Rattle.std.specs.Prelude.{◌≡◌, ◌≤◌, None, IfOk, IfSome, Ma
 ghost use Rattle.publisher_command.specs.Choosing.{named_user, IsMeant};
 
 use crate::command_line::Options;
-use server::auth::Ways;
+use server::auth::{Password, Ways};
 use server::host::Server;
 use std::alloc::{AllocError, Global};
-use std::fmt;
 
-/// libpq's variables that are set. A password is never printed.
-#[derive(Drop)]
+/// libpq's variables that are set.
+#[derive(Debug, Drop)]
 pub struct Variables {
+    /// PGHOST.
     pub host: Option<String>,
+    /// PGPORT.
     pub port: Option<String>,
+    /// PGUSER.
     pub user: Option<String>,
+    /// PGDATABASE.
     pub database: Option<String>,
-    pub password: Option<String>,
+    /// PGPASSWORD.
+    pub password: Option<Password>,
     /// The ways to authenticate of PGREQUIREAUTH.
     pub ways: Option<Ways>,
     /// Whether PGSSLMODE asks for TLS: it is set, and not to `disable`, `allow` or `prefer`.
     pub tls: bool,
     /// The name of who is logged in, `USER`.
     pub login: Option<String>,
-}
-
-impl fmt::Debug for Variables {
-    fn fmt<W: fmt::Write>(&self, f: &mut fmt::Formatter<W>) -> fmt::Result {
-        f.debug_struct("Variables")
-            .field("host", &self.host)
-            .field("port", &self.port)
-            .field("user", &self.user)
-            .field("database", &self.database)
-            .field("ways", &self.ways)
-            .field("tls", &self.tls)
-            .field("login", &self.login)
-            .finish_non_exhaustive()
-    }
 }
 
 /// Where Debian's server has its Unix socket.
@@ -70,7 +60,9 @@ pub fn choose_server(
         user: String::from_str(alloc, user)?,
         database: String::from_str(alloc, database)?,
         password: match &variables.password {
-            Some(password) => Some(password.clone()?),
+            Some(password) => Some(Password {
+                text: password.text.clone()?,
+            }),
             None => None,
         },
         limit: options.limit,

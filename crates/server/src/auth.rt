@@ -12,30 +12,51 @@ use std::fmt;
 
 const MECHANISM: &str = "SCRAM-SHA-256";
 
+/// A password, which is never printed.
+#[derive(Drop)]
+pub struct Password {
+    /// As it was given.
+    pub text: String,
+}
+
+impl fmt::Debug for Password {
+    fn fmt<W: fmt::Write>(&self, f: &mut fmt::Formatter<W>) -> fmt::Result {
+        f.debug_struct("Password").finish_non_exhaustive()
+    }
+}
+
 /// Who connects to which database, and how.
-#[derive(Clone, Copy)]
+#[derive(Clone, Copy, Debug)]
 pub struct Login<'a> {
+    /// The role that logs in.
     pub user: &'a str,
+    /// The database.
     pub database: &'a str,
-    pub password: Option<&'a str>,
+    /// The password, if there is one.
+    pub password: Option<&'a Password>,
     /// Whether the connection takes replication commands.
     pub replication: bool,
+    /// The ways to authenticate that are taken.
     pub ways: Ways,
     /// Whether the password may be sent in clear text.
     pub clear_text: bool,
 }
 
-/// Which ways to authenticate are taken, as libpq's `require_auth` has it. `none` is that the server asks
-/// for no proof.
+/// Which ways to authenticate are taken, as libpq's `require_auth` has it.
 #[derive(Clone, Copy, Debug, PartialEq, Eq)]
 pub struct Ways {
+    /// The server asks for no proof.
     pub none: bool,
+    /// The password in clear text.
     pub password: bool,
+    /// The password's MD5, salted.
     pub md5: bool,
+    /// SCRAM-SHA-256.
     pub scram: bool,
 }
 
 impl Ways {
+    /// Each of them.
     pub const ALL: Ways = Ways {
         none: true,
         password: true,
@@ -43,23 +64,13 @@ impl Ways {
         scram: true,
     };
 
+    /// None of them.
     pub const NONE: Ways = Ways {
         none: false,
         password: false,
         md5: false,
         scram: false,
     };
-}
-
-/// Without the password.
-impl<'a> fmt::Debug for Login<'a> {
-    fn fmt<W: fmt::Write>(&self, f: &mut fmt::Formatter<W>) -> fmt::Result {
-        f.debug_struct("Login")
-            .field("user", &self.user)
-            .field("database", &self.database)
-            .field("replication", &self.replication)
-            .finish_non_exhaustive()
-    }
 }
 
 /// Text forms of values that don't change with the server's settings, as PostgreSQL's subscriber asks.
@@ -134,9 +145,9 @@ fn taken(is_taken: bool, way: &'static str) -> Result<(), Fault> {
     }
 }
 
-fn needed(password: Option<&str>) -> Result<&str, Fault> {
+fn needed(password: Option<&Password>) -> Result<&str, Fault> {
     match password {
-        Some(password) => Ok(password),
+        Some(password) => Ok(password.text.as_str()),
         None => Err(Fault::NoPassword),
     }
 }

@@ -3,7 +3,6 @@ use crate::connection::Connection;
 use crate::fault::Fault;
 use crate::line::Line;
 use crate::query;
-use crate::quoting::literal;
 use crate::stream::Slot;
 
 /// The oldest server that streams in version 4 of the protocol with `streaming 'parallel'`: 16.
@@ -26,30 +25,28 @@ pub fn check_publication<L: Line + Drop>(
     connection: &mut Connection<L>,
     publication: &str,
 ) -> Result<(), Fault> {
-    let alloc = connection.alloc();
-    let name = literal(alloc, publication)?;
-    let name = name.as_str();
-    let found = format!(in alloc;
-        "SELECT count(*) FROM pg_catalog.pg_publication WHERE pubname = {name}"
-    )?;
-    match query::number(connection, found.as_str())? {
-        0 => Err(Fault::NoPublication),
-        _ => Ok(()),
-    }
+    let question = "SELECT count(*) FROM pg_catalog.pg_publication WHERE pubname =";
+    check_name(connection, question, publication, Fault::NoPublication)
 }
 
 /// Refuses a slot that isn't there.
 fn check_slot<L: Line + Drop>(connection: &mut Connection<L>, slot: &str) -> Result<(), Fault> {
-    let alloc = connection.alloc();
-    let name = literal(alloc, slot)?;
-    let name = name.as_str();
-    let found = format!(in alloc;
-        "SELECT count(*) FROM pg_catalog.pg_replication_slots WHERE slot_name = {name}"
-    )?;
-    match query::number(connection, found.as_str())? {
-        0 => Err(Fault::NoSlot),
-        _ => Ok(()),
-    }
+    let question = "SELECT count(*) FROM pg_catalog.pg_replication_slots WHERE slot_name =";
+    check_name(connection, question, slot, Fault::NoSlot)
+}
+
+/// Refuses a name, by this fault, of which a question counts none.
+fn check_name<L: Line + Drop>(
+    connection: &mut Connection<L>,
+    question: &str,
+    name: &str,
+    absent: Fault,
+) -> Result<(), Fault> {
+    let count = match query::row_of(connection, question, name)? {
+        Some(row) => row.number(0)?,
+        None => 0,
+    };
+    if count > 0 { Ok(()) } else { Err(absent) }
 }
 
 /// Refuses a server that can't stream this publication through this slot, a slot that is to be made aside.

@@ -4,6 +4,7 @@ ghost use Rattle.std.specs.Prelude.{◌≤◌, IfOk};
 use crate::fault::Fault;
 use crate::place::Place;
 use crate::relay::{Output, Relayed, whole_frames};
+use crate::report::write_report;
 use crate::stream::status;
 use crate::wire;
 use std::alloc::Global;
@@ -346,11 +347,5 @@ impl Output for Follower<'_> {
 /// An ErrorResponse of our own, which ends a follower's run with a server's error.
 pub fn farewell(alloc: Global, fault: &Fault) -> Result<Vec<u8>, Fault> {
     let text = format!(in alloc; "{fault}")?;
-    let mut body = Vec::new(alloc);
-    wire::push_zero_ended(&mut body, "SFATAL")?;
-    wire::push_zero_ended(&mut body, "C08006")?;
-    body.push(b'M')?;
-    wire::push_zero_ended(&mut body, text.as_str())?;
-    body.push(0)?;
-    wire::frame(alloc, b'E', body.as_slice())
+    write_report(alloc, b'E', "FATAL", "08006", text.as_str())
 }

@@ -1,48 +1,40 @@
 // Where a server is, and a connection to it that has logged in.
-use crate::auth::{Login, Ways, log_in};
+use crate::auth::{Login, Password, Ways, log_in};
 use crate::connection::Connection;
 use crate::fault::Fault;
 use crate::line::{Socket, SocketLine};
 use std::alloc::Global;
+use std::io;
 use std::net::{Net, TcpStream, ToSocketAddrs};
 use std::os::unix::net::UnixStream;
 use std::random::RandomSource;
 use std::rt::Clock;
 use std::time::Duration;
-use std::{fmt, io};
 
 /// How long a read waits, so that limits and status updates are looked at: milliseconds.
 const TICK: u64 = 100;
 
 /// Where the server is, and who connects.
-#[derive(Drop)]
+#[derive(Debug, Drop)]
 pub struct Server {
     /// A host, or a directory, which begins with a slash.
     pub host: String,
+    /// The port's number.
     pub port: String,
+    /// The role that logs in.
     pub user: String,
+    /// The database.
     pub database: String,
-    pub password: Option<String>,
+    /// The password, if there is one.
+    pub password: Option<Password>,
     /// How many milliseconds an answer may take, and how long a stream's server may be silent.
     pub limit: u64,
+    /// The ways to authenticate that are taken.
     pub ways: Ways,
     /// Whether the password may be sent in clear text over TCP.
     pub clear_text: bool,
     /// Whether TLS is asked for, which is refused but for a Unix socket.
     pub tls: bool,
-}
-
-/// Without the password.
-impl fmt::Debug for Server {
-    fn fmt<W: fmt::Write>(&self, f: &mut fmt::Formatter<W>) -> fmt::Result {
-        f.debug_struct("Server")
-            .field("host", &self.host)
-            .field("port", &self.port)
-            .field("user", &self.user)
-            .field("database", &self.database)
-            .field("limit", &self.limit)
-            .finish_non_exhaustive()
-    }
 }
 
 impl Server {
@@ -70,7 +62,7 @@ impl Server {
         let login = Login {
             user: self.user.as_str(),
             database: self.database.as_str(),
-            password: self.password.as_deref(),
+            password: self.password.as_ref(),
             replication,
             ways: self.ways,
             clear_text: self.clear_text || is_local,

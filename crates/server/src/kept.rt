@@ -1,6 +1,7 @@
 // A file that a capture left: what it is of, and how far it can be kept, so that another goes on behind it.
 use crate::fault::Fault;
 use crate::marks::{Mark, Phase};
+use crate::report::write_report;
 use crate::stream::{Sent, Subscription, read_frame};
 use crate::wire;
 use crate::wire::{HEADER, declared_length};
@@ -25,13 +26,7 @@ pub fn label(
     let text = format!(in alloc;
         "publication {publication:?} through slot {slot:?} of system {identifier}{copy}"
     )?;
-    let mut body = Vec::new(alloc);
-    wire::push_zero_ended(&mut body, "SNOTICE")?;
-    wire::push_zero_ended(&mut body, "C00000")?;
-    body.push(b'M')?;
-    wire::push_zero_ended(&mut body, text.as_str())?;
-    body.push(0)?;
-    wire::frame(alloc, b'N', body.as_slice())
+    write_report(alloc, b'N', "NOTICE", "00000", text.as_str())
 }
 
 /// What of a file can be kept: whole frames up to its last edge outside of transactions and of blocks.

@@ -2,6 +2,7 @@
 use crate::connection::Connection;
 use crate::fault::{Fault, Nonsense};
 use crate::line::Line;
+use crate::quoting::literal;
 use crate::wire;
 use crate::wire::Fields;
 use std::alloc::Global;
@@ -90,6 +91,19 @@ pub fn number<L: Line + Drop>(connection: &mut Connection<L>, sql: &str) -> Resu
         Some(row) => row.number(0),
         None => Err(Fault::Nonsense(Nonsense::BadRow)),
     }
+}
+
+/// Asks a question that ends in a name, which is spelled as a literal, and whose answer is one row at most.
+pub fn row_of<L: Line + Drop>(
+    connection: &mut Connection<L>,
+    question: &str,
+    name: &str,
+) -> Result<Option<Row>, Fault> {
+    let alloc = connection.alloc();
+    let name = literal(alloc, name)?;
+    let name = name.as_str();
+    let sql = format!(in alloc; "{question} {name}")?;
+    Ok(rows(connection, sql.as_str(), 1)?.pop())
 }
 
 /// About how many bytes a row takes that came in a message of so many.

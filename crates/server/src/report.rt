@@ -1,6 +1,7 @@
-// An error as the server tells it.
+// Errors and notices as a server tells them.
 use crate::fault::Fault;
 use crate::shown::Shown;
+use crate::wire;
 use crate::wire::Fields;
 use std::alloc::Global;
 use std::fmt;
@@ -13,6 +14,7 @@ pub struct ServerReport {
     pub severity: String,
     /// The SQLSTATE code.
     pub code: String,
+    /// What is the matter.
     pub message: String,
 }
 
@@ -48,4 +50,21 @@ pub fn read_report(alloc: Global, body: &[u8]) -> Result<ServerReport, Fault> {
         }
     }
     Ok(report)
+}
+
+/// A report as a server sends it: an ErrorResponse, whose tag is `E`, or a NoticeResponse, whose tag is `N`.
+pub fn write_report(
+    alloc: Global,
+    tag: u8,
+    severity: &str,
+    code: &str,
+    message: &str,
+) -> Result<Vec<u8>, Fault> {
+    let mut body = Vec::new(alloc);
+    for (kind, text) in [(b'S', severity), (b'C', code), (b'M', message)] {
+        body.push(kind)?;
+        wire::push_zero_ended(&mut body, text)?;
+    }
+    body.push(0)?;
+    wire::frame(alloc, tag, body.as_slice())
 }

@@ -101,15 +101,10 @@ pub fn identify<L: Line + Drop>(connection: &mut Connection<L>) -> Result<System
 
 /// The place up to which the slot's reader has confirmed the log.
 pub fn confirmed<L: Line + Drop>(connection: &mut Connection<L>, slot: &str) -> Result<u64, Fault> {
-    let alloc = connection.alloc();
-    let name = literal(alloc, slot)?;
-    let name = name.as_str();
-    let text = format!(in alloc;
-        "SELECT confirmed_flush_lsn FROM pg_catalog.pg_replication_slots WHERE slot_name = {name}"
-    )?;
-    let rows = query::rows(connection, text.as_str(), 1)?;
-    match rows.first() {
-        Some(row) => place_of(row, 0),
+    let question =
+        "SELECT confirmed_flush_lsn FROM pg_catalog.pg_replication_slots WHERE slot_name =";
+    match query::row_of(connection, question, slot)? {
+        Some(row) => place_of(&row, 0),
         None => Err(Fault::NoSlot),
     }
 }

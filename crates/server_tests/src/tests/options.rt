@@ -1,5 +1,6 @@
 // The command line of `publisher`, and libpq's variables.
 use publisher_command::{Job, Variables};
+use server::auth::Password;
 use server::host::Server;
 use std::alloc::Global;
 use std::test::Fail;
@@ -97,7 +98,9 @@ fn chosen(alloc: Global) -> Result<Server, Fail> {
         port: None,
         user: None,
         database: None,
-        password: Some(String::from_str(alloc, "secret")?),
+        password: Some(Password {
+            text: String::from_str(alloc, "secret")?,
+        }),
         ways: None,
         tls: false,
         login: Some(String::from_str(alloc, "carol")?),
@@ -116,5 +119,6 @@ fn options_go_before_variables(rt: HostRuntime) -> Result<(), Fail> {
     assert_same(server.port.as_str(), "5433", "port")?;
     assert_same(server.user.as_str(), "carol", "user")?;
     assert_same(server.database.as_str(), "carol", "database")?;
-    assert_same(server.password.as_deref(), Some("secret"), "password")
+    let password = server.password.as_ref().ok_or("no password")?;
+    assert_same(password.text.as_str(), "secret", "password")
 }
