@@ -1,13 +1,14 @@
 // The catalog of a publication's tables, as TOML.
 use crate::columns::{DefaultValue, Kind, ServerType, read_default};
-use crate::keys::{Key, read_keys};
+use crate::keys::{Key, identity_of, read_keys};
 use crate::sql;
+use crate::statement::{entry, statement};
 use crate::toml_text::{push_comma, push_string, push_strings};
-use server::checks::{check_publication, check_version};
+use server::checks::check_version;
 use server::connection::Connection;
 use server::fault::Fault;
 use server::line::Line;
-use server::query::{Row, rows};
+use server::query::{Row, row_of, rows};
 use server::quoting::literal;
 use server::shown::Shown;
 use std::alloc::Global;
@@ -15,16 +16,27 @@ use std::alloc::Global;
 /// A catalog, and what it leaves out.
 #[derive(Debug, Drop)]
 pub struct Printed {
+    /// The catalog.
     pub toml: String,
     /// A line for each table, column, key or default that isn't kept, with the reason.
     pub notes: Vec<String>,
+    /// CREATE PUBLICATION, of one that has the tables and columns that are kept and no others. None where no
+    /// table is kept.
+    pub statement: Option<String>,
 }
 
 /// What the server says of a publication.
 #[derive(Debug, Drop)]
 pub struct Answers {
+    /// The server's `server_version_num`.
+    pub version: u32,
+    /// The publication itself.
+    pub publication: Row,
+    /// Its tables.
     pub tables: Vec<Row>,
+    /// The columns of these.
     pub columns: Vec<Row>,
+    /// The columns of their unique keys.
     pub keys: Vec<Row>,
 }
 
@@ -46,12 +58,16 @@ pub fn ask<L: Line + Drop>(
 ) -> Result<Answers, Fault> {
     let alloc = connection.alloc();
     let version = check_version(connection, OLDEST)?;
-    check_publication(connection, publication)?;
+    let Some(found) = row_of(connection, sql::PUBLICATION, publication)? else {
+        return Err(Fault::NoPublication);
+    };
     let name = literal(alloc, publication)?;
     let listed = sql::listed(alloc, name.as_str(), version)?;
     let listed = listed.as_str();
     let most = MOST_TABLES * MOST_COLUMNS;
     Ok(Answers {
+        version,
+        publication: found,
         tables: rows(
             connection,
             sql::tables(alloc, listed)?.as_str(),
@@ -71,34 +87,41 @@ pub fn print(alloc: Global, answers: &Answers, text: bool) -> Result<Printed, Fa
     let mut printed = Printed {
         toml: String::new(alloc),
         notes: Vec::new(alloc),
+        statement: None,
     };
+    let mut entries = Vec::new(alloc);
     for table in &answers.tables {
-        print_table(alloc, &mut printed, answers, table, text)?;
+        if let Some(entry) = print_table(alloc, &mut printed, answers, table, text)? {
+            entries.push(entry)?;
+        }
+    }
+    if !entries.is_empty() {
+        printed.statement = Some(statement(alloc, &answers.publication, entries.as_slice())?);
     }
     Ok(printed)
 }
 
 /// A column that is kept.
 #[derive(Drop)]
-struct Column {
-    number: u32,
-    name: String,
+pub(crate) struct Column {
+    pub(crate) number: u32,
+    pub(crate) name: String,
     kind: Kind,
     default: DefaultValue,
 }
 
-/// Adds one table, or a note that says why it is left out.
+/// Adds one table, or a note that says why it is left out. It answers what CREATE PUBLICATION has of the table.
 fn print_table(
     alloc: Global,
     printed: &mut Printed,
     answers: &Answers,
     table: &Row,
     text: bool,
-) -> Result<(), Fault> {
+) -> Result<Option<String>, Fault> {
     let oid = table.number(0)?;
     let label = label(alloc, table)?;
     let label = label.as_str();
-    if table.flag(4)? {
+    if table.value(4)?.is_some() {
         let note = format!(in alloc; "table {label}: its rows are filtered, and only those come")?;
         printed.notes.push(note)?;
     }
@@ -118,24 +141,46 @@ fn print_table(
                 &kept,
                 primary.as_slice(),
                 uniques.as_slice(),
-            )
+            )?;
+            entry_or_note(alloc, &mut printed.notes, answers, table, &kept)
         }
         Err(reason) => {
             let note = format!(in alloc;
                 "table {label} is left out: {reason}; a change of it ends a run with TableMissing"
             )?;
             printed.notes.push(note)?;
-            Ok(())
+            Ok(None)
         }
     }
 }
 
 /// What is kept of a table, and its keys.
 #[derive(Clone, Copy)]
-struct Kept<'a> {
+pub(crate) struct Kept<'a> {
     label: &'a str,
-    columns: &'a [Column],
-    keys: &'a [Key],
+    pub(crate) columns: &'a [Column],
+    pub(crate) keys: &'a [Key],
+}
+
+/// What CREATE PUBLICATION has of a table that is kept, or a note that says why it can't have it.
+fn entry_or_note(
+    alloc: Global,
+    notes: &mut Vec<String>,
+    answers: &Answers,
+    table: &Row,
+    kept: &Kept<'_>,
+) -> Result<Option<String>, Fault> {
+    match entry(alloc, answers, table, kept)? {
+        Ok(entry) => Ok(Some(entry)),
+        Err(reason) => {
+            let label = kept.label;
+            let note = format!(in alloc;
+                "table {label} is kept, and CREATE PUBLICATION lacks it: {reason}"
+            )?;
+            notes.push(note)?;
+            Ok(None)
+        }
+    }
 }
 
 /// A table's name for a note.
@@ -261,7 +306,11 @@ fn primary_of(
     if !primary.is_immediate {
         return Ok(Err("its primary key is deferrable"));
     }
-    if identity == "i" && !primary.is_covered(kept.keys) {
+    if identity == "i"
+        && !identity_of(kept.keys).is_some_and(|identity| primary.is_within(
+            identity.columns.as_slice(),
+        ))
+    {
         return Ok(Err("its replica identity lacks columns of the primary key"));
     }
     Ok(match names_of(alloc, kept.columns, primary)? {

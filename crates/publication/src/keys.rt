@@ -37,16 +37,15 @@ impl Key {
         }
     }
 
-    /// Whether the replica identity, an index, has all columns of this key.
-    pub fn is_covered(&self, keys: &[Key]) -> bool {
-        match keys.iter().find(|key| key.is_identity) {
-            Some(identity) => self
-                .columns
-                .iter()
-                .all(|number| identity.columns.contains(number)),
-            None => false,
-        }
+    /// Whether all columns of this key are among these, by their numbers.
+    pub fn is_within(&self, columns: &[u32]) -> bool {
+        self.columns.iter().all(|number| columns.contains(number))
     }
+}
+
+/// The key that is the replica identity, of a table whose identity is an index.
+pub fn identity_of(keys: &[Key]) -> Option<&Key> {
+    keys.iter().find(|key| key.is_identity)
 }
 
 /// The keys of a table. The rows of one index come one after another, in the order of its columns.

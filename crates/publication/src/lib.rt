@@ -5,7 +5,7 @@
 //
 // How it works. `sql` has the questions, `catalog` asks them and prints the answers as TOML: `columns` says
 // how a column is kept and which defaults are constants, `keys` which unique keys the subscriber can keep,
-// `toml_text` spells texts.
+// `toml_text` spells texts. `statement` prints the CREATE PUBLICATION that fits what is kept.
 //
 // It stands on `server` for the connection.
 #![tactic(auto)]
@@ -14,4 +14,5 @@ pub mod catalog;
 pub mod columns;
 mod keys;
 mod sql;
+mod statement;
 mod toml_text;

@@ -3,18 +3,23 @@ use server::fault::Fault;
 use std::alloc::Global;
 
 /// Column lists and row filters of publications, and unique keys with equal nulls, came with 15.
-const WITH_LISTS: u32 = 150_000;
+pub const WITH_LISTS: u32 = 150_000;
+
+/// The publication that a literal names: its name, whether a partition's changes are its root's, and whether
+/// it has inserts, updates, deletes and truncates.
+pub const PUBLICATION: &str =
+    "SELECT pubname, pubviaroot, pubinsert, pubupdate, pubdelete, pubtruncate FROM pg_catalog.pg_publication WHERE pubname =";
 
 /// The tables of the publication that this literal names, with a test `{listed}` of a column `a`.
 pub fn listed(alloc: Global, publication: &str, version: u32) -> Result<String, Fault> {
-    let (filtered, names) = if version >= WITH_LISTS {
-        ("p.rowfilter IS NOT NULL", "p.attnames")
+    let (filter, names) = if version >= WITH_LISTS {
+        ("p.rowfilter", "p.attnames")
     } else {
-        ("false", "NULL::name[]")
+        ("NULL::text", "NULL::name[]")
     };
     Ok(format!(in alloc;
-        "WITH RECURSIVE listed (oid, space, name, identity, filtered, names) AS (\
-        SELECT c.oid, n.nspname, c.relname, c.relreplident, {filtered}, {names} \
+        "WITH RECURSIVE listed (oid, space, name, identity, filter, names) AS (\
+        SELECT c.oid, n.nspname, c.relname, c.relreplident, {filter}, {names} \
         FROM pg_catalog.pg_publication_tables p \
         JOIN pg_catalog.pg_namespace n ON n.nspname = p.schemaname \
         JOIN pg_catalog.pg_class c ON c.relnamespace = n.oid AND c.relname = p.tablename \
@@ -22,10 +27,10 @@ pub fn listed(alloc: Global, publication: &str, version: u32) -> Result<String, 
     )?)
 }
 
-/// Of each table: OID, namespace, name, replica identity, whether its rows are filtered.
+/// Of each table: OID, namespace, name, replica identity, and the filter of its rows, if it has one.
 pub fn tables(alloc: Global, listed: &str) -> Result<String, Fault> {
     Ok(format!(in alloc;
-        "{listed} SELECT oid, space, name, identity, filtered FROM listed \
+        "{listed} SELECT oid, space, name, identity, filter FROM listed \
         ORDER BY space COLLATE \"C\", name COLLATE \"C\""
     )?)
 }

@@ -133,7 +133,8 @@ fn read_variable(rt: &HostRuntime, name: &str) -> Option<String> {
     }
 }
 
-/// `catalog`: the catalog goes to standard output, what it leaves out to standard error.
+/// `catalog`: the catalog goes to standard output, what it leaves out to standard error, and the publication
+/// that fits it.
 fn print_catalog(
     rt: &HostRuntime,
     publication: &str,
@@ -146,10 +147,15 @@ fn print_catalog(
     write_catalog(rt, &printed)
 }
 
-/// Writes a catalog and its notes.
+/// Writes a catalog and its notes, and on a line of its own the publication that fits it.
 fn write_catalog(rt: &HostRuntime, printed: &Printed) -> Result<(), Fault> {
     for note in &printed.notes {
         eprintln!(rt; "publisher: {note}").map_err(Fault::CannotWrite)?;
+    }
+    if let Some(statement) = &printed.statement {
+        eprintln!(rt; "publisher: the publication that fits this catalog:\n{statement}").map_err(
+            Fault::CannotWrite,
+        )?;
     }
     let mut stdout = rt.stdout();
     stdout

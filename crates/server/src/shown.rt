@@ -21,7 +21,8 @@ impl fmt::Display for Shown<'_> {
     }
 }
 
-fn is_obeyed(letter: char) -> bool {
+/// Whether a terminal obeys a character, and does not show it.
+pub fn is_obeyed(letter: char) -> bool {
     match letter {
         '\u{200e}' | '\u{200f}' | '\u{2028}'..='\u{202e}' | '\u{2066}'..='\u{2069}' => true,
         other => other.is_control(),

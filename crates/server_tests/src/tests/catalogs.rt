@@ -30,11 +30,11 @@ fn asked(alloc: Global, answers: &[&[&str]]) -> Result<Result<Answers, Fault>, F
 }
 
 const TABLES: [&str; 5] = [
-    "1|public|odd \"\\\n|i|t",
-    "2|public|bare|d|f",
-    "3|public|late|d|f",
-    "4|public|accounts|d|f",
-    "5|public|other|i|f",
+    "1|public|odd \"\\\n|i|(n > 5)",
+    r"2|public|bare|d|\N",
+    r"3|public|late|d|\N",
+    r"4|public|accounts|d|\N",
+    r"5|public|other|i|\N",
 ];
 
 const COLUMNS: [&str; 13] = [
@@ -67,8 +67,11 @@ const KEYS: [&str; 11] = [
     "4|46|priced|f|f|t|f|f|t|f|7",
 ];
 
-/// What a server says of a publication: its version, how many publications have the name, and the tables.
-static SHOP: [&[&str]; 5] = [&["170002"], &["1"], &TABLES, &COLUMNS, &KEYS];
+/// A publication of inserts and updates, in which a partition's changes are its root's.
+const PUBLICATION: &str = "it's|t|t|t|f|f";
+
+/// What a server says of a publication: its version, the publication, and the tables.
+static SHOP: [&[&str]; 5] = [&["170002"], &[PUBLICATION], &TABLES, &COLUMNS, &KEYS];
 
 /// The first of these tables, whose names need escapes and whose key is not its first column.
 const ODD: &str = r#"[[table]]
@@ -89,17 +92,17 @@ name = "a\u007F"
 type = "int"
 "#;
 
-/// A server's version, how many publications have the name, and the fault where it then closes.
-static REFUSED: [(&str, &str, &str); 3] = [
-    ("139999", "1", "OldServer"),
-    ("140000", "0", "NoPublication"),
-    ("140000", "1", "Closed"),
+/// A server's version, the publication of the name, and the fault where it then closes.
+static REFUSED: [(&str, &[&str], &str); 3] = [
+    ("139999", &[PUBLICATION], "OldServer"),
+    ("140000", &[], "NoPublication"),
+    ("140000", &[PUBLICATION], "Closed"),
 ];
 
 #[test]
 fn an_old_server_and_a_publication_that_is_not_there(rt: HostRuntime) -> Result<(), Fail> {
-    for (case, (version, count, want)) in REFUSED.iter().enumerate() {
-        let refused = asked(rt.alloc(), &[&[*version], &[*count]])?;
+    for (case, (version, found, want)) in REFUSED.iter().enumerate() {
+        let refused = asked(rt.alloc(), &[&[*version], *found])?;
         assert_fault(rt.alloc(), refused, *want, case)?;
     }
     Ok(())
@@ -135,6 +138,98 @@ fn what_is_kept_as_text(rt: HostRuntime) -> Result<(), Fail> {
         assert_same(toml.find(*part).is_some(), *want, *part)?;
     }
     assert_holds(toml::table_from_str(rt.alloc(), toml).is_ok(), "as text")
+}
+
+/// What has just the tables and columns that are kept. Its first name has characters that SQL or a terminal
+/// would obey.
+const STATEMENT: &str =
+    r#"CREATE PUBLICATION "it's_kept" FOR TABLE ONLY "public".U&"odd ""\\\000A" WHERE ((n > 5)), ONLY "public"."accounts" ("id", "email", "note") WITH (publish = 'insert, update', publish_via_partition_root = true);"#;
+
+#[test]
+fn a_publication_of_what_is_kept(rt: HostRuntime) -> Result<(), Fail> {
+    let answers = asked(rt.alloc(), &SHOP)??;
+    let printed = print(rt.alloc(), &answers, false)?;
+    assert_same(printed.statement.as_deref(), Some(STATEMENT), "statement")
+}
+
+/// A table's columns: the key, one that is kept only as text, one that is generated.
+const ID: &str = r"1|1|id|23|b|0| |f|t|\N|integer";
+
+const PRICE: &str = r"1|2|price|1700|b|0| |f|t|\N|numeric";
+
+const TWICE: &str = r"1|3|twice|23|b|0| |t|t|(id * 2)|integer";
+
+/// Its primary key, the same as replica identity, and an identity with the column that isn't kept.
+const KEY: &str = "1|10|t_pkey|t|f|t|f|f|t|f|1";
+
+const IDENTITY: &str = "1|10|t_pkey|t|t|t|f|f|t|f|1";
+
+const WIDER: [&str; 3] = [
+    KEY,
+    "1|11|wide|f|t|t|f|f|t|f|1",
+    "1|11|wide|f|t|t|f|f|t|f|2",
+];
+
+/// A server's version, its table, the columns and the keys, and what a publication that fits has of it.
+type Fitted = (
+    &'static str,
+    &'static str,
+    &'static [&'static str],
+    &'static [&'static str],
+    Option<&'static str>,
+);
+
+static FITTED: [Fitted; 8] = [
+    ("140000", r"1|s|t|d|\N", &[ID], &[KEY], Some("")),
+    ("140000", r"1|s|t|f|\N", &[ID, TWICE], &[KEY], Some("")),
+    ("140000", r"1|s|t|d|\N", &[ID, PRICE], &[KEY], None),
+    (
+        "150000",
+        r"1|s|t|d|\N",
+        &[ID, PRICE],
+        &[KEY],
+        Some(r#" ("id")"#),
+    ),
+    ("150000", r"1|s|t|f|\N", &[ID, PRICE], &[KEY], None),
+    (
+        "150000",
+        r"1|s|t|i|\N",
+        &[ID, PRICE],
+        &[IDENTITY],
+        Some(r#" ("id")"#),
+    ),
+    ("150000", r"1|s|t|i|\N", &[ID, PRICE], &WIDER, None),
+    ("150000", "1|s|t|d|(x = '\u{1b}')", &[ID], &[KEY], None),
+];
+
+/// The statement for these columns and filter of one table.
+fn fitted(alloc: Global, entry: &str) -> Result<String, Fail> {
+    Ok(format!(in alloc;
+        "CREATE PUBLICATION \"p_kept\" FOR TABLE ONLY \"s\".\"t\"{entry} WITH (publish = 'delete, truncate', publish_via_partition_root = false);"
+    )?)
+}
+
+#[test]
+fn a_table_that_no_publication_fits_is_named(rt: HostRuntime) -> Result<(), Fail> {
+    for (case, (version, table, columns, keys, entry)) in FITTED.iter().enumerate() {
+        let publication = "p|f|f|f|t|t";
+        let answers = asked(
+            rt.alloc(),
+            &[&[*version], &[publication], &[*table], *columns, *keys],
+        )??;
+        let printed = print(rt.alloc(), &answers, false)?;
+        let want = match entry {
+            Some(entry) => Some(fitted(rt.alloc(), *entry)?),
+            None => None,
+        };
+        assert_same(printed.statement.as_deref(), want.as_deref(), case)?;
+        let is_named = printed.notes.iter().any(|note| note
+            .as_str()
+            .find("CREATE PUBLICATION lacks it")
+            .is_some());
+        assert_same(is_named, entry.is_none(), case)?;
+    }
+    Ok(())
 }
 
 /// Defaults as a server prints them, and what each is.
