@@ -43,7 +43,14 @@ pub fn capture<H: Net<Stream = TcpStream> + Clock + RandomSource + Files<File = 
     let identifier = identify(&mut connection)?.identifier;
     let identifier = identifier.as_str();
     let mut relayed = Relayed::NOTHING;
-    let (target, path) = open(alloc, host, asked, identifier, destination, &mut relayed)?;
+    let (target, path) = open(
+        &mut connection,
+        host,
+        asked,
+        identifier,
+        destination,
+        &mut relayed,
+    )?;
     let mut keeper = Keeper::new(alloc, target);
     let mut made = false;
     let begun = begin(
@@ -72,9 +79,9 @@ pub fn capture<H: Net<Stream = TcpStream> + Clock + RandomSource + Files<File = 
 }
 
 /// Opens what the frames go to. The path is that of a file that was made. Behind an earlier capture
-/// `relayed` is where that one came to.
-fn open<'a, H: Files<File = File>>(
-    alloc: Global,
+/// `relayed` is where that one came to; a file that is refused is left as it is.
+fn open<'a, L: Line + Drop, H: Files<File = File>>(
+    connection: &mut Connection<L>,
     host: &H,
     asked: &Subscription<'_>,
     identifier: &str,
@@ -85,7 +92,12 @@ fn open<'a, H: Files<File = File>>(
         Destination::File(path) => Ok((Target::File(create(host, path)?, 0), Some(path))),
         Destination::Stdout(stdout) => Ok((Target::Stdout(stdout), None)),
         Destination::Behind(path) => {
+            let alloc = connection.alloc();
             let kept = read_file(alloc, host, asked, identifier, path)?;
+            let stands = confirmed(connection, asked.slot.name)?;
+            if stands > kept.position {
+                return Err(Fault::Lost(Place(stands), Place(kept.position)));
+            }
             relayed.position = kept.position;
             relayed.committed = kept.committed;
             Ok((cut(alloc, host, path, &kept)?, None))
@@ -150,22 +162,26 @@ fn begin<L: Line + Drop>(
 ) -> Result<(), Fault> {
     let point = make_if_asked(connection, asked.slot)?;
     *made = point.is_some();
-    let stands = match point {
-        Some(point) => point,
-        None => confirmed(connection, asked.slot.name)?,
-    };
     if keeper.is_new() {
         let alloc = connection.alloc();
+        let stands = match point {
+            Some(point) => point,
+            None => confirmed(connection, asked.slot.name)?,
+        };
         let title = label(alloc, asked, identifier, asked.slot.copy)?;
         keeper.put(&title[..whole_frames(title.as_slice())])?;
         let place = wire::keepalive(alloc, stands, false)?;
         keeper.put(&place[..whole_frames(place.as_slice())])?;
         relayed.position = stands;
-    } else if stands > relayed.position {
-        return Err(Fault::Lost(Place(stands), Place(relayed.position)));
     }
     if asked.slot.copy {
-        copy_rows(connection, asked.publication, stands, keeper, relayed)?;
+        copy_rows(
+            connection,
+            asked.publication,
+            relayed.position,
+            keeper,
+            relayed,
+        )?;
     }
     start(
         connection,

@@ -11,6 +11,7 @@ use std::alloc::Global;
 use std::fs::{File, Files};
 use std::io::{Read, Write};
 use std::net::{Net, TcpListener, TcpStream};
+use std::os::unix::fs::PermissionsExt;
 use std::os::unix::net::UnixListener;
 use std::random::RandomSource;
 use std::rt::Clock;
@@ -19,7 +20,8 @@ use std::thread::Threads;
 use std::{env, fs, io, process, thread};
 use testing::asserts::{assert_holds, assert_same};
 
-/// What a server says on one connection behind its welcome: rows, each the answer to a question, and messages.
+/// What a server says on one connection behind its welcome: rows, each the answer to a question, or an empty
+/// text for an answer without, and messages.
 type Words = (&'static [&'static str], &'static [Message<'static>]);
 
 /// A connection that is asked to drop a slot.
@@ -34,33 +36,54 @@ const REFUSED: [Message<'static>; 1] = [(b'E', b"SERROR\0C42704\0Mgone\0\0")];
 
 const ENDED: [Message<'static>; 3] = [(b'W', b"\0\0\0"), (b'c', b""), (b'C', b"\0")];
 
+/// A file of a capture: whether its title says that it begins with a copy, and its bytes behind that.
+type Captured = (bool, &'static [u8]);
+
 /// A command, what a server says on one connection after another, the fault, what it was asked in the last
-/// connection at last, and the captured file's bytes behind its title.
+/// connection at last, and the captured file before and behind it.
 #[derive(Clone, Copy)]
 struct Case {
     creates: bool,
+    copies: bool,
     appends: bool,
     serves: bool,
     words: &'static [Words],
     fault: &'static str,
     asked: &'static str,
-    file: Option<&'static [u8]>,
+    left: Option<Captured>,
+    file: Option<Captured>,
 }
 
 const CAPTURE: Case = Case {
     creates: true,
+    copies: false,
     appends: false,
     serves: false,
     words: &[],
     fault: "none",
     asked: "",
+    left: None,
     file: None,
+};
+
+const APPEND: Case = Case {
+    creates: false,
+    appends: true,
+    ..CAPTURE
 };
 
 /// A keepalive at 16, and CopyDone.
 const FILE: &[u8] = b"d\0\0\0\x16k\0\0\0\0\0\0\0\x10\0\0\0\0\0\0\0\0\0c\0\0\0\x04";
 
-static CASES: [Case; 9] = [
+/// The same with a copy of no rows between, by Python's `struct`.
+const COPY: &[u8] =
+    b"d\0\0\0\x16k\0\0\0\0\0\0\0\x10\0\0\0\0\0\0\0\0\0d\0\0\02w\0\0\0\0\0\0\0\x10\0\0\0\0\0\0\0\x10\0\0\0\0\0\0\0\0B\0\0\0\0\0\0\0\x10\0\0\0\0\0\0\0\0\0\0\0\x02d\0\0\07w\0\0\0\0\0\0\0\x10\0\0\0\0\0\0\0\x10\0\0\0\0\0\0\0\0C\0\0\0\0\0\0\0\0\x10\0\0\0\0\0\0\0\x10\0\0\0\0\0\0\0\0c\0\0\0\x04";
+
+/// What a copy that broke off left.
+const HALF: &[u8] =
+    b"d\0\0\0\x16k\0\0\0\0\0\0\0\x10\0\0\0\0\0\0\0\0\0d\0\0\02w\0\0\0\0\0\0\0\x10\0\0\0\0\0\0\0\x10\0\0\0\0\0\0\0\0B\0\0\0\0\0\0\0\x10\0\0\0\0\0\0\0\0\0\0\0\x02";
+
+static CASES: [Case; 18] = [
     Case {
         words: &[(&["150009"], &[])],
         fault: "OldServer",
@@ -112,15 +135,83 @@ static CASES: [Case; 9] = [
     Case {
         words: &[(&["160000", "1", SYSTEM, MADE], &ENDED)],
         asked: "LOGICAL 0/0",
-        file: Some(FILE),
+        file: Some((false, FILE)),
         ..CAPTURE
     },
     Case {
-        creates: false,
-        appends: true,
+        left: Some((false, FILE)),
         words: &[(&["160000", "1", "1", SYSTEM, "0/10"], &ENDED)],
         asked: "LOGICAL 0/0",
-        file: Some(FILE),
+        file: Some((false, FILE)),
+        ..APPEND
+    },
+    // What the slot has confirmed is past the file's end.
+    Case {
+        left: Some((false, FILE)),
+        words: &[(&["160000", "1", "1", SYSTEM, "0/11"], &[])],
+        fault: "Lost",
+        asked: "confirmed_flush_lsn",
+        file: Some((false, FILE)),
+        ..APPEND
+    },
+    // A copy that is whole, and one that broke off.
+    Case {
+        left: Some((true, COPY)),
+        words: &[(&["160000", "1", "1", SYSTEM, "0/10"], &ENDED)],
+        asked: "LOGICAL 0/10",
+        file: Some((true, COPY)),
+        ..APPEND
+    },
+    Case {
+        left: Some((true, HALF)),
+        words: &[(&["160000", "1", "1", SYSTEM], &[])],
+        fault: "HalfCopy",
+        asked: "IDENTIFY_SYSTEM",
+        file: Some((true, HALF)),
+        ..APPEND
+    },
+    Case {
+        left: Some((false, FILE)),
+        words: &[(&["160000", "1", "1", "75|1|0/20|shop"], &[])],
+        fault: "OtherCapture",
+        asked: "IDENTIFY_SYSTEM",
+        file: Some((false, FILE)),
+        ..APPEND
+    },
+    Case {
+        words: &[(&["160000", "1", "1", SYSTEM], &[])],
+        fault: "CannotRead",
+        asked: "IDENTIFY_SYSTEM",
+        ..APPEND
+    },
+    // A file that is there is left as it is, and no slot is made.
+    Case {
+        left: Some((false, FILE)),
+        words: &[(&["160000", "1", SYSTEM], &[])],
+        fault: "CannotWrite",
+        asked: "IDENTIFY_SYSTEM",
+        file: Some((false, FILE)),
+        ..CAPTURE
+    },
+    Case {
+        copies: true,
+        words: &[(&["160000", "1", SYSTEM, "", MADE, "", ""], &ENDED)],
+        asked: "LOGICAL 0/10",
+        file: Some((true, COPY)),
+        ..CAPTURE
+    },
+    Case {
+        copies: true,
+        words: &[(&["160000", "1", SYSTEM, "", MADE], &REFUSED), DROPPED],
+        fault: "Server",
+        asked: "DROP_REPLICATION_SLOT",
+        ..CAPTURE
+    },
+    Case {
+        serves: true,
+        words: &[(&["160000", "0"], &[])],
+        fault: "NoPublication",
+        asked: "pg_publication",
         ..CAPTURE
     },
 ];
@@ -131,7 +222,9 @@ fn spell_words(alloc: Global, words: &Words) -> Result<Vec<u8>, Fail> {
     out.extend_from_slice(WELCOME)?;
     let (rows, messages) = words;
     for row in *rows {
-        say_row(&mut out, *row)?;
+        if !row.is_empty() {
+            say_row(&mut out, *row)?;
+        }
         say(&mut out, b'Z', b"I")?;
     }
     out.extend_from_slice(spell(alloc, &[*messages])?.as_slice())?;
@@ -197,6 +290,7 @@ where
         publication: "p",
         slot: Slot {
             create: case.creates,
+            copy: case.copies,
             ..SLOT
         },
     };
@@ -226,27 +320,46 @@ where
     Ok((name_of(alloc, answer)?, heard?))
 }
 
-/// The title of a captured file.
-const TITLE: &str = "publication \"p\" through slot \"s\\\"1\" of system 74\0\0";
+/// The title of a captured file, and what stands in it of one that begins with a copy.
+const TITLE: &str = "publication \"p\" through slot \"s\\\"1\" of system 74";
 
-/// Asserts what the file has behind its title, or that there is none.
-fn assert_file(
-    rt: &HostRuntime,
-    place: &Place,
-    want: Option<&[u8]>,
-    case: usize,
-) -> Result<(), Fail> {
-    let Ok(found) = fs::read(rt, place.file.as_str()) else {
-        return assert_holds(want.is_none(), case);
+const COPIED: &str = ", with a copy of its rows";
+
+/// A captured file.
+fn spell_file(alloc: Global, captured: &Captured) -> Result<Vec<u8>, Fail> {
+    let (is_copied, behind) = captured;
+    let copied = if *is_copied { COPIED } else { "" };
+    let title = format!(in alloc; "SNOTICE\0C00000\0M{TITLE}{copied}\0\0")?;
+    let mut file = Vec::new(alloc);
+    say(&mut file, b'N', title.as_bytes())?;
+    file.extend_from_slice(*behind)?;
+    Ok(file)
+}
+
+/// Leaves the file that an earlier capture left, or none.
+fn leave_file(rt: &HostRuntime, place: &Place, left: &Option<Captured>) -> Result<(), Fail> {
+    let path = place.file.as_str();
+    let _ = fs::remove_file(rt, path);
+    if let Some(captured) = left {
+        fs::write(rt, path, spell_file(rt.alloc(), captured)?.as_slice())?;
+    }
+    Ok(())
+}
+
+/// Asserts what the file has, or that there is none. One that a command made is for its owner alone.
+fn assert_file(rt: &HostRuntime, place: &Place, case: &Case, number: usize) -> Result<(), Fail> {
+    let path = place.file.as_str();
+    let (Ok(found), Some(captured)) = (fs::read(rt, path), &case.file) else {
+        let is_there = fs::metadata(rt, path).is_ok();
+        return assert_same(is_there, case.file.is_some(), number);
     };
-    let mut title = Vec::new(rt.alloc());
-    say(
-        &mut title,
-        b'N',
-        format!(in rt.alloc(); "SNOTICE\0C00000\0M{TITLE}")?.as_bytes(),
-    )?;
-    let behind = found.as_slice().strip_prefix(title.as_slice());
-    assert_same(behind, want, case)
+    let want = spell_file(rt.alloc(), captured)?;
+    assert_same(found.as_slice(), want.as_slice(), number)?;
+    if case.left.is_none() {
+        let mode = fs::metadata(rt, path)?.permissions().mode();
+        assert_same(mode & 0o777, 0o600, number)?;
+    }
+    Ok(())
 }
 
 #[test]
@@ -257,13 +370,14 @@ fn slots_and_files_of_commands(rt: HostRuntime) -> Result<(), Fail> {
         for words in case.words {
             said.push(spell_words(rt.alloc(), words)?)?;
         }
+        leave_file(&rt, &place, &case.left)?;
         let (name, heard) = run_case(rt.alloc(), &rt, &place, *case, said.as_slice())?;
         assert_same(name.as_str(), case.fault, number)?;
         let text = String::from_utf8_lossy(rt.alloc(), heard.as_slice())?;
         assert_holds(text.as_str().find(case.asked).is_some(), number)?;
-        assert_file(&rt, &place, case.file, number)?;
+        assert_file(&rt, &place, case, number)?;
     }
-    fs::remove_file(&rt, place.file.as_str())?;
+    leave_file(&rt, &place, &None)?;
     fs::remove_file(&rt, place.socket.as_str())?;
     Ok(())
 }
