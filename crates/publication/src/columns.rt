@@ -9,8 +9,11 @@ use std::alloc::Global;
 /// A type of the subscriber.
 #[derive(Clone, Copy, Debug, PartialEq, Eq)]
 pub enum Kind {
+    /// A number of 64 bits.
     Int,
+    /// A text.
     Text,
+    /// A truth value.
     Bool,
 }
 
@@ -30,6 +33,7 @@ impl Kind {
 /// The server's type below any domains, by the OIDs that never change (`pg_type.dat`).
 #[derive(Clone, Copy, Debug)]
 pub struct ServerType {
+    /// Its OID.
     pub oid: u32,
     /// Whether it is an enumeration.
     pub is_enum: bool,
@@ -83,9 +87,13 @@ fn is_faithful(oid: u32) -> bool {
 /// A column's default.
 #[derive(Debug, PartialEq, Eq, Drop)]
 pub enum DefaultValue {
+    /// None, or null.
     Null,
+    /// A number.
     Int(i64),
+    /// A text.
     Text(String),
+    /// A truth value.
     Bool(bool),
     /// An expression that is no constant of the type.
     Other,

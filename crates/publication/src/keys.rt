@@ -7,7 +7,9 @@ use std::alloc::Global;
 #[derive(Drop)]
 pub struct Key {
     index: u32,
+    /// The index's name.
     pub name: String,
+    /// Whether it is the primary key.
     pub is_primary: bool,
     is_identity: bool,
     /// Whether it is checked at each row.
@@ -16,6 +18,7 @@ pub struct Key {
     has_expressions: bool,
     is_valid: bool,
     nulls_are_equal: bool,
+    /// The columns' numbers.
     pub columns: Vec<u32>,
 }
 

@@ -26,6 +26,7 @@ pub enum Destination<'a> {
     File(&'a str),
     /// Behind what can be kept of a file that an earlier capture left.
     Behind(&'a str),
+    /// Standard output.
     Stdout(Stdout),
 }
 
@@ -196,6 +197,7 @@ fn begin<L: Line + Drop>(
 pub enum Target {
     /// A file that has so many bytes of whole frames.
     File(File, u64),
+    /// Standard output.
     Stdout(Stdout),
 }
 
@@ -207,6 +209,7 @@ pub struct Keeper {
 }
 
 impl Keeper {
+    /// What keeps frames there.
     pub fn new(alloc: Global, target: Target) -> Keeper {
         Keeper { alloc, target }
     }

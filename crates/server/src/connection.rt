@@ -65,6 +65,7 @@ impl<L: Line + Drop> Connection<L> {
         })
     }
 
+    /// The allocator of what it makes.
     pub fn alloc(&self) -> Global {
         self.alloc
     }

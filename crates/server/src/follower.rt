@@ -1,5 +1,5 @@
 // One follower: what it is given, and what it tells.
-ghost use Rattle.std.specs.Prelude.{◌≤◌, IfOk};
+ghost use Rattle.std.specs.Prelude.{◌≡◌, ◌≤◌, max, IfOk};
 
 use crate::fault::Fault;
 use crate::place::Place;
@@ -46,6 +46,7 @@ pub struct Told {
 }
 
 impl Told {
+    /// Nothing was told.
     pub fn new(alloc: Global) -> Told {
         Told {
             part: Vec::new(alloc),
@@ -81,7 +82,10 @@ impl Told {
         bytes: &[u8],
         put: &Relayed,
         updates: &mut Vec<u8>,
-    ) -> Result<bool, Fault> {
+    ) -> Result<bool, Fault>
+        ensures flushed { self.new.flushed ≤ max self.old.flushed (max put.now.position self.old.began) }
+        ensures began { self.new.began ≡ self.old.began }
+    {
         self.part.extend_from_slice(bytes)?;
         let most = put.position.max(self.began);
         let mut taken = 0;

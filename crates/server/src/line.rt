@@ -35,7 +35,9 @@ pub trait Line {
 /// A stream socket.
 #[derive(Debug, Drop)]
 pub enum Socket {
+    /// To a host and a port.
     Tcp(TcpStream),
+    /// Within the machine.
     Unix(UnixStream),
 }
 

@@ -42,7 +42,9 @@ impl Bounds {
 /// What was put.
 #[derive(Clone, Copy, Debug, PartialEq, Eq)]
 pub struct Relayed {
+    /// How many frames.
     pub frames: u64,
+    /// How many bytes these are.
     pub bytes: u64,
     /// The greatest place of the log that a frame named.
     pub position: u64,

@@ -15,6 +15,7 @@ use std::alloc::Global;
 /// A replication slot.
 #[derive(Clone, Copy, Debug)]
 pub struct Slot<'a> {
+    /// Its name.
     pub name: &'a str,
     /// Whether it is made first.
     pub create: bool,
@@ -25,8 +26,11 @@ pub struct Slot<'a> {
 /// A stream to ask for: of which server, which publication, through which slot.
 #[derive(Clone, Copy, Debug)]
 pub struct Subscription<'a> {
+    /// Whose stream it is.
     pub server: &'a Server,
+    /// The publication's name.
     pub publication: &'a str,
+    /// The slot through which it goes.
     pub slot: Slot<'a>,
 }
 

@@ -54,7 +54,9 @@ pub fn declared_length(header: &[u8; HEADER]) -> Result<usize, Nonsense> {
 /// A message: its tag, and its content behind the length.
 #[derive(Debug, Drop)]
 pub struct Message {
+    /// Its first byte, which says what it is.
     pub tag: u8,
+    /// What stands behind the length.
     pub body: Vec<u8>,
 }
 
@@ -134,10 +136,12 @@ pub struct Fields<'a> {
 }
 
 impl<'a> Fields<'a> {
+    /// The fields of a message with this content.
     pub fn new(body: &'a [u8]) -> Fields<'a> {
         Fields { rest: body }
     }
 
+    /// Whether all were taken.
     pub fn is_empty(&self) -> bool {
         self.rest.is_empty()
     }
