@@ -4,8 +4,9 @@
 // (`fault`). Whoever takes a stream is handed whole frames alone (`specs/Frames.antt`, `relay::Output`).
 //
 // How it works. `wire` has the messages of the frontend/backend protocol as bytes, `line` a socket and a
-// clock, `connection` whole messages within a time limit; `scram` and `auth` say who connects, and `host`
-// opens a connection that has logged in. `query` asks for rows, and `quoting` spells the names in a question.
+// clock, `connection` whole messages within a time limit; `scram` and `auth` say who connects (`saslprep`, by the
+// tables of `stringprep`, makes two spellings of a password one), and `host` opens a connection that has
+// logged in. `query` asks for rows, and `quoting` spells the names in a question.
 // `checks` asks what has to be there before `slots` makes a slot. `stream` starts replication and says what
 // a frame is, `marks` what a message opens or closes; `copy` makes the first transaction of the rows that are
 // there (`tuples`). `relay` hands the frames to whoever takes them: `capture` to a file, behind what `kept`
@@ -14,7 +15,7 @@
 //
 // There is no TLS: a password in clear text and the rows go over the wire as they are.
 //
-// It stands on `md5`, `sha2`, `base64` and `hex` for the ways to log in, `thiserror` for the texts of faults,
+// It stands on `md5`, `sha2`, `base64`, `hex` and `unicode_normalization` for the ways to log in, `thiserror` for the texts of faults,
 // and std's sockets. What needs no socket is tried by scripted servers, in the crate `server_tests`.
 #![tactic(auto)]
 
@@ -34,11 +35,13 @@ pub mod query;
 pub mod quoting;
 pub mod relay;
 pub mod report;
+pub mod saslprep;
 pub mod scram;
 pub mod serve;
 pub mod shown;
 pub mod slots;
 pub mod stream;
+mod stringprep;
 mod summary;
 mod tuples;
 pub mod wire;

@@ -1,5 +1,6 @@
 // SCRAM-SHA-256 (RFC 5802, RFC 7677), the client's side, without channel binding.
 use crate::fault::{Fault, Nonsense};
+use crate::saslprep::prepare;
 use base64::engine::general_purpose::STANDARD;
 use sha2::{Digest, Sha256};
 use std::alloc::Global;
@@ -71,6 +72,7 @@ impl fmt::Debug for Exchange {
 /// The last message of the client, and the signature that the server has to answer.
 #[derive(Drop)]
 pub struct Proof {
+    /// The message.
     pub message: String,
     signature: [u8; 32],
 }
@@ -116,6 +118,7 @@ impl Exchange {
         let Ok(salt) = STANDARD.decode(alloc, challenge.salt.as_bytes()) else {
             return Err(Fault::Nonsense(Nonsense::BadScram));
         };
+        let password = prepare(alloc, password)?;
         let salted = salted_password(password.as_bytes(), salt.as_slice(), challenge.rounds);
         let bare = self.first_bare.as_str();
         let nonce = challenge.nonce;

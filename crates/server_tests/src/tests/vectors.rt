@@ -1,5 +1,6 @@
 // Vectors of the standards, and of PostgreSQL's password hash.
 use server::auth::md5_password;
+use server::saslprep::prepare;
 use server::scram::{Exchange, hmac};
 use std::alloc::Global;
 use std::test::Fail;
@@ -74,4 +75,44 @@ fn hmac_is_that_of_rfc_4231(rt: HostRuntime) -> Result<(), Fail> {
 fn an_md5_password_is_that_of_python(rt: HostRuntime) -> Result<(), Fail> {
     let text = md5_password(rt.alloc(), "alice", "secret", &[1, 2, 3, 4])?;
     assert_same(text.as_str(), "md598a0412b9c31436fc53776e863350083", "")
+}
+
+/// Passwords, among them the examples of RFC 4013, and what they are proved as, by Python's `stringprep` and
+/// `unicodedata`.
+static PREPARED: [(&str, &str); 26] = [
+    ("", ""),
+    ("user", "user"),
+    ("USER\u{7}", "USER\u{7}"),
+    ("I\u{ad}X", "IX"),
+    ("\u{aa}", "a"),
+    ("\u{2168}", "IX"),
+    ("\u{627}1", "\u{627}1"),
+    ("\u{627}1\u{628}", "\u{627}1\u{628}"),
+    ("p\u{e4}ss\u{2168}word", "p\u{e4}ssIXword"),
+    ("pa\u{308}ss", "p\u{e4}ss"),
+    ("a\u{a0}b", "a b"),
+    ("a\u{200b}b", "a b"),
+    ("\u{1680}a", " a"),
+    ("\u{221}a", "\u{221}a"),
+    ("a\u{e000}", "a\u{e000}"),
+    ("a\u{2028}", "a\u{2028}"),
+    ("\u{ad}", "\u{ad}"),
+    ("\u{5d0}\u{5d1}", "\u{5d0}\u{5d1}"),
+    ("\u{5d0}a\u{5d1}", "\u{5d0}a\u{5d1}"),
+    ("\u{5d0}1", "\u{5d0}1"),
+    ("1\u{5d0}", "1\u{5d0}"),
+    ("\u{e4}\u{7}", "\u{e4}\u{7}"),
+    ("\u{fb01}\u{2460}", "fi1"),
+    ("\u{1f600}", "\u{1f600}"),
+    ("\u{1d49c}", "A"),
+    ("\u{340}a", "\u{340}a"),
+];
+
+#[test]
+fn a_password_is_prepared_as_rfc_4013_says(rt: HostRuntime) -> Result<(), Fail> {
+    for (password, want) in &PREPARED {
+        let prepared = prepare(rt.alloc(), *password)?;
+        assert_same(prepared.as_str(), *want, *password)?;
+    }
+    Ok(())
 }
