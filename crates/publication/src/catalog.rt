@@ -185,11 +185,9 @@ fn entry_or_note(
 
 /// A table's name for a note.
 fn label(alloc: Global, table: &Row) -> Result<String, Fault> {
-    let mut label = String::new(alloc);
-    push_string(&mut label, table.text(1)?)?;
-    label.push('.')?;
-    push_string(&mut label, table.text(2)?)?;
-    Ok(label)
+    let space = Shown(table.text(1)?);
+    let name = Shown(table.text(2)?);
+    Ok(format!(in alloc; "\"{space}\".\"{name}\"")?)
 }
 
 /// The columns of a table that are kept, with a note for each that isn't.
@@ -219,9 +217,10 @@ fn kept_columns(
             }
             Err(reason) => {
                 let type_name = Shown(row.text(10)?);
-                let mut note = format!(in alloc; "table {label}: column ")?;
-                push_string(&mut note, name)?;
-                write!(note, " of type {type_name} is left out, {reason}")?;
+                let name = Shown(name);
+                let note = format!(in alloc;
+                    "table {label}: column \"{name}\" of type {type_name} is left out, {reason}"
+                )?;
                 notes.push(note)?;
             }
         }
@@ -275,9 +274,10 @@ fn kept_default(
             return Ok(default);
         }
     }
-    let mut note = format!(in alloc; "table {label}: the default of column ")?;
-    push_string(&mut note, row.text(2)?)?;
-    note.push_str(" is left out: it is no constant of the subscriber's type")?;
+    let name = Shown(row.text(2)?);
+    let note = format!(in alloc;
+        "table {label}: the default of column \"{name}\" is left out: it is no constant of the subscriber's type"
+    )?;
     notes.push(note)?;
     Ok(DefaultValue::Null)
 }
@@ -342,9 +342,8 @@ fn uniques_of(
             },
         };
         let label = kept.label;
-        let mut note = format!(in alloc; "table {label}: unique key ")?;
-        push_string(&mut note, key.name.as_str())?;
-        write!(note, " is left out: {reason}")?;
+        let name = Shown(key.name.as_str());
+        let note = format!(in alloc; "table {label}: unique key \"{name}\" is left out: {reason}")?;
         notes.push(note)?;
     }
     Ok(uniques)

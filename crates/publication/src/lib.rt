@@ -7,7 +7,7 @@
 // how a column is kept and which defaults are constants, `keys` which unique keys the subscriber can keep,
 // `toml_text` spells texts. `statement` prints the CREATE PUBLICATION that fits what is kept.
 //
-// It stands on `server` for the connection.
+// It stands on `server` for the connection, and on the kit's `toml_writer` for strings.
 #![tactic(auto)]
 
 pub mod catalog;

@@ -1,26 +1,31 @@
 // TOML as text: what a catalog needs of it.
-use server::fault::Fault;
+ghost use Rattle.std.specs.Prelude.{◌≡◌, ◌++◌, string_bytes, Some, OnOk};
+ghost use Rattle.toml_writer.specs.Text.{string_text};
 
-/// Appends a basic string: quoted, with escapes for the quote, the backslash and control characters.
-pub fn push_string(out: &mut String, text: &str) -> Result<(), Fault> {
-    out.push('"')?;
-    for letter in text.chars() {
-        push_letter(out, letter)?;
-    }
-    out.push('"')?;
-    Ok(())
+use server::fault::Fault;
+use std::fmt;
+use toml_writer::write_string;
+
+/// A text as a string of TOML.
+#[derive(Clone, Copy)]
+struct TomlString<'a> {
+    text: &'a str,
 }
 
-fn push_letter(out: &mut String, letter: char) -> Result<(), Fault> {
-    match letter {
-        '"' => out.push_str("\\\"")?,
-        '\\' => out.push_str("\\\\")?,
-        '\u{0}'..='\u{1f}' | '\u{7f}' => {
-            let code = u32::from(letter);
-            write!(out, "\\u{:04X}", code)?
-        }
-        other => out.push(other)?,
+impl fmt::Display for TomlString<'_> {
+    ghost output = { λ string. Some (string_text string.text.now) };
+
+    fn fmt<W: fmt::Write>(&self, f: &mut fmt::Formatter<W>) -> fmt::Result {
+        write_string(f, self.text)
     }
+}
+
+/// Appends a string.
+pub fn push_string(out: &mut String, text: &str) -> Result<(), Fault>
+    ensures { OnOk result (string_bytes out.new ≡ string_bytes out.old ++ string_text text.now) }
+{
+    let string = TomlString { text };
+    write!(out, "{string}")?;
     Ok(())
 }
 

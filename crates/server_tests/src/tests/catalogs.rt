@@ -76,7 +76,9 @@ static SHOP: [&[&str]; 5] = [&["170002"], &[PUBLICATION], &TABLES, &COLUMNS, &KE
 /// The first of these tables, whose names need escapes and whose key is not its first column.
 const ODD: &str = r#"[[table]]
 namespace = "public"
-name = "odd \"\\\u000A"
+name = '''
+odd "\
+'''
 primary = ["a\u007F"]
 unique = [["n", "a\u007F"]]
 [[table.column]]
@@ -115,6 +117,12 @@ fn what_is_kept_and_what_is_left_out(rt: HostRuntime) -> Result<(), Fail> {
     let mut want = String::from_str(rt.alloc(), ODD)?;
     want.push_str(CATALOG)?;
     assert_same(plain.toml.as_str(), want.as_str(), "plain")?;
+    // Names in them are shown.
+    let is_shown = plain
+        .notes
+        .iter()
+        .any(|note| note.as_str().find("odd \"\\\\u000A").is_some());
+    assert_holds(is_shown, "shown")?;
     // Five columns, five keys, two tables of the first three, the filter, and the last table.
     assert_same(plain.notes.len(), 15, "notes")?;
     let toml = plain.toml.as_str();
