@@ -7,10 +7,11 @@
 //     publisher serve   --publication P --slot S [--create [--copy]] --listen A [--listen-any] [--once]
 //                       [--until LSN] [--seconds N]
 //
-// Each takes --host, --port, --user and --dbname, or libpq's PGHOST, PGPORT, PGUSER and PGDATABASE,
-// --require-auth or PGREQUIREAUTH, --allow-cleartext, and --timeout, the seconds that an answer may take. A
-// password is taken from PGPASSWORD alone. There is no TLS: the rows go over the wire as they are, so go
-// through a tunnel (ssh -L 5433:localhost:5432 HOST, then --host localhost --port 5433) or a Unix socket.
+// Each takes --host, --port, --user and --dbname, which may be a connection URI, or libpq's PGHOST, PGPORT,
+// PGUSER and PGDATABASE, --require-auth or PGREQUIREAUTH, --allow-cleartext, and --timeout, the seconds that
+// an answer may take. A password is taken from PGPASSWORD, else from a password file (PGPASSFILE, ~/.pgpass).
+// There is no TLS: the rows go over the wire as they are, so go through a tunnel
+// (ssh -L 5433:localhost:5432 HOST, then --host localhost --port 5433) or a Unix socket.
 //
 // What is promised: it is safe and total, whatever the server sends, and each refusal has a name on
 // standard error and status 1. It writes only whole frames.
@@ -20,7 +21,9 @@
 #![tactic(auto)]
 
 use publication::catalog::Printed;
-use publisher_command::{Job, Options, Variables};
+use publisher_command::{
+    Job, Options, Parts, Variables, asks_tls, find_password, read_passfile, read_ways,
+};
 use server::auth::{Password, Ways};
 use server::capture::{Destination, capture};
 use server::fault::Fault;
@@ -55,10 +58,32 @@ fn run(rt: &HostRuntime, options: &Options<'_>) -> io::Result<u8> {
     }
 }
 
-/// The server that is meant. None where no user is named.
-fn choose_server(rt: &HostRuntime, options: &Options<'_>) -> Result<Option<Server>, AllocError> {
+/// The server that is meant, with the password of the password file where no variable has one. None where no
+/// user is named.
+fn choose_server(rt: &HostRuntime, options: &Options<'_>) -> io::Result<Option<Server>> {
     let variables = read_variables(rt);
-    publisher_command::choose_server(rt.alloc(), options, &variables)
+    let chosen = publisher_command::choose_server(rt.alloc(), options, &variables)?;
+    let Some(mut server) = chosen else {
+        return Ok(None);
+    };
+    if server.password.is_none()
+        && let Some(path) = passfile_path(rt)?
+    {
+        let passfile = read_passfile(rt.alloc(), rt, path.as_str())?;
+        server.password = find_password(rt.alloc(), passfile.as_slice(), &server)?;
+    }
+    Ok(Some(server))
+}
+
+/// Where the password file is: PGPASSFILE, else `.pgpass` of the user's home.
+fn passfile_path(rt: &HostRuntime) -> Result<Option<String>, AllocError> {
+    if let Some(path) = read_variable(rt, "PGPASSFILE") {
+        return Ok(Some(path));
+    }
+    match read_variable(rt, "HOME") {
+        Some(home) => Ok(Some(format!(in rt.alloc(); "{home}/.pgpass")?)),
+        None => Ok(None),
+    }
 }
 
 /// Runs a command at this server, and says its fault. It answers the exit status.
@@ -109,18 +134,17 @@ fn run_job(rt: &HostRuntime, options: &Options<'_>, server: &Server) -> Result<(
 /// libpq refuses none is taken.
 fn read_variables(rt: &HostRuntime) -> Variables {
     Variables {
-        host: read_variable(rt, "PGHOST"),
-        port: read_variable(rt, "PGPORT"),
-        user: read_variable(rt, "PGUSER"),
-        database: read_variable(rt, "PGDATABASE"),
-        password: read_variable(rt, "PGPASSWORD").map(|text| Password { text }),
-        ways: read_variable(rt, "PGREQUIREAUTH").map(|text| publisher_command::read_ways(
-            text.as_str(),
-        ).unwrap_or(Ways::NONE)),
-        tls: match read_variable(rt, "PGSSLMODE") {
-            Some(mode) => !["disable", "allow", "prefer"].contains(&mode.as_str()),
-            None => false,
+        parts: Parts {
+            host: read_variable(rt, "PGHOST"),
+            port: read_variable(rt, "PGPORT"),
+            user: read_variable(rt, "PGUSER"),
+            database: read_variable(rt, "PGDATABASE"),
+            ways: read_variable(rt, "PGREQUIREAUTH").map(|text| read_ways(
+                text.as_str(),
+            ).unwrap_or(Ways::NONE)),
+            tls: read_variable(rt, "PGSSLMODE").map(|mode| asks_tls(mode.as_str())),
         },
+        password: read_variable(rt, "PGPASSWORD").map(|text| Password { text }),
         login: read_variable(rt, "USER"),
     }
 }

@@ -1,6 +1,8 @@
 // The commands with their options, and what the words of a command line ask for.
 ghost use Rattle.std.specs.Prelude.{◌≡◌, ◌≤◌, IfSome, Some, None};
 
+use crate::parts::Parts;
+use crate::uri::read_uri;
 use crate::ways::read_ways;
 use clap::builder::ValueParser;
 use clap::error::ErrorKind;
@@ -15,8 +17,12 @@ use std::alloc::{AllocError, Global};
 /// What a command line asks for.
 #[derive(Debug, Drop)]
 pub struct Options<'a> {
+    /// The command.
     pub job: Job<'a>,
+    /// The publication's name.
     pub publication: &'a str,
+    /// What the connection URI says, if the option for the database has one.
+    pub(crate) uri: Parts,
     pub(crate) host: Option<&'a str>,
     pub(crate) port: Option<&'a str>,
     pub(crate) user: Option<&'a str>,
@@ -33,11 +39,14 @@ pub struct Options<'a> {
 /// A command, with what it alone takes.
 #[derive(Debug, Drop)]
 pub enum Job<'a> {
+    /// Prints a catalog.
     Catalog {
         /// Whether columns of other types are kept as text.
         text: bool,
     },
+    /// Captures a stream.
     Capture {
+        /// The slot whose stream it is.
         slot: Slot<'a>,
         /// A file that isn't there yet, or `-` for standard output.
         out: &'a str,
@@ -46,8 +55,11 @@ pub enum Job<'a> {
         /// Where and when the capture ends.
         bounds: Bounds,
     },
+    /// Gives a stream to followers.
     Serve {
+        /// The slot whose stream it is.
         slot: Slot<'a>,
+        /// Where followers come.
         service: Service<'a>,
     },
 }
@@ -83,7 +95,11 @@ static COMMON: [Choice; 8] = [
     ),
     Choice::Named("port", "N", "Port [PGPORT]"),
     Choice::Named("user", "U", "User [PGUSER]"),
-    Choice::Named("dbname", "D", "Database [PGDATABASE]"),
+    Choice::Named(
+        "dbname",
+        "D",
+        "Database, or postgresql://USER@HOST:PORT/DATABASE, which goes before the other options [PGDATABASE]",
+    ),
     Choice::Named(
         "require-auth",
         "M",
@@ -158,7 +174,7 @@ fn command<'a>(alloc: Global) -> Result<Command<'a>, AllocError> {
         .version("0.1.0")
         .about(
             "Makes inputs for pgapply from a live PostgreSQL server, 14 or later. The password is \
-                taken from PGPASSWORD. There is no TLS: go through a tunnel, as ssh -L.",
+                taken from PGPASSWORD, or a password file (PGPASSFILE, ~/.pgpass). There is no TLS: go through a tunnel, as ssh -L.",
         )
         .subcommand_required(true);
     let program = with_subcommand(
@@ -263,18 +279,21 @@ fn read_matches<'a>(
     program: &mut Command<'_>,
     matches: &ArgMatches<'a>,
 ) -> Result<Options<'a>, Error> {
-    if let Some((option, text, wanted)) = first_refused(matches) {
+    if let Some((option, text, wanted)) = first_refused(alloc, matches) {
         let message = format!(in alloc; "invalid value '{text}' for '--{option}': {wanted}")?;
         return Err(program.error(ErrorKind::ValueValidation, message.as_str())?);
     }
-    match given_options(matches) {
+    match given_options(alloc, matches) {
         Some(options) => Ok(options),
         None => Err(program.error(ErrorKind::MissingRequiredArgument, "an option is missing")?),
     }
 }
 
 /// The first option whose value is not one of its own, the value, and what it should be.
-fn first_refused<'a>(matches: &ArgMatches<'a>) -> Option<(&'static str, &'a str, &'static str)> {
+fn first_refused<'a>(
+    alloc: Global,
+    matches: &ArgMatches<'a>,
+) -> Option<(&'static str, &'a str, &'static str)> {
     let (_, given) = matches.subcommand()?;
     for option in ["timeout", "seconds"] {
         if seconds(given.get_str(option)).is_none() {
@@ -291,18 +310,52 @@ fn first_refused<'a>(matches: &ArgMatches<'a>) -> Option<(&'static str, &'a str,
             "a list of password, md5, scram-sha-256, gss, sspi and none, or of these each behind !";
         return Some(("require-auth", given.get_str("require-auth")?, wanted));
     }
-    None
+    match Database::read(alloc, given.get_str("dbname")) {
+        // A password in it is not to be shown.
+        Err(wanted) => Some(("dbname", "..", wanted)),
+        Ok(_) => None,
+    }
 }
 
-fn given_options<'a>(matches: &ArgMatches<'a>) -> Option<Options<'a>> {
+/// What the option for the database has.
+#[derive(Drop)]
+struct Database<'a> {
+    name: Option<&'a str>,
+    uri: Parts,
+}
+
+impl<'a> Database<'a> {
+    /// Reads the option's value, if it was given, or says what it should be.
+    fn read(alloc: Global, text: Option<&'a str>) -> Result<Database<'a>, &'static str> {
+        let uri = match text {
+            Some(text) => read_uri(alloc, text),
+            None => None,
+        };
+        match (uri, text) {
+            (Some(Ok(uri)), _) => Ok(Database { name: None, uri }),
+            (Some(Err(fault)), _) => Err(fault.text()),
+            (None, Some(text)) if text.find('=').is_some() => {
+                Err("of connection strings only a URI is taken, as postgresql://USER@HOST/DATABASE")
+            }
+            (None, name) => Ok(Database {
+                name,
+                uri: Parts::NONE,
+            }),
+        }
+    }
+}
+
+fn given_options<'a>(alloc: Global, matches: &ArgMatches<'a>) -> Option<Options<'a>> {
     let (name, given) = matches.subcommand()?;
+    let database = Database::read(alloc, given.get_str("dbname")).ok()?;
     Some(Options {
         job: given_job(name, given)?,
         publication: given.get_str("publication")?,
         host: given.get_str("host"),
         port: given.get_str("port"),
         user: given.get_str("user"),
-        database: given.get_str("dbname"),
+        database: database.name,
+        uri: database.uri,
         ways: ways(given.get_str("require-auth"))?,
         clear_text: given.get_flag("allow-cleartext"),
         limit: seconds(given.get_str("timeout"))??,

@@ -26,8 +26,8 @@ pub enum Fault {
     /// The server sent an ErrorResponse.
     #[error("Server: {0}")]
     Server(ServerReport),
-    /// The server asks for a password, and PGPASSWORD is not set.
-    #[error("NoPassword: the server asks for a password, and PGPASSWORD is not set")]
+    /// The server asks for a password, and there is none.
+    #[error("NoPassword: the server asks for a password: PGPASSWORD or a password file may have it")]
     NoPassword,
     /// The server asks for another way to authenticate. The number is that of its request.
     #[error("UnknownAuthentication: the server asks for authentication {0}")]

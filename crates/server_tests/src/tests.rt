@@ -10,6 +10,7 @@
 //   copies     `server`, rows that are there as a slot is made, and what of a file can be kept
 //   script     a line in memory: what the server says is written before
 //   slots      `server`, what commands leave of slots and files
+//   uris       `publisher_command`, connection URIs and password files
 //   vectors    `server`, hashes and SCRAM
 mod catalogs;
 mod copies;
@@ -21,4 +22,5 @@ mod refusals;
 mod relays;
 mod script;
 mod slots;
+mod uris;
 mod vectors;

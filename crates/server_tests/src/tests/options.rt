@@ -1,5 +1,5 @@
 // The command line of `publisher`, and libpq's variables.
-use publisher_command::{Job, Variables};
+use publisher_command::{Job, Parts, Variables};
 use server::auth::Password;
 use server::host::Server;
 use std::alloc::Global;
@@ -94,15 +94,13 @@ fn a_place_is_two_halves(rt: HostRuntime) -> Result<(), Fail> {
 /// The server of an option for the port, and of variables for the host, the password and who is logged in.
 fn chosen(alloc: Global) -> Result<Server, Fail> {
     let variables = Variables {
-        host: Some(String::from_str(alloc, "db.example")?),
-        port: None,
-        user: None,
-        database: None,
+        parts: Parts {
+            host: Some(String::from_str(alloc, "db.example")?),
+            ..Parts::NONE
+        },
         password: Some(Password {
             text: String::from_str(alloc, "secret")?,
         }),
-        ways: None,
-        tls: false,
         login: Some(String::from_str(alloc, "carol")?),
     };
     let words = words(alloc, "publisher catalog --publication p --port 5433")?;

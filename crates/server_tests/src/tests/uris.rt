@@ -1,0 +1,218 @@
+// Connection URIs and password files, as libpq has them.
+use super::loopback::server_at;
+use publisher_command::{
+    Job, Parts, Variables, asks_tls, choose_server, find_password, parse, read_passfile, read_uri,
+};
+use server::host::Server;
+use std::alloc::Global;
+use std::fs::Permissions;
+use std::os::unix::fs::PermissionsExt;
+use std::test::Fail;
+use std::{env, fs, process};
+use testing::asserts::{assert_holds, assert_same};
+
+/// A URI, and its host, port, user and database, or the fault.
+static URIS: [(&str, &str); 26] = [
+    ("postgresql://", "- - - -"),
+    ("postgres://localhost", "localhost - - -"),
+    ("postgresql://localhost/mydb", "localhost - - mydb"),
+    (
+        "postgresql://carol@localhost:5433/mydb",
+        "localhost 5433 carol mydb",
+    ),
+    ("postgresql://carol@/mydb", "- - carol mydb"),
+    ("postgresql://:5433", "- 5433 - -"),
+    (
+        "postgresql:///mydb?host=localhost&port=5433",
+        "localhost 5433 - mydb",
+    ),
+    ("postgresql://h/a?dbname=b&user=u", "h - u b"),
+    ("postgresql://%2Fvar%2Frun:5/d", "/var/run 5 - d"),
+    ("postgresql://[2001:db8::1234]/d", "2001:db8::1234 - - d"),
+    ("postgresql://u@[::1]:5433/d", "::1 5433 u d"),
+    ("postgresql://h/my%20db%C3%A4", "h - - my db\u{e4}"),
+    ("postgresql://h/a/b", "h - - a/b"),
+    ("postgresql://h?", "h - - -"),
+    (
+        "postgresql://h?sslmode=disable&require_auth=scram-sha-256",
+        "h - - -",
+    ),
+    ("postgresql://carol:secret@h/d", "Password"),
+    ("postgresql://h/d?password=secret", "Password"),
+    ("postgresql://one,two/d", "Hosts"),
+    ("postgresql://[::1/d", "Spelling"),
+    ("postgresql://[::1]5/d", "Spelling"),
+    ("postgresql://h/%zz", "Spelling"),
+    ("postgresql://h/%+1", "Spelling"),
+    ("postgresql://h/%00", "Spelling"),
+    ("postgresql://h/%ff", "Spelling"),
+    ("postgresql://h?host", "Spelling"),
+    ("postgresql://h?application_name=a", "Parameter"),
+];
+
+/// Host, port, user and database of what a URI says.
+fn shown(alloc: Global, parts: &Parts) -> Result<String, Fail> {
+    let host = parts.host.as_deref().unwrap_or("-");
+    let port = parts.port.as_deref().unwrap_or("-");
+    let user = parts.user.as_deref().unwrap_or("-");
+    let database = parts.database.as_deref().unwrap_or("-");
+    Ok(format!(in alloc; "{host} {port} {user} {database}")?)
+}
+
+#[test]
+fn connection_uris(rt: HostRuntime) -> Result<(), Fail> {
+    for (uri, want) in &URIS {
+        let read = match read_uri(rt.alloc(), *uri) {
+            Some(Ok(parts)) => shown(rt.alloc(), &parts)?,
+            Some(Err(fault)) => format!(in rt.alloc(); "{fault:?}")?,
+            None => String::new(rt.alloc()),
+        };
+        assert_same(read.as_str(), *want, *uri)?;
+    }
+    assert_holds(read_uri(rt.alloc(), "mydb").is_none(), "a name")
+}
+
+/// A mode of TLS, and whether it asks for it.
+static MODES: [(&str, bool); 6] = [
+    ("disable", false),
+    ("allow", false),
+    ("prefer", false),
+    ("require", true),
+    ("verify-ca", true),
+    ("verify-full", true),
+];
+
+#[test]
+fn modes_that_ask_for_tls(rt: HostRuntime) -> Result<(), Fail> {
+    for (mode, want) in &MODES {
+        assert_same(asks_tls(*mode), *want, *mode)?;
+        let uri = format!(in rt.alloc(); "postgresql://h?sslmode={mode}")?;
+        let parts = read_uri(rt.alloc(), uri.as_str()).ok_or("no URI")?;
+        let tls = parts.ok().ok_or("refused")?.tls;
+        assert_same(tls, Some(*want), *mode)?;
+    }
+    Ok(())
+}
+
+/// The server of these words and no variables but who is logged in.
+fn server_of(alloc: Global, database: &str) -> Result<Option<Server>, Fail> {
+    let mut words = Vec::new(alloc);
+    for word in [
+        "publisher",
+        "catalog",
+        "--publication",
+        "p",
+        "--port",
+        "1",
+        "--dbname",
+        database,
+    ] {
+        words.push(String::from_str(alloc, word)?)?;
+    }
+    let variables = Variables {
+        parts: Parts::NONE,
+        password: None,
+        login: Some(String::from_str(alloc, "carol")?),
+    };
+    let Ok(options) = parse(alloc, words.as_slice()) else {
+        return Ok(None);
+    };
+    assert_holds(
+        matches!(options.job, Job::Catalog { .. }),
+        "another command",
+    )?;
+    Ok(choose_server(alloc, &options, &variables)?)
+}
+
+/// What is given for the database, and the port and the database that are meant.
+static DATABASES: [(&str, Option<(&str, &str)>); 6] = [
+    ("mydb", Some(("1", "mydb"))),
+    ("postgresql:///mydb", Some(("1", "mydb"))),
+    ("postgresql://h:2/mydb", Some(("2", "mydb"))),
+    ("postgresql://h:2", Some(("2", "carol"))),
+    ("postgresql://h,i/mydb", None),
+    ("dbname=mydb", None),
+];
+
+#[test]
+fn a_uri_goes_before_options(rt: HostRuntime) -> Result<(), Fail> {
+    for (database, want) in &DATABASES {
+        let server = server_of(rt.alloc(), *database)?;
+        let found = match &server {
+            Some(server) => Some((server.port.as_str(), server.database.as_str())),
+            None => None,
+        };
+        assert_same(found, *want, *database)?;
+    }
+    Ok(())
+}
+
+/// A line of a password file, and the password of alice for the database shop at port 5432 of a host or a
+/// default directory of sockets, none for the empty text.
+static LINES: [(&str, &str, &str); 17] = [
+    ("db:5432:shop:alice:secret", "db", "secret"),
+    ("*:*:*:*:secret", "db", "secret"),
+    ("*:*:*:*:secret", "/nowhere", "secret"),
+    ("localhost:*:*:*:secret", "/var/run/postgresql", "secret"),
+    (
+        "/var/run/postgresql:*:*:*:secret",
+        "/var/run/postgresql",
+        "",
+    ),
+    ("/nowhere:*:*:*:secret", "/nowhere", "secret"),
+    ("db:5433:shop:alice:secret", "db", ""),
+    ("db:5432:shop:bob:secret", "db", ""),
+    ("db:5432:shopping:alice:secret", "db", ""),
+    ("#db:5432:shop:alice:secret", "db", ""),
+    ("db:5432:shop:alice:a\\:b\\\\c\\", "db", "a:b\\c\\"),
+    ("db:5432:shop:alice:a:b", "db", "a"),
+    ("db:5432:s\\hop:alice:secret", "db", "secret"),
+    ("a\\:b:*:*:*:secret", "a:b", "secret"),
+    ("db:5432:shop:alice", "db", ""),
+    ("db:1:*:*:one\r\ndb:*:*:*:two\r\n*:*:*:*:three", "db", "two"),
+    ("", "db", ""),
+];
+
+#[test]
+fn lines_of_a_password_file(rt: HostRuntime) -> Result<(), Fail> {
+    for (lines, host, want) in &LINES {
+        let server = server_at(rt.alloc(), *host, "5432")?;
+        let found = find_password(rt.alloc(), lines.as_bytes(), &server)?;
+        let text = match &found {
+            Some(password) => password.text.as_str(),
+            None => "",
+        };
+        assert_same(text, *want, *lines)?;
+    }
+    Ok(())
+}
+
+/// The mode of a password file, and whether it is read.
+static FILE_MODES: [(u32, bool); 5] = [
+    (0o600, true),
+    (0o400, true),
+    (0o640, false),
+    (0o604, false),
+    (0o620, false),
+];
+
+#[test]
+fn a_password_file_is_its_owners_alone(rt: HostRuntime) -> Result<(), Fail> {
+    let folder = env::temp_dir(&rt)?;
+    let folder = folder.as_str();
+    let number = process::id(rt.process());
+    let path = format!(in rt.alloc(); "{folder}/passfile-{number}")?;
+    let path = path.as_str();
+    fs::write(&rt, path, b"*:*:*:*:secret")?;
+    for (mode, want) in &FILE_MODES {
+        fs::set_permissions(&rt, path, Permissions::from_mode(*mode))?;
+        let found = read_passfile(rt.alloc(), &rt, path)?;
+        assert_same(found.is_empty(), !*want, *mode)?;
+    }
+    fs::remove_file(&rt, path)?;
+    assert_holds(read_passfile(rt.alloc(), &rt, path)?.is_empty(), "no file")?;
+    assert_holds(
+        read_passfile(rt.alloc(), &rt, folder)?.is_empty(),
+        "a folder",
+    )
+}
