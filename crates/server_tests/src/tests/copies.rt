@@ -4,6 +4,7 @@ use server::copy::copy_rows;
 use server::fault::Fault;
 use server::kept::{aborts, read_kept};
 use server::relay::{Output, Relayed};
+use server::report::read_report;
 use server::shown::Shown;
 use std::alloc::Global;
 use std::test::Fail;
@@ -281,5 +282,12 @@ fn what_a_terminal_would_obey_is_spelled(rt: HostRuntime) -> Result<(), Fail> {
         text.as_str(),
         "a\\u001B[31m\\u000A\\u009B\\u202E\u{e4}\"'",
         "shown",
+    )?;
+    let report = read_report(rt.alloc(), b"S\x1b\0C2800\x0a\0M\x1b]0;owned\x07\0\0")?;
+    let fault = format!(in rt.alloc(); "{}", Fault::Server(report))?;
+    assert_same(
+        fault.as_str(),
+        "Server: \\u001B 2800\\u000A: \\u001B]0;owned\\u0007",
+        "report",
     )
 }

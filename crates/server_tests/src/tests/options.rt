@@ -7,7 +7,7 @@ use std::test::Fail;
 use testing::asserts::{assert_holds, assert_same};
 
 /// The words of a command line.
-fn words(alloc: Global, line: &str) -> Result<Vec<String>, Fail> {
+pub fn words(alloc: Global, line: &str) -> Result<Vec<String>, Fail> {
     let mut words = Vec::new(alloc);
     for word in line.split(' ') {
         words.push(String::from_str(alloc, word)?)?;

@@ -1,5 +1,6 @@
 // Connection URIs and password files, as libpq has them.
 use super::loopback::server_at;
+use super::options::words;
 use publisher_command::{
     Job, Parts, Variables, asks_tls, choose_server, find_password, parse, read_passfile, read_uri,
 };
@@ -96,19 +97,8 @@ fn modes_that_ask_for_tls(rt: HostRuntime) -> Result<(), Fail> {
 
 /// The server of these words and no variables but who is logged in.
 fn server_of(alloc: Global, database: &str) -> Result<Option<Server>, Fail> {
-    let mut words = Vec::new(alloc);
-    for word in [
-        "publisher",
-        "catalog",
-        "--publication",
-        "p",
-        "--port",
-        "1",
-        "--dbname",
-        database,
-    ] {
-        words.push(String::from_str(alloc, word)?)?;
-    }
+    let line = format!(in alloc; "publisher catalog --publication p --port 1 --dbname {database}")?;
+    let words = words(alloc, line.as_str())?;
     let variables = Variables {
         parts: Parts::NONE,
         password: None,
