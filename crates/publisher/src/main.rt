@@ -139,9 +139,9 @@ fn read_variables(rt: &HostRuntime) -> Variables {
             port: read_variable(rt, "PGPORT"),
             user: read_variable(rt, "PGUSER"),
             database: read_variable(rt, "PGDATABASE"),
-            ways: read_variable(rt, "PGREQUIREAUTH").map(|text| read_ways(
-                text.as_str(),
-            ).unwrap_or(Ways::NONE)),
+            ways: read_variable(rt, "PGREQUIREAUTH").map(|text| read_ways(text.as_str()).unwrap_or(
+                Ways::NONE,
+            )),
             tls: read_variable(rt, "PGSSLMODE").map(|mode| asks_tls(mode.as_str())),
         },
         password: read_variable(rt, "PGPASSWORD").map(|text| Password { text }),

@@ -2,21 +2,20 @@
 --     said      the text of a part of the URI, else of an option that was given, else of a variable that is set
 --     named_user      who logs in, if anybody is named
 --     IsMeant      each part of the server is what is meant by it
-use Rattle.std.specs.Prelude.{◌≡◌, ℕ, true, false, List, Option, Some, codes, option_map, unwrap_or}
+use Rattle.std.specs.Prelude.{◌≡◌, ℕ, true, false, List, Option, Some, String, codes, option_map, unwrap_or}
 use Rattle.std.specs.Option.{option_or}
 use Rattle.std.specs.String.{string_bytes}
-use Rattle.std.specs.declared.owned.String.{String}
 use Rattle.server.specs.declared.auth.Ways.{Ways}
 use Rattle.server.specs.declared.host.Server.{Server}
 use Rattle.publisher_command.specs.declared.command_line.Options.{Options}
 use Rattle.publisher_command.specs.declared.variables.Variables.{Variables}
 
 -- the text of an owned one
-abbrev pub text_of : Option String → Option (List ℕ)
+abbrev pub text_of : {A : Type 0} → Option (String A) → Option (List ℕ)
 text_of text = option_map (λ t. string_bytes t) text
 
 -- the text of a part of the URI, else of an option that was given, else of a variable that is set
-abbrev pub said : Option String → Option (List ℕ) → Option String → Option (List ℕ)
+abbrev pub said : {A : Type 0} → Option (String A) → Option (List ℕ) → Option (String A) → Option (List ℕ)
 said uri given set = option_or (option_or (text_of uri) given) (text_of set)
 
 -- every way to authenticate

@@ -66,7 +66,7 @@ fn first<'a>(
     option: Option<&'a str>,
     variable: &'a Option<String>,
 ) -> Option<&'a str>
-    ensures { option_copied result ≡ said uri.now option variable.now }
+    ensures { option_copied result ≡ said uri.now (option_copied option.entry) variable.now }
 {
     uri.as_deref().or(option).or(variable.as_deref())
 }
