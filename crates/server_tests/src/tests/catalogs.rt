@@ -95,16 +95,16 @@ type = "int"
 "#;
 
 /// A server's version, the publication of the name, and the fault where it then closes.
-static REFUSED: [(&str, &[&str], &str); 3] = [
-    ("139999", &[PUBLICATION], "OldServer"),
-    ("140000", &[], "NoPublication"),
-    ("140000", &[PUBLICATION], "Closed"),
+static REFUSED: [([&[&str]; 2], &str); 3] = [
+    ([&["139999"], &[PUBLICATION]], "OldServer"),
+    ([&["140000"], &[]], "NoPublication"),
+    ([&["140000"], &[PUBLICATION]], "Closed"),
 ];
 
 #[test]
 fn an_old_server_and_a_publication_that_is_not_there(rt: HostRuntime) -> Result<(), Fail> {
-    for (case, (version, found, want)) in REFUSED.iter().enumerate() {
-        let refused = asked(rt.alloc(), &[&[*version], *found])?;
+    for (case, (answers, want)) in REFUSED.iter().enumerate() {
+        let refused = asked(rt.alloc(), answers)?;
         assert_fault(rt.alloc(), refused, *want, case)?;
     }
     Ok(())
@@ -178,36 +178,51 @@ const WIDER: [&str; 3] = [
     "1|11|wide|f|t|t|f|f|t|f|2",
 ];
 
-/// A server's version, its table, the columns and the keys, and what a publication that fits has of it.
-type Fitted = (
-    &'static str,
-    &'static str,
-    &'static [&'static str],
-    &'static [&'static str],
-    Option<&'static str>,
-);
+/// A publication of deletes and truncates, and tables by their replica identities.
+const OTHER: &str = "p|f|f|f|t|t";
 
-static FITTED: [Fitted; 8] = [
-    ("140000", r"1|s|t|d|\N", &[ID], &[KEY], Some("")),
-    ("140000", r"1|s|t|f|\N", &[ID, TWICE], &[KEY], Some("")),
-    ("140000", r"1|s|t|d|\N", &[ID, PRICE], &[KEY], None),
+const BY_KEY: &str = r"1|s|t|d|\N";
+
+const BY_ALL: &str = r"1|s|t|f|\N";
+
+const BY_INDEX: &str = r"1|s|t|i|\N";
+
+const FILTERED: &str = "1|s|t|d|(x = '\u{1b}')";
+
+/// What a server says of a publication, and what one that fits has of its table.
+static FITTED: [([&[&str]; 5], Option<&str>); 8] = [
+    ([&["140000"], &[OTHER], &[BY_KEY], &[ID], &[KEY]], Some("")),
     (
-        "150000",
-        r"1|s|t|d|\N",
-        &[ID, PRICE],
-        &[KEY],
+        [&["140000"], &[OTHER], &[BY_ALL], &[ID, TWICE], &[KEY]],
+        Some(""),
+    ),
+    (
+        [&["140000"], &[OTHER], &[BY_KEY], &[ID, PRICE], &[KEY]],
+        None,
+    ),
+    (
+        [&["150000"], &[OTHER], &[BY_KEY], &[ID, PRICE], &[KEY]],
         Some(r#" ("id")"#),
     ),
-    ("150000", r"1|s|t|f|\N", &[ID, PRICE], &[KEY], None),
     (
-        "150000",
-        r"1|s|t|i|\N",
-        &[ID, PRICE],
-        &[IDENTITY],
+        [&["150000"], &[OTHER], &[BY_ALL], &[ID, PRICE], &[KEY]],
+        None,
+    ),
+    (
+        [
+            &["150000"],
+            &[OTHER],
+            &[BY_INDEX],
+            &[ID, PRICE],
+            &[IDENTITY],
+        ],
         Some(r#" ("id")"#),
     ),
-    ("150000", r"1|s|t|i|\N", &[ID, PRICE], &WIDER, None),
-    ("150000", "1|s|t|d|(x = '\u{1b}')", &[ID], &[KEY], None),
+    (
+        [&["150000"], &[OTHER], &[BY_INDEX], &[ID, PRICE], &WIDER],
+        None,
+    ),
+    ([&["150000"], &[OTHER], &[FILTERED], &[ID], &[KEY]], None),
 ];
 
 /// The statement for these columns and filter of one table.
@@ -217,25 +232,22 @@ fn fitted(alloc: Global, entry: &str) -> Result<String, Fail> {
     )?)
 }
 
+/// Whether a note says that no publication fits.
+fn is_named(notes: &[String]) -> bool {
+    notes.iter().any(|note| note.as_str().find("CREATE PUBLICATION lacks it").is_some())
+}
+
 #[test]
 fn a_table_that_no_publication_fits_is_named(rt: HostRuntime) -> Result<(), Fail> {
-    for (case, (version, table, columns, keys, entry)) in FITTED.iter().enumerate() {
-        let publication = "p|f|f|f|t|t";
-        let answers = asked(
-            rt.alloc(),
-            &[&[*version], &[publication], &[*table], *columns, *keys],
-        )??;
+    for (case, (answers, entry)) in FITTED.iter().enumerate() {
+        let answers = asked(rt.alloc(), answers)??;
         let printed = print(rt.alloc(), &answers, false)?;
         let want = match entry {
             Some(entry) => Some(fitted(rt.alloc(), *entry)?),
             None => None,
         };
         assert_same(printed.statement.as_deref(), want.as_deref(), case)?;
-        let is_named = printed.notes.iter().any(|note| note
-            .as_str()
-            .find("CREATE PUBLICATION lacks it")
-            .is_some());
-        assert_same(is_named, entry.is_none(), case)?;
+        assert_same(is_named(printed.notes.as_slice()), entry.is_none(), case)?;
     }
     Ok(())
 }
