@@ -25,21 +25,6 @@ pub struct Printed {
     pub statement: Option<String>,
 }
 
-/// What the server says of a publication.
-#[derive(Debug, Drop)]
-pub struct Answers {
-    /// The server's `server_version_num`.
-    pub version: u32,
-    /// The publication itself.
-    pub publication: Row,
-    /// Its tables.
-    pub tables: Vec<Row>,
-    /// The columns of these.
-    pub columns: Vec<Row>,
-    /// The columns of their unique keys.
-    pub keys: Vec<Row>,
-}
-
 /// The oldest server: 14.
 const OLDEST: u32 = 140_000;
 
@@ -48,8 +33,16 @@ const MOST_TABLES: usize = 1024;
 
 const MOST_COLUMNS: usize = 1600;
 
-/// How many unique keys a table of the subscriber has at most, beside the primary key.
-const MOST_UNIQUES: usize = 16;
+/// What the server says of a publication: its own `server_version_num`, the publication itself, its
+/// tables, the columns of these, and the columns of their unique keys.
+#[derive(Debug, Drop)]
+pub struct Answers {
+    pub version: u32,
+    pub publication: Row,
+    pub tables: Vec<Row>,
+    pub columns: Vec<Row>,
+    pub keys: Vec<Row>,
+}
 
 /// Asks the server for the publication's tables.
 pub fn ask<L: Line + Drop>(
@@ -318,6 +311,9 @@ fn primary_of(
         None => Err("a column of its primary key is left out"),
     })
 }
+
+/// How many unique keys a table of the subscriber has at most, beside the primary key.
+const MOST_UNIQUES: usize = 16;
 
 /// The further unique keys that fit, with a note for each that doesn't.
 fn uniques_of(

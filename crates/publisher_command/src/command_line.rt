@@ -1,7 +1,7 @@
 // The commands with their options, and what the words of a command line ask for.
 ghost use Rattle.std.specs.Prelude.{◌≡◌, ◌≤◌, IfSome, Some, None};
 
-use crate::parts::Parts;
+use crate::parts::{NOTHING_SAID, Parts};
 use crate::uri::read_uri;
 use crate::ways::read_ways;
 use clap::builder::ValueParser;
@@ -339,7 +339,7 @@ impl<'a> Database<'a> {
             }
             (None, name) => Ok(Database {
                 name,
-                uri: Parts::NONE,
+                uri: NOTHING_SAID,
             }),
         }
     }

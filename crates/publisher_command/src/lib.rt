@@ -28,7 +28,7 @@ mod variables;
 mod ways;
 
 pub use command_line::{Job, Options, parse};
-pub use parts::{Parts, asks_tls};
+pub use parts::{NOTHING_SAID, Parts, asks_tls};
 pub use passfile::{find_password, read_passfile};
 pub use uri::{UriFault, read_uri};
 pub use variables::{Variables, choose_server};

@@ -18,17 +18,15 @@ pub struct Parts {
     pub tls: Option<bool>,
 }
 
-impl Parts {
-    /// Nothing is said.
-    pub const NONE: Parts = Parts {
-        host: None,
-        port: None,
-        user: None,
-        database: None,
-        ways: None,
-        tls: None,
-    };
-}
+/// Nothing is said.
+pub const NOTHING_SAID: Parts = Parts {
+    host: None,
+    port: None,
+    user: None,
+    database: None,
+    ways: None,
+    tls: None,
+};
 
 /// Whether a mode of libpq's `sslmode` asks for TLS: it isn't `disable`, `allow` or `prefer`.
 pub fn asks_tls(mode: &str) -> bool {

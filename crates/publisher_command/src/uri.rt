@@ -2,10 +2,10 @@
 ghost use Rattle.std.specs.Prelude.{◌≡◌, string_bytes, IfOk, IfSome};
 ghost use Rattle.percent_encoding.specs.Percent.{percent_decode};
 
-use crate::parts::{Parts, asks_tls};
+use crate::parts::{NOTHING_SAID, Parts, asks_tls};
 use crate::ways::read_ways;
 use percent_encoding::percent_decode;
-use std::alloc::{AllocError, AllocFailed, Global};
+use std::alloc::{AllocError, Global};
 
 /// Why a text is no connection URI that is taken.
 #[derive(Clone, Copy, Debug, PartialEq, Eq)]
@@ -47,12 +47,6 @@ impl From<AllocError> for UriFault {
     }
 }
 
-impl<T: Drop> From<AllocFailed<T>> for UriFault {
-    fn from(_error: AllocFailed<T>) -> UriFault {
-        UriFault::OutOfMemory
-    }
-}
-
 /// What a connection URI says. None for a text that doesn't begin as one.
 pub fn read_uri(alloc: Global, text: &str) -> Option<Result<Parts, UriFault>> {
     let rest = text
@@ -63,7 +57,7 @@ pub fn read_uri(alloc: Global, text: &str) -> Option<Result<Parts, UriFault>> {
 
 /// What a URI says behind its two slashes.
 fn read_behind(alloc: Global, text: &str) -> Result<Parts, UriFault> {
-    let mut parts = Parts::NONE;
+    let mut parts = NOTHING_SAID;
     let (front, parameters) = split(text, '?');
     let (front, database) = split(front, '/');
     let host = match front.split_once('@') {

@@ -1,5 +1,5 @@
 // The command line of `publisher`, and libpq's variables.
-use publisher_command::{Job, Parts, Variables};
+use publisher_command::{Job, NOTHING_SAID, Parts, Variables};
 use server::auth::Password;
 use server::host::Server;
 use std::alloc::Global;
@@ -96,7 +96,7 @@ fn chosen(alloc: Global) -> Result<Server, Fail> {
     let variables = Variables {
         parts: Parts {
             host: Some(String::from_str(alloc, "db.example")?),
-            ..Parts::NONE
+            ..NOTHING_SAID
         },
         password: Some(Password {
             text: String::from_str(alloc, "secret")?,

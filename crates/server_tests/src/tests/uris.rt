@@ -2,7 +2,8 @@
 use super::loopback::server_at;
 use super::options::words;
 use publisher_command::{
-    Job, Parts, Variables, asks_tls, choose_server, find_password, parse, read_passfile, read_uri,
+    Job, NOTHING_SAID, Parts, Variables, asks_tls, choose_server, find_password, parse,
+    read_passfile, read_uri,
 };
 use server::host::Server;
 use std::alloc::Global;
@@ -73,24 +74,22 @@ fn connection_uris(rt: HostRuntime) -> Result<(), Fail> {
     assert_holds(read_uri(rt.alloc(), "mydb").is_none(), "a name")
 }
 
-/// A mode of TLS, and whether it asks for it.
-static MODES: [(&str, bool); 6] = [
-    ("disable", false),
-    ("allow", false),
-    ("prefer", false),
-    ("require", true),
-    ("verify-ca", true),
-    ("verify-full", true),
+/// Modes of TLS that don't ask for it, and such as do.
+static MODES: [(bool, [&str; 3]); 2] = [
+    (false, ["disable", "allow", "prefer"]),
+    (true, ["require", "verify-ca", "verify-full"]),
 ];
 
 #[test]
 fn modes_that_ask_for_tls(rt: HostRuntime) -> Result<(), Fail> {
-    for (mode, want) in &MODES {
-        assert_same(asks_tls(*mode), *want, *mode)?;
-        let uri = format!(in rt.alloc(); "postgresql://h?sslmode={mode}")?;
-        let parts = read_uri(rt.alloc(), uri.as_str()).ok_or("no URI")?;
-        let tls = parts.ok().ok_or("refused")?.tls;
-        assert_same(tls, Some(*want), *mode)?;
+    for (want, modes) in &MODES {
+        for mode in modes {
+            assert_same(asks_tls(*mode), *want, *mode)?;
+            let uri = format!(in rt.alloc(); "postgresql://h?sslmode={mode}")?;
+            let parts = read_uri(rt.alloc(), uri.as_str()).ok_or("no URI")?;
+            let tls = parts.ok().ok_or("refused")?.tls;
+            assert_same(tls, Some(*want), *mode)?;
+        }
     }
     Ok(())
 }
@@ -100,7 +99,7 @@ fn server_of(alloc: Global, database: &str) -> Result<Option<Server>, Fail> {
     let line = format!(in alloc; "publisher catalog --publication p --port 1 --dbname {database}")?;
     let words = words(alloc, line.as_str())?;
     let variables = Variables {
-        parts: Parts::NONE,
+        parts: NOTHING_SAID,
         password: None,
         login: Some(String::from_str(alloc, "carol")?),
     };
@@ -137,11 +136,25 @@ fn a_uri_goes_before_options(rt: HostRuntime) -> Result<(), Fail> {
     Ok(())
 }
 
-/// A line of a password file, and the password of alice for the database shop at port 5432 of a host or a
-/// default directory of sockets, none for the empty text.
-static LINES: [(&str, &str, &str); 17] = [
-    ("db:5432:shop:alice:secret", "db", "secret"),
-    ("*:*:*:*:secret", "db", "secret"),
+/// Lines of a password file, and the password of alice for the database shop at port 5432 of the host db,
+/// none for the empty text.
+static LINES: [(&str, &str); 12] = [
+    ("db:5432:shop:alice:secret", "secret"),
+    ("*:*:*:*:secret", "secret"),
+    ("db:5433:shop:alice:secret", ""),
+    ("db:5432:shop:bob:secret", ""),
+    ("db:5432:shopping:alice:secret", ""),
+    ("#db:5432:shop:alice:secret", ""),
+    (r"db:5432:shop:alice:a\:b\\c\", r"a:b\c\"),
+    ("db:5432:shop:alice:a:b", "a"),
+    (r"db:5432:s\hop:alice:secret", "secret"),
+    ("db:5432:shop:alice", ""),
+    ("db:1:*:*:one\r\ndb:*:*:*:two\r\n*:*:*:*:three", "two"),
+    ("", ""),
+];
+
+/// The same of another host, or of a default directory of sockets.
+static HOSTS: [(&str, &str, &str); 5] = [
     ("*:*:*:*:secret", "/nowhere", "secret"),
     ("localhost:*:*:*:secret", "/var/run/postgresql", "secret"),
     (
@@ -150,29 +163,27 @@ static LINES: [(&str, &str, &str); 17] = [
         "",
     ),
     ("/nowhere:*:*:*:secret", "/nowhere", "secret"),
-    ("db:5433:shop:alice:secret", "db", ""),
-    ("db:5432:shop:bob:secret", "db", ""),
-    ("db:5432:shopping:alice:secret", "db", ""),
-    ("#db:5432:shop:alice:secret", "db", ""),
-    ("db:5432:shop:alice:a\\:b\\\\c\\", "db", "a:b\\c\\"),
-    ("db:5432:shop:alice:a:b", "db", "a"),
-    ("db:5432:s\\hop:alice:secret", "db", "secret"),
-    ("a\\:b:*:*:*:secret", "a:b", "secret"),
-    ("db:5432:shop:alice", "db", ""),
-    ("db:1:*:*:one\r\ndb:*:*:*:two\r\n*:*:*:*:three", "db", "two"),
-    ("", "db", ""),
+    (r"a\:b:*:*:*:secret", "a:b", "secret"),
 ];
+
+/// The password of alice is this one, in these lines and for this host.
+fn assert_password(alloc: Global, lines: &str, host: &str, want: &str) -> Result<(), Fail> {
+    let server = server_at(alloc, host, "5432")?;
+    let found = find_password(alloc, lines.as_bytes(), &server)?;
+    let text = match &found {
+        Some(password) => password.text.as_str(),
+        None => "",
+    };
+    assert_same(text, want, lines)
+}
 
 #[test]
 fn lines_of_a_password_file(rt: HostRuntime) -> Result<(), Fail> {
-    for (lines, host, want) in &LINES {
-        let server = server_at(rt.alloc(), *host, "5432")?;
-        let found = find_password(rt.alloc(), lines.as_bytes(), &server)?;
-        let text = match &found {
-            Some(password) => password.text.as_str(),
-            None => "",
-        };
-        assert_same(text, *want, *lines)?;
+    for (lines, want) in &LINES {
+        assert_password(rt.alloc(), *lines, "db", *want)?;
+    }
+    for (lines, host, want) in &HOSTS {
+        assert_password(rt.alloc(), *lines, *host, *want)?;
     }
     Ok(())
 }
