@@ -54,6 +54,7 @@ const CONFIG: Config = Config {
     workers: 1,
     ring: 64,
     spool: 1 << 30,
+    skip: 0,
 };
 
 fn main(rt: HostRuntime) -> anyhow::Result<()> {

@@ -154,7 +154,8 @@ impl<'a, N: StoreNames, L: OutboxNames, G: Drop> WorkerHandle<'a, N, L, G> {
 
     /// Takes its transaction back, if the worker has given it up. Answers whether it is here.
     pub fn try_collect<R: Wait>(&mut self, rt: &R) -> bool
-        ensures { self.new.goes ≡ self.old.goes }
+        ensures goes { self.new.goes ≡ self.old.goes }
+        ensures back { MatchBool result (IsHome self.new) (self.new ≡ self.old) }
     {
         match self.mailbox.try_back(rt) {
             Some(job) => {

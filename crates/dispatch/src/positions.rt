@@ -47,6 +47,7 @@ impl<'a> Positions<'a> {
         let position = Position {
             commits,
             end_lsn: end,
+            skip: 0,
         };
         self.origin.publish(rt, &mut self.publisher, position);
     }

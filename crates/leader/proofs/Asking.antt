@@ -102,7 +102,7 @@ pub commit_ready : (s t : State) (c : Committed) (xid : ℕ) (st : Standing) →
 commit_ready s t c xid st same agreed alone commits = subst (λ n. IsOurs st n ⊎ (st.begun ≡ None)) same (by_way c.way refl)
   where
     whole : Open
-    whole = record { way = c.way; items = c.items }
+    whole = record { way = c.way; items = commits.items }
 
     there : There st c.xid (Some whole)
     there = subst (There st c.xid) commits.present (agreed c.xid)

@@ -9,7 +9,7 @@ use Rattle.model.specs.declared.item.Item.{Item}
 use Rattle.model.specs.declared.item.Item.TheVariants.{Change}
 use Rattle.model.specs.Rows.{Rows, IsValid}
 use Rattle.model.specs.Effect.{ClashCause, NullKey, Unique}
-use Rattle.world.specs.World.{Opened, World}
+use Rattle.world.specs.World.{Opened}
 use Rattle.world.specs.Steps.{IsStuck}
 use Rattle.engine.specs.declared.events.LineEvent.{LineEvent}
 use Rattle.frames.specs.declared.fault.FrameFault.TheVariants as frames
@@ -23,7 +23,7 @@ use Rattle.run.specs.Handler.{IsRunOver}
 use Rattle.run.specs.Progress.{Progress}
 use Rattle.run.specs.StreamPart.{StreamPart}
 use Rattle.run_laws.specs.Leading.{Outbox, InStep, IsAgreed, AreInStep, AreCounts}
-use Rattle.run_laws.specs.Threads.{work_of, IsWorldOf}
+use Rattle.run_laws.specs.Threads.{IsWork, IsWorldOf}
 use Rattle.run_laws.specs.ThreadedRun.{HasConflict, IsStuckBy, IsThreadedCause}
 use Rattle.run_laws.proofs.Books.{is_world, noted_conflict, stuck_by}
 use Rattle.dispatch.specs.Standing.{Own}
@@ -32,18 +32,20 @@ use Rattle.leader.specs.Ending.{Hand, IsNoted, end_for, EndsAsNoted, IsDecided, 
 
 -- ---- outboxes that the world and the state show
 
--- an outbox of which all work of a transaction was sent
-abbrev pub whole_outbox : ℕ → Open → Outbox
-whole_outbox xid o = record { sent = work_of xid o.way o.items; queued = [] }
+-- an outbox of which all work was sent
+abbrev pub whole_outbox : List Item → Outbox
+whole_outbox work = record { sent = work; queued = [] }
 
-abbrev pub outbox_at : ℕ → Option Open → Option Opened → Option Outbox
-outbox_at xid (Some o) (Some done) = Some (whole_outbox xid o)
-outbox_at xid (Some o) None = None
-outbox_at xid None there = None
+-- What is open in the world is open in the state, and keeps to its work.
+abbrev pub KeepsThere : Setting → State → List CopyItem → ℕ → Option Open → Option Opened → Type 0
+KeepsThere g s rest xid found there =
+    (done : Opened) → there ≡ Some done → (o : Open) × (found ≡ Some o) × KeepsToWork g s rest xid o done
 
--- each transaction that is open in both has such an outbox
-abbrev pub outboxes_at : State → World → ℕ → Option Outbox
-outboxes_at s w xid = outbox_at xid (get s.transactions xid) (get w.opened xid)
+-- each transaction that is open in the world has such an outbox
+abbrev pub outbox_at : (g : Setting) (s : State) (rest : List CopyItem) (xid : ℕ) (found : Option Open) (there : Option Opened)
+    → KeepsThere g s rest xid found there → Option Outbox
+outbox_at g s rest xid found None held = None
+outbox_at g s rest xid found (Some done) held = Some (whole_outbox (held done refl).2.work)
 
 same_open : (o p : Open) → Some o ≡ Some p → o ≡ p
 same_open o p e = cc
@@ -74,26 +76,29 @@ wanted_next (Some p) left is sub c e =
     same a b is = cc
 
 module _ (g : Setting) (s : State) (rest : List CopyItem) (xid : ℕ) where
-  in_step : (o : Open) (done : Opened) → KeepsToWork g s rest xid o done → InStep g s rest xid o (whole_outbox xid o) done
-  in_step o done (doing, next) = record {
-    all_work = append-nil (work_of xid o.way o.items);
-    does = record { left = doing.left; begins = doing.begins };
-    wants = wanted_next done.wants doing.left doing.wants;
-    next = next;
+  in_step : (o p : Open) (done : Opened) → o ≡ p → (keeps : KeepsToWork g s rest xid p done)
+      → InStep g s rest xid o (whole_outbox keeps.work) done
+  in_step o p done same keeps = record {
+    all_work =
+        subst (λ (q : Open). IsWork g s rest xid q.way q.items (keeps.work ++ [])) (sym same)
+        (subst (IsWork g s rest xid p.way p.items) (sym (append-nil keeps.work)) keeps.is_work);
+    does = record { left = keeps.doing.left; begins = keeps.doing.begins };
+    wants = wanted_next done.wants keeps.doing.left keeps.doing.wants;
   }
 
-  agrees : (o : Option Open) (d : Option Opened) → ((done : Opened) → d ≡ Some done → (p : Open) × (o ≡ Some p) × KeepsToWork g s rest xid p done)
-      → ((p : Open) → o ≡ Some p → p.way ≢ Spooled → is_some d ≡ true) → IsAgreed g s rest xid o (outbox_at xid o d) d
+  agrees : (o : Option Open) (d : Option Opened) (held : KeepsThere g s rest xid o d)
+      → ((p : Open) → o ≡ Some p → p.way ≢ Spooled → is_some d ≡ true) → IsAgreed g s rest xid o (outbox_at g s rest xid o d held) d
   agrees None None held streamed = tt
   agrees (Some o) None held streamed = is_spooled o.way (λ not. let no : false ≡ true = streamed o refl not in cc)
   agrees None (Some done) held streamed = let is = held done refl in absurd (none_is is.0 is.1)
-  agrees (Some o) (Some done) held streamed =
-      let is = held done refl in in_step o done (subst (λ p. KeepsToWork g s rest xid p done) (sym (same_open o is.0 is.1)) is.2)
+  agrees (Some o) (Some done) held streamed = let is = held done refl in in_step o is.0 done (same_open o is.0 is.1) is.2
 
-  outbox_is : (o : Option Open) (d : Option Opened) (outbox : Outbox) → outbox_at xid o d ≡ Some outbox → (p : Open) × (o ≡ Some p) × (whole_outbox xid p ≡ outbox)
-  outbox_is None d outbox e = absurd (none_is outbox e)
-  outbox_is (Some o) None outbox e = absurd (none_is outbox e)
-  outbox_is (Some o) (Some done) outbox e = (o, refl, same_outbox (whole_outbox xid o) outbox e)
+  outbox_is : (o : Option Open) (d : Option Opened) (held : KeepsThere g s rest xid o d) (outbox : Outbox)
+      → outbox_at g s rest xid o d held ≡ Some outbox
+      → (p : Open) × (o ≡ Some p) × (work : List Item) × IsWork g s rest xid p.way p.items work × (whole_outbox work ≡ outbox)
+  outbox_is o None held outbox e = absurd (none_is outbox e)
+  outbox_is o (Some done) held outbox e =
+      let is = held done refl in (is.0, is.1, is.2.work, is.2.is_work, same_outbox (whole_outbox is.2.work) outbox e)
 
 -- ---- the world at which a run ended
 
@@ -108,7 +113,7 @@ module _ (g : Setting) (rows : Rows) (s : State) (rest : List CopyItem) (line : 
   keeps_to h among =
       All-contains (λ slot. IfSome slot (λ (k : Own). (o : Open) × (get s.transactions k.xid ≡ Some o) × KeepsToWork g s rest k.xid o k.done)) hand (Some h) are.held among
 
-  held_there : (xid : ℕ) (done : Opened) → get f.world.opened xid ≡ Some done → (o : Open) × (get s.transactions xid ≡ Some o) × KeepsToWork g s rest xid o done
+  pub held_there : (xid : ℕ) → KeepsThere g s rest xid (get s.transactions xid) (get f.world.opened xid)
   held_there xid done at =
       let there = are.all xid (f.opened xid ∙ ap is_some at) in
       let same : there.0.done ≡ done = same_opened there.0.done done (sym (stands there.0 there.1) ∙ ap (get f.world.opened) there.2 ∙ at) in
@@ -118,7 +123,10 @@ module _ (g : Setting) (rows : Rows) (s : State) (rest : List CopyItem) (line : 
         subst (λ (n : ℕ). KeepsToWork g s rest n is.0 done) there.2 (subst (λ (d : Opened). KeepsToWork g s rest there.0.xid is.0 d) same is.2),
       )
 
-  pub are_in_step : AreInStep g rows s rest (outboxes_at s f.world) f.world
+  abbrev pub outboxes : ℕ → Option Outbox
+  outboxes xid = outbox_at g s rest xid (get s.transactions xid) (get f.world.opened xid) (held_there xid)
+
+  pub are_in_step : AreInStep g rows s rest outboxes f.world
   are_in_step = record {
     reached = f.reached;
     line = f.commits ∙ are.commits;
@@ -127,13 +135,13 @@ module _ (g : Setting) (rows : Rows) (s : State) (rest : List CopyItem) (line : 
   }
 
   pub ends_in_world : IsWorldOf g rows s rest f.world
-  ends_in_world = is_world g rows s rest (outboxes_at s f.world) f.world are_in_step
+  ends_in_world = is_world g rows s rest outboxes f.world are_in_step
 
-  are_counts : AreGiven s given → AreCounts (outboxes_at s f.world) given
+  are_counts : AreGiven g s rest given → AreCounts outboxes given
   are_counts counts xid count outbox named short at =
-      let is = outbox_is g s rest xid (get s.transactions xid) (get f.world.opened xid) outbox at in
-      counts xid count is.0 named short is.1
-      ∙ ap length (sym (append-nil (work_of xid is.0.way is.0.items)) ∙ ap (λ (l : Outbox). l.sent ++ l.queued) is.2)
+      let is = outbox_is g s rest xid (get s.transactions xid) (get f.world.opened xid) (held_there xid) outbox at in
+      counts xid count is.0 named short is.1 is.2 is.3
+      ∙ ap length (sym (append-nil is.2) ∙ ap (λ (l : Outbox). l.sent ++ l.queued) is.4)
 
   -- ---- why it ended
 
@@ -142,15 +150,15 @@ module _ (g : Setting) (rows : Rows) (s : State) (rest : List CopyItem) (line : 
   wanted (Some p) is = (p.0, p.1, refl)
 
   -- a clash that is noted is a conflict
-  conflicts : IsValid (schema_of g) rows → (cause : ClashCause) → IsNoted f.world hand cause → HasConflict g s f.world cause
+  conflicts : IsValid (schema_of g) rows → (cause : ClashCause) → IsNoted f.world hand cause → HasConflict g s rest f.world cause
   conflicts valid cause (h, c, among, stopped, wants) =
       let want = wanted h.done.wants wants in
-      noted_conflict g rows s rest (outboxes_at s f.world) f.world are_in_step valid h.xid c cause stopped h.done (stands h among) want.0 want.1 want.2
+      noted_conflict g rows s rest outboxes f.world are_in_step valid h.xid c cause stopped h.done (stands h among) want.0 want.1 want.2
 
-  stuck : AreGiven s given → (xid : ℕ) → HasTurn g s rest xid → (other : ℕ) → IsStuck (schema_of g) f.world given xid other
+  stuck : AreGiven g s rest given → (xid : ℕ) → HasTurn g s rest xid → (other : ℕ) → IsStuck (schema_of g) f.world given xid other
       → IsStuckBy g s rest f.world xid other
   stuck counts xid turn other is =
-      stuck_by g rows s rest (outboxes_at s f.world) f.world are_in_step given xid other (are_counts counts) turn is
+      stuck_by g rows s rest outboxes f.world are_in_step given xid other (are_counts counts) turn is
 
 -- with the devices, where this part of the stream was handled
 module _ (g : Setting) (rows : Rows) (line : List LineEvent) (hand : Hand) (given : List (ℕ × ℕ)) (proposed end : End)
@@ -166,7 +174,7 @@ module _ (g : Setting) (rows : Rows) (line : List LineEvent) (hand : Hand) (give
   abbrev rest : List CopyItem
   rest = part.rest
 
-  of_cause : HasGoneWell part → (cause : ClashCause) → HasConflict g s f.world cause → Cause (end_for cause)
+  of_cause : HasGoneWell part → (cause : ClashCause) → HasConflict g s rest f.world cause → Cause (end_for cause)
   of_cause well (Unique table key) is = (well, is)
   of_cause well (NullKey table) is = (well, is)
 
@@ -177,7 +185,7 @@ module _ (g : Setting) (rows : Rows) (line : List LineEvent) (hand : Hand) (give
   by_noted are well e (inr (none, is)) = subst Cause (sym is) (inl well)
 
   -- an item ended it
-  by_item : AreInHand g s rest line hand → AreGiven s given → HasGoneWell part → (first e : End) → MayEndBy g s rest first
+  by_item : AreInHand g s rest line hand → AreGiven g s rest given → HasGoneWell part → (first e : End) → MayEndBy g s rest first
       → IsDecided (schema_of g) f.world hand given first e → Cause e
   by_item are counts well ends.Clean e why decided = absurd why
   by_item are counts well (ends.Frame fault) e why decided = absurd why
@@ -216,7 +224,7 @@ module _ {H : Type 0} (g : Setting) (rows : Rows) (At : H → Progress → Type 
     (line : List LineEvent) (hand : Hand) (given : List (ℕ × ℕ)) (f : HasFinished (schema_of g) rows line hand given proposed end)
     (at_held : (p : Progress) (rest : List CopyItem) → At h p → AreInHand g p.state rest line hand)
     (ended_held : (handled : List CopyItem) (p : Progress) (rest : List CopyItem) → Ended h handled p rest proposed
-    → AreInHand g p.state rest line hand × AreGiven p.state given × MayEndBy g p.state rest proposed) where
+    → AreInHand g p.state rest line hand × AreGiven g p.state rest given × MayEndBy g p.state rest proposed) where
   abbrev Why : Type 0
   Why = AreInHand g over.part.progress.state over.part.rest line hand × IsThreadedCause over.part f.world end
 

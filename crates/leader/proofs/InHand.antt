@@ -15,8 +15,7 @@ use Rattle.engine.specs.Events.{commits_in, is_open_in}
 use Rattle.frames.specs.declared.item.CopyItem.{CopyItem}
 use Rattle.session.specs.Sized.{item_of}
 use Rattle.session.specs.State.{Way, Worker, Spooled, Open, State, Setting}
-use Rattle.run_laws.specs.Runs.{CommitsNext}
-use Rattle.run_laws.specs.Threads.{work_of, done_by_commit}
+use Rattle.run_laws.specs.Threads.{IsWork, done_by_commit}
 use Rattle.dispatch.proofs.Among.{none_among, among_cases, among_map}
 use Rattle.dispatch.specs.Handle.{Given, HandleModel, IsDoing, IsHome, IsCounted, AreCounted}
 use Rattle.dispatch.specs.Standing.{Own, Standing, own_by, goes_by, items_of, items_by, own_of, in_worker, holds_in, KeepsGiven}
@@ -44,9 +43,9 @@ module _ (g : Setting) (s : State) (rest : List CopyItem) (xid : ℕ) where
 
   by_own : (found : Option Open) (list : List (List Item)) (own : Option Opened) (b : Bool) → IsOpenAtEnd g s rest xid found list own b
       → (done : Opened) → own ≡ Some done
-      → (o : Open) × (found ≡ Some o) × IsDoing done (work_of xid o.way o.items) × (o.way ≡ Spooled → CommitsNext g s rest xid)
+      → (o : Open) × (found ≡ Some o) × KeepsToWork g s rest xid o done
   by_own (Some o) [] (Some mine) true is done e =
-      (o, refl, subst (λ (d : Opened). IsDoing d (work_of xid o.way o.items)) (same_opened mine done e) is.1, is.2)
+      (o, refl, subst (KeepsToWork g s rest xid o) (same_opened mine done e) is.1)
     where
       same_opened : (a c : Opened) → Some a ≡ Some c → a ≡ c
       same_opened a c is = cc
@@ -138,12 +137,6 @@ module _ (g : Setting) (s : State) (rest : List CopyItem) (t : Standing) (begun 
   abbrev IsKept : Own → Type 0
   IsKept h = (o : Open) × (get s.transactions h.xid ≡ Some o) × KeepsToWork g s rest h.xid o h.done
 
-  worker_work : (xid : ℕ) (o : Open) → o.way ≡ Worker → map item_of o.items ≡ work_of xid o.way o.items
-  worker_work xid o is = sym (ap (λ (way : Way). work_of xid way o.items) is)
-
-  not_spooled : (o : Open) → o.way ≡ Worker → o.way ≡ Spooled → ⊥
-  not_spooled o is e = let no : Worker ≡ Spooled = sym is ∙ e in cc
-
   -- of a worker
   worker_kept : (goes : Option Given) (back : Option Opened) → Contains t.workers goes
       → MatchOption goes (Unit {0}) (λ given. MatchOption back (Unit {0}) (λ done. IsDoing done given.items)) → IfSome (in_worker goes back) IsKept
@@ -156,7 +149,11 @@ module _ (g : Setting) (s : State) (rest : List CopyItem) (t : Standing) (begun 
       given.items (items_here given.xid t.workers (Some given) among given.items mine) in (
         is.0,
         is.1,
-        (subst (IsDoing done) (is.3 ∙ worker_work given.xid is.0 is.2) keeps, λ e. absurd (not_spooled is.0 is.2 e)),
+        record {
+          work = given.items;
+          is_work = subst (λ (way : Way). IsWork g s rest given.xid way is.0.items given.items) (sym is.2) is.3;
+          doing = keeps;
+        },
       )
 
   -- of the leader's own
@@ -167,7 +164,7 @@ module _ (g : Setting) (s : State) (rest : List CopyItem) (t : Standing) (begun 
       ap (own_of ticket.number) (sym is) ∙ ap (λ (b : Bool). if b then Some (own_by ticket).done else None) (is_itself ticket.number) in
       let o = by_own g s rest ticket.number (get s.transactions ticket.number) (items_by ticket.number t.workers) (own_of ticket.number t.begun) (is_open_in t.line ticket.number)
       (held ticket.number) (own_by ticket).done mine in
-      (o.0, o.1, (o.2, o.3))
+      (o.0, o.1, o.2)
 
   workers_kept : All (λ slot. IfSome slot IsKept) (map holds_in workers)
   workers_kept = All-map (λ slot. IfSome slot IsKept) holds_in workers (λ k d short.
@@ -231,8 +228,8 @@ module _ (g : Setting) (s : State) (rest : List CopyItem) (t : Standing) (begun 
 module _ (g : Setting) (s : State) (rest : List CopyItem) (t : Standing) (held : AreOpenAtEnd g s rest t) where
   -- to the transaction of a worker, by what the worker counts
   pub worker_given : (xid count : ℕ) (o : Open) (goes : Option Given) → Contains t.workers goes → IsCounted goes (xid, count) → count < 2 ^ 64 - 1
-      → get s.transactions xid ≡ Some o → count ≡ length (work_of xid o.way o.items)
-  worker_given xid count o goes among counted short at =
+      → get s.transactions xid ≡ Some o → (work : List Item) → IsWork g s rest xid o.way o.items work → count ≡ length work
+  worker_given xid count o goes among counted short at work is_work =
       let is = counted short in
       let mine : Contains (items_of xid goes) is.0.items =
       subst (λ (slot : Option Given). Contains (items_of xid slot) is.0.items) (sym is.1)
@@ -241,13 +238,15 @@ module _ (g : Setting) (s : State) (rest : List CopyItem) (t : Standing) (held :
       let there = by_worker g s rest xid (get s.transactions xid) (items_by xid t.workers) (own_of xid t.begun) (is_open_in t.line xid) (held xid)
       is.0.items (items_here xid t.workers goes among is.0.items mine) in
       let same : there.0 ≡ o = same_open there.0 o (sym there.1 ∙ at) in
-      is.3 ∙ ap length (there.3 ∙ sym (ap (λ (way : Way). work_of xid way there.0.items) there.2) ∙ ap (λ (p : Open). work_of xid p.way p.items) same)
+      let way : o.way ≡ Worker = ap (λ (p : Open). p.way) (sym same) ∙ there.2 in
+      let all : work ≡ map item_of o.items = subst (λ (w : Way). IsWork g s rest xid w o.items work) way is_work in
+      is.3 ∙ ap length (there.3 ∙ ap (λ (p : Open). map item_of p.items) same ∙ sym all)
     where
       same_open : (p o : Open) → Some p ≡ Some o → p ≡ o
       same_open p o e = cc
 
   -- to each
-  pub are_given : (given : List (ℕ × ℕ)) → AreCounted t.workers given → AreGiven s given
-  are_given given counted xid count o among short at =
+  pub are_given : (given : List (ℕ × ℕ)) → AreCounted t.workers given → AreGiven g s rest given
+  are_given given counted xid count o among short at work is_work =
       let one = All-contains (λ (named : ℕ × ℕ). (goes : Option Given) × Contains t.workers goes × IsCounted goes named) given (xid, count) counted among in
-      worker_given xid count o one.0 one.1 one.2 short at
+      worker_given xid count o one.0 one.1 one.2 short at work is_work

@@ -26,6 +26,7 @@ use Rattle.session.specs.declared.fault.Refused.TheVariants as refusals
 use Rattle.session.specs.declared.session.Session.{Session}
 use Rattle.session.specs.declared.step.Step.{Step}
 use Rattle.session.specs.declared.step.Step.TheVariants as steps
+use Rattle.model.specs.SurvivorLemmas.{items_of_survivors}
 use Rattle.session.specs.Sized.{item_of}
 use Rattle.session.specs.State.{Way, Direct, Worker, Spooled, Open, OpenTransactions, Committed, State, Setting, GoesAlone}
 use Rattle.session.specs.Lawful.{Admits, Refuses}
@@ -41,8 +42,10 @@ use Rattle.run.specs.Progress.{Progress, seen_with, due_updates}
 use Rattle.run.proofs.Admitted.{with_seen, not_committed, one_committed, later_max, by_commit, taken_on, taken_commit, message_handled, ended_behind}
 use Rattle.run.proofs.States.{get-inserted, get-other, get-left, get-gone, last_end-push}
 use Rattle.run.proofs.Handling.{seen_item}
+use Rattle.session.proofs.Finals.{all_final}
 use Rattle.run.proofs.Taking.{handed_named}
-use Rattle.run_laws.specs.Runs.{IsCommitOf, CommitsNext}
+use Rattle.run.specs.Cause.{IsNext}
+use Rattle.run_laws.specs.Runs.{IsCommitOf, DoesAtCommit}
 use Rattle.run_laws.specs.Threads.{done_by_commit}
 use Rattle.leader.specs.declared.lead.Stream.{Stream}
 use Rattle.dispatch.specs.Standing.{Standing, IsStoreEnd, IsStopEnd, IsBegun, IsHandedOut, IsTaken, IsMet, IsCommitted, HasTried, IsAborted}
@@ -400,7 +403,7 @@ led_commit g s t (TransactionCommits c) xid info items named tells says =
       info_is = sym says.1;
       hands = says.2;
       named = dropped_on g s t c.xid named tells.transactions;
-      items = subst (All (IsOfTables (length g.catalog))) (sym says.2) (handed_named (IsOfTables (length g.catalog)) c.xid c.way c.items (named c.xid _ tells.present));
+      items = subst (All (IsOfTables (length g.catalog))) (sym says.2) (handed_named (IsOfTables (length g.catalog)) c.xid c.way c.items (all_final (IsOfTables (length g.catalog)) s t c tells (named c.xid _ tells.present)));
     }
 led_commit g s t (TransactionOpens x Direct) xid info items named tells says = absurd cc
 led_commit g s t (ItemComes x Direct item size) xid info items named tells says = absurd cc
@@ -463,6 +466,15 @@ led_to_commit g rows a b p payload m t xid info handed at admits is made catalog
 pub commits_next : (g : Setting) (s t : State) (payload : List ℕ) (m : Message) (xid : ℕ) (info : CommitInfo) (handed : List Item) → Admits g s payload m t → IsLedCommit g s t xid info handed → IsCommitOf g s payload xid
 commits_next g s t payload m xid info handed admits is = record { message = m; state = t; admits = admits; committed = is.transaction; past = is.commits.past; xid_is = is.xid_is }
 
+-- and a spooled one does then what was handed out
+does_at_commit : (g : Setting) (s t : State) (payload : List ℕ) (m : Message) (xid : ℕ) (info : CommitInfo) (handed : List Item) → Admits g s payload m t
+    → (is : IsLedCommit g s t xid info handed) → is.transaction.way ≡ Spooled → DoesAtCommit g s payload is.transaction.xid handed
+does_at_commit g s t payload m xid info handed admits is spooled =
+    let c = is.transaction in (
+      record { message = m; state = t; admits = admits; committed = c; past = is.commits.past; xid_is = refl },
+      sym (is.hands ∙ ap (λ (w : Way). items_handed_out c.xid w c.items) spooled ∙ items_of_survivors item_of c.xid c.items),
+    )
+
 -- what is left then
 record LeftAtCommit (g : Setting) (s : State) (rest : List CopyItem) (a b : Standing) : Type 0 where
   tables : b.tables ≡ a.tables
@@ -470,17 +482,17 @@ record LeftAtCommit (g : Setting) (s : State) (rest : List CopyItem) (a b : Stan
   held : AreOpenAtEnd g s rest b
 
 left_at_commit : (g : Setting) (rows : Rows) (a b : Led) (p : Progress) (rest : List CopyItem) (t : State) (xid : ℕ) (info : CommitInfo) (handed : List Item) → Represents g rows a p → (is : IsLedCommit g p.state t xid info handed)
-    → CommitsNext g p.state rest is.transaction.xid → (b.standing ≡ a.standing) ⊎ HasTried a.standing xid handed b.standing → LeftAtCommit g p.state rest a.standing b.standing
-left_at_commit g rows a b p rest t xid info handed at is next (inl same) = record {
+    → (is.transaction.way ≡ Spooled → IsNext rest (λ payload. DoesAtCommit g p.state payload is.transaction.xid handed)) → (b.standing ≡ a.standing) ⊎ HasTried a.standing xid handed b.standing → LeftAtCommit g p.state rest a.standing b.standing
+left_at_commit g rows a b p rest t xid info handed at is does (inl same) = record {
   tables = ap (λ (st : Standing). st.tables) same;
   line = ap (λ (st : Standing). commits_in st.line) same;
   held = all_held g p.state rest b.standing (subst (AreAssigned p.state.transactions) (sym same) at.agreed);
 }
-left_at_commit g rows a b p rest t xid info handed at is next (inr tried) = record {
+left_at_commit g rows a b p rest t xid info handed at is does (inr tried) = record {
   tables = ap (λ (st : Standing). st.tables) tried.is;
   line = ap (λ (st : Standing). commits_in st.line) tried.is ∙ unopened a.standing.line xid;
   held =
-      tried_held g p.state rest a.standing b.standing is.transaction handed at.agreed is.commits.present is.hands next
+      tried_held g p.state rest a.standing b.standing is.transaction (record { way = is.transaction.way; items = is.commits.items }) handed at.agreed is.commits.present does
       (subst (λ n. HasTried a.standing n handed b.standing) (sym is.xid_is) tried);
 }
 
@@ -491,7 +503,7 @@ stops_at_commit g rows a b p payload m t xid info handed end at admits is catalo
     let rest = Wal first last payload ∷ more in
     let next = commits_next g p.state t payload m xid info handed admits is in
     let ended = turn_end g p.state rest xid end (inr next) store in
-    let left = left_at_commit g rows a b p rest t xid info handed at is (subst (IsCommitOf g p.state payload) (sym is.xid_is) next) why in
+    let left = left_at_commit g rows a b p rest t xid info handed at is (does_at_commit g p.state t payload m xid info handed admits is) why in
     (same_commits a b p.state (record { catalog = catalog; tables = left.tables; line = left.line; position = position; written = written }) at.committed, ended.0, left.held, ended.1))
 
 -- ---- an item

@@ -25,7 +25,8 @@ use Rattle.engine.specs.Engine.{entry_in}
 use Rattle.engine.specs.Events.{commits_in}
 use Rattle.live_tables.specs.Journal.{rows_after}
 use Rattle.live_tables.specs.JournalLemmas.{entries_are_serial}
-use Rattle.session.specs.State.{State, Setting, setting, start}
+use Rattle.session.specs.State.{State, Setting, start}
+use Rattle.run.specs.Settings.{setting_of}
 use Rattle.run.specs.declared.end.End.{End}
 use Rattle.run.specs.declared.end.End.TheVariants as ends
 use Rattle.run.specs.declared.outcome.Config.{Config}
@@ -120,7 +121,7 @@ module _ (g : Setting) (rows : Rows) (old new : DeviceState) (l : Led) (proposed
   at_held p rest at = in_hand_at p.state rest (all_held g p.state rest l.standing at.agreed) at.committed
 
   ended_held : (handled : List CopyItem) (p : Progress) (rest : List CopyItem) → HasLedTo g rows l handled p rest proposed
-      → AreInHand g p.state rest l.standing.line (option_map own_by begun ∷ map holds_in workers) × AreGiven p.state given × MayEndBy g p.state rest proposed
+      → AreInHand g p.state rest l.standing.line (option_map own_by begun ∷ map holds_in workers) × AreGiven g p.state rest given × MayEndBy g p.state rest proposed
   ended_held handled p rest (committed, unclean, left, why) = (in_hand_at p.state rest left committed, are_given g p.state rest l.standing left given counted, why)
 
   pub has_left : (line : List LineEvent) (position : ℕ) → commits_in line ≡ commits_in l.standing.line → position ≡ l.position → LeavesLine g rows old new line position end
@@ -240,7 +241,7 @@ module _ (g : Setting) (rows : Rows) where
 
 -- a run by some workers, or beside some watchers
 pub runs_by : (n v : ℕ) (catalog : List Definition) (config : Config) (rows : Rows) (old new : DeviceState) (o : Outcome) → 0 < n + v
-    → IsRunByWorkers (setting n config.spool catalog) rows old new o → RunsBy n v catalog config rows old new o
+    → IsRunByWorkers (setting_of n config catalog) rows old new o → RunsBy n v catalog config rows old new o
 runs_by zero zero catalog config rows old new o some run = absurd (omega (arith, some))
 runs_by zero (suc v) catalog config rows old new o some run = run
 runs_by (suc n) v catalog config rows old new o some run = run

@@ -19,11 +19,13 @@ use Rattle.session.specs.State.{Way, Direct, Worker, Spooled, Open, Committed, S
 use Rattle.session.specs.Table.{new_open}
 use Rattle.session.specs.StreamEvents.{IsOpening, IsGiving, IsCommitting, IsAborting, items_handed_out}
 use Rattle.run.proofs.States.{get-inserted, get-other, get-left, get-gone}
-use Rattle.run_laws.specs.Runs.{CommitsNext}
-use Rattle.run_laws.specs.Threads.{work_of, done_by_commit}
+use Rattle.run.specs.Cause.{IsNext}
+use Rattle.session.proofs.Finals.{open_whole}
+use Rattle.run_laws.specs.Runs.{DoesAtCommit}
+use Rattle.run_laws.specs.Threads.{IsWork, work_of, done_by_commit}
 use Rattle.dispatch.specs.Handle.{Given, IsDoing}
 use Rattle.dispatch.specs.Standing.{Own, nothing, Standing, items_by, own_of, with_done, IsUndone, OwnDoes, IsBegun, IsHandedOut, IsTaken, IsCommitted, HasTried, IsAborted}
-use Rattle.leader.specs.Threads.{IsAssigned, AreAssigned, IsOpenAtEnd, AreOpenAtEnd}
+use Rattle.leader.specs.Threads.{IsAssigned, AreAssigned, KeepsToWork, IsOpenAtEnd, AreOpenAtEnd}
 use Rattle.leader.proofs.Agreeing.{same_turned, all_turned, items_here, items_elsewhere, own_here, own_elsewhere, had_is, not_nowhere, opened_here, opened_elsewhere, committed_here, committed_elsewhere, aborted_here, aborted_elsewhere, carried, none_there, by_worker, by_leader, by_none, nothing_there, agreed_but, agreed_beside}
 use Rattle.dispatch.proofs.Trying.{undone_doing}
 
@@ -222,10 +224,20 @@ open_of c = record { way = c.way; items = c.items }
 pub unopened : (line : List LineEvent) (xid : ℕ) → commits_in (line ++ WasOpened xid ∷ []) ≡ commits_in line
 unopened line xid = flat_map-append past_of line (WasOpened xid ∷ []) ∙ append-nil (commits_in line)
 
+worker_whole : (s t : State) (c : Committed) → c.way ≡ Worker → IsCommitting s t c → finite.get s.transactions c.xid ≡ Some (open_of c)
+worker_whole s t c way commits = open_whole s t c commits (λ spooled. let no : Worker ≡ Spooled = sym way ∙ spooled in cc)
+
+direct_whole : (s t : State) (c : Committed) → c.way ≡ Direct → IsCommitting s t c → finite.get s.transactions c.xid ≡ Some (open_of c)
+direct_whole s t c way commits = open_whole s t c commits (λ spooled. let no : Direct ≡ Spooled = sym way ∙ spooled in cc)
+
+-- a spooled one, with whatever is final of it
+abbrev spooled_open : (s t : State) (c : Committed) → IsCommitting s t c → Open
+spooled_open s t c commits = record { way = c.way; items = commits.items }
+
 pub worker_commit : (s t : State) (c : Committed) (old new : Standing) (handed : List Item) → AreAssigned s.transactions old → c.way ≡ Worker → IsCommitting s t c → IsCommitted old c.xid c.info handed new → Committing s t c old new
 worker_commit s t c old new handed agreed way commits (inl is) =
     let e = is.is in
-    let was = by_worker (open_of c) (items_by c.xid old.workers) (own_of c.xid old.begun) (is_open_in old.line c.xid) way (subst (There old c.xid) commits.present (agreed c.xid)) in
+    let was = by_worker (open_of c) (items_by c.xid old.workers) (own_of c.xid old.begun) (is_open_in old.line c.xid) way (subst (There old c.xid) (worker_whole s t c way commits) (agreed c.xid)) in
     let before : Option Given = Some (record { xid = c.xid; items = is.had }) in
     let same = had_is c.xid old.workers new.workers is.had (map item_of c.items) None is.workers was.0 in
     record {
@@ -247,19 +259,19 @@ worker_commit s t c old new handed agreed way commits (inl is) =
       tables = ap (λ (st : Standing). st.tables) e;
     }
 worker_commit s t c old new handed agreed way commits (inr (inl is)) =
-    let was = by_worker (open_of c) (items_by c.xid old.workers) (own_of c.xid old.begun) (is_open_in old.line c.xid) way (subst (There old c.xid) commits.present (agreed c.xid)) in
+    let was = by_worker (open_of c) (items_by c.xid old.workers) (own_of c.xid old.begun) (is_open_in old.line c.xid) way (subst (There old c.xid) (worker_whole s t c way commits) (agreed c.xid)) in
     let e : Some is.done ≡ None = own_is c.xid old.begun is.done None is.was was.1 in absurd cc
 worker_commit s t c old new handed agreed way commits (inr (inr is)) =
-    let was = by_worker (open_of c) (items_by c.xid old.workers) (own_of c.xid old.begun) (is_open_in old.line c.xid) way (subst (There old c.xid) commits.present (agreed c.xid)) in
+    let was = by_worker (open_of c) (items_by c.xid old.workers) (own_of c.xid old.begun) (is_open_in old.line c.xid) way (subst (There old c.xid) (worker_whole s t c way commits) (agreed c.xid)) in
     let e : map item_of c.items ∷ [] ≡ [] = sym was.0 ∙ is.nowhere in absurd cc
 
 pub direct_commit : (s t : State) (c : Committed) (old new : Standing) (handed : List Item) → AreAssigned s.transactions old → c.way ≡ Direct → IsCommitting s t c → IsCommitted old c.xid c.info handed new → Committing s t c old new
 direct_commit s t c old new handed agreed way commits (inl is) =
-    let was = by_leader (open_of c) (items_by c.xid old.workers) (own_of c.xid old.begun) (is_open_in old.line c.xid) way (subst (There old c.xid) commits.present (agreed c.xid)) in
+    let was = by_leader (open_of c) (items_by c.xid old.workers) (own_of c.xid old.begun) (is_open_in old.line c.xid) way (subst (There old c.xid) (direct_whole s t c way commits) (agreed c.xid)) in
     absurd (not_nowhere c.xid old.workers new.workers is.had None is.workers was.0)
 direct_commit s t c old new handed agreed way commits (inr (inl is)) =
     let e = is.is in
-    let here = subst (There old c.xid) commits.present (agreed c.xid) in
+    let here = subst (There old c.xid) (direct_whole s t c way commits) (agreed c.xid) in
     let was = by_leader (open_of c) (items_by c.xid old.workers) (own_of c.xid old.begun) (is_open_in old.line c.xid) way here in
     let had = own_done old c.xid (open_of c) is.done way here is.was in
     record {
@@ -281,19 +293,19 @@ direct_commit s t c old new handed agreed way commits (inr (inl is)) =
       tables = ap (λ (st : Standing). st.tables) e;
     }
 direct_commit s t c old new handed agreed way commits (inr (inr is)) =
-    let was = by_leader (open_of c) (items_by c.xid old.workers) (own_of c.xid old.begun) (is_open_in old.line c.xid) way (subst (There old c.xid) commits.present (agreed c.xid)) in
+    let was = by_leader (open_of c) (items_by c.xid old.workers) (own_of c.xid old.begun) (is_open_in old.line c.xid) way (subst (There old c.xid) (direct_whole s t c way commits) (agreed c.xid)) in
     let e : None ≡ Some (record { items = map item_of c.items; wants = None }) = sym (ap (own_of c.xid) is.none) ∙ was.1 in absurd cc
 
 pub spooled_commit : (s t : State) (c : Committed) (old new : Standing) (handed : List Item) → AreAssigned s.transactions old → c.way ≡ Spooled → handed ≡ items_handed_out c.xid c.way c.items → IsCommitting s t c → IsCommitted old c.xid c.info handed new → Committing s t c old new
 spooled_commit s t c old new handed agreed way hands commits (inl is) =
-    let was = by_none (open_of c) (items_by c.xid old.workers) (own_of c.xid old.begun) (is_open_in old.line c.xid) way (subst (There old c.xid) commits.present (agreed c.xid)) in
+    let was = by_none (spooled_open s t c commits) (items_by c.xid old.workers) (own_of c.xid old.begun) (is_open_in old.line c.xid) way (subst (There old c.xid) commits.present (agreed c.xid)) in
     absurd (not_nowhere c.xid old.workers new.workers is.had None is.workers was.0)
 spooled_commit s t c old new handed agreed way hands commits (inr (inl is)) =
-    let was = by_none (open_of c) (items_by c.xid old.workers) (own_of c.xid old.begun) (is_open_in old.line c.xid) way (subst (There old c.xid) commits.present (agreed c.xid)) in
+    let was = by_none (spooled_open s t c commits) (items_by c.xid old.workers) (own_of c.xid old.begun) (is_open_in old.line c.xid) way (subst (There old c.xid) commits.present (agreed c.xid)) in
     let e : Some is.done ≡ None = own_is c.xid old.begun is.done None is.was was.1 in absurd cc
 spooled_commit s t c old new handed agreed way hands commits (inr (inr is)) =
     let e = is.is in
-    let was = by_none (open_of c) (items_by c.xid old.workers) (own_of c.xid old.begun) (is_open_in old.line c.xid) way (subst (There old c.xid) commits.present (agreed c.xid)) in
+    let was = by_none (spooled_open s t c commits) (items_by c.xid old.workers) (own_of c.xid old.begun) (is_open_in old.line c.xid) way (subst (There old c.xid) commits.present (agreed c.xid)) in
     record {
       agreed =
           gone_agreed s t old new c.xid agreed commits.transactions (
@@ -330,19 +342,20 @@ held_there g s rest xid (Some o) [] None false h = h
 held_there g s rest xid (Some o) [] None true h = absurd h
 held_there g s rest xid (Some o) [] (Some d) false h = absurd h
 held_there g s rest xid (Some o) [] (Some d) true h =
-    (not_worker o.way h.0, doing_all d xid o h.0 h.1, λ spooled. absurd (not_spooled o.way h.0 spooled))
+    (not_worker o.way h.0, doing_all d o h.0 h.1)
   where
     not_worker : (w : Way) → w ≡ Direct → w ≡ Worker → ⊥
     not_worker w e f = let x : Direct ≡ Worker = sym e ∙ f in absurd cc
 
-    not_spooled : (w : Way) → w ≡ Direct → w ≡ Spooled → ⊥
-    not_spooled w e f = let x : Direct ≡ Spooled = sym e ∙ f in absurd cc
-
-    doing_all : (d : Opened) (xid : ℕ) (o : Open) → o.way ≡ Direct → d ≡ record { items = map item_of o.items; wants = None } → IsDoing d (work_of xid o.way o.items)
-    doing_all d xid o way e = record {
-      left = [];
-      begins = append-nil d.items ∙ ap (λ (x : Opened). x.items) e ∙ ap (λ (w : Way). work_of xid w o.items) (sym way);
-      wants = subst (λ w. MatchOption w (Unit {0}) (λ w. (more : List Item) × ([] ≡ Change w.0 w.1 ∷ more))) (sym (ap (λ (x : Opened). x.wants) e)) tt;
+    doing_all : (d : Opened) (o : Open) → o.way ≡ Direct → d ≡ record { items = map item_of o.items; wants = None } → KeepsToWork g s rest xid o d
+    doing_all d o way e = record {
+      work = map item_of o.items;
+      is_work = subst (λ (w : Way). IsWork g s rest xid w o.items (map item_of o.items)) (sym way) refl;
+      doing = record {
+        left = [];
+        begins = append-nil d.items ∙ ap (λ (x : Opened). x.items) e;
+        wants = subst (λ w. MatchOption w (Unit {0}) (λ w. (more : List Item) × ([] ≡ Change w.0 w.1 ∷ more))) (sym (ap (λ (x : Opened). x.wants) e)) tt;
+      };
     }
 held_there g s rest xid (Some o) (x ∷ []) None false h = absurd h
 held_there g s rest xid (Some o) (x ∷ []) None true h = h
@@ -399,8 +412,11 @@ met_held g s t old new xid item size o done after agreed way gives undone does =
         (ap (own_of xid) (ap begun_of e) ∙ own_here xid after)
         (ap (λ l. is_open_in l xid) (ap line_of e) ∙ was.2) (
           (λ worker. let x : Direct ≡ Worker = sym is ∙ worker in absurd cc),
-          subst (IsDoing after) (sym (items_more o item size) ∙ ap (λ (w : Way). work_of xid w next.items) (sym is)) (undone_doing (map item_of o.items) [] item done after had undone),
-          λ spooled. absurd (way spooled),
+          record {
+            work = map item_of next.items;
+            is_work = subst (λ (w : Way). IsWork g t rest xid w next.items (map item_of next.items)) (sym is) refl;
+            doing = subst (IsDoing after) (sym (items_more o item size)) (undone_doing (map item_of o.items) [] item done after had undone);
+          },
         )
         (λ q ne. (
           ap (λ m. finite.get m q) gives.transactions ∙ get-other s.transactions xid next q ne,
@@ -420,11 +436,10 @@ met_held g s t old new xid item size o done after agreed way gives undone does =
     by_way Spooled is = absurd (way is)
 
 -- a spooled one was begun of at its commit
-pub tried_held : (g : Setting) (s : State) (rest : List CopyItem) (old new : Standing) (c : Committed) (handed : List Item) → AreAssigned s.transactions old → finite.get s.transactions c.xid ≡ Some (record { way = c.way; items = c.items })
-    → handed ≡ items_handed_out c.xid c.way c.items → CommitsNext g s rest c.xid → HasTried old c.xid handed new → AreOpenAtEnd g s rest new
-tried_held g s rest old new c handed agreed present hands next tried =
+pub tried_held : (g : Setting) (s : State) (rest : List CopyItem) (old new : Standing) (c : Committed) (o : Open) (handed : List Item) → AreAssigned s.transactions old → finite.get s.transactions c.xid ≡ Some o
+    → (o.way ≡ Spooled → IsNext rest (λ payload. DoesAtCommit g s payload c.xid handed)) → HasTried old c.xid handed new → AreOpenAtEnd g s rest new
+tried_held g s rest old new c o handed agreed present does tried =
     let e = tried.is in
-    let o : Open = record { way = c.way; items = c.items } in
     let was = nothing_there o (items_by c.xid old.workers) (own_of c.xid old.begun) (is_open_in old.line c.xid) tried.nowhere (ap (own_of c.xid) tried.none) (subst (There old c.xid) present (agreed c.xid)) in
     held_but g c.xid s s rest old new agreed o [] (Some tried.done) true
     present
@@ -432,8 +447,11 @@ tried_held g s rest old new c handed agreed present hands next tried =
     (ap (own_of c.xid) (ap begun_of e) ∙ own_here c.xid tried.done)
     (ap (λ l. is_open_in l c.xid) (ap line_of e) ∙ opened_here old.line c.xid) (
       (λ worker. let x : Spooled ≡ Worker = sym was.0 ∙ worker in absurd cc),
-      subst (IsDoing tried.done) (hands ∙ ap (λ (w : Way). items_handed_out c.xid w c.items) was.0 ∙ items_of_survivors item_of c.xid c.items ∙ ap (λ (w : Way). work_of c.xid w c.items) (sym was.0)) tried.doing,
-      λ spooled. next,
+      record {
+        work = handed;
+        is_work = subst (λ (w : Way). IsWork g s rest c.xid w o.items handed) (sym was.0) (does was.0);
+        doing = tried.doing;
+      },
     )
     (λ q ne. (
       refl,

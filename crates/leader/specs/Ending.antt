@@ -13,6 +13,7 @@
 use Rattle.std.specs.Prelude.{◌≡◌, ◌≢◌, ℕ, true, ◌-◌, ◌^◌, ◌<◌, List, length, map, All, Contains, Option, Some, None, IsSome, IfSome, is_some, ◌⊎◌}
 use Rattle.std.specs.FinMap.{get}
 use Rattle.model.specs.declared.change.Change as change_type
+use Rattle.model.specs.declared.item.Item.{Item}
 use Rattle.model.specs.Rows.{Rows, Schema}
 use Rattle.model.specs.Effect.{ClashCause, NullKey, Unique, serial}
 use Rattle.change.specs.declared.outcome.Clash.{Clash}
@@ -25,7 +26,7 @@ use Rattle.frames.specs.declared.item.CopyItem.{CopyItem}
 use Rattle.session.specs.State.{Spooled, Open, State, Setting}
 use Rattle.run.specs.declared.end.End.{End}
 use Rattle.run.specs.declared.end.End.TheVariants as ends
-use Rattle.run_laws.specs.Threads.{work_of, done_by_commit}
+use Rattle.run_laws.specs.Threads.{IsWork, done_by_commit}
 use Rattle.dispatch.specs.Standing.{Own}
 use Rattle.leader.specs.Threads.{KeepsToWork}
 
@@ -130,7 +131,7 @@ pub record AreInHand (g : Setting) (s : State) (rest : List CopyItem) (line : Li
   pub streamed : (xid : ℕ) (o : Open) → get s.transactions xid ≡ Some o → o.way ≢ Spooled → is_open_in line xid ≡ true
 
 -- Each count that is given of a transaction of the state is of all of its work. The last number of a u64 is no count.
-abbrev pub AreGiven : State → List (ℕ × ℕ) → Type 0
-AreGiven s given =
+abbrev pub AreGiven : Setting → State → List CopyItem → List (ℕ × ℕ) → Type 0
+AreGiven g s rest given =
     (xid count : ℕ) (o : Open) → Contains given (xid, count) → count < 2 ^ 64 - 1 → get s.transactions xid ≡ Some o
-    → count ≡ length (work_of xid o.way o.items)
+    → (work : List Item) → IsWork g s rest xid o.way o.items work → count ≡ length work

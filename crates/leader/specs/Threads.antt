@@ -35,7 +35,7 @@ use Rattle.run.specs.Handler.{HasTaken}
 use Rattle.model.specs.Beginning.{last_end}
 use Rattle.run.specs.Progress.{Progress, start_progress, commits_from}
 use Rattle.run_laws.specs.Runs.{CommitsNext}
-use Rattle.run_laws.specs.Threads.{work_of, done_by_commit}
+use Rattle.run_laws.specs.Threads.{IsWork, done_by_commit}
 use Rattle.leader.specs.declared.lead.Stream.{Stream}
 use Rattle.dispatch.specs.Handle.{IsDoing}
 use Rattle.dispatch.specs.Standing.{Standing, items_by, own_of}
@@ -124,20 +124,19 @@ RepresentsStart l = (g : Setting) × (rows : Rows) × Represents g rows l start_
 
 -- ---- an end
 
--- What an open transaction has done is a beginning of its work; a spooled one begins only once the next message commits
--- it.
-abbrev pub KeepsToWork : Setting → State → List CopyItem → ℕ → Open → Opened → Type 0
-KeepsToWork g s rest xid o done =
-    IsDoing done (work_of xid o.way o.items) × (o.way ≡ Spooled → CommitsNext g s rest xid)
+-- What an open transaction has done is a beginning of its work.
+pub record KeepsToWork (g : Setting) (s : State) (rest : List CopyItem) (xid : ℕ) (o : Open) (done : Opened) : Type 0 where
+  pub work : List Item
+  pub is_work : IsWork g s rest xid o.way o.items work
+  pub doing : IsDoing done work
 
 -- What is there of a transaction where the run ends. One with a worker goes by just one worker, with all of its items. What
--- the leader's own has done is a beginning of its work; a spooled one is the leader's own only once the next message
--- commits it.
+-- the leader's own has done is a beginning of its work.
 abbrev pub IsOpenAtEnd : Setting → State → List CopyItem → ℕ → Option Open → List (List Item) → Option Opened → Bool → Type 0
 IsOpenAtEnd g s rest xid None [] None false = Unit {0}
 IsOpenAtEnd g s rest xid (Some o) (items ∷ []) None true = (o.way ≡ Worker) × (items ≡ map item_of o.items)
 IsOpenAtEnd g s rest xid (Some o) [] (Some done) true =
-    (o.way ≢ Worker) × IsDoing done (work_of xid o.way o.items) × (o.way ≡ Spooled → CommitsNext g s rest xid)
+    (o.way ≢ Worker) × KeepsToWork g s rest xid o done
 IsOpenAtEnd g s rest xid (Some o) [] None false = o.way ≡ Spooled
 IsOpenAtEnd g s rest xid _ _ _ _ = ⊥
 

@@ -15,7 +15,8 @@ use Rattle.engine.specs.declared.events.LineEvent.{LineEvent}
 use Rattle.engine.specs.Engine.{entry_in}
 use Rattle.engine.specs.Events.{commits_in}
 use Rattle.live_tables.specs.Journal.{rows_after}
-use Rattle.session.specs.State.{Setting, setting}
+use Rattle.session.specs.State.{Setting}
+use Rattle.run.specs.Settings.{setting_of}
 use Rattle.run.specs.declared.end.End.{End}
 use Rattle.run.specs.declared.end.End.TheVariants.{Clean}
 use Rattle.run.specs.declared.outcome.Config.{Config}
@@ -71,6 +72,6 @@ pub record IsRunByWorkers (g : Setting) (rows : Rows) (old new : DeviceState) (o
 
 -- A run by so many workers, beside so many watchers; without any of both it is the run without threads.
 abbrev pub RunsBy : ℕ → ℕ → List Definition → Config → Rows → DeviceState → DeviceState → Outcome → Type 0
-RunsBy zero zero catalog config rows old new o = IsRun (setting zero config.spool catalog) rows old new o
-RunsBy zero (suc v) catalog config rows old new o = IsRunByWorkers (setting zero config.spool catalog) rows old new o
-RunsBy (suc n) v catalog config rows old new o = IsRunByWorkers (setting (suc n) config.spool catalog) rows old new o
+RunsBy zero zero catalog config rows old new o = IsRun (setting_of zero config catalog) rows old new o
+RunsBy zero (suc v) catalog config rows old new o = IsRunByWorkers (setting_of zero config catalog) rows old new o
+RunsBy (suc n) v catalog config rows old new o = IsRunByWorkers (setting_of (suc n) config catalog) rows old new o

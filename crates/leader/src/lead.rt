@@ -4,7 +4,8 @@ ghost use Rattle.model.specs.Beginning.{last_end};
 ghost use Rattle.model.specs.Rows.{Rows};
 ghost use Rattle.engine.specs.Events.{ends_in};
 ghost use Rattle.session.specs.Answers.{IsOfTables};
-ghost use Rattle.session.specs.State.{Setting, setting};
+ghost use Rattle.session.specs.State.{Setting};
+ghost use Rattle.run.specs.Settings.{setting_of};
 ghost use Rattle.run.specs.Progress.{Progress, start_progress, seen_with};
 
 use bytes::Bytes;
@@ -13,7 +14,7 @@ use dispatch::{Left, Transactions};
 use engine::StoreNames;
 use frames::{CopyItem, Lsn};
 use model::{CommitInfo, Item, Xid};
-use run::{End, Handler, written_with};
+use run::{Config, End, Handler, written_with};
 use session::{Session, Step};
 use std::alloc::Global;
 use std::sync::Wait;
@@ -51,13 +52,13 @@ impl<'a, N: StoreNames, L: OutboxNames, R: Wait, G: Gate + Drop> Lead<'a, N, L, 
     ghost use Rattle.dispatch.specs.Standing.{own_by, goes_by, IsOurs, IsCommitted, HasTried, IsStoreEnd};
     ghost use Rattle.leader.specs.Threads.{led, after_commit, Represents, RepresentsSome, LeadTakes};
 
-    /// Before the first item: no transaction is open, so many may have a worker each, and the
-    /// spools may keep so many bytes.
+    /// Before the first item: no transaction is open, and so many may have a worker each. The spools
+    /// keep as many bytes, and the transaction is skipped, that `config` says.
     pub fn new(
         alloc: Global,
         catalog: &'a Catalog,
         workers: usize,
-        spool: u64,
+        config: Config,
         transactions: Transactions<'a, N, L, R, G>,
     ) -> Lead<'a, N, L, R, G>
         requires tables { transactions.tables ≡ length catalog.now }
@@ -65,12 +66,12 @@ impl<'a, N: StoreNames, L: OutboxNames, R: Wait, G: Gate + Drop> Lead<'a, N, L, 
         requires workers { length transactions.workers ≡ workers }
         requires free { All (λ goes. goes ≡ None) transactions.workers }
         requires begun { transactions.begun ≡ None }
-        ensures { (rows : Rows) → Represents (setting workers spool catalog.now) rows (led result.stream result.transactions) start_progress }
+        ensures { (rows : Rows) → Represents (setting_of workers config catalog.now) rows (led result.stream result.transactions) start_progress }
     {
         let stream = Stream {
             alloc,
             catalog,
-            session: Session::new(alloc, workers, spool),
+            session: Session::new(alloc, workers, config.spool, config.skip),
             position: 0,
             written: 0,
         };

@@ -2,7 +2,8 @@
 ghost use Rattle.std.specs.Prelude.{◌≡◌, ◌<◌, ℕ, All, [], false, length, map, max, min, slice_index_or};
 ghost use Rattle.model.specs.Rows.{Rows, keys_of, IsValid};
 ghost use Rattle.world.specs.World.{starting};
-ghost use Rattle.session.specs.State.{Setting, setting};
+ghost use Rattle.session.specs.State.{Setting};
+ghost use Rattle.run.specs.Settings.{setting_of};
 ghost use Rattle.run.specs.Progress.{start_progress};
 ghost use Rattle.run.specs.Devices.{DeviceState, device_state, health};
 ghost use Rattle.run.specs.Handler.{IsRunOver};
@@ -145,7 +146,7 @@ where
     requires name { line.name ≡ N.line }
     requires none { line.list ≡ [] }
     requires keys { N.schema ≡ map keys_of catalog.now }
-    ensures { IsRunByWorkers (setting (length gates.items) config.now.spool catalog.now) N.start devices.old devices.new result }
+    ensures { IsRunByWorkers (setting_of (length gates.items) config.now catalog.now) N.start devices.old devices.new result }
 {
     let store = SharedStore::<N>::new(store);
     match make_parts(alloc, gates.len(), config.ring) {
@@ -187,23 +188,14 @@ where
     requires fresh { All IsFresh parts.items }
     requires rings { (i : ℕ) → i < length parts.items → slice_index_or (map ring_of parts.items) i no_name ≡ L.ring i }
     requires outboxes { (i : ℕ) → i < length parts.items → slice_index_or (map outbox_of parts.items) i no_name ≡ L.outbox i }
-    ensures { IsRunByWorkers (setting (length gates.items) config.now.spool catalog.now) N.start devices.old devices.new result }
+    ensures { IsRunByWorkers (setting_of (length gates.items) config.now catalog.now) N.start devices.old devices.new result }
 {
     let mailboxes = make_mailboxes::<Job<N, L>>(alloc, gates.len());
     let pool = WorkerPool::<N, L, G>::new(alloc, parts, gates);
-    let audience = Audience::new(alloc, watchers);
+    let audience = Audience::new(alloc, watchers, config.skip);
     match (mailboxes, pool, audience) {
         (Ok(mailboxes), Ok(pool), Ok(audience)) => run_pool(
-            rt,
-            alloc,
-            devices,
-            catalog,
-            store,
-            line,
-            config.spool,
-            mailboxes,
-            pool,
-            audience,
+            rt, alloc, devices, catalog, store, line, *config, mailboxes, pool, audience,
         ),
         _ => shut(store, line, 0, End::OutOfMemory),
     }
@@ -217,7 +209,7 @@ fn run_pool<N, L, R, S, W, C, G, V>(
     catalog: &Catalog,
     store: SharedStore<N>,
     line: Line,
-    spool: u64,
+    config: Config,
     mailboxes: Vec<Mailbox<Job<N, L>>>,
     pool: WorkerPool<N, L, G>,
     audience: Audience<V>,
@@ -239,7 +231,7 @@ where
     requires given { length pool.given.items ≡ length mailboxes.items }
     requires keys { N.schema ≡ map keys_of catalog.now }
     requires valid { IsValid N.schema N.start }
-    ensures { IsRunByWorkers (setting (length mailboxes.items) spool catalog.now) N.start devices.old devices.new result }
+    ensures { IsRunByWorkers (setting_of (length mailboxes.items) config catalog.now) N.start devices.old devices.new result }
 {
     let WorkerPool {
         shared: workers,
@@ -274,7 +266,7 @@ where
     };
     let watchers = make_watchers(rt, alloc, &shared.store, &watching.origin, loader, watches);
     let (end, line, position) = lead_beside(
-        rt, alloc, devices, catalog, spool, &mailboxes, &shared, opening, watchers,
+        rt, alloc, devices, catalog, config, &mailboxes, &shared, opening, watchers,
     );
     shut_shared(shared, line, position, end)
 }
@@ -286,7 +278,7 @@ fn lead_beside<N, L, R, S, W, C, G, V>(
     alloc: Global,
     devices: &mut Devices<S, W, C>,
     catalog: &Catalog,
-    spool: u64,
+    config: Config,
     mailboxes: &[Mailbox<Job<N, L>>],
     shared: &Shared<N, L, G>,
     opening: Opening<'_, N, L, G>,
@@ -309,14 +301,14 @@ where
     requires keys { N.schema ≡ map keys_of catalog.now }
     requires valid { IsValid N.schema N.start }
     ensures name { result.1.name ≡ N.line }
-    ensures ends { LeavesLine (setting (length mailboxes.now) spool catalog.now) N.start devices.old devices.new result.1.list result.2 result.0 }
+    ensures ends { LeavesLine (setting_of (length mailboxes.now) config catalog.now) N.start devices.old devices.new result.1.list result.2 result.0 }
 {
     let watching = opening.watching;
     let leader = Leader {
         alloc,
         devices,
         catalog,
-        spool,
+        config,
         opening,
     };
     let (devices, end, line, position) = beside(rt, mailboxes, shared, watching, watchers, leader);
@@ -335,7 +327,7 @@ struct Leader<'a, N: StoreNames, L: OutboxNames, G: Drop, S: Source, W: Sink, C:
     alloc: Global,
     devices: &'a mut Devices<S, W, C>,
     catalog: &'a Catalog,
-    spool: u64,
+    config: Config,
     opening: Opening<'a, N, L, G>,
 }
 
@@ -363,7 +355,7 @@ where
     ghost use Rattle.run.specs.declared.end.End.TheVariants.{OutOfMemory as NoMemory};
     ghost use Rattle.dispatch.specs.Handle.{IsIdle};
     ghost use Rattle.leader.specs.WithWorkers.{LeavesLine};
-    ghost use Rattle.session.specs.State.{setting};
+    ghost use Rattle.run.specs.Settings.{setting_of};
 
     type Left = (&'a mut Devices<S, W, C>, End, Line, Lsn);
 
@@ -372,7 +364,7 @@ where
 
     ghost lead_gives = { λ l n has_all left. (left.0.ghost_name ≡ l.devices.ghost_name) × (left.2.name ≡ N.line)
         × (has_all ≡ false → (left.1 ≡ NoMemory) × (left.0.now ≡ l.devices.now))
-        × LeavesLine (setting n l.spool l.catalog.now) N.start l.devices.now left.0.now left.2.list left.3 left.1 };
+        × LeavesLine (setting_of n l.config l.catalog.now) N.start l.devices.now left.0.now left.2.list left.3 left.1 };
 
     fn lead<R: Wait>(
         self,
@@ -385,7 +377,7 @@ where
             alloc,
             devices,
             catalog,
-            spool,
+            config,
             opening,
         } = self;
         let (end, line, position) = lead_all(
@@ -393,7 +385,7 @@ where
             alloc,
             devices,
             catalog,
-            spool,
+            config,
             mailboxes.len(),
             shared,
             opening,
@@ -411,7 +403,7 @@ fn lead_all<'a, N, L, R, S, W, C, G>(
     alloc: Global,
     devices: &mut Devices<S, W, C>,
     catalog: &'a Catalog,
-    spool: u64,
+    config: Config,
     workers: usize,
     shared: &'a Shared<N, L, G>,
     opening: Opening<'a, N, L, G>,
@@ -434,7 +426,7 @@ where
     requires valid { IsValid N.schema N.start }
     ensures name { result.1.name ≡ N.line }
     ensures unread { has_all ≡ false → (result.0 ≡ NoMemory) × (devices.new ≡ devices.old) }
-    ensures ends { LeavesLine (setting workers spool catalog.now) N.start devices.old devices.new result.1.list result.2 result.0 }
+    ensures ends { LeavesLine (setting_of workers config catalog.now) N.start devices.old devices.new result.1.list result.2 result.0 }
 {
     let Opening {
         line,
@@ -444,7 +436,7 @@ where
         watching,
     } = opening;
     let transactions = Transactions::new(rt, shared, line, handles, given, positions);
-    let mut lead = Lead::new(alloc, catalog, workers, spool, transactions);
+    let mut lead = Lead::new(alloc, catalog, workers, config, transactions);
     let proposed = lead_stream(alloc, devices, &mut lead, has_all);
     let (left, position) = lead.into_left();
     let Left {

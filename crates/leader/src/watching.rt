@@ -4,11 +4,11 @@
 // wants none waits for the end without work. The leader tells the end; so a watcher's thread ends if its
 // turns do, and the leader ends the run.
 ghost use Rattle.std.specs.Prelude.{◌≡◌, [], IfOk, length};
-ghost use Rattle.origin.specs.Commits.{commits_of};
+ghost use Rattle.origin.specs.Commits.{commits_of, loaded_of};
 
 use crossbeam_utils::sync::EventCount;
 use engine::{SharedStore, StoreNames};
-use model::OutOfMemory;
+use model::{Lsn, OutOfMemory};
 use origin::{Loader, Origin, Publisher};
 use snapshot::{Reader, Watch};
 use std::alloc::Global;
@@ -24,15 +24,15 @@ pub struct Audience<V: Drop> {
     pub publisher: Publisher,
     pub loader: Loader,
     ghost published: { publisher ≡ commits_of origin [] },
-    ghost loaded: { loader ≡ commits_of origin [] },
+    ghost loaded: { loader ≡ loaded_of origin loader.skip [] },
 }
 
 impl<V: Drop> Audience<V> {
-    /// Nothing was published yet.
-    pub fn new(alloc: Global, watches: Vec<V>) -> Result<Audience<V>, OutOfMemory>
-        ensures { IfOk result (λ audience. audience.watches ≡ watches) }
+    /// Nothing was published yet. The transaction of this commit LSN is to be skipped, or 0.
+    pub fn new(alloc: Global, watches: Vec<V>, skip: Lsn) -> Result<Audience<V>, OutOfMemory>
+        ensures { IfOk result (λ audience. (audience.watches ≡ watches) × (audience.loader.skip ≡ skip)) }
     {
-        let (origin, publisher, loader) = Origin::new(alloc)?;
+        let (origin, publisher, loader) = Origin::new(alloc, skip)?;
         Ok(Audience {
             watches,
             origin,

@@ -4,15 +4,15 @@ use mathlib.Core.Option.{some, some-injective, some-ne-none}
 use lib.ListN.{get_elem?}
 use Rattle.crossbeam_utils.specs.Register.{Turns, Forks, Merges}
 use Rattle.atomic_table.proofs.Lists.{at_set, at_snoc, set_again}
-use Rattle.origin.specs.declared.position.Position.{Position}
+use Rattle.origin.specs.declared.position.Published.{Published}
 use Rattle.origin.specs.declared.protocol.View.{View}
-use Rattle.origin.specs.Commits.{position_after}
+use Rattle.origin.specs.Commits.{published_after}
 use Rattle.model.specs.Beginning.{Begins}
 use Rattle.origin.specs.CommitLemmas.{nothing_begins, all_begins, begins_longer, next_position}
 use Rattle.origin.specs.Rule.{Knows, IsInOrder, Publishes, Loads, Compares, first_view, blank_view, published_by, HasPublished, seen_part, met_view}
 
 -- a new cell
-pub starts : IsInOrder (position_after []) (first_view ∷ [])
+pub starts : IsInOrder (published_after []) (first_view ∷ [])
 starts = record {
   ends = [];
   publisher = 0;
@@ -41,7 +41,7 @@ reviews ends publisher id w views others mine by u at =
     (λ there. others by u there.0 there.1) (at_set views id by w u at)
 
 -- one token's view changes, to another that is true
-sees : (id : ℕ) (w : View) (x : Position) (views : List View) (rule : IsInOrder x views)
+sees : (id : ℕ) (w : View) (x : Published) (views : List View) (rule : IsInOrder x views)
     → Knows rule.ends rule.publisher id w → IsInOrder x (set views id w)
 sees id w x views rule knows = record {
   ends = rule.ends;
@@ -50,7 +50,7 @@ sees id w x views rule knows = record {
   each = reviews rule.ends rule.publisher id w views (λ by u _ there. rule.each by u there) knows;
 }
 
-pub publishes : (id : ℕ) (v : View) (p : Position) → HasPublished v
+pub publishes : (id : ℕ) (v : View) (p : Published) → HasPublished v
     → p.commits ≡ length (published_by v) + 1
     → Turns IsInOrder id v (λ _. p) (λ before _ stored after. Publishes before stored after)
 publishes id v p is next x views rule at =

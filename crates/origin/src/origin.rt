@@ -1,12 +1,12 @@
 // The cell of a position, and the tokens of those who publish and load it.
 ghost use Rattle.std.specs.Prelude.{◌≡◌, ◌+◌, ◌++◌, [], ◌∷◌, length, IfOk};
-ghost use Rattle.origin.specs.Commits.{commits_of, position_after};
+ghost use Rattle.origin.specs.Commits.{commits_of, loaded_of, position_after};
 ghost use Rattle.model.specs.Beginning.{Begins};
 
-use crate::position::Position;
+use crate::position::{Position, Published};
 use crate::protocol::{Compare, InOrder, Load, Met, Publish, Seen, View};
 use crossbeam_utils::atomic::seq_cell::{Pass, RuledSeqCell};
-use model::OutOfMemory;
+use model::{Lsn, OutOfMemory};
 use std::alloc::Global;
 use std::fmt;
 use std::marker::Model;
@@ -15,7 +15,7 @@ use std::sync::Wait;
 /// The position of the last commit that was published.
 #[derive(Drop)]
 pub struct Origin {
-    cell: RuledSeqCell<Position, View, InOrder, 2>,
+    cell: RuledSeqCell<Published, View, InOrder, 2>,
 }
 
 impl fmt::Debug for Origin {
@@ -35,7 +35,7 @@ impl Model for Origin {
 /// Who publishes. There is one to an origin. It has no bytes.
 #[derive(Drop)]
 pub struct Publisher {
-    pass: Pass<Position, View>,
+    pass: Pass<Published, View>,
 }
 
 impl fmt::Debug for Publisher {
@@ -57,61 +57,77 @@ impl Model for Publisher {
 }
 
 /// Who loads. It loads no position that is older than what it has seen, and neither do those that
-/// it is split into. It has no bytes.
+/// it is split into.
 #[derive(Drop)]
 pub struct Loader {
-    pass: Pass<Position, View>,
+    pass: Pass<Published, View>,
+    /// What a position has for its skip before the first commit.
+    skip: Lsn,
 }
 
 impl fmt::Debug for Loader {
     fn fmt<W: fmt::Write>(&self, f: &mut fmt::Formatter<W>) -> fmt::Result {
-        f.debug_struct("Loader").finish_non_exhaustive()
+        f.debug_struct("Loader")
+            .field("skip", &self.skip)
+            .finish_non_exhaustive()
     }
 }
 
 impl Model for Loader {
     ghost use Rattle.crossbeam_utils.specs.Seq.{cell_view};
-    ghost use Rattle.origin.specs.Commits.{PublishedCommits, commits_of};
+    ghost use Rattle.origin.specs.Commits.{LoadedCommits, loaded_of};
 
-    ghost Value = { PublishedCommits };
+    ghost Value = { LoadedCommits };
 
-    ghost view = { λ t. commits_of t.pass.table_id (cell_view t.pass).seen };
+    ghost view = { λ t. loaded_of t.pass.table_id t.skip (cell_view t.pass).seen };
 }
 
 impl Origin {
-    /// An origin at the start: no commit, and position 0.
-    pub fn new(alloc: Global) -> Result<(Origin, Publisher, Loader), OutOfMemory>
+    /// An origin at the start: no commit, position 0, and the transaction that is to be skipped, by its
+    /// commit LSN, or 0.
+    pub fn new(alloc: Global, skip: Lsn) -> Result<(Origin, Publisher, Loader), OutOfMemory>
         ensures publisher { IfOk result (λ made. made.1 ≡ commits_of made.0 []) }
-        ensures loader { IfOk result (λ made. made.2 ≡ commits_of made.0 []) }
+        ensures loader { IfOk result (λ made. made.2 ≡ loaded_of made.0 skip []) }
     {
-        let start = Position {
+        let start = Published {
             commits: 0,
             end_lsn: 0,
         };
         let (cell, mut pass) = RuledSeqCell::ruled(alloc, start)?;
         let other = cell.split_pass::<Seen>(&mut pass);
-        Ok((Origin { cell }, Publisher { pass }, Loader { pass: other }))
+        Ok((
+            Origin { cell },
+            Publisher { pass },
+            Loader { pass: other, skip },
+        ))
     }
 
-    /// Publishes the position behind one more commit. The caller counts: it has one commit more
-    /// than the position that was published before.
+    /// Publishes the position behind one more commit, where no skip is set. The caller counts: it has
+    /// one commit more than the position that was published before.
     pub fn publish<R: Wait>(&self, rt: &R, by: &mut Publisher, p: Position)
         requires own { by.old.origin ≡ self.now }
         requires next { p.commits ≡ length by.old.ends + 1 }
+        requires unset { p.skip ≡ 0 }
         ensures { by.new ≡ record by.old { ends = by.old.ends ++ p.end_lsn ∷ [] } }
     {
-        self.cell.swap_as::<Publish, R>(rt, &mut by.pass, p);
+        let published = Published {
+            commits: p.commits,
+            end_lsn: p.end_lsn,
+        };
+        self.cell.swap_as::<Publish, R>(rt, &mut by.pass, published);
     }
 
     /// The position that was published last. The loader then has seen all commits up to it: those
-    /// that it had seen before, and maybe more.
+    /// that it had seen before, and maybe more. Its skip is that of `new` where there is no commit.
     pub fn load<R: Wait>(&self, rt: &R, by: &mut Loader) -> Position
         requires own { by.old.origin ≡ self.now }
         ensures same { by.new.origin ≡ by.old.origin }
         ensures later { Begins by.old.ends by.new.ends }
-        ensures position { result ≡ position_after by.new.ends }
+        ensures skip { by.new.skip ≡ by.old.skip }
+        ensures position { result ≡ position_after by.new.skip by.new.ends }
     {
-        self.cell.load_as::<Load, R>(rt, &mut by.pass)
+        let published = self.cell.load_as::<Load, R>(rt, &mut by.pass);
+        published.position(by.skip)
     }
 
     /// Learns that what a loader has seen was published.
@@ -134,6 +150,7 @@ impl Loader {
         ensures { (result.0 ≡ self) × (result.1 ≡ self) }
     {
         let pass = origin.cell.split_pass::<Seen>(&mut self.pass);
-        (self, Loader { pass })
+        let skip = self.skip;
+        (self, Loader { pass, skip })
     }
 }

@@ -1,5 +1,5 @@
 // The rule of a position's cell, and what each step tells the token that makes it.
-use crate::position::Position;
+use crate::position::Published;
 use atomic_table::{Join, Split};
 use crossbeam_utils::rule::{Outcome, Protocol};
 use std::collections::LinkedList;
@@ -14,7 +14,7 @@ pub struct View {
 /// Positions are published one commit after another, by one token, and the cell has the last.
 pub struct InOrder;
 
-impl Protocol<Position, View> for InOrder {
+impl Protocol<Published, View> for InOrder {
     ghost use Rattle.origin.specs.Rule.{IsInOrder, first_view};
 
     ghost holds = { IsInOrder };
@@ -25,7 +25,7 @@ impl Protocol<Position, View> for InOrder {
 /// The publisher stores the next position.
 pub struct Publish;
 
-impl Outcome<Position, View> for Publish {
+impl Outcome<Published, View> for Publish {
     ghost use Rattle.origin.specs.Rule.{Publishes};
 
     ghost then = { λ before _ stored after. Publishes before stored after };
@@ -34,7 +34,7 @@ impl Outcome<Position, View> for Publish {
 /// A loader loads the last position.
 pub struct Load;
 
-impl Outcome<Position, View> for Load {
+impl Outcome<Published, View> for Load {
     ghost use Rattle.origin.specs.Rule.{Loads};
 
     ghost then = { λ before found _ after. Loads before found after };
@@ -43,7 +43,7 @@ impl Outcome<Position, View> for Load {
 /// A publisher that has what a loader saw compares it with what it published.
 pub struct Compare;
 
-impl Outcome<Position, View> for Compare {
+impl Outcome<Published, View> for Compare {
     ghost use Rattle.origin.specs.Rule.{Compares};
 
     ghost then = { λ before _ _ after. Compares before after };

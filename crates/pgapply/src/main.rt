@@ -107,7 +107,7 @@ fn run_watched<T: Threads + Wait + RandomSource + Sync>(
 ) -> io::Result<u8> {
     let mut trace = Trace::new(rt.alloc());
     let mut progress = Progress::new(rt.clone()?, options.progress);
-    let mut account = Account::new(rt.alloc());
+    let mut account = Account::new(rt.alloc(), options.config.skip);
     let watched = Watched::new(source, &mut trace, &mut progress, options.verbose);
     let devices = Devices::new(watched, sink, SystemClock::new(rt));
     let status = run_over(rt, threads, options, catalog, devices, &mut account)?;

@@ -1,7 +1,8 @@
 // What `--verbose` says of a command that did not end well: why, and where in the stream.
 use crate::execute::Hearer;
+use crate::lsn::write_lsn;
 use catalog::{Catalog, CatalogFault, TableDef, TableId};
-use leader::{End, Outcome};
+use leader::{End, Entry, Lsn, Outcome};
 use std::alloc::{AllocError, Global};
 use trace::Trace;
 
@@ -11,13 +12,17 @@ pub struct Account {
     text: String,
     /// Whether a run has ended. Without one there is no place in the stream to tell.
     has_run: bool,
+    /// The commit LSN of the transaction that was to be skipped; 0 for none.
+    skip: Lsn,
 }
 
 impl Account {
-    pub fn new(alloc: Global) -> Account {
+    /// Of a command that was to skip the transaction of this commit LSN; 0 for none.
+    pub fn new(alloc: Global, skip: Lsn) -> Account {
         Account {
             text: String::new(alloc),
             has_run: false,
+            skip,
         }
     }
 
@@ -42,9 +47,9 @@ impl Account {
             "pgapply: {bytes} bytes were read, whole frames {frames}; the last frame begins at byte {offset}"
         )?;
         if let Some(start) = place.start {
-            let high = start >> 32;
-            let low = start & 0xffff_ffff;
-            write!(self.text, ", at {high:X}/{low:X} of the publisher's log")?;
+            self.text.push_str(", at ")?;
+            write_lsn(&mut self.text, start)?;
+            self.text.push_str(" of the publisher's log")?;
         }
         self.text.push('\n')?;
         if let Some(message) = place.message {
@@ -72,6 +77,27 @@ impl Account {
             write!(self.text, " ({namespace}.{name})")?;
         }
         Ok(())
+    }
+
+    /// Adds which transaction was skipped, or that none was, where one was to be.
+    fn add_skip(&mut self, journal: &[Entry]) -> Result<(), AllocError> {
+        if self.skip == 0 {
+            return Ok(());
+        }
+        match journal.first() {
+            Some(entry) if entry.commit == self.skip => {
+                let xid = entry.xid;
+                write!(
+                    self.text,
+                    "pgapply: transaction {xid} was skipped, which committed at "
+                )?;
+            }
+            _ => self.text.push_str(
+                "pgapply: no transaction was skipped: none committed first at ",
+            )?,
+        }
+        write_lsn(&mut self.text, self.skip)?;
+        self.text.push('\n')
     }
 
     fn add_end(&mut self, catalog: &Catalog, end: End) -> Result<(), AllocError> {
@@ -115,6 +141,7 @@ impl Hearer for Account {
 
     fn hear_end(&mut self, catalog: &Catalog, outcome: &Outcome) {
         self.has_run = true;
+        let _added = self.add_skip(&outcome.journal);
         let _added = self.add_end(catalog, outcome.end);
     }
 }

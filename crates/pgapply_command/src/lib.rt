@@ -14,6 +14,7 @@
 //   options    the command line, with its limits and defaults
 //   account    what `--verbose` says of a command that did not end well
 //   progress   what `--progress` says while a stream is read
+//   lsn        LSNs as PostgreSQL writes them
 //   output     the report, or why a command can't go on
 //   stream     what a stream is read from, and where status updates go
 //   system     the system's clock
@@ -22,6 +23,7 @@
 // what passes of a stream, on `tcp` for what comes over one, and on the kit's `clap`.
 pub mod account;
 pub mod execute;
+pub mod lsn;
 pub mod options;
 pub mod output;
 pub mod progress;

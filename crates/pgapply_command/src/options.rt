@@ -1,8 +1,9 @@
 // The command line. Limits and defaults of its numbers stand here alone.
+use crate::lsn::read_lsn;
 use clap::builder::ValueParser;
 use clap::error::ErrorKind;
 use clap::{Arg, ArgAction, ArgMatches, Command, Error};
-use leader::Config;
+use leader::{Config, Lsn};
 use std::alloc::{AllocError, Global};
 
 /// Where the stream comes from, as given.
@@ -83,7 +84,16 @@ pub fn parse<'a>(alloc: Global, words: &'a [String]) -> Result<Options<'a>, Erro
         )?;
         return Err(program.error(ErrorKind::ValueValidation, message.as_str())?);
     }
-    Ok(options_of(name == "replay", given))
+    let skip = match skip_of(given) {
+        Ok(skip) => skip,
+        Err(text) => {
+            let message = format!(in alloc;
+                "invalid value '{text}' for '--skip <LSN>': an LSN is written as 16/B374D848, and 0/0 is none"
+            )?;
+            return Err(program.error(ErrorKind::ValueValidation, message.as_str())?);
+        }
+    };
+    Ok(options_of(name == "replay", skip, given))
 }
 
 fn apply<'a>(alloc: Global) -> Result<Command<'a>, AllocError> {
@@ -126,6 +136,7 @@ fn reading<'a>(alloc: Global, name: &'a str, input: Arg<'a>) -> Result<Command<'
             ),
             "1073741824",
         ))?
+        .arg(skip(alloc))?
         .arg(flag(
             alloc,
             "verbose",
@@ -153,6 +164,16 @@ fn with_workers<'a>(alloc: Global, command: Command<'a>) -> Result<Command<'a>, 
             limited!("Items that wait for one of these threads", 1 to 1024),
             "64",
         ))
+}
+
+fn skip<'a>(alloc: Global) -> Arg<'a> {
+    Arg::new(alloc, "skip")
+        .long("skip")
+        .value_name("LSN")
+        .help(
+            "Leave out the first transaction that commits, if it does so at this LSN: its changes, not its position",
+        )
+        .action(ArgAction::Set)
 }
 
 fn stream_file<'a>(alloc: Global) -> Arg<'a> {
@@ -217,8 +238,19 @@ fn first_with_sign<'a>(given: &ArgMatches<'a>) -> Option<(&'static str, &'a str)
     None
 }
 
+/// The transaction to skip, 0 for none; or the text that is no LSN of one.
+fn skip_of<'a>(given: &ArgMatches<'a>) -> Result<Lsn, &'a str> {
+    let Some(text) = given.get_str("skip") else {
+        return Ok(0);
+    };
+    match read_lsn(text) {
+        None | Some(0) => Err(text),
+        Some(lsn) => Ok(lsn),
+    }
+}
+
 /// `replay` has no workers.
-fn options_of<'a>(spooled: bool, given: &ArgMatches<'a>) -> Options<'a> {
+fn options_of<'a>(spooled: bool, skip: Lsn, given: &ArgMatches<'a>) -> Options<'a> {
     Options {
         spooled,
         catalog: given.get_str("config").unwrap_or(""),
@@ -230,6 +262,7 @@ fn options_of<'a>(spooled: bool, given: &ArgMatches<'a>) -> Options<'a> {
             workers: number_of(given, "workers").unwrap_or(0) as usize,
             ring: number_of(given, "ring").unwrap_or(1) as usize,
             spool: number_of(given, "spool").unwrap_or(0),
+            skip,
         },
         verbose: given.get_flag("verbose"),
         progress: given.get_flag("progress"),

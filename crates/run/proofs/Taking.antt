@@ -29,6 +29,7 @@ use Rattle.session.specs.Table.{new_open}
 use Rattle.session.specs.StreamEvents.{StreamEvent, NoEvent, TransactionOpens, ItemComes, TransactionCommits, TransactionAborts, Tells, items_handed_out}
 use Rattle.session.specs.Represents.{Represents as SessionRepresents}
 use Rattle.session.specs.Answers.{Says, IsWithin}
+use Rattle.session.proofs.Finals.{open_whole, all_final}
 use Rattle.run.specs.declared.applier.Applier.{Applier}
 use Rattle.model.specs.Accepted.{AreAccepted}
 use Rattle.model.specs.SerialLemmas.{accepted_append}
@@ -246,7 +247,7 @@ handed_named P xid Spooled items all =
 pub committed_by : (g : Setting) (s t : State) (told : StreamEvent) (xid commit end : ℕ) (items : Vec Item Global) → IsSane s → IsSane t → AreServed (length g.catalog) s.transactions → Tells s t told → Says told (steps.Commit xid (record { commit = commit; end = end }) items)
     → IsCommitted g s t xid commit end items.items
 committed_by g s t (TransactionCommits c) xid commit end items first second served tells says =
-    let was = served c.xid (record { way = c.way; items = c.items }) tells.present in
+    let was = served c.xid (record { way = c.way; items = tells.items }) tells.present in
     let ends : c.info.end ≡ end = ap (λ (i : CommitInfo). i.end) (sym says.1) in
     record {
       transaction = c;
@@ -255,10 +256,10 @@ committed_by g s t (TransactionCommits c) xid commit end items first second serv
       info_is = sym says.1;
       later = subst (λ n. s.position < n) ends tells.later;
       position = tells.position ∙ ends;
-      changes = changes_handed s c.xid c.way c.items was.way (λ direct. direct_begun s c.xid _ first tells.present direct) (λ streamed. unbegun s t c.xid _ first second tells.present streamed tells.transactions tells.outside) ∙ ap (λ is. begun_changes s ++ changes_of is) (sym says.2);
+      changes = changes_handed s c.xid c.way c.items was.way (λ direct. direct_begun s c.xid _ first (open_whole s t c tells (λ spooled. let no : Direct ≡ Spooled = sym direct ∙ spooled in cc)) direct) (λ streamed. unbegun s t c.xid _ first second tells.present streamed tells.transactions tells.outside) ∙ ap (λ is. begun_changes s ++ changes_of is) (sym says.2);
       begun = begun_outside t tells.outside;
       served = subst (AreServed (length g.catalog)) (sym tells.transactions) (AreServed-remove (length g.catalog) s.transactions c.xid served);
-      named = subst (All (IsOfTables (length g.catalog))) (sym says.2) (handed_named (IsOfTables (length g.catalog)) c.xid c.way c.items was.items);
+      named = subst (All (IsOfTables (length g.catalog))) (sym says.2) (handed_named (IsOfTables (length g.catalog)) c.xid c.way c.items (all_final (IsOfTables (length g.catalog)) s t c tells was.items));
     }
 committed_by g s t (TransactionOpens x Direct) xid commit end items first second served tells says = absurd cc
 committed_by g s t (ItemComes x Direct item size) xid commit end items first second served tells says = absurd cc

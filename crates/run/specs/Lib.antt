@@ -9,4 +9,5 @@ pub mod Devices
 pub mod StreamPart
 pub mod Run
 pub mod Handler
+pub mod Settings
 pub mod Applier

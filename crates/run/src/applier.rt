@@ -4,13 +4,14 @@ ghost use Rattle.model.specs.Rows.{Rows, keys_of};
 ghost use Rattle.engine.specs.Engine.{entry_in, IsOtherwiseSame};
 ghost use Rattle.engine.specs.Serial.{committed_by};
 ghost use Rattle.world.specs.World.{journal as journal_of, ends_of};
-ghost use Rattle.session.specs.State.{Setting, setting};
+ghost use Rattle.session.specs.State.{Setting};
+ghost use Rattle.run.specs.Settings.{setting_of};
 ghost use Rattle.run.specs.Progress.{Progress, start_progress};
 ghost use Rattle.model.specs.Beginning.{last_end};
 
 use crate::end::End;
 use crate::handler::{Handler, written_with};
-use crate::outcome::Outcome;
+use crate::outcome::{Config, Outcome};
 use bytes::Bytes;
 use catalog::Catalog;
 use engine::SerialStore;
@@ -36,22 +37,23 @@ pub struct Applier<'a> {
 impl<'a> Applier<'a> {
     ghost use Rattle.run.specs.Applier.{RepresentsSome, Represents, TakesMessage};
 
-    /// Before the first item: these tables, which are those of the catalog, and spools for so many bytes.
+    /// Before the first item: these tables, which are those of the catalog. The spools keep as many bytes,
+    /// and the transaction is skipped, that `config` says.
     /// Refused for memory, the tables are handed back.
     pub fn new(
         alloc: Global,
         catalog: &'a Catalog,
         start: Tables,
-        spool: u64,
+        config: &Config,
     ) -> Result<Applier<'a>, Tables>
         requires { start.schema ≡ map keys_of catalog.now }
-        ensures at { IfOk result (λ applier. Represents (setting 0 spool catalog.now) start.rows applier start_progress) }
+        ensures at { IfOk result (λ applier. Represents (setting_of 0 config.now catalog.now) start.rows applier start_progress) }
         ensures err { IfErr result (λ tables. tables ≡ start) }
     {
         Ok(Applier {
             alloc,
             catalog,
-            session: Session::new(alloc, 0, spool),
+            session: Session::new(alloc, 0, config.spool, config.skip),
             work: SerialStore::new(alloc, start)?,
             position: 0,
             written: 0,

@@ -18,6 +18,9 @@ pub struct Config {
     pub ring: usize,
     /// The payload bytes that spooled transactions may take.
     pub spool: u64,
+    /// The commit LSN of a transaction to skip: if it is the first that commits, its changes are left
+    /// out, and its position is kept. 0 skips none. (PostgreSQL manual: ALTER SUBSCRIPTION, SKIP.)
+    pub skip: Lsn,
 }
 
 /// What a run leaves.

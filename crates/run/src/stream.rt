@@ -3,7 +3,8 @@ ghost use Rattle.std.specs.Prelude.{◌≡◌, ◌≢◌, ℕ, true, false, List
 ghost use Rattle.model.specs.Rows.{Rows, keys_of};
 ghost use Rattle.frames.specs.declared.item.CopyItem.{CopyItem as Item};
 ghost use Rattle.frames.specs.Reads.{HasRead};
-ghost use Rattle.session.specs.State.{Setting, setting};
+ghost use Rattle.session.specs.State.{Setting};
+ghost use Rattle.run.specs.Settings.{setting_of};
 ghost use Rattle.run.specs.Progress.{start_progress};
 ghost use Rattle.run.specs.Handler.{IsUnderWay, HasCome, AnswersItem, HandlesKept, IsRunOver, end_of_result};
 ghost use Rattle.run.specs.Devices.{DeviceState, device_state, health};
@@ -68,7 +69,7 @@ pub fn run_spooled<R: Source + Drop, W: Sink + Drop, C: Clock + Drop>(
     clock: C,
 ) -> Outcome
     requires { start.schema ≡ map keys_of catalog.now }
-    ensures { (after : DeviceState) × IsRun (setting 0 config.now.spool catalog.now) start.rows
+    ensures { (after : DeviceState) × IsRun (setting_of 0 config.now catalog.now) start.rows
         (device_state (R.remaining reader) (W.contents writer) (C.told clock) (R.reads_left reader)
         (health (R.failures reader) (R.failed_last reader)) (health (W.failures writer) (W.failed_last writer)))
         after result }
@@ -86,9 +87,9 @@ pub fn run_spooled_on<R: Source, W: Sink, C: Clock>(
     config: &Config,
 ) -> Outcome
     requires { start.schema ≡ map keys_of catalog.now }
-    ensures { IsRun (setting 0 config.now.spool catalog.now) start.rows devices.old devices.new result }
+    ensures { IsRun (setting_of 0 config.now catalog.now) start.rows devices.old devices.new result }
 {
-    let mut applier = match Applier::new(alloc, catalog, start, config.spool) {
+    let mut applier = match Applier::new(alloc, catalog, start, config) {
         Ok(applier) => applier,
         Err(start) => return Outcome::unread(alloc, start),
     };

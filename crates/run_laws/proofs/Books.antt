@@ -14,7 +14,7 @@ use Rattle.world.specs.Settled.{WaitsFor, IsSettled}
 use Rattle.world.specs.Steps.{IsStuck}
 use Rattle.world.specs.World.{Opened, World, ByClash}
 use Rattle.run_laws.specs.Runs.{CommitsNext}
-use Rattle.run_laws.specs.Threads.{work_of, IsWorldOf}
+use Rattle.run_laws.specs.Threads.{IsWork, IsWorldOf}
 use Rattle.run_laws.specs.ThreadedRun.{HasConflict, WaitsOn, HasDoneAll, AllWait, IsStuckBy}
 use Rattle.run_laws.specs.Leading.{Outbox, InStep, IsAgreed, AreInStep, AreCounts}
 use Rattle.run_laws.proofs.Noted.{is_wanted, still_clashes}
@@ -58,14 +58,18 @@ module _ (g : Setting) (s : State) (rest : List CopyItem) (xid : ℕ) where
 
   module _ (o : Open) (l : Outbox) (done : Opened) (step : InStep g s rest xid o l done) where
     -- what it has done and has still to do
-    pub whole : done.items ++ (step.does.left ++ l.queued) ≡ work_of xid o.way o.items
-    whole = sym (append_assoc done.items step.does.left l.queued) ∙ ap (λ is. is ++ l.queued) step.does.begins ∙ step.all_work
+    pub parted : done.items ++ (step.does.left ++ l.queued) ≡ l.sent ++ l.queued
+    parted = sym (append_assoc done.items step.does.left l.queued) ∙ ap (λ is. is ++ l.queued) step.does.begins
+
+    -- that is its work
+    pub whole : IsWork g s rest xid o.way o.items (done.items ++ (step.does.left ++ l.queued))
+    whole = subst (IsWork g s rest xid o.way o.items) (sym parted) step.all_work
 
     -- the change that waits or clashed comes next
     pub wanted_next : (sub : ℕ) (c : change_type.Change) (wanted : done.wants ≡ Some (sub, c))
-        → done.items ++ Change sub c ∷ ((step.wants sub c wanted).0 ++ l.queued) ≡ work_of xid o.way o.items
+        → IsWork g s rest xid o.way o.items (done.items ++ Change sub c ∷ ((step.wants sub c wanted).0 ++ l.queued))
     wanted_next sub c wanted =
-        ap (λ is. done.items ++ (is ++ l.queued)) (sym (step.wants sub c wanted).1) ∙ whole
+        subst (IsWork g s rest xid o.way o.items) (ap (λ is. done.items ++ (is ++ l.queued)) (step.wants sub c wanted).1) whole
 
 -- ---- the world
 
@@ -84,46 +88,54 @@ module _ (g : Setting) (rows : Rows) (s : State) (rest : List CopyItem) (outboxe
         let is = there xid done at in (
           is.0,
           is.1,
-          (
-            record { left = is.4.does.left ++ is.2.queued; begins = whole g s rest xid is.0 is.2 done is.4 },
-            is.4.next,
-          ),
+          record {
+            work = done.items ++ (is.4.does.left ++ is.2.queued);
+            is_work = whole g s rest xid is.0 is.2 done is.4;
+            does = record { left = is.4.does.left ++ is.2.queued; begins = refl };
+          },
         );
   }
 
   -- what clashed and stopped the world is a conflict, while its transaction wants a change
   pub noted_conflict : IsValid (schema_of g) rows → (xid : ℕ) (c : change_type.Change) (cause : ClashCause)
       → w.stopped ≡ Some (ByClash xid c cause) → (done : Opened) → get w.opened xid ≡ Some done
-      → (sub : ℕ) (e : change_type.Change) → done.wants ≡ Some (sub, e) → HasConflict g s w cause
+      → (sub : ℕ) (e : change_type.Change) → done.wants ≡ Some (sub, e) → HasConflict g s rest w cause
   noted_conflict valid xid c cause stopped done at sub e wanted =
       let is = there xid done at in
       let same = is_wanted (schema_of g) rows w are.reached xid c cause stopped done sub e at wanted in
-      let wants : done.wants ≡ Some (sub, c) = wanted ∙ ap (λ (d : change_type.Change). Some (sub, d)) same in (
-        xid,
-        is.0,
-        is.1,
-        record {
+      let wants : done.wants ≡ Some (sub, c) = wanted ∙ ap (λ (d : change_type.Change). Some (sub, d)) same in
+      record {
+        xid = xid;
+        transaction = is.0;
+        present = is.1;
+        work = done.items ++ Change sub c ∷ ((is.4.wants sub c wants).0 ++ is.2.queued);
+        is_work = wanted_next g s rest xid is.0 is.2 done is.4 sub c wants;
+        clashes = record {
           transaction = done;
           present = at;
           subtransaction = sub;
           change = c;
           after = (is.4.wants sub c wants).0 ++ is.2.queued;
-          in_turn = wanted_next g s rest xid is.0 is.2 done is.4 sub c wants;
+          in_turn = refl;
           so = still_clashes (schema_of g) rows w valid are.reached xid c cause stopped done sub at wants;
-        },
-      )
+        };
+      }
 
   -- one that waits for a cell of another
   pub waits_on : (xid holder : ℕ) (o : Open) (l : Outbox) (done : Opened) → get w.opened xid ≡ Some done
-      → InStep g s rest xid o l done → WaitsFor (schema_of g) w xid done holder → WaitsOn (schema_of g) w xid o holder
+      → InStep g s rest xid o l done → WaitsFor (schema_of g) w xid done holder → WaitsOn g s rest w xid o holder
   waits_on xid holder o l done at step waits = record {
-    transaction = done;
-    present = at;
-    subtransaction = waits.0;
-    change = waits.1;
-    after = (step.wants waits.0 waits.1 waits.2).0 ++ l.queued;
-    in_turn = wanted_next g s rest xid o l done step waits.0 waits.1 waits.2;
-    so = waits.3;
+    work = done.items ++ Change waits.0 waits.1 ∷ ((step.wants waits.0 waits.1 waits.2).0 ++ l.queued);
+    is_work = wanted_next g s rest xid o l done step waits.0 waits.1 waits.2;
+    waits = record {
+      transaction = done;
+      present = at;
+      subtransaction = waits.0;
+      change = waits.1;
+      after = (step.wants waits.0 waits.1 waits.2).0 ++ l.queued;
+      in_turn = refl;
+      so = waits.3;
+    };
   }
 
   none_after : (items more : List Item) → length items ≡ length (items ++ more) → more ≡ []
@@ -133,14 +145,17 @@ module _ (g : Setting) (rows : Rows) (s : State) (rest : List CopyItem) (outboxe
 
   -- one that has done as many as it has to do
   pub has_done_all : (xid : ℕ) (o : Open) (l : Outbox) (done : Opened) → get w.opened xid ≡ Some done
-      → InStep g s rest xid o l done → length done.items ≡ length (l.sent ++ l.queued) → HasDoneAll w xid o
+      → InStep g s rest xid o l done → length done.items ≡ length (l.sent ++ l.queued) → HasDoneAll g s rest w xid o
   has_done_all xid o l done at step count =
-      let all = whole g s rest xid o l done step in
       let none : step.does.left ++ l.queued ≡ [] =
-      none_after done.items (step.does.left ++ l.queued) (count ∙ ap length (step.all_work ∙ sym all)) in
-      (done, at, sym (append-nil done.items) ∙ ap (λ more. done.items ++ more) (sym none) ∙ all)
+      none_after done.items (step.does.left ++ l.queued) (count ∙ ap length (sym (parted g s rest xid o l done step))) in (
+        done,
+        at,
+        subst (IsWork g s rest xid o.way o.items) (ap (λ more. done.items ++ more) none ∙ append-nil done.items)
+            (whole g s rest xid o l done step),
+      )
 
-  pub all_wait : (named : List (ℕ × ℕ)) → AreCounts outboxes named → IsSettled (schema_of g) w named → AllWait g s w
+  pub all_wait : (named : List (ℕ × ℕ)) → AreCounts outboxes named → IsSettled (schema_of g) w named → AllWait g s rest w
   all_wait named counts settled xid o at not =
       let is = streamed_in_step g s rest xid (get s.transactions xid) (outboxes xid) (get w.opened xid) o at not (are.agree xid) in
       elim (settled xid is.2 is.3) [

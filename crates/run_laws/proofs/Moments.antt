@@ -101,8 +101,8 @@ turn_in_step g rows a _ are (does_one xid o outbox done i left at next call) =
 turn_in_step g rows a _ are (wants_one xid o outbox done sub c left stopped at next call) =
     wants g rows a.state a.rest a.outboxes a.world are xid o at.present outbox done sub c left stopped
     (in_step_at g rows a.state a.rest a.outboxes a.world are xid o outbox done at.present at.served at.opened) at.served next call
-turn_in_step g rows a _ are (unspools_one xid o after new at spooled next call outbox) =
-    unspools g rows a.state a.rest a.outboxes a.world are xid o at after new next call outbox
+turn_in_step g rows a _ are (unspools_one xid o work after new at spooled is call outbox) =
+    unspools g rows a.state a.rest a.outboxes a.world are xid o at work after new is call outbox
 turn_in_step g rows a _ are (stops_world stopped call) =
     stops g rows a.state a.rest a.outboxes a.world stopped are call
 

@@ -1,5 +1,5 @@
 -- A run without threads is a run with no workers.
-use Rattle.std.proofs.Common.{◌≡◌, ◌≢◌, ℕ, List, [], ◌∷◌, ◌++◌, Option, Some, None, refl, sym, ap, subst, ◌∙◌, append-nil, inl, inr}
+use Rattle.std.proofs.Common.{◌≡◌, ◌≢◌, ℕ, List, [], ◌∷◌, ◌++◌, Option, Some, None, refl, sym, ap, subst, ◌∙◌, append-nil, ◌⊎◌, inl, inr}
 use Rattle.std.specs.Prelude.{map, IsSomeAnd}
 use Rattle.std.proofs.lemmas.List.{map-append}
 use Rattle.std.specs.Ordering.{nat_cmp}
@@ -33,8 +33,8 @@ use Rattle.world.specs.ListingLemmas.{xid_cases, got_same, got_other, gone_same,
 use Rattle.world.specs.World.{Opened, OpenOnes, World}
 use Rattle.run_laws.proofs.Begun.{IsSane, open_items, begun_in, begun, Moves}
 use Rattle.run_laws.proofs.WorldAt.{committed_past, open_ones, world_at, TellsRun, conflict, IsTurnOf, IsStoppedBy}
-use Rattle.run_laws.specs.Runs.{IsAtMostOne, CommitsNext, DoesAtCommit}
-use Rattle.run_laws.specs.Threads.{work_of, done_by_commit, DoesWork}
+use Rattle.run_laws.specs.Runs.{IsAtMostOne, DoesAtCommit, NextChange}
+use Rattle.run_laws.specs.Threads.{IsWork, work_of, done_by_commit, DoesWork}
 use Rattle.run_laws.specs.ThreadedRun.{HasConflict, IsThreadedCause, IsThreadedRun}
 use Rattle.run_laws.proofs.Reaching.{handled_told}
 use Rattle.run_laws.proofs.Running.{none_is, begun_open, run_reached, run_stopped}
@@ -107,6 +107,9 @@ not_worker e = cc
 not_spooled : Direct ≡ Spooled → ⊥
 not_spooled e = cc
 
+worker_not_spooled : Worker ≡ Spooled → ⊥
+worker_not_spooled e = cc
+
 -- ---- what is told keeps it so
 
 module _ (s t : State) (none : NoneWorks s.transactions) (all : AllSurvive s.transactions) where
@@ -135,7 +138,11 @@ module _ (s t : State) (none : NoneWorks s.transactions) (all : AllSurvive s.tra
   same_past (TransactionOpens xid way) tells same = subst ArePlain (sym tells.past) same
   same_past (ItemComes xid way item size) tells same = subst ArePlain (sym tells.2.past) same
   same_past (TransactionCommits c) tells same =
-      let this = all c.xid (record { way = c.way; items = c.items }) tells.present in
+      let this : Survives c.xid c.way c.items =
+      elim tells.final [
+        | inl same ↦ subst (Survives c.xid c.way) (sym same) (all c.xid (record { way = c.way; items = tells.items }) tells.present)
+        | inr skipped ↦ subst (λ (way : Way). Survives c.xid way c.items) (sym skipped.0) refl
+      ] in
       subst ArePlain (sym tells.past)
       (map-append done_by_commit s.past (c ∷ []) ∙ ap (λ line. line ++ done_by_commit c ∷ []) same
       ∙ ap (λ is. map committed_past s.past ++ (record { xid = c.xid; items = is; info = c.info }) ∷ []) this
@@ -151,7 +158,7 @@ plain_items g zero p q (item ∷ items) sane alike plain is =
     let t = is.0.state in
     let now = handled_told g p is.0 item sane is.1 in
     let none = alike.state.ways zero in
-    plain_items g zero is.0 q items now.3 (handled g g p p is.0 is.0 item refl alike is.1 is.1)
+    plain_items g zero is.0 q items now.3 (handled g g p p is.0 is.0 item refl refl alike is.1 is.1)
     (record {
       opened = all_survive p.state t none plain.opened now.0 now.1 now.2;
       past = same_past p.state t none plain.opened now.0 now.1 plain.past;
@@ -163,6 +170,22 @@ plain_start = record { opened = λ xid o at. absurd (not_there o (sym (get-empty
 pub led_plain : (g : Setting) → g.workers ≡ 0 → (p : Progress) (items : List CopyItem) → Leads g start_progress items p
     → IsPlain p.state
 led_plain g zero p items = plain_items g zero start_progress p items sane_start (start_alike g) plain_start
+
+-- ---- a change that comes next
+
+-- what is so of it makes something else so
+next_so : {P Q : Opened → ℕ → change_type.Change → Type 0} (w : World) (xid : ℕ) (work : List Item) → NextChange w xid work P
+    → ((o : Opened) (sub : ℕ) (c : change_type.Change) → P o sub c → Q o sub c) → NextChange w xid work Q
+next_so w xid work next so =
+    record {
+      transaction = next.transaction;
+      subtransaction = next.subtransaction;
+      change = next.change;
+      so = so next.transaction next.subtransaction next.change next.so;
+      present = next.present;
+      after = next.after;
+      in_turn = next.in_turn;
+    }
 
 -- ---- the transaction that is open in the world
 
@@ -177,21 +200,20 @@ same_done a b e = cc
 
 module _ (g : Setting) (s : State) (rest : List CopyItem) (sane : IsSane s) (plain : IsPlain s) where
   -- It is open in the state, and this is its work.
-  abbrev IsWork : ℕ → List Item → Type 0
-  IsWork xid work =
-      (o : Open) × (get s.transactions xid ≡ Some o) × (work ≡ work_of xid o.way o.items)
-      × (o.way ≡ Spooled → CommitsNext g s rest xid)
+  abbrev HasWork : ℕ → List Item → Type 0
+  HasWork xid work =
+      (o : Open) × (get s.transactions xid ≡ Some o) × IsWork g s rest xid o.way o.items work
 
   -- It is open in the state, and does its work.
   abbrev IsOpen : ℕ → Opened → Type 0
   IsOpen xid done = (o : Open) × (get s.transactions xid ≡ Some o) × DoesWork g s rest xid o done
 
   begun_work : (xid : ℕ) (items work : List Item) → begun s ≡ Some (xid, items) → survivors xid items ≡ work
-      → IsWork xid work
+      → HasWork xid work
   begun_work xid items work is survive = by_phase s.phase sane.here is
     where
       by_found : (x : ℕ) (found : Option Open) → get s.transactions x ≡ found → IsSomeAnd found (λ o. o.way ≡ Direct)
-          → ◌≡◌ {A = Option (ℕ × List Item)} (Some (x, open_items found)) (Some (xid, items)) → IsWork xid work
+          → ◌≡◌ {A = Option (ℕ × List Item)} (Some (x, open_items found)) (Some (xid, items)) → HasWork xid work
       by_found x None at here e = absurd here
       by_found x (Some o) at here e =
           let same = one_is (x, map item_of o.items) (xid, items) e in
@@ -199,44 +221,61 @@ module _ (g : Setting) (s : State) (rest : List CopyItem) (sane : IsSane s) (pla
           ap (get s.transactions) (ap (λ (b : ℕ × List Item). b.0) (sym same)) ∙ at in (
             o,
             there,
-            sym survive ∙ ap (survivors xid) (ap (λ (b : ℕ × List Item). b.1) (sym same))
-                ∙ sym (plain.opened xid o there),
-            λ spooled. absurd (not_spooled (sym here ∙ spooled)),
+            subst (λ (way : Way). IsWork g s rest xid way o.items work) (sym here)
+                (sym survive ∙ ap (survivors xid) (ap (λ (b : ℕ × List Item). b.1) (sym same))
+                ∙ sym (subst (λ (way : Way). Survives xid way o.items) here (plain.opened xid o there))),
           )
 
-      by_phase : (p : Phase) → IsHere p s.transactions → begun_in p s.transactions ≡ Some (xid, items) → IsWork xid work
+      by_phase : (p : Phase) → IsHere p s.transactions → begun_in p s.transactions ≡ Some (xid, items) → HasWork xid work
       by_phase Outside here e = absurd (none_begun (xid, items) e)
       by_phase (Begun x final) here e = by_found x (get s.transactions x) refl here e
       by_phase (Block x) here e = absurd (none_begun (xid, items) e)
 
-  committed_work : (payload : List ℕ) (xid : ℕ) (work : List Item) → (does : DoesAtCommit g s payload xid work)
-      → (o : Open) × (get s.transactions xid ≡ Some o) × (work ≡ work_of xid o.way o.items)
-  committed_work payload xid work does =
-      let c = does.0.committed in
-      let there : get s.transactions xid ≡ Some (record { way = c.way; items = c.items }) =
-      subst (λ x. get s.transactions x ≡ Some (record { way = c.way; items = c.items })) does.0.xid_is
-      (commits_open g s payload xid sane does.0).1 in (
-        record { way = c.way; items = c.items },
-        there,
-        sym does.1 ∙ sym (plain.opened xid (record { way = c.way; items = c.items }) there),
-      )
+  -- what is final of a transaction's items is its work, if it isn't spooled
+  final_work : (xid : ℕ) (way : Way) (items final : SizedItems) (work : List Item) → survivors xid (map item_of final) ≡ work
+      → (final ≡ items) ⊎ ((way ≡ Spooled) × (final ≡ [])) → Survives xid way items → way ≢ Spooled
+      → work ≡ work_of xid way items
+  final_work xid way items final work does is all not =
+      elim is [
+        | inl same ↦ sym does ∙ ap (λ (is : SizedItems). survivors xid (map item_of is)) same ∙ sym all
+        | inr skipped ↦ absurd (not skipped.0)
+      ]
 
-  turn_work : (xid : ℕ) (work : List Item) → IsTurnOf g s rest xid work → IsWork xid work
+  committed_work : (first last : ℕ) (payload : List ℕ) (items : List CopyItem) (xid : ℕ) (work : List Item)
+      → (does : DoesAtCommit g s payload xid work)
+      → (o : Open) × (get s.transactions xid ≡ Some o) × IsWork g s (Wal first last payload ∷ items) xid o.way o.items work
+  committed_work first last payload items xid work does =
+      let c = does.0.committed in
+      let closes = commits_open g s payload xid sane does.0 in
+      let there : get s.transactions xid ≡ Some (record { way = c.way; items = closes.1.0 }) =
+      subst (λ x. get s.transactions x ≡ Some (record { way = c.way; items = closes.1.0 })) does.0.xid_is closes.1.1 in (
+        record { way = c.way; items = closes.1.0 },
+        there,
+        by_way c.way closes.1.0
+            (final_work xid c.way closes.1.0 c.items work does.1 closes.1.2 (plain.opened xid (record { way = c.way; items = closes.1.0 }) there)),
+      )
+    where
+      by_way : (way : Way) (was : SizedItems) → (way ≢ Spooled → work ≡ work_of xid way was)
+          → IsWork g s (Wal first last payload ∷ items) xid way was work
+      by_way Direct was is = is not_spooled
+      by_way Worker was is = is worker_not_spooled
+      by_way Spooled was is = does
+
+  turn_work : (xid : ℕ) (work : List Item) → IsTurnOf g s rest xid work → HasWork xid work
   turn_work xid work turn = elim turn [ inl is ↦ begun_work xid is.0 work is.1 is.2 | inr next ↦ by_next rest next ]
     where
       by_next : (items : List CopyItem) → IsNext items (λ payload. DoesAtCommit g s payload xid work)
-          → (o : Open) × (get s.transactions xid ≡ Some o) × (work ≡ work_of xid o.way o.items)
-          × (o.way ≡ Spooled → CommitsNext g s items xid)
+          → (o : Open) × (get s.transactions xid ≡ Some o) × IsWork g s items xid o.way o.items work
       by_next [] next = absurd next
-      by_next (Wal first last payload ∷ items) next =
-          let is = committed_work payload xid work next in (is.0, is.1, is.2, λ spooled. next.0)
+      by_next (Wal first last payload ∷ items) next = committed_work first last payload items xid work next
       by_next (Keepalive last reply ∷ items) next = absurd next
       by_next (Done ∷ items) next = absurd next
 
   -- one that has done a beginning of its work
-  works : (xid : ℕ) (work : List Item) (done : Opened) (left : List Item) → IsWork xid work → done.items ++ left ≡ work
+  works : (xid : ℕ) (work : List Item) (done : Opened) (left : List Item) → HasWork xid work → done.items ++ left ≡ work
       → IsOpen xid done
-  works xid work done left is begins = (is.0, is.1, (record { left = left; begins = begins ∙ is.2 }, is.3))
+  works xid work done left is begins =
+      (is.0, is.1, record { work = work; is_work = is.2; does = record { left = left; begins = begins } })
 
   -- it is the only one
   only : (m : OpenOnes) → IsAtMostOne m → (xid : ℕ) (done : Opened) → get m xid ≡ Some done → IsOpen xid done
@@ -264,29 +303,24 @@ module _ (g : Setting) (s : State) (rest : List CopyItem) (sane : IsSane s) (pla
         (works xid work stopped.transaction (Change stopped.subtransaction stopped.change ∷ stopped.after)
         (turn_work xid work turn) stopped.in_turn)
 
-    stopped_conflict : HasConflict g s w cause
+    stopped_conflict : HasConflict g s rest w cause
     stopped_conflict =
-        let is = turn_work xid work turn in (
-          xid,
-          is.0,
-          is.1,
-          record {
-            transaction = stopped.transaction;
-            present = stopped.present;
-            subtransaction = stopped.subtransaction;
-            change = stopped.change;
-            after = stopped.after;
-            in_turn = stopped.in_turn ∙ is.2;
-            so = (stopped.so.1.1, stopped.so.1.2);
-          },
-        )
+        let is = turn_work xid work turn in
+        record {
+          xid = xid;
+          transaction = is.0;
+          present = is.1;
+          work = work;
+          is_work = is.2;
+          clashes = next_so w xid work stopped (λ o sub c stops. (stops.1.1, stops.1.2));
+        }
 
 -- ---- why a run ended
 
 module _ (g : Setting) (rows : Rows) (old new : DeviceState) (part : StreamPart g old new) (w : World)
     (running : w.stopped ≡ None) where
   threaded_cause : (end : End) → IsCause rows part end
-      → ((cause : ClashCause) → conflict end ≡ Some cause → HasConflict g part.progress.state w cause)
+      → ((cause : ClashCause) → conflict end ≡ Some cause → HasConflict g part.progress.state part.rest w cause)
       → IsThreadedCause part w end
   threaded_cause ends.Clean is clashes = (is.1, running)
   threaded_cause (ends.Frame Device) is clashes = is.1
@@ -331,7 +365,7 @@ module _ (g : Setting) (rows : Rows) (old new : DeviceState) (o : Outcome) (run 
 
   at_world : (w : World) → TellsRun g rows s o w
       → ((xid : ℕ) (done : Opened) → get w.opened xid ≡ Some done → IsOpen g s run.part.rest sane plain xid done)
-      → ((cause : ClashCause) → conflict o.end ≡ Some cause → HasConflict g s w cause) → IsSame
+      → ((cause : ClashCause) → conflict o.end ≡ Some cause → HasConflict g s run.part.rest w cause) → IsSame
   at_world w tells opened clashes = (
     record {
       part = run.part;
@@ -354,7 +388,7 @@ module _ (g : Setting) (rows : Rows) (old new : DeviceState) (o : Outcome) (run 
       at_world stopped.0 stopped.1
       (stopped_works g s run.part.rest sane plain stopped.0 stopped.2 stopped.3 stopped.4 cause stopped.5 stopped.1.alone)
       (λ why e.
-      subst (HasConflict g s stopped.0) (one_cause cause why (sym is ∙ e))
+      subst (HasConflict g s run.part.rest stopped.0) (one_cause cause why (sym is ∙ e))
       (stopped_conflict g s run.part.rest sane plain stopped.0 stopped.2 stopped.3 stopped.4 cause stopped.5))
 
   pub without_workers : IsSame

@@ -22,19 +22,32 @@ use Rattle.world.specs.ListingLemmas.{xid_cases, got_same, got_other, gone_same,
 use Rattle.world.specs.Steps.{Opens, Step, opens, commits, aborts, Reaches, at_start, by_step, done_with, wanting, committed_with, aborted_with}
 use Rattle.world.specs.World.{Opened, Stop, World, starting}
 use Rattle.run_laws.specs.Runs.{CommitsNext}
-use Rattle.run_laws.specs.Threads.{work_of, done_by_commit}
+use Rattle.run_laws.specs.Threads.{IsWork, work_of, done_by_commit}
 use Rattle.run_laws.specs.Leading.{Outbox, InStep, IsAgreed, AreInStep, IsWith}
 use Rattle.run_laws.specs.Turns.{empty_outbox, with_queued}
-use Rattle.run_laws.proofs.Threading.{not_longer, one_state, one_commit}
+use Rattle.session.proofs.Stepped.{not_longer}
+use Rattle.run_laws.proofs.Threading.{next_commits, one_state, one_commit}
 
 -- The next message commits none.
 abbrev pub CommitsNone : Setting → State → List CopyItem → Type 0
 CommitsNone g s rest = (xid : ℕ) → ¬ (CommitsNext g s rest xid)
 
+-- What this transaction has to do at first, it has to do later too.
+abbrev KeepsWork : Setting → State → State → List CopyItem → List CopyItem → ℕ → Type 0
+KeepsWork g s t rest more xid =
+    (way : Way) (items : SizedItems) (work : List Item) → IsWork g s rest xid way items work → IsWork g t more xid way items work
+
+-- so it is where the next message doesn't commit it
+keeps_work : (g : Setting) (s t : State) (rest more : List CopyItem) (xid : ℕ) → ¬ (CommitsNext g s rest xid)
+    → KeepsWork g s t rest more xid
+keeps_work g s t rest more xid none Direct items work is = is
+keeps_work g s t rest more xid none Worker items work is = is
+keeps_work g s t rest more xid none Spooled items work is = absurd (none (next_commits g s rest xid Spooled items work refl is))
+
 module _ (g : Setting) (rows : Rows) (s t : State) (rest more : List CopyItem) where
   -- a transaction that is as it was
   same_agreed : (xid : ℕ) (o p : Option Open) (l k : Option Outbox) (d e : Option Opened) → p ≡ o → k ≡ l → e ≡ d
-      → (CommitsNext g s rest xid → CommitsNext g t more xid) → IsAgreed g s rest xid o l d → IsAgreed g t more xid p k e
+      → KeepsWork g s t rest more xid → IsAgreed g s rest xid o l d → IsAgreed g t more xid p k e
   same_agreed xid o p l k d e o_is l_is d_is next agreed =
       subst (λ x. IsAgreed g t more xid x k e) (sym o_is)
       (subst (λ x. IsAgreed g t more xid o x e) (sym l_is)
@@ -44,10 +57,9 @@ module _ (g : Setting) (rows : Rows) (s t : State) (rest more : List CopyItem) w
       later None None None is = tt
       later (Some o) None None is = is
       later (Some o) (Some l) (Some d) is = record {
-        all_work = is.all_work;
+        all_work = next o.way o.items (l.sent ++ l.queued) is.all_work;
         does = is.does;
         wants = is.wants;
-        next = λ spooled. next (is.next spooled);
       }
       later None (Some l) d is = absurd is
       later (Some o) (Some l) None is = absurd is
@@ -59,7 +71,7 @@ module _ (g : Setting) (rows : Rows) (s t : State) (rest more : List CopyItem) w
       → ∥ Reaches (schema_of g) (starting rows) new ∥₁ → new.line ≡ map done_by_commit t.past
       → IsAgreed g t more xid (get t.transactions xid) (after xid) (get new.opened xid)
       → ((x : ℕ) → x ≢ xid → (get t.transactions x ≡ get s.transactions x) × (after x ≡ outboxes x) × (get new.opened x ≡ get w.opened x))
-      → ((x : ℕ) → x ≢ xid → CommitsNext g s rest x → CommitsNext g t more x)
+      → ((x : ℕ) → x ≢ xid → KeepsWork g s t rest more x)
       → AreInStep g rows t more after new
   one_moves outboxes after w new xid are reached line here elsewhere next = record {
     reached = reached;
@@ -82,16 +94,21 @@ just_opened = record { items = []; wants = None }
 none_wanted : (sub : ℕ) (c : change_type.Change) → ◌≡◌ {A = Option (ℕ × change_type.Change)} None (Some (sub, c)) → ⊥
 none_wanted sub c e = cc
 
-work_with : (xid : ℕ) (way : Way) (items : SizedItems) (item : Item) (size : ℕ) → way ≢ Spooled
-    → work_of xid way (items ++ (item, size) ∷ []) ≡ work_of xid way items ++ item ∷ []
-work_with xid Direct items item size not = map-append item_of items ((item, size) ∷ [])
-work_with xid Worker items item size not = map-append item_of items ((item, size) ∷ [])
-work_with xid Spooled items item size not = absurd (not refl)
+one_more : (items : SizedItems) (work : List Item) (item : Item) (size : ℕ) → work ≡ map item_of items
+    → work ++ item ∷ [] ≡ map item_of (items ++ (item, size) ∷ [])
+one_more items work item size is = ap (λ w. w ++ item ∷ []) is ∙ sym (map-append item_of items ((item, size) ∷ []))
 
-no_work : (xid : ℕ) (way : Way) → way ≢ Spooled → [] ≡ work_of xid way []
-no_work xid Direct not = refl
-no_work xid Worker not = refl
-no_work xid Spooled not = absurd (not refl)
+-- with an item more, one that isn't spooled has that to do besides
+work_with : (g : Setting) (s t : State) (rest more : List CopyItem) (xid : ℕ) (way : Way) (items : SizedItems) (work : List Item) (item : Item) (size : ℕ)
+    → way ≢ Spooled → IsWork g s rest xid way items work → IsWork g t more xid way (items ++ (item, size) ∷ []) (work ++ item ∷ [])
+work_with g s t rest more xid Direct items work item size not is = one_more items work item size is
+work_with g s t rest more xid Worker items work item size not is = one_more items work item size is
+work_with g s t rest more xid Spooled items work item size not is = absurd (not refl)
+
+no_work : (g : Setting) (s : State) (rest : List CopyItem) (xid : ℕ) (way : Way) → way ≢ Spooled → IsWork g s rest xid way [] []
+no_work g s rest xid Direct not = refl
+no_work g s rest xid Worker not = refl
+no_work g s rest xid Spooled not = absurd (not refl)
 
 -- what isn't open in the state has no outbox, and is not open in the world
 nowhere : (g : Setting) (s : State) (rest : List CopyItem) (xid : ℕ) (o : Option Open) (l : Option Outbox) (d : Option Opened)
@@ -114,7 +131,7 @@ not_yet g s rest xid (Some o) p (Some l) None e spooled not is = absurd is
 not_yet g s rest xid None p None (Some d) e spooled not is = absurd is
 not_yet g s rest xid (Some o) p None (Some d) e spooled not is = absurd is
 not_yet g s rest xid (Some o) p (Some l) (Some d) e spooled not is =
-    absurd (not (is.next (ap (λ (q : Open). q.way) (same o p e) ∙ spooled)))
+    absurd (not (next_commits g s rest xid o.way o.items _ (ap (λ (q : Open). q.way) (same o p e) ∙ spooled) is.all_work))
   where
     same : (o p : Open) → Some o ≡ Some p → o ≡ p
     same o p e = cc
@@ -139,8 +156,8 @@ in_outbox g s rest xid (Some o) p (Some l) k (Some d) e f is =
     same_outbox l k e = cc
 
 module _ (g : Setting) (rows : Rows) (s t : State) (rest more : List CopyItem) (outboxes : ℕ → Option Outbox) (w : World) (are : AreInStep g rows s rest outboxes w) (commits_none : CommitsNone g s rest) where
-  none_next : (xid : ℕ) → CommitsNext g s rest xid → CommitsNext g t more xid
-  none_next xid next = absurd (commits_none xid next)
+  none_next : (xid : ℕ) → KeepsWork g s t rest more xid
+  none_next xid = keeps_work g s t rest more xid (commits_none xid)
 
   -- nothing
   pub nothing_told : Same s t → AreInStep g rows t more outboxes w
@@ -167,10 +184,9 @@ module _ (g : Setting) (rows : Rows) (s t : State) (rest more : List CopyItem) (
       (subst (λ x. IsAgreed g t more xid (Some (record { way = way; items = [] })) x (get new.opened xid)) (sym outbox.here)
       (subst (λ x. IsAgreed g t more xid (Some (record { way = way; items = [] })) (Some empty_outbox) x) (sym (there xid ∙ got_same w.opened xid just_opened))
       (record {
-        all_work = no_work xid way not;
+        all_work = no_work g t more xid way not;
         does = record { left = []; begins = refl };
         wants = λ sub c e. absurd (none_wanted sub c e);
-        next = λ spooled. absurd (not spooled);
       }))))
       (λ x differs. (
         ap (λ m. get m x) told.transactions ∙ got_other s.transactions xid _ x differs,
@@ -201,11 +217,10 @@ module _ (g : Setting) (rows : Rows) (s t : State) (rest more : List CopyItem) (
       (subst (λ x. IsAgreed g t more xid (Some (record o { items = o.items ++ (item, size) ∷ [] })) (Some (with_queued l item)) x) (sym is.1)
       (record {
         all_work =
-            sym (append_assoc l.sent l.queued (item ∷ [])) ∙ ap (λ is. is ++ item ∷ []) is.2.all_work
-            ∙ sym (work_with xid o.way o.items item size not);
+            subst (IsWork g t more xid o.way (o.items ++ (item, size) ∷ [])) (append_assoc l.sent l.queued (item ∷ []))
+            (work_with g s t rest more xid o.way o.items (l.sent ++ l.queued) item size not is.2.all_work);
         does = is.2.does;
         wants = is.2.wants;
-        next = λ spooled. absurd (not spooled);
       }))))
       (λ x differs. (
         ap (λ m. get m x) told.transactions ∙ got_other s.transactions xid _ x differs,
@@ -276,7 +291,7 @@ commits_told g rows s t rest more outboxes after w c d are told only at all outb
       outbox.elsewhere x differs,
       gone_other w.opened c.xid x differs,
     ))
-    (λ x differs next. absurd (differs (only x next)))
+    (λ x differs. keeps_work g s t rest more x (λ next. differs (only x next)))
   where
     new : World
     new = committed_with (schema_of g) w c.xid d c.info
@@ -304,7 +319,7 @@ module _ (g : Setting) (rows : Rows) (s : State) (rest : List CopyItem) (outboxe
       (subst (λ x. IsAgreed g s rest xid x (after xid) (get new.opened xid)) (sym present)
       (subst (λ x. IsAgreed g s rest xid (Some o) x (get new.opened xid)) (sym outbox.here)
       (subst (λ x. IsAgreed g s rest xid (Some o) (Some k) x) (sym (there xid ∙ got_same w.opened xid e)) step)))
-      (λ x differs. (refl, outbox.elsewhere x differs, there x ∙ got_other w.opened xid e x differs)) (λ x differs next. next)
+      (λ x differs. (refl, outbox.elsewhere x differs, there x ∙ got_other w.opened xid e x differs)) (λ x differs way items work is. is)
 
   same_outboxes : (l : Outbox) → outboxes xid ≡ Some l → IsWith outboxes outboxes xid (Some l)
   same_outboxes l was = record { here = was; elsewhere = λ x differs. refl }
@@ -316,10 +331,11 @@ module _ (g : Setting) (rows : Rows) (s : State) (rest : List CopyItem) (outboxe
   sends l d i queued after step at first outbox =
       moves after w (record { sent = l.sent ++ i ∷ []; queued = queued }) d are.reached refl
       (record {
-        all_work = append_assoc l.sent (i ∷ []) queued ∙ ap (λ is. l.sent ++ is) (sym first) ∙ step.all_work;
+        all_work =
+            subst (IsWork g s rest xid o.way o.items)
+            (sym (append_assoc l.sent (i ∷ []) queued ∙ ap (λ is. l.sent ++ is) (sym first))) step.all_work;
         does = record { left = step.does.left ++ i ∷ []; begins = sym (append_assoc d.items step.does.left (i ∷ [])) ∙ ap (λ is. is ++ i ∷ []) step.does.begins };
         wants = λ sub c wanted. let is = step.wants sub c wanted in (is.0 ++ i ∷ [], ap (λ is. is ++ i ∷ []) is.1);
-        next = step.next;
       })
       outbox (λ x. by_xid x)
     where
@@ -339,7 +355,6 @@ module _ (g : Setting) (rows : Rows) (s : State) (rest : List CopyItem) (outboxe
         all_work = step.all_work;
         does = record { left = left; begins = append_assoc d.items (i ∷ []) left ∙ first };
         wants = λ sub c wanted. absurd (none_wanted sub c wanted);
-        next = step.next;
       })
       (same_outboxes l was) (λ x. refl)
 
@@ -355,7 +370,6 @@ module _ (g : Setting) (rows : Rows) (s : State) (rest : List CopyItem) (outboxe
         all_work = step.all_work;
         does = record { left = Change sub c ∷ left; begins = first };
         wants = λ other e wanted. (left, ap (λ i. i ∷ left) (same_change sub other c e wanted));
-        next = step.next;
       })
       (same_outboxes l was) (λ x. refl)
     where
@@ -367,17 +381,16 @@ module _ (g : Setting) (rows : Rows) (s : State) (rest : List CopyItem) (outboxe
       same_change sub other c e wanted = ap (λ (p : ℕ × change_type.Change). Change p.0 p.1) (same_pair (sub, c) (other, e) wanted)
 
   -- a spooled one that the next message commits opens in the world, with all of its work queued
-  pub unspools : (after : ℕ → Option Outbox) (new : World) → CommitsNext g s rest xid → Opens w xid (Ok tt) new
-      → IsWith outboxes after xid (Some (record { sent = []; queued = work_of xid o.way o.items }))
+  pub unspools : (work : List Item) (after : ℕ → Option Outbox) (new : World) → IsWork g s rest xid o.way o.items work
+      → Opens w xid (Ok tt) new → IsWith outboxes after xid (Some (record { sent = []; queued = work }))
       → AreInStep g rows s rest after new
-  unspools after new next call outbox =
-      moves after new (record { sent = []; queued = work_of xid o.way o.items }) just_opened
+  unspools work after new is call outbox =
+      moves after new (record { sent = []; queued = work }) just_opened
       (∥∥₁_map are.reached (λ r. by_step w new r (opens xid (Ok tt) new call))) (ap (λ (v : World). v.line) call.3)
       (record {
-        all_work = refl;
+        all_work = is;
         does = record { left = []; begins = refl };
         wants = λ sub c wanted. absurd (none_wanted sub c wanted);
-        next = λ spooled. next;
       })
       outbox (λ x. ap (λ (v : World). get v.opened x) call.3)
 

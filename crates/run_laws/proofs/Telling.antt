@@ -1,6 +1,6 @@
 -- What each line of the session table tells.
 use Rattle.std.proofs.Common.{◌≡◌, ◌≢◌, ℕ, Bool, true, false, if◌then◌else◌, List, [], ◌∷◌, ◌++◌, Option, Some, None, refl, sym, ap, subst, ◌∙◌, inl, inr}
-use Rattle.std.specs.Prelude.{map, Result, Ok, Err, IsSomeAnd, nat_le, ◌==◌}
+use Rattle.std.specs.Prelude.{map, Result, Ok, IsSomeAnd, nat_le, ◌==◌}
 use Rattle.std.proofs.lemmas.Bool.{leb-false}
 use Rattle.std.proofs.lemmas.List.{map-append}
 use Rattle.std.specs.FinMap as finite
@@ -17,47 +17,17 @@ use Rattle.relcache.specs.declared.fault.RelFault.{RelFault}
 use Rattle.relcache.specs.Published.{Relations}
 use Rattle.session.specs.declared.phase.Phase.{Phase}
 use Rattle.session.specs.declared.phase.Phase.TheVariants.{Outside, Begun, Block}
-use Rattle.session.specs.declared.fault.SessionFault.{SessionFault}
 use Rattle.session.specs.declared.fault.SessionFault.TheVariants.{AlreadyOpen, UnknownTransaction}
 use Rattle.session.specs.Sized.{SizedItems, item_of}
 use Rattle.session.specs.State.{Way, Direct, Worker, Spooled, Open, OpenTransactions, Committed, State, Setting, GoesAlone, begun_at, start}
-use Rattle.session.specs.Table.{Next, refuse, room_fault, unless_fault, new_open, opens, next_way, goes_on, streams, of_open, gives, has_room, touches, plans, changes, closes, commits, commits_begun, aborts_open, aborts, subtransaction_named, step}
+use Rattle.session.specs.Table.{refuse, is_skipped, final_items, room_fault, new_open, opens, next_way, goes_on, streams, gives, has_room, touches, changes, closes, commits, commits_begun, aborts_open, aborts, subtransaction_named, step}
 use Rattle.session.specs.StreamEvents.{NoEvent, TransactionOpens, ItemComes, TransactionCommits, TransactionAborts}
+use Rattle.session.proofs.Finals.{are_final}
+use Rattle.session.proofs.Stepped.{was_fault_free, was_open, was_so, was_not_so, was_planned, went_to, ok_is}
 use Rattle.world.specs.ListingLemmas.{xid_cases, got_same, got_other, gone_other, gone_same}
 use Rattle.run_laws.proofs.Begun.{IsSane, open_items, begun, if_direct, Moves, IsTold}
 
--- ---- what an answer of the table is
-
-pub was_fault_free : (fault : Option SessionFault) (u t : State) → unless_fault fault u ≡ Ok t
-    → (fault ≡ None) × (u ≡ t)
-was_fault_free None u t e = (refl, cc)
-was_fault_free (Some fault) u t e = cc
-
-pub was_open : (found : Option Open) (next : Open → Next) (t : State) → of_open found next ≡ Ok t
-    → (o : Open) × (found ≡ Some o) × (next o ≡ Ok t)
-was_open None next t e = cc
-was_open (Some o) next t e = (o, refl, e)
-
-pub was_so : (b : Bool) (next : Next) (fault : SessionFault) (t : State)
-    → (if b then next else refuse fault) ≡ Ok t → next ≡ Ok t
-was_so true next fault t e = e
-was_so false next fault t e = cc
-
-pub was_not_so : (b : Bool) (next : Next) (fault : SessionFault) (t : State)
-    → (if b then refuse fault else next) ≡ Ok t → (b ≡ false) × (next ≡ Ok t)
-was_not_so true next fault t e = cc
-was_not_so false next fault t e = (refl, e)
-
-pub was_planned : (planned : Result change_type.Change RelFault) (next : change_type.Change → State) (t : State)
-    → plans planned next ≡ Ok t → (c : change_type.Change) × (next c ≡ t)
-was_planned (Ok c) next t e = (c, cc)
-was_planned (Err fault) next t e = cc
-
-abbrev pub went_to : State → Next
-went_to t = Ok t
-
-pub ok_is : (u t : State) → went_to u ≡ went_to t → u ≡ t
-ok_is u t e = cc
+-- ---- opening
 
 none_at : (m : OpenTransactions) (xid : ℕ) → room_fault m xid ≡ None → finite.get m xid ≡ None
 none_at m xid e = from (finite.get m xid) refl
@@ -142,11 +112,11 @@ closed_streamed xid Direct items streamed = absurd (streamed refl)
 closed_streamed xid Worker items streamed = refl
 closed_streamed xid Spooled items streamed = refl
 
-closed_direct : (xid : ℕ) (way : Way) (items : SizedItems) → way ≡ Direct
-    → Some (xid, map item_of items) ≡ if_direct xid way items
-closed_direct xid Direct items direct = refl
-closed_direct xid Worker items direct = cc
-closed_direct xid Spooled items direct = cc
+closed_direct : (xid : ℕ) (skipped : Bool) (way : Way) (items : SizedItems) → way ≡ Direct
+    → Some (xid, map item_of items) ≡ if_direct xid way (final_items skipped way items)
+closed_direct xid skipped Direct items direct = refl
+closed_direct xid skipped Worker items direct = cc
+closed_direct xid skipped Spooled items direct = cc
 
 streamed_way : (b : Bool) → (if b then Worker else Spooled) ≢ Direct
 streamed_way true = λ e. cc
@@ -169,6 +139,10 @@ tells_nothing s relations sane = (
   refl,
   record { here = sane.here; alone = sane.alone },
 )
+
+stays : (s t : State) (relations : Relations) → IsSane s → went_to (knowing s relations) ≡ went_to t
+    → IsTold s t
+stays s t relations sane e = subst (IsTold s) (ok_is (knowing s relations) t e) (tells_nothing s relations sane)
 
 begins_direct : (s : State) (xid final : ℕ) (t : State) → IsSane (in_phase s Outside)
     → opens (in_phase s Outside) xid Direct (Begun xid final) ≡ Ok t → IsTold (in_phase s Outside) t
@@ -284,22 +258,31 @@ changes_begun g s xid final size planned t sane e =
     let is = was_planned planned _ t (was_so (has_room g s.transactions size was.0.way) _ _ t was.2) in
     subst (IsTold (in_phase s (Begun xid final))) is.1 (gives_begun s xid final is.0 size was.0 sane was.1)
 
+-- a change of one that is skipped is passed over
+passes_begun : (g : Setting) (s : State) (xid final size : ℕ) (planned : Result change_type.Change RelFault) (t : State) (skipped : Bool)
+    → IsSane (in_phase s (Begun xid final))
+    → (if skipped then went_to (in_phase s (Begun xid final)) else changes g (in_phase s (Begun xid final)) xid xid size planned) ≡ Ok t
+    → IsTold (in_phase s (Begun xid final)) t
+passes_begun g s xid final size planned t true sane e = stays (in_phase s (Begun xid final)) t s.relations sane e
+passes_begun g s xid final size planned t false sane e = changes_begun g s xid final size planned t sane e
+
 -- ---- commits
 
 -- what is committed
-abbrev final_of : ℕ → CommitInfo → Open → Committed
-final_of xid info o = record { xid = xid; way = o.way; items = o.items; info = info }
+abbrev final_of : Bool → ℕ → CommitInfo → Open → Committed
+final_of skipped xid info o = record { xid = xid; way = o.way; items = final_items skipped o.way o.items; info = info }
 
-closes_direct : (s : State) (xid final : ℕ) (info : CommitInfo) (t : State) (o : Open)
+closes_direct : (g : Setting) (s : State) (xid final : ℕ) (info : CommitInfo) (t : State) (o : Open)
     → IsSane (in_phase s (Begun xid final)) → finite.get s.transactions xid ≡ Some o
-    → closes (in_phase s (Begun xid final)) xid info o ≡ Ok t → IsTold (in_phase s (Begun xid final)) t
-closes_direct s xid final info t o sane at e =
+    → closes g (in_phase s (Begun xid final)) xid info o ≡ Ok t → IsTold (in_phase s (Begun xid final)) t
+closes_direct g s xid final info t o sane at e =
+    let skipped = is_skipped g s info.commit in
     let was = was_not_so (nat_le info.end s.position) _ _ t e in
     let direct : o.way ≡ Direct = some_is _ (λ p. p.way ≡ Direct) sane.here o at in
     subst (IsTold (in_phase s (Begun xid final))) (ok_is _ t was.1) (
-      TransactionCommits (final_of xid info o),
-      record { present = at; later = leb-false info.end s.position was.0; outside = refl; transactions = refl; position = refl; past = refl },
-      (ap (λ (found : Option Open). Some (xid, open_items found)) at ∙ closed_direct xid o.way o.items direct, refl),
+      TransactionCommits (final_of skipped xid info o),
+      record { items = o.items; present = at; final = are_final skipped o.way o.items; later = leb-false info.end s.position was.0; outside = refl; transactions = refl; position = refl; past = refl },
+      (ap (λ (found : Option Open). Some (xid, open_items found)) at ∙ closed_direct xid skipped o.way o.items direct, refl),
       record {
         here = tt;
         alone = gone_alone Outside s.transactions xid (λ x q differs there is. absurd (differs (sym (same_xid xid x (sane.alone x q there is)))));
@@ -309,35 +292,36 @@ closes_direct s xid final info t o sane at e =
     same_xid : (x y : ℕ) → Some x ≡ Some y → x ≡ y
     same_xid x y e = cc
 
-closes_streamed : (s : State) (xid : ℕ) (info : CommitInfo) (t : State) (o : Open)
+closes_streamed : (g : Setting) (s : State) (xid : ℕ) (info : CommitInfo) (t : State) (o : Open)
     → IsSane (in_phase s Outside) → finite.get s.transactions xid ≡ Some o
-    → closes (in_phase s Outside) xid info o ≡ Ok t → IsTold (in_phase s Outside) t
-closes_streamed s xid info t o sane at e =
+    → closes g (in_phase s Outside) xid info o ≡ Ok t → IsTold (in_phase s Outside) t
+closes_streamed g s xid info t o sane at e =
+    let skipped = is_skipped g s info.commit in
     let was = was_not_so (nat_le info.end s.position) _ _ t e in
     let streamed : o.way ≢ Direct = none_direct s.transactions sane.alone xid o at in
     subst (IsTold (in_phase s Outside)) (ok_is _ t was.1) (
-      TransactionCommits (final_of xid info o),
-      record { present = at; later = leb-false info.end s.position was.0; outside = refl; transactions = refl; position = refl; past = refl },
-      (closed_streamed xid o.way o.items streamed, refl),
+      TransactionCommits (final_of skipped xid info o),
+      record { items = o.items; present = at; final = are_final skipped o.way o.items; later = leb-false info.end s.position was.0; outside = refl; transactions = refl; position = refl; past = refl },
+      (closed_streamed xid o.way (final_items skipped o.way o.items) streamed, refl),
       record {
         here = tt;
         alone = gone_alone Outside s.transactions xid (λ x q differs there is. sane.alone x q there is);
       },
     )
 
-commits_direct : (s : State) (xid final : ℕ) (m : Commit) (t : State)
+commits_direct : (g : Setting) (s : State) (xid final : ℕ) (m : Commit) (t : State)
     → IsSane (in_phase s (Begun xid final))
-    → commits_begun (in_phase s (Begun xid final)) xid final m ≡ Ok t
+    → commits_begun g (in_phase s (Begun xid final)) xid final m ≡ Ok t
     → IsTold (in_phase s (Begun xid final)) t
-commits_direct s xid final m t sane e =
+commits_direct g s xid final m t sane e =
     let was = was_open (finite.get s.transactions xid) _ t (was_so (m.commit_lsn == final) _ _ t e) in
-    closes_direct s xid final (record { commit = m.commit_lsn; end = m.end_lsn }) t was.0 sane was.1 was.2
+    closes_direct g s xid final (record { commit = m.commit_lsn; end = m.end_lsn }) t was.0 sane was.1 was.2
 
-commits_streamed : (s : State) (xid commit end : ℕ) (t : State) → IsSane (in_phase s Outside)
-    → commits (in_phase s Outside) xid commit end ≡ Ok t → IsTold (in_phase s Outside) t
-commits_streamed s xid commit end t sane e =
+commits_streamed : (g : Setting) (s : State) (xid commit end : ℕ) (t : State) → IsSane (in_phase s Outside)
+    → commits g (in_phase s Outside) xid commit end ≡ Ok t → IsTold (in_phase s Outside) t
+commits_streamed g s xid commit end t sane e =
     let was = was_open (finite.get s.transactions xid) _ t e in
-    closes_streamed s xid (record { commit = commit; end = end }) t was.0 sane was.1 was.2
+    closes_streamed g s xid (record { commit = commit; end = end }) t was.0 sane was.1 was.2
 
 -- ---- aborts, and blocks
 
@@ -401,16 +385,12 @@ leaves s xid sane = (
   record { here = tt; alone = λ x q there direct. absurd (block_direct s.transactions xid sane.alone x q there direct) },
 )
 
-stays : (s t : State) (relations : Relations) → IsSane s → went_to (knowing s relations) ≡ went_to t
-    → IsTold s t
-stays s t relations sane e = subst (IsTold s) (ok_is (knowing s relations) t e) (tells_nothing s relations sane)
-
 -- ---- the table
 
 by_phase : (g : Setting) (s : State) (p : Phase) (t : State) (size : ℕ) (m : Message)
     → IsSane (in_phase s p) → step g (in_phase s p) size m ≡ Ok t → IsTold (in_phase s p) t
 by_phase g s Outside t size (messages.Begin m) sane e = begins_direct s m.xid m.final_lsn t sane e
-by_phase g s (Begun x f) t size (messages.Commit m) sane e = commits_direct s x f m t sane e
+by_phase g s (Begun x f) t size (messages.Commit m) sane e = commits_direct g s x f m t sane e
 by_phase g s (Begun x f) t size (messages.Origin m) sane e = stays (in_phase s (Begun x f)) t s.relations sane e
 by_phase g s (Block x) t size (messages.Origin m) sane e = stays (in_phase s (Block x)) t s.relations sane e
 by_phase g s p t size (messages.Message m) sane e = stays (in_phase s p) t s.relations sane e
@@ -418,17 +398,17 @@ by_phase g s (Block x) t size (messages.Relation sub r) sane e = touches_block g
 by_phase g s p t size (messages.Relation sub r) sane e = stays (in_phase s p) t _ sane e
 by_phase g s (Block x) t size (messages.TypeName m) sane e = touches_block g s s.relations x (subtransaction_named m.xid x) size t sane e
 by_phase g s p t size (messages.TypeName m) sane e = stays (in_phase s p) t s.relations sane e
-by_phase g s (Begun x f) t size (messages.Insert m) sane e = changes_begun g s x f size _ t sane e
+by_phase g s (Begun x f) t size (messages.Insert m) sane e = passes_begun g s x f size _ t (is_skipped g s f) sane e
 by_phase g s (Block x) t size (messages.Insert m) sane e = changes_block g s x (subtransaction_named m.xid x) size _ t sane e
-by_phase g s (Begun x f) t size (messages.Update m) sane e = changes_begun g s x f size _ t sane e
+by_phase g s (Begun x f) t size (messages.Update m) sane e = passes_begun g s x f size _ t (is_skipped g s f) sane e
 by_phase g s (Block x) t size (messages.Update m) sane e = changes_block g s x (subtransaction_named m.xid x) size _ t sane e
-by_phase g s (Begun x f) t size (messages.Delete m) sane e = changes_begun g s x f size _ t sane e
+by_phase g s (Begun x f) t size (messages.Delete m) sane e = passes_begun g s x f size _ t (is_skipped g s f) sane e
 by_phase g s (Block x) t size (messages.Delete m) sane e = changes_block g s x (subtransaction_named m.xid x) size _ t sane e
-by_phase g s (Begun x f) t size (messages.Truncate m) sane e = changes_begun g s x f size _ t sane e
+by_phase g s (Begun x f) t size (messages.Truncate m) sane e = passes_begun g s x f size _ t (is_skipped g s f) sane e
 by_phase g s (Block x) t size (messages.Truncate m) sane e = changes_block g s x (subtransaction_named m.xid x) size _ t sane e
 by_phase g s Outside t size (messages.StreamStart m) sane e = streams_in g s m t sane e
 by_phase g s (Block x) t size messages.StreamStop sane e = subst (IsTold (in_phase s (Block x))) (ok_is _ t e) (leaves s x sane)
-by_phase g s Outside t size (messages.StreamCommit m) sane e = commits_streamed s m.xid m.commit_lsn m.end_lsn t sane e
+by_phase g s Outside t size (messages.StreamCommit m) sane e = commits_streamed g s m.xid m.commit_lsn m.end_lsn t sane e
 by_phase g s Outside t size (messages.StreamAbort m) sane e = subst (IsTold (in_phase s Outside)) (ok_is _ t e) (aborts_outside s m sane)
 by_phase g s p t size m sane e = cc
 

@@ -7,6 +7,7 @@ use Rattle.std.specs.Coded.{Coded, Coded-set, coded×, coded_ℕ, coded_list, co
 use Rattle.std.specs.FinMap as finite
 use Rattle.std.specs.FinMap.{code}
 use Rattle.model.specs.contracts.value.Value as value_type
+use Rattle.model.specs.declared.item.Item.{Item}
 use Rattle.model.specs.Rows.{Rows, Schema, IsValid, keys_of}
 use Rattle.model.specs.Effect.{serial}
 use Rattle.model.specs.Survivors.{survivors, changes_of}
@@ -37,12 +38,13 @@ use Rattle.world.specs.Steps.{Reaches}
 use Rattle.run_laws.proofs.Begun.{IsSane, begun, begun_in, if_direct, Moves}
 use Rattle.run_laws.specs.Statements.{WorkersAlterNothing, CleanIsWithoutThreads}
 use Rattle.run_laws.specs.Runs.{IsAtMostOne, IsCommitOf, CommitsNext}
-use Rattle.run_laws.specs.Threads.{work_of, done_by_commit, DoesWork, IsWorldOf}
+use Rattle.run_laws.specs.Threads.{IsWork, work_of, done_by_commit, DoesWork, IsWorldOf}
 use Rattle.run_laws.specs.ThreadedRun.{IsStuckBy, IsThreadedCause, IsThreadedRun}
 use Rattle.run_laws.proofs.Alone.{survive_again}
 use Rattle.run_laws.proofs.Clear.{commits_clear}
 use Rattle.run_laws.proofs.Reaching.{handled_told}
-use Rattle.run_laws.proofs.Telling.{told, ok_is, sane_start}
+use Rattle.session.proofs.Stepped.{ok_is, last_is, not_longer}
+use Rattle.run_laws.proofs.Telling.{told, sane_start}
 use Rattle.run_laws.proofs.Ways.{NoneWorks, Alike, without_way, led, start_alike, same_transactions}
 use Rattle.std.proofs.lemmas.Simd.{map-map}
 
@@ -112,19 +114,21 @@ sane_items g p q (item ∷ items) sane is = sane_items g is.0 q items (handled_t
 
 -- ---- the message that comes next commits one
 
-last_is : (past : List Committed) (c d : Committed) → past ++ c ∷ [] ≡ past ++ d ∷ [] → c ≡ d
-last_is [] c d e = cc
-last_is (p ∷ past) c d e = last_is past c d (rest_is (p ∷ []) (past ++ c ∷ []) (past ++ d ∷ []) e)
-  where
-    rest_is : (one : List Committed) (xs ys : List Committed) → p ∷ xs ≡ p ∷ ys → xs ≡ ys
-    rest_is one xs ys e = cc
+-- a spooled transaction has something to do once the next message commits it
+pub next_commits : (g : Setting) (s : State) (rest : List CopyItem) (xid : ℕ) (way : Way) (items : SizedItems) (work : List Item)
+    → way ≡ Spooled → IsWork g s rest xid way items work → CommitsNext g s rest xid
+next_commits g s rest xid Direct items work spooled is = cc
+next_commits g s rest xid Worker items work spooled is = cc
+next_commits g s [] xid Spooled items work spooled is = absurd is
+next_commits g s (Wal first last payload ∷ rest) xid Spooled items work spooled is = is.0
+next_commits g s (Keepalive last reply ∷ rest) xid Spooled items work spooled is = absurd is
+next_commits g s (Done ∷ rest) xid Spooled items work spooled is = absurd is
 
-pub not_longer : (past : List Committed) (c : Committed) → past ++ c ∷ [] ≡ past → ⊥
-not_longer [] c e = cc
-not_longer (p ∷ past) c e = not_longer past c (rest_is (past ++ c ∷ []) past e)
-  where
-    rest_is : (xs ys : List Committed) → p ∷ xs ≡ p ∷ ys → xs ≡ ys
-    rest_is xs ys e = cc
+-- the transaction that a commit closes, with what is final of its items
+abbrev pub IsClosing : State → Committed → Type 0
+IsClosing s c =
+    (items : SizedItems) × (finite.get s.transactions c.xid ≡ Some (record { way = c.way; items = items }))
+    × ((c.items ≡ items) ⊎ ((c.way ≡ Spooled) × (c.items ≡ [])))
 
 module _ (g : Setting) (s : State) (payload : List ℕ) where
   pub one_state : (m n : Message) (t u : State) → Admits g s payload m t → Admits g s payload n u → t ≡ u
@@ -141,8 +145,7 @@ module _ (g : Setting) (s : State) (payload : List ℕ) where
 
   -- what a commit tells
   commit_told : (xid : ℕ) (by : IsCommitOf g s payload xid) (what : StreamEvent) → Tells s by.state what → Moves s by.state what
-      → (begun s ≡ if_direct by.committed.xid by.committed.way by.committed.items)
-      × (finite.get s.transactions by.committed.xid ≡ Some (record { way = by.committed.way; items = by.committed.items }))
+      → (begun s ≡ if_direct by.committed.xid by.committed.way by.committed.items) × IsClosing s by.committed
   commit_told xid by NoEvent tells moves = absurd (not_longer s.past by.committed (sym by.past ∙ tells.past))
   commit_told xid by (TransactionOpens x way) tells moves = absurd (not_longer s.past by.committed (sym by.past ∙ tells.past))
   commit_told xid by (ItemComes x way item size) tells moves = absurd (not_longer s.past by.committed (sym by.past ∙ tells.2.past))
@@ -150,12 +153,11 @@ module _ (g : Setting) (s : State) (payload : List ℕ) where
   commit_told xid by (TransactionCommits c) tells moves =
       let same : c ≡ by.committed = last_is s.past c by.committed (sym tells.past ∙ by.past) in (
         moves.0 ∙ ap (λ (d : Committed). if_direct d.xid d.way d.items) same,
-        subst (λ (d : Committed). finite.get s.transactions d.xid ≡ Some (record { way = d.way; items = d.items })) same tells.present,
+        subst (IsClosing s) same (tells.items, tells.present, tells.final),
       )
 
   pub commits_open : (xid : ℕ) → IsSane s → (by : IsCommitOf g s payload xid)
-      → (begun s ≡ if_direct by.committed.xid by.committed.way by.committed.items)
-      × (finite.get s.transactions by.committed.xid ≡ Some (record { way = by.committed.way; items = by.committed.items }))
+      → (begun s ≡ if_direct by.committed.xid by.committed.way by.committed.items) × IsClosing s by.committed
   commits_open xid sane by =
       let what = told g s by.state (length payload) by.message sane by.admits.stepped in
       commit_told xid by what.0 what.1 what.2
@@ -165,9 +167,9 @@ module _ (g : Setting) (s : State) (payload : List ℕ) where
       → finite.get s.transactions xid ≡ Some o → o.way ≡ Spooled → begun s ≡ None
   commits_outside xid o sane by at spooled =
       let is = commits_open xid sane by in
-      let there : finite.get s.transactions xid ≡ Some (record { way = by.committed.way; items = by.committed.items }) =
-      subst (λ x. finite.get s.transactions x ≡ Some (record { way = by.committed.way; items = by.committed.items })) by.xid_is is.1 in
-      is.0 ∙ ap (λ (way : Way). if_direct by.committed.xid way by.committed.items) (way_is (by.committed.way) (by.committed.items) o (sym there ∙ at) ∙ spooled)
+      let there : finite.get s.transactions xid ≡ Some (record { way = by.committed.way; items = is.1.0 }) =
+      subst (λ x. finite.get s.transactions x ≡ Some (record { way = by.committed.way; items = is.1.0 })) by.xid_is is.1.1 in
+      is.0 ∙ ap (λ (way : Way). if_direct by.committed.xid way by.committed.items) (way_is by.committed.way is.1.0 o (sym there ∙ at) ∙ spooled)
     where
       way_is : (way : Way) (items : SizedItems) (o : Open) → Some (record { way = way; items = items }) ≡ Some o → way ≡ o.way
       way_is way items o e = cc
@@ -197,7 +199,7 @@ its_turn g rows s rest w sane none is xid d at =
         → IsItsTurn g s rest xid
     by_way o Direct e there does = inl (sane.alone xid o there e)
     by_way o Worker e there does = absurd (none xid o there e)
-    by_way o Spooled e there does = inr (o, there, e, does.1 e)
+    by_way o Spooled e there does = inr (o, there, e, next_commits g s rest xid o.way o.items does.work e does.is_work)
 
 not_both : (g : Setting) (s : State) (rest : List CopyItem) (xid other : ℕ) (o : Open) → IsSane s
     → begun_at s.phase ≡ Some xid → finite.get s.transactions other ≡ Some o → o.way ≡ Spooled
@@ -237,7 +239,7 @@ one_turn g s rest xid other sane first second =
 pub none_works : (g : Setting) (items : List CopyItem) (p : Progress) → g.workers ≡ 0 → Leads g start_progress items p
     → NoneWorks p.state.transactions
 none_works g items p zero is =
-    (led g g start_progress start_progress p p items refl (start_alike g) is is).state.ways zero
+    (led g g start_progress start_progress p p items refl refl (start_alike g) is is).state.ways zero
 
 pub at_most_one : (g : Setting) (rows : Rows) (items rest : List CopyItem) (p : Progress) (w : World) → g.workers ≡ 0
     → Leads g start_progress items p → IsWorldOf g rows p.state rest w → IsAtMostOne w.opened
@@ -250,8 +252,8 @@ at_most_one g rows items rest p w zero is of xid other o q at there =
 pub not_stuck : (g : Setting) (s : State) (rest : List CopyItem) (w : World) (xid holder : ℕ) → IsAtMostOne w.opened
     → IsStuckBy g s rest w xid holder → ⊥
 not_stuck g s rest w xid holder alone stuck =
-    let held = stuck.waits.so in
-    held.0 (sym (alone xid holder stuck.waits.transaction held.1 stuck.waits.present held.2))
+    let held = stuck.waits.waits.so in
+    held.0 (sym (alone xid holder stuck.waits.waits.transaction held.1 stuck.waits.waits.present held.2))
 
 pub one_open : (g : Setting) (rows : Rows) (old new : DeviceState) (o : Outcome) (run : IsThreadedRun g rows old new o)
     → g.workers ≡ 0 → IsAtMostOne run.world.opened × ((xid holder : ℕ) → o.end ≢ ends.HeldKey xid holder)
@@ -266,8 +268,8 @@ one_open g rows old new o run zero =
 -- ---- with workers and without
 
 pub workers_alter : WorkersAlterNothing
-workers_alter g h items p q catalog is there =
-    let same = led g h start_progress start_progress p q items catalog (start_alike h) is there in
+workers_alter g h items p q catalog skip is there =
+    let same = led g h start_progress start_progress p q items catalog skip (start_alike h) is there in
     (same_transactions h p.state q.state same.state, same.state.position, same.seen, same.updates)
 
 pub same_ends : (h : Setting) (s t : State) → Alike h s t → last_end (commit_ends t.past) ≡ last_end (commit_ends s.past)
@@ -280,12 +282,12 @@ pub all_items : (handled rest items : List CopyItem) → handled ++ rest ≡ ite
 all_items handled rest items all none = sym (append-nil handled) ∙ ap (λ more. handled ++ more) (sym none) ∙ all
 
 pub clean_alone : CleanIsWithoutThreads
-clean_alone g h rows old new before after o p run alone valid catalog clean bytes none =
+clean_alone g h rows old new before after o p run alone valid catalog skip clean bytes none =
     let cause = subst (IsThreadedCause run.part run.world) clean run.cause in
     let items : alone.part.handled ≡ run.part.handled =
     all_items alone.part.handled alone.part.rest (copy_items run.part.bytes) (alone.part.items ∙ ap copy_items bytes) none
     ∙ sym (all_items run.part.handled run.part.rest (copy_items run.part.bytes) run.part.items cause.0.all_handled) in
-    let same = led g h start_progress start_progress run.part.progress alone.part.progress run.part.handled catalog (start_alike h) run.part.lawful
+    let same = led g h start_progress start_progress run.part.progress alone.part.progress run.part.handled catalog skip (start_alike h) run.part.lawful
     (subst (λ is. Leads h start_progress is alone.part.progress) items alone.part.lawful) in
     let commits_same = same_transactions h run.part.progress.state alone.part.progress.state same.state in
     let journal_same : map entry_in p.journal.items ≡ map entry_in o.journal.items =

@@ -279,7 +279,7 @@ bytes_behind (Wal first last payload ∷ xs) ys are = bytes_behind xs ys are.1
 bytes_behind (Keepalive last reply ∷ xs) ys are = bytes_behind xs ys are
 bytes_behind (Done ∷ xs) ys are = bytes_behind xs ys are
 
-module _ (g h : Setting) (rows : Rows) (old new before after : DeviceState) (o p : Outcome) (run : IsThreadedRun g rows old new o) (alone : IsRun h rows before after p) (valid : IsValid (schema_of g) rows) (catalog : h.catalog ≡ g.catalog) (clean : o.end ≡ ends.Clean) (same_bytes : alone.part.bytes ≡ run.part.bytes) (are : AreBytes run.part.handled) (q : Progress) (room : Leads h start_progress run.part.handled q) where
+module _ (g h : Setting) (rows : Rows) (old new before after : DeviceState) (o p : Outcome) (run : IsThreadedRun g rows old new o) (alone : IsRun h rows before after p) (valid : IsValid (schema_of g) rows) (catalog : h.catalog ≡ g.catalog) (skip : h.skip ≡ g.skip) (clean : o.end ≡ ends.Clean) (same_bytes : alone.part.bytes ≡ run.part.bytes) (are : AreBytes run.part.handled) (q : Progress) (room : Leads h start_progress run.part.handled q) where
   items : alone.part.handled ++ alone.part.rest ≡ run.part.handled
   items =
       let cause = subst (IsThreadedCause run.part run.world) clean run.cause in
@@ -291,7 +291,7 @@ module _ (g h : Setting) (rows : Rows) (old new before after : DeviceState) (o p
       (subst (λ is. Leads h start_progress is q) (sym items) room)
 
   alike : Alike h run.part.progress.state q.state
-  alike = (led g h start_progress start_progress run.part.progress q run.part.handled catalog (start_alike h) run.part.lawful room).state
+  alike = (led g h start_progress start_progress run.part.progress q run.part.handled catalog skip (start_alike h) run.part.lawful room).state
 
   same_journal : map entry_in o.journal.items ≡ commits q.state
   same_journal = run_commits g rows old new o run ∙ sym (same_transactions h run.part.progress.state q.state alike)

@@ -23,7 +23,7 @@ use Rattle.session.specs.Lawful.{Admits}
 use Rattle.run.specs.declared.end.End.{End}
 use Rattle.run.specs.declared.end.End.TheVariants as ends
 use Rattle.run.specs.declared.outcome.Outcome.{Outcome}
-use Rattle.run.specs.Cause.{schema_of, LastStep, NextClashes, IsLastCause, IsCause, HasGoneWell, HasNotClashed, LastClashed}
+use Rattle.run.specs.Cause.{schema_of, IsNext, LastStep, NextClashes, IsLastCause, IsCause, HasGoneWell, HasNotClashed, LastClashed}
 use Rattle.run.specs.Commits.{committed_changes, all_changes, changes_of_entries}
 use Rattle.run.specs.Devices.{DeviceState}
 use Rattle.run.specs.Progress.{Progress, Handles, Leads, start_progress, commits_from}
@@ -36,18 +36,19 @@ use Rattle.model.specs.SerialLemmas.{accepted_append}
 use Rattle.world.specs.World.{Opened, World, starting, changes_in, work, own_rows}
 use Rattle.run_laws.proofs.Begun.{IsSane, open_items, begun_in, begun}
 use Rattle.run_laws.proofs.WorldAt.{committed_past}
-use Rattle.run_laws.specs.Runs.{IsCommitOf, CommitsNext}
-use Rattle.run_laws.specs.Threads.{work_of, IsWorldOf}
+use Rattle.run_laws.specs.Runs.{IsCommitOf, DoesAtCommit}
+use Rattle.run_laws.specs.Threads.{IsWork, IsWorldOf}
 use Rattle.run_laws.specs.ThreadedRun.{HasConflict, IsThreadedCause, IsThreadedRun}
 use Rattle.run_laws.specs.FirstCause.{IsStreamCause, IsAtFirstCause}
 use Rattle.run_laws.proofs.Alone.{ArePlain, plain_front, plain_survivors, all_survive, first_in_clear}
 use Rattle.run_laws.proofs.Clear.{open_clear, commits_clear}
 use Rattle.run_laws.proofs.FirstCause.{end_by}
-use Rattle.run_laws.proofs.NoWorkers.{IsPlain, led_plain}
+use Rattle.run_laws.proofs.NoWorkers.{IsPlain, Survives, led_plain}
 use Rattle.run_laws.proofs.Reaching.{done, all_done, done_at, done_with}
 use Rattle.run_laws.proofs.Running.{clash_of, first_in}
-use Rattle.run_laws.proofs.Telling.{same_open, told, sane_start}
-use Rattle.run_laws.proofs.Threading.{committed_serial, run_commits, run_position, run_tables, run_clear, sane_items, not_longer, commits_open, none_works, one_open}
+use Rattle.run_laws.proofs.Telling.{told, sane_start}
+use Rattle.session.proofs.Stepped.{not_longer}
+use Rattle.run_laws.proofs.Threading.{committed_serial, run_commits, run_position, run_tables, run_clear, sane_items, none_works, one_open}
 use Rattle.run_laws.proofs.Unthreaded.{split_leads, told_past}
 use Rattle.run_laws.proofs.Ways.{NoneWorks}
 
@@ -199,16 +200,9 @@ module _ (g : Setting) (rows : Rows) (s : State) (rest : List CopyItem) (w : Wor
       ]
 
   -- an open transaction that has come to a change
-  module _ (xid : ℕ) (o : Open) (at : get s.transactions xid ≡ Some o) (transaction : Opened)
-      (present : get w.opened xid ≡ Some transaction) (sub : ℕ) (c : change_type.Change) (after : List Item)
-      (in_turn : transaction.items ++ Change sub c ∷ after ≡ work_of xid o.way o.items) where
-    -- its items
-    abbrev items : List Item
-    items = map item_of o.items
-
-    all_items : transaction.items ++ Change sub c ∷ after ≡ survivors xid items
-    all_items = in_turn ∙ plain.opened xid o at
-
+  module _ (xid : ℕ) (items : List Item) (transaction : Opened) (present : get w.opened xid ≡ Some transaction)
+      (sub : ℕ) (c : change_type.Change) (after : List Item)
+      (all_items : transaction.items ++ Change sub c ∷ after ≡ survivors xid items) where
     -- what it has done survives
     survives : survivors xid transaction.items ≡ transaction.items
     survives =
@@ -251,32 +245,24 @@ module _ (g : Setting) (rows : Rows) (s : State) (rest : List CopyItem) (w : Wor
     }
 
     -- it was not begun
-    not_begun : (cause : ClashCause) → o.way ≡ Direct → ClashesIn schema rows (with_items xid items) (clash_of cause)
-        → ⊥
-    not_begun cause direct is =
+    not_begun : (cause : ClashCause) (o : Open) → get s.transactions xid ≡ Some o → o.way ≡ Direct → map item_of o.items ≡ items
+        → ClashesIn schema rows (with_items xid items) (clash_of cause) → ⊥
+    not_begun cause o at direct same is =
         let here = begun_is s.phase s.transactions xid o (sane.alone xid o at direct) at in
-        let all : all_changes s ≡ with_items xid items = all_done s ∙ ap (done s.past) here in
+        let all : all_changes s ≡ with_items xid items = all_done s ∙ ap (done s.past) here ∙ ap (with_items xid) same in
         first_in_clear schema rows (with_items xid items) cause (subst (AreAccepted schema rows) all clear)
         (first_in schema rows (with_items xid items) cause is)
 
-    committed_is : (payload : List ℕ) (by : IsCommitOf g s payload xid)
-        → record { way = by.committed.way; items = by.committed.items } ≡ o
-    committed_is payload by =
-        let d : Open = record { way = by.committed.way; items = by.committed.items } in
-        let there = (commits_open g s payload xid sane by).1 in
-        same_open d o (sym (subst (λ n. get s.transactions n ≡ Some d) by.xid_is there) ∙ at)
-
     -- the payload commits it
     next_clash : (payload : List ℕ) (cause : ClashCause) → ClashesIn schema rows (with_items xid items) (clash_of cause)
-        → IsCommitOf g s payload xid
+        → (by : IsCommitOf g s payload xid) → map item_of by.committed.items ≡ items
         → (m : Message) × (t : State) × Admits g s payload m t × (commits_from s t ≡ true)
         × ClashesIn schema rows (all_changes t) (clash_of cause)
-    next_clash payload cause is by =
+    next_clash payload cause is by final =
         let t = by.state in
         let d = by.committed in
         let same : with_items d.xid (map item_of d.items) ≡ with_items xid items =
-        ap (λ (n : ℕ). with_items n (map item_of d.items)) by.xid_is
-        ∙ ap (λ (p : Open). with_items xid (map item_of p.items)) (committed_is payload by) in
+        ap (λ (n : ℕ). with_items n (map item_of d.items)) by.xid_is ∙ ap (with_items xid) final in
         let all : all_changes t ≡ with_items xid items =
         all_done t ∙ done_at t (s.past ++ d ∷ []) None by.past (none_after payload xid by)
         ∙ done_with schema rows (starting rows) s.past d ∙ same in (
@@ -287,33 +273,37 @@ module _ (g : Setting) (rows : Rows) (s : State) (rest : List CopyItem) (w : Wor
           subst (λ cs. ClashesIn schema rows cs (clash_of cause)) (sym all) is,
         )
 
-    next_clashes : (cause : ClashCause) → ClashesIn schema rows (with_items xid items) (clash_of cause)
-        → CommitsNext g s rest xid → NextClashes g rows s rest (clash_of cause)
-    next_clashes cause is = by_next rest
-      where
-        by_next : (rest : List CopyItem) → CommitsNext g s rest xid → NextClashes g rows s rest (clash_of cause)
-        by_next [] next = next
-        by_next (Wal first last payload ∷ rest) next = next_clash payload cause is next
-        by_next (Keepalive last reply ∷ rest) next = next
-        by_next (Done ∷ rest) next = next
+  conflict_next : (cause : ClashCause) → HasConflict g s rest w cause → NextClashes g rows s rest (clash_of cause)
+  conflict_next cause is = by_way is.transaction.way refl is.is_work
+    where
+      -- it clashes among these items, which survive
+      among : (items : List Item) (all : is.work ≡ survivors is.xid items)
+          → ClashesIn schema rows (with_items is.xid items) (clash_of cause)
+      among items all =
+          clashes is.xid items is.clashes.transaction is.clashes.present is.clashes.subtransaction is.clashes.change
+          is.clashes.after (is.clashes.in_turn ∙ all) cause is.clashes.so.1
 
-    by_way : (cause : ClashCause) (way : Way) → o.way ≡ way → (o.way ≡ Spooled → CommitsNext g s rest xid)
-        → ClashesIn schema rows (with_items xid items) (clash_of cause) → NextClashes g rows s rest (clash_of cause)
-    by_way cause Direct is next clash = absurd (not_begun cause is clash)
-    by_way cause Worker is next clash = absurd (none xid o at is)
-    by_way cause Spooled is next clash = next_clashes cause clash (next is)
+      by_next : (items : List CopyItem) → IsNext items (λ payload. DoesAtCommit g s payload is.xid is.work)
+          → NextClashes g rows s items (clash_of cause)
+      by_next [] next = absurd next
+      by_next (Wal first last payload ∷ items) next =
+          let final = map item_of next.0.committed.items in
+          next_clash is.xid final is.clashes.transaction is.clashes.present is.clashes.subtransaction is.clashes.change
+          is.clashes.after (is.clashes.in_turn ∙ sym next.1) payload cause (among final (sym next.1)) next.0 refl
+      by_next (Keepalive last reply ∷ items) next = absurd next
+      by_next (Done ∷ items) next = absurd next
 
-  conflict_next : (cause : ClashCause) → HasConflict g s w cause → NextClashes g rows s rest (clash_of cause)
-  conflict_next cause is =
-      let o = is.1 in
-      let at = is.2 in
-      let change = is.3 in
-      let there = is_world.opened is.0 change.transaction change.present in
-      let same : there.0 ≡ o = same_open there.0 o (sym there.1 ∙ at) in
-      by_way is.0 o at change.transaction change.present change.subtransaction change.change change.after change.in_turn
-      cause o.way refl (subst (λ (p : Open). p.way ≡ Spooled → CommitsNext g s rest is.0) same there.2.1)
-      (clashes is.0 o at change.transaction change.present change.subtransaction change.change change.after
-      change.in_turn cause change.so.1)
+      by_way : (way : Way) → is.transaction.way ≡ way → IsWork g s rest is.xid way is.transaction.items is.work
+          → NextClashes g rows s rest (clash_of cause)
+      by_way Direct direct work =
+          let items = map item_of is.transaction.items in
+          let all : is.work ≡ survivors is.xid items =
+          work ∙ subst (λ (way : Way). Survives is.xid way is.transaction.items) direct (plain.opened is.xid is.transaction is.present) in
+          absurd
+          (not_begun is.xid items is.clashes.transaction is.clashes.present is.clashes.subtransaction is.clashes.change
+          is.clashes.after (is.clashes.in_turn ∙ all) cause is.transaction is.present direct refl (among items all))
+      by_way Worker works work = absurd (none is.xid is.transaction is.present works)
+      by_way Spooled spooled next = by_next rest next
 
 -- ---- why a run ended
 
@@ -331,7 +321,7 @@ module _ (g : Setting) (rows : Rows) (old new : DeviceState) (part : StreamPart 
 
   -- no change clashed
   by_item : HasNotClashed rows part → (end : End) → IsThreadedCause part w end
-      → ((cause : ClashCause) → HasConflict g part.progress.state w cause
+      → ((cause : ClashCause) → HasConflict g part.progress.state part.rest w cause
       → NextClashes g rows part.progress.state part.rest (clash_of cause))
       → ((xid holder : ℕ) → end ≢ ends.HeldKey xid holder) → IsCause rows part end
   by_item clear ends.Clean is conflicts held = (clear, is.0)

@@ -16,8 +16,7 @@ use Rattle.session.specs.State.{Spooled, Open, State, Setting}
 use Rattle.run.specs.Cause.{schema_of}
 use Rattle.world.specs.World.{Opened, World, starting}
 use Rattle.world.specs.Steps.{Reaches}
-use Rattle.run_laws.specs.Runs.{CommitsNext}
-use Rattle.run_laws.specs.Threads.{work_of, done_by_commit, Does}
+use Rattle.run_laws.specs.Threads.{IsWork, done_by_commit, Does}
 
 -- the items that were sent to a transaction, and those that are still to be sent, as there was no
 -- room for them
@@ -32,15 +31,13 @@ pub record IsWith (outboxes after : ℕ → Option Outbox) (xid : ℕ) (now : Op
   pub elsewhere : (x : ℕ) → x ≢ xid → after x ≡ outboxes x
 
 -- What was sent and what is queued are its work. What it has done is a beginning of what was sent;
--- a change that waits or clashed is the next. A spooled one begins only once the next message
--- commits it.
+-- a change that waits or clashed is the next.
 pub record InStep (g : Setting) (s : State) (rest : List CopyItem) (xid : ℕ) (o : Open)
     (outbox : Outbox) (done : Opened) : Type 0 where
-  pub all_work : outbox.sent ++ outbox.queued ≡ work_of xid o.way o.items
+  pub all_work : IsWork g s rest xid o.way o.items (outbox.sent ++ outbox.queued)
   pub does : Does done outbox.sent
   pub wants : (sub : ℕ) (c : change_type.Change) → done.wants ≡ Some (sub, c)
       → (more : List Item) × (does.left ≡ Change sub c ∷ more)
-  pub next : o.way ≡ Spooled → CommitsNext g s rest xid
 
 -- A transaction of the state is in step with its outbox and with the world, or it is spooled and
 -- has neither; what is not open there is nowhere.

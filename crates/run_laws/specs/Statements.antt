@@ -56,7 +56,8 @@ OpenLeavesNothing =
 -- are, and whatever the spools have room for
 abbrev pub WorkersAlterNothing : Type 0
 WorkersAlterNothing =
-    (g h : Setting) (items : List CopyItem) (p q : Progress) → h.catalog ≡ g.catalog
+    (g h : Setting) (items : List CopyItem) (p q : Progress)
+    → h.catalog ≡ g.catalog → h.skip ≡ g.skip
     → Leads g start_progress items p → Leads h start_progress items q
     → (commits q.state ≡ commits p.state) × (q.state.position ≡ p.state.position)
     × (q.seen ≡ p.seen) × (q.updates ≡ p.updates)
@@ -67,7 +68,7 @@ abbrev pub CleanIsWithoutThreads : Type 0
 CleanIsWithoutThreads =
     (g h : Setting) (rows : Rows) (old new before after : DeviceState) (o p : Outcome)
     (run : IsThreadedRun g rows old new o) (alone : IsRun h rows before after p)
-    → IsValid (schema_of g) rows → h.catalog ≡ g.catalog → o.end ≡ ends.Clean
+    → IsValid (schema_of g) rows → h.catalog ≡ g.catalog → h.skip ≡ g.skip → o.end ≡ ends.Clean
     → alone.part.bytes ≡ run.part.bytes → alone.part.rest ≡ []
     → (map entry_in p.journal.items ≡ map entry_in o.journal.items)
     × (p.position ≡ o.position) × (p.tables.rows ≡ o.tables.rows)
@@ -79,7 +80,7 @@ abbrev pub CleanWhereThereIsRoom : Type 0
 CleanWhereThereIsRoom =
     (g h : Setting) (rows : Rows) (old new before after : DeviceState) (o p : Outcome)
     (run : IsThreadedRun g rows old new o) (alone : IsRun h rows before after p)
-    → IsValid (schema_of g) rows → h.catalog ≡ g.catalog → o.end ≡ ends.Clean
+    → IsValid (schema_of g) rows → h.catalog ≡ g.catalog → h.skip ≡ g.skip → o.end ≡ ends.Clean
     → alone.part.bytes ≡ run.part.bytes → AreBytes run.part.handled
     → (q : Progress) → Leads h start_progress run.part.handled q
     → p.end ≢ ends.OutOfMemory → p.end ≢ ends.Frame Device
@@ -145,7 +146,8 @@ NotedClashIsConflict =
     → (xid : ℕ) (c : change_type.Change) (cause : ClashCause)
     → w.stopped ≡ Some (ByClash xid c cause)
     → (done : Opened) → get w.opened xid ≡ Some done
-    → (sub : ℕ) (e : change_type.Change) → done.wants ≡ Some (sub, e) → HasConflict g s w cause
+    → (sub : ℕ) (e : change_type.Change) → done.wants ≡ Some (sub, e)
+    → HasConflict g s rest w cause
 
 -- where the call that stops a world answers a holder, for a transaction whose turn it is, nothing
 -- goes on: the run ends for that holder

@@ -6,7 +6,8 @@
 --     IsThreadedRun      a run
 use Rattle.std.specs.Prelude.{◌≡◌, ◌≢◌, ℕ, List, Some, None, ◌⊎◌}
 use Rattle.std.specs.FinMap.{get}
-use Rattle.model.specs.Rows.{Rows, Schema}
+use Rattle.model.specs.Rows.{Rows}
+use Rattle.model.specs.declared.item.Item.{Item}
 use Rattle.model.specs.Effect.{ClashCause, NullKey, Unique}
 use Rattle.model.specs.Footprint.{footprint}
 use Rattle.frames.specs.declared.fault.FrameFault.TheVariants.{Device}
@@ -23,37 +24,43 @@ use Rattle.run.specs.StreamPart.{StreamPart}
 use Rattle.world.specs.Steps.{IsClashing}
 use Rattle.world.specs.World.{Opened, World, own_rows, IsHeldBy}
 use Rattle.run_laws.specs.Runs.{CommitsNext, NextChange, LeavesWorld}
-use Rattle.run_laws.specs.Threads.{work_of, IsWorldOf}
+use Rattle.run_laws.specs.Threads.{IsWork, IsWorldOf}
 
 -- ---- a conflict
 
 -- The next item of some open transaction's work is a change that clashes so, where nobody else
 -- holds a cell of it.
-abbrev pub HasConflict : Setting → State → World → ClashCause → Type 0
-HasConflict g s w cause =
-    (xid : ℕ) × (o : Open) × (get s.transactions xid ≡ Some o)
-    × NextChange w xid (work_of xid o.way o.items)
-    (λ done sub c. IsClashing (schema_of g) w xid done c cause)
+pub record HasConflict (g : Setting) (s : State) (rest : List CopyItem) (w : World)
+    (cause : ClashCause) : Type 0 where
+  pub xid : ℕ
+  pub transaction : Open
+  pub present : get s.transactions xid ≡ Some transaction
+  pub work : List Item
+  pub is_work : IsWork g s rest xid transaction.way transaction.items work
+  pub clashes : NextChange w xid work (λ done sub c. IsClashing (schema_of g) w xid done c cause)
 
 -- ---- where nothing goes on
 
 -- The next item of its work is a change, and the holder, another open transaction, holds a cell of
 -- it.
-abbrev pub WaitsOn : Schema → World → ℕ → Open → ℕ → Type 0
-WaitsOn schema w xid o holder =
-    NextChange w xid (work_of xid o.way o.items) (λ done sub c. IsHeldBy schema w xid
-    (footprint schema (own_rows schema w xid done) c) holder)
+pub record WaitsOn (g : Setting) (s : State) (rest : List CopyItem) (w : World) (xid : ℕ) (o : Open)
+    (holder : ℕ) : Type 0 where
+  pub work : List Item
+  pub is_work : IsWork g s rest xid o.way o.items work
+  pub waits : NextChange w xid work (λ done sub c. IsHeldBy (schema_of g) w xid
+      (footprint (schema_of g) (own_rows (schema_of g) w xid done) c) holder)
 
 -- It has done all of its work.
-abbrev pub HasDoneAll : World → ℕ → Open → Type 0
-HasDoneAll w xid o =
-    (done : Opened) × (get w.opened xid ≡ Some done) × (done.items ≡ work_of xid o.way o.items)
+abbrev pub HasDoneAll : Setting → State → List CopyItem → World → ℕ → Open → Type 0
+HasDoneAll g s rest w xid o =
+    (done : Opened) × (get w.opened xid ≡ Some done)
+    × IsWork g s rest xid o.way o.items done.items
 
 -- Each transaction that is not spooled has done all of its work, or waits for a cell of another.
-abbrev pub AllWait : Setting → State → World → Type 0
-AllWait g s w =
+abbrev pub AllWait : Setting → State → List CopyItem → World → Type 0
+AllWait g s rest w =
     (xid : ℕ) (o : Open) → get s.transactions xid ≡ Some o → o.way ≢ Spooled
-    → HasDoneAll w xid o ⊎ ((holder : ℕ) × WaitsOn (schema_of g) w xid o holder)
+    → HasDoneAll g s rest w xid o ⊎ ((holder : ℕ) × WaitsOn g s rest w xid o holder)
 
 -- It is the turn of this transaction: it was begun, or the next message commits it. It waits for a
 -- cell of the holder, and nothing else goes on.
@@ -62,8 +69,8 @@ pub record IsStuckBy (g : Setting) (s : State) (rest : List CopyItem) (w : World
   pub turn : (begun_at s.phase ≡ Some xid) ⊎ CommitsNext g s rest xid
   pub transaction : Open
   pub present : get s.transactions xid ≡ Some transaction
-  pub waits : WaitsOn (schema_of g) w xid transaction holder
-  pub settled : AllWait g s w
+  pub waits : WaitsOn g s rest w xid transaction holder
+  pub settled : AllWait g s rest w
 
 -- ---- a run that handled this part of its stream
 
@@ -87,8 +94,8 @@ module _ {g : Setting} {old new : DeviceState} (part : StreamPart g old new) (w 
   IsThreadedCause (ends.Msg fault) = HasGoneWell part × RefusesNext g s rest (by.Msg fault)
   IsThreadedCause (ends.Session fault) = HasGoneWell part × RefusesNext g s rest (by.Session fault)
   IsThreadedCause (ends.Rel fault) = HasGoneWell part × RefusesNext g s rest (by.Rel fault)
-  IsThreadedCause (ends.Unique table key) = HasGoneWell part × HasConflict g s w (Unique table key)
-  IsThreadedCause (ends.NullKey table) = HasGoneWell part × HasConflict g s w (NullKey table)
+  IsThreadedCause (ends.Unique table key) = HasGoneWell part × HasConflict g s rest w (Unique table key)
+  IsThreadedCause (ends.NullKey table) = HasGoneWell part × HasConflict g s rest w (NullKey table)
   IsThreadedCause (ends.HeldKey xid holder) = HasGoneWell part × IsStuckBy g s rest w xid holder
   IsThreadedCause ends.OutOfMemory = HasGoneWell part ⊎ HadNoMemoryToSend part
 

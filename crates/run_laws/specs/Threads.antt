@@ -1,6 +1,6 @@
 -- The world of a run in which workers apply streamed transactions while they come.
---     work_of, done_by_commit      what a transaction has to do there; a commit, for which all of
---         it was done
+--     IsWork      what an open transaction has to do there
+--     work_of, done_by_commit      what one that committed had done, and its commit
 --     Does, DoesWork      what an open transaction has done is a beginning of items, or of its work
 --     IsWorldOf      the world is one of a state, with these items still to be handled
 --     AreBytes      the payloads of items are bytes
@@ -13,13 +13,20 @@ use Rattle.frames.specs.declared.item.CopyItem.{CopyItem}
 use Rattle.frames.specs.declared.item.CopyItem.TheVariants.{Wal, Keepalive, Done}
 use Rattle.session.specs.Sized.{SizedItems, item_of}
 use Rattle.session.specs.State.{Way, Direct, Worker, Spooled, Open, Committed, State, Setting}
-use Rattle.run.specs.Cause.{schema_of}
+use Rattle.run.specs.Cause.{schema_of, IsNext}
 use Rattle.world.specs.World.{Opened, Past, World, starting}
 use Rattle.world.specs.Steps.{Reaches}
-use Rattle.run_laws.specs.Runs.{CommitsNext}
+use Rattle.run_laws.specs.Runs.{DoesAtCommit}
 
--- what a transaction has to do: its items, rollbacks among them; if it is spooled, those that
--- survive
+-- What an open transaction has to do: its items, rollbacks among them. One that is spooled has nothing
+-- to do before the next message commits it, and then what survives of the items that are final.
+abbrev pub IsWork : Setting → State → List CopyItem → ℕ → Way → SizedItems → List Item → Type 0
+IsWork g s rest xid Direct items work = work ≡ map item_of items
+IsWork g s rest xid Worker items work = work ≡ map item_of items
+IsWork g s rest xid Spooled items work = IsNext rest (λ payload. DoesAtCommit g s payload xid work)
+
+-- what a transaction had done that commits with these items: all, rollbacks among them; if it was
+-- spooled, those that survive
 abbrev pub work_of : ℕ → Way → SizedItems → List Item
 work_of xid Direct items = map item_of items
 work_of xid Worker items = map item_of items
@@ -34,10 +41,12 @@ pub record Does (done : Opened) (items : List Item) : Type 0 where
   pub left : List Item
   pub begins : done.items ++ left ≡ items
 
--- It is a beginning of its work; a spooled one begins only once the next message commits it.
-abbrev pub DoesWork : Setting → State → List CopyItem → ℕ → Open → Opened → Type 0
-DoesWork g s rest xid o done =
-    Does done (work_of xid o.way o.items) × (o.way ≡ Spooled → CommitsNext g s rest xid)
+-- It is a beginning of its work.
+pub record DoesWork (g : Setting) (s : State) (rest : List CopyItem) (xid : ℕ) (o : Open) (done : Opened)
+    : Type 0 where
+  pub work : List Item
+  pub is_work : IsWork g s rest xid o.way o.items work
+  pub does : Does done work
 
 -- Calls reach the world from these rows; its commits are those of the state, in order; each of its
 -- open transactions is open in the state, and does its work. That there are such calls is all that

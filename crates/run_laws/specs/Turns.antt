@@ -22,8 +22,7 @@ use Rattle.world.specs.Steps.{Opens as OpensIn, Step}
 use Rattle.world.specs.Steps.{done_with, wanting, committed_with, aborted_with}
 use Rattle.world.specs.World.{Opened, Stop, World, starting}
 use Rattle.run_laws.specs.Leading.{Outbox, AreInStep, IsWith}
-use Rattle.run_laws.specs.Runs.{CommitsNext}
-use Rattle.run_laws.specs.Threads.{work_of}
+use Rattle.run_laws.specs.Threads.{work_of, IsWork}
 
 -- what a leader keeps at one moment, the items that it is still to handle, and the world
 pub record Moment : Type 0 where
@@ -131,11 +130,10 @@ pub data Turn (g : Setting) (a : Moment) : Moment → Type 0 where
       → Step (schema_of g) a.world (record (wanting a.world xid done sub c) { stopped = stopped })
       → Turn g a
       (record a { world = record (wanting a.world xid done sub c) { stopped = stopped } })
-  unspools : (xid : ℕ) (o : Open) (after : ℕ → Option Outbox) (new : World)
-      → get a.state.transactions xid ≡ Some o → o.way ≡ Spooled → CommitsNext g a.state a.rest xid
-      → OpensIn a.world xid (Ok tt) new
-      → IsWith a.outboxes after xid
-      (Some (record { sent = []; queued = work_of xid o.way o.items }))
+  unspools : (xid : ℕ) (o : Open) (work : List Item) (after : ℕ → Option Outbox) (new : World)
+      → get a.state.transactions xid ≡ Some o → o.way ≡ Spooled
+      → IsWork g a.state a.rest xid o.way o.items work → OpensIn a.world xid (Ok tt) new
+      → IsWith a.outboxes after xid (Some (record { sent = []; queued = work }))
       → Turn g a (record a { outboxes = after; world = new })
   stops : (stopped : Option Stop)
       → Step (schema_of g) a.world (record a.world { stopped = stopped })

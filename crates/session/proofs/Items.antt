@@ -27,7 +27,7 @@ use Rattle.session.specs.declared.step.Step.TheVariants as steps
 use Rattle.session.specs.Refusals.{of_relation}
 use Rattle.session.specs.State.{Way, Direct, Worker, Spooled, Open, OpenTransactions, State, Setting, IsHere, GoesAlone, begun_at}
 use Rattle.session.specs.Kept.{is_spooled}
-use Rattle.session.specs.Table.{Next, refuse, at, of_open, gives, has_room, touches, plans, changes, change_line, subtransaction_named, learns, goes_on, aborts, aborts_open}
+use Rattle.session.specs.Table.{Next, refuse, skip_set, is_skipped, at, of_open, gives, has_room, touches, plans, changes, changes_begun, change_line, subtransaction_named, learns, goes_on, aborts, aborts_open}
 use Rattle.session.specs.StreamEvents.{StreamEvent, NoEvent, TransactionOpens, ItemComes, TransactionCommits, TransactionAborts, Tells, IsChange}
 use Rattle.session.specs.KeptTransactions.{Represents as TransactionsRepresent, spool_fault, with_item, item_back, Survives}
 use Rattle.session.specs.KnownRelations.{Represents}
@@ -102,9 +102,9 @@ none_direct phase m xid o none alone some direct = let no : None ≡ Some xid = 
 
 pub gives-admitted : (g : Setting) (v w : session_type.Session) (h : State) (xid : ℕ) (o : Open) (item : Item) (size : ℕ) (back : Option Item) (next : Next) (step : Step) → SessionRepresents g v h → map.get h.transactions xid ≡ Some o → next ≡ Ok (gives h xid item size o)
     → back ≡ item_back o.way item → TransactionsRepresent g w.transactions (map.insert h.transactions xid (with_item o item size)) → IsOfTables (length g.catalog) item → (o.way ≡ Direct → IsChange item)
-    → w.phase ≡ v.phase → w.relations ≡ v.relations → w.position ≡ v.position → step ≡ step_given xid back
+    → w.phase ≡ v.phase → w.relations ≡ v.relations → w.position ≡ v.position → w.skip ≡ v.skip → step ≡ step_given xid back
     → AdmitsMessage g w h next step
-gives-admitted g v w h xid o item size back next step represents some e given kept of_tables directly phase relations position is = record {
+gives-admitted g v w h xid o item size back next step represents some e given kept of_tables directly phase relations position skip is = record {
   state = gives h xid item size o;
   told = ItemComes xid o.way item size;
   stepped = e;
@@ -115,6 +115,7 @@ gives-admitted g v w h xid o item size back next step represents some e given ke
     transactions = kept;
     relations = rw relations represents.relations;
     position = position ∙ represents.position;
+    skip = skip ∙ represents.skip;
   };
   tells = (o, refl, record { present = some; transactions = refl; position = refl; past = refl });
   says = rw is (says_given xid o.way item size back given);
@@ -160,12 +161,19 @@ changes-full g h xid sub size o why planned some full =
     ap (λ f. of_open f (λ p. if has_room g h.transactions size p.way then plans planned (λ c. gives h xid (Change sub c) size p) else refuse SpoolFull)) some ∙ rw (fault.0, fault.1)
 
 line_at : (g : Setting) (h : State) (size : ℕ) (sub : Option ℕ) (planned : Result change_type.Change RelFault) (phase : Phase) → h.phase ≡ phase
-    → change_line g h size sub planned ≡ at phase (refuse NotInTransaction) (λ xid final. changes g h xid xid size planned) (λ xid. changes g h xid (subtransaction_named sub xid) size planned)
-line_at g h size sub planned phase e = ap (λ p. at p (refuse NotInTransaction) (λ xid final. changes g h xid xid size planned) (λ xid. changes g h xid (subtransaction_named sub xid) size planned)) e
+    → change_line g h size sub planned ≡ at phase (refuse NotInTransaction) (λ xid final. changes_begun g h size xid final planned) (λ xid. changes g h xid (subtransaction_named sub xid) size planned)
+line_at g h size sub planned phase e = ap (λ p. at p (refuse NotInTransaction) (λ xid final. changes_begun g h size xid final planned) (λ xid. changes g h xid (subtransaction_named sub xid) size planned)) e
 
-pub line_begun : (g : Setting) (h : State) (size : ℕ) (sub : Option ℕ) (xid final : ℕ) (o : Open) (planned : Result change_type.Change RelFault) → h.phase ≡ Begun xid final → map.get h.transactions xid ≡ Some o → has_room g h.transactions size o.way ≡ true
+pub line_begun : (g : Setting) (h : State) (size : ℕ) (sub : Option ℕ) (xid final : ℕ) (o : Open) (planned : Result change_type.Change RelFault) → h.phase ≡ Begun xid final → is_skipped g h final ≡ false → map.get h.transactions xid ≡ Some o → has_room g h.transactions size o.way ≡ true
     → change_line g h size sub planned ≡ plans planned (λ c. gives h xid (Change xid c) size o)
-line_begun g h size sub xid final o planned e some room = line_at g h size sub planned (Begun xid final) e ∙ changes-room g h xid xid size o planned some room
+line_begun g h size sub xid final o planned e taken some room =
+    line_at g h size sub planned (Begun xid final) e ∙ ap (λ b. if b then Ok h else changes g h xid xid size planned) taken
+    ∙ changes-room g h xid xid size o planned some room
+
+pub line_skipped : (g : Setting) (h : State) (size : ℕ) (sub : Option ℕ) (xid final : ℕ) (planned : Result change_type.Change RelFault) → h.phase ≡ Begun xid final → is_skipped g h final ≡ true
+    → change_line g h size sub planned ≡ Ok h
+line_skipped g h size sub xid final planned e skipped =
+    line_at g h size sub planned (Begun xid final) e ∙ ap (λ b. if b then Ok h else changes g h xid xid size planned) skipped
 
 pub line_block : (g : Setting) (h : State) (size : ℕ) (sub : Option ℕ) (xid : ℕ) (o : Open) (planned : Result change_type.Change RelFault) → h.phase ≡ Block xid → map.get h.transactions xid ≡ Some o → has_room g h.transactions size o.way ≡ true
     → change_line g h size sub planned ≡ plans planned (λ c. gives h xid (Change (subtransaction_named sub xid) c) size o)
@@ -180,7 +188,7 @@ room_direct g m size Direct e = refl
 room_direct g m size Worker e = cc
 room_direct g m size Spooled e = cc
 
-pub IsChangeOf-refused : (g : Setting) (h : State) (size : ℕ) (sub : Option ℕ) (result : Result (ℕ × ℕ) SessionFault) (why : SessionFault) → IsErrAnd result (λ e. e ≡ why)
+pub IsChangeOf-refused : (g : Setting) (h : State) (size : ℕ) (sub : Option ℕ) (result : Result (Option (ℕ × ℕ)) SessionFault) (why : SessionFault) → IsErrAnd result (λ e. e ≡ why)
     → ((planned : Result change_type.Change RelFault) → change_line g h size sub planned ≡ refuse why) → IsChangeOf g h size sub result
 IsChangeOf-refused g h size sub (Ok of) why is line = absurd is
 IsChangeOf-refused g h size sub (Err e) why is line = λ planned. rw is (line planned)
@@ -197,27 +205,28 @@ fault_of_relation faults.NullKey planned next is e = e (is (λ no. cc))
 fault_of_relation faults.OutOfMemory planned next is e = tt
 
 -- the session once it knows these relations, with the rest of before
-stands_learnt : (g : Setting) (v w : session_type.Session) (h : State) (relations : Relations) → SessionRepresents g v h → Represents g w.relations relations → w.phase ≡ v.phase → w.transactions ≡ v.transactions → w.position ≡ v.position
+stands_learnt : (g : Setting) (v w : session_type.Session) (h : State) (relations : Relations) → SessionRepresents g v h → Represents g w.relations relations → w.phase ≡ v.phase → w.transactions ≡ v.transactions → w.position ≡ v.position → w.skip ≡ v.skip
     → SessionRepresents g w (record h { relations = relations })
-stands_learnt g v w h relations represents known phase transactions position = record {
+stands_learnt g v w h relations represents known phase transactions position skip = record {
   phase = phase ∙ represents.phase;
   here = represents.here;
   alone = represents.alone;
   transactions = rw transactions represents.transactions;
   relations = known;
   position = position ∙ represents.position;
+  skip = skip ∙ represents.skip;
 }
 
 -- the session once the relations are known anew
-pub stands_known : (g : Setting) (v w : session_type.Session) (h : State) → SessionRepresents g v h → Represents g w.relations h.relations → w.phase ≡ v.phase → w.transactions ≡ v.transactions → w.position ≡ v.position → SessionRepresents g w h
+pub stands_known : (g : Setting) (v w : session_type.Session) (h : State) → SessionRepresents g v h → Represents g w.relations h.relations → w.phase ≡ v.phase → w.transactions ≡ v.transactions → w.position ≡ v.position → w.skip ≡ v.skip → SessionRepresents g w h
 stands_known g v w h = stands_learnt g v w h h.relations
 
 -- a refusal after which the relations are known as before
 pub relation_refused : (g : Setting) (v w : session_type.Session) (h : State) (next : Next) (result : Result Step Refused) (fault : RelFault) → SessionRepresents g v h → Represents g w.relations h.relations
-    → w.phase ≡ v.phase → w.transactions ≡ v.transactions → w.position ≡ v.position → IsErrAnd result (λ r. r ≡ of_relation fault) → NextRefuses next (of_relation fault)
+    → w.phase ≡ v.phase → w.transactions ≡ v.transactions → w.position ≡ v.position → w.skip ≡ v.skip → IsErrAnd result (λ r. r ≡ of_relation fault) → NextRefuses next (of_relation fault)
     → AnswersMessage g w h next result
-relation_refused g v w h next (Ok s) fault represents known phase transactions position is cause = absurd is
-relation_refused g v w h next (Err r) fault represents known phase transactions position is cause = record { represents = stands_known g v w h represents known phase transactions position; cause = rw is cause }
+relation_refused g v w h next (Ok s) fault represents known phase transactions position skip is cause = absurd is
+relation_refused g v w h next (Err r) fault represents known phase transactions position skip is cause = record { represents = stands_known g v w h represents known phase transactions position skip; cause = rw is cause }
 
 -- ---- relations
 
@@ -226,7 +235,7 @@ tells_learnt : (h t : State) (r : Relation) (told : StreamEvent) → Tells h t t
 tells_learnt h t r NoEvent is = record { transactions = is.transactions; position = is.position; past = is.past }
 tells_learnt h t r (TransactionOpens xid way) is = record { absent = is.absent; transactions = is.transactions; position = is.position; past = is.past }
 tells_learnt h t r (ItemComes xid way item size) is = (is.0, is.1, record { present = is.2.present; transactions = is.2.transactions; position = is.2.position; past = is.2.past })
-tells_learnt h t r (TransactionCommits c) is = record { present = is.present; later = is.later; outside = is.outside; transactions = is.transactions; position = is.position; past = is.past }
+tells_learnt h t r (TransactionCommits c) is = record { items = is.items; present = is.present; final = is.final; later = is.later; outside = is.outside; transactions = is.transactions; position = is.position; past = is.past }
 tells_learnt h t r (TransactionAborts xid way) is = (is.0, is.1, record { present = is.2.present; transactions = is.2.transactions; position = is.2.position; past = is.2.past })
 
 -- outside of blocks
@@ -241,12 +250,12 @@ at_rest phase next block is =
     is
 
 pub learns-admitted : (g : Setting) (v w : session_type.Session) (h : State) (r : Relation) (next : Next) → SessionRepresents g v h → next ≡ Ok (learns h r) → Represents g w.relations (learnt h.relations r)
-    → w.phase ≡ v.phase → w.transactions ≡ v.transactions → w.position ≡ v.position → AdmitsMessage g w h next steps.Nothing
-learns-admitted g v w h r next represents e known phase transactions position = record {
+    → w.phase ≡ v.phase → w.transactions ≡ v.transactions → w.position ≡ v.position → w.skip ≡ v.skip → AdmitsMessage g w h next steps.Nothing
+learns-admitted g v w h r next represents e known phase transactions position skip = record {
   state = learns h r;
   told = NoEvent;
   stepped = e;
-  represents = stands_learnt g v w h (learnt h.relations r) represents known phase transactions position;
+  represents = stands_learnt g v w h (learnt h.relations r) represents known phase transactions position skip;
   tells = record { transactions = refl; position = refl; past = refl };
   says = refl;
   within = tt;
@@ -304,9 +313,9 @@ relation_full g v h r xid sub size a b next (Err e) why block line refused is =
 
 -- a relation message in a block: the item is taken, and then the relation is learnt
 pub relation_taken : (g : Setting) (v w : session_type.Session) (h : State) (r : Relation) (xid sub size : ℕ) (next : Next) (step : Step) → next ≡ touches g (learns h r) xid sub size → (taken : AdmitsMessage g v h (touches g h xid sub size) step)
-    → Represents g w.relations (learnt h.relations r) → w.phase ≡ v.phase → w.transactions ≡ v.transactions → w.position ≡ v.position
+    → Represents g w.relations (learnt h.relations r) → w.phase ≡ v.phase → w.transactions ≡ v.transactions → w.position ≡ v.position → w.skip ≡ v.skip
     → AdmitsMessage g w h next step
-relation_taken g v w h r xid sub size next step line taken known phase transactions position =
+relation_taken g v w h r xid sub size next step line taken known phase transactions position skip =
     let touched = is_touched g h xid sub size taken.state taken.stepped in
     record {
       state = learns taken.state r;
@@ -315,7 +324,7 @@ relation_taken g v w h r xid sub size next step line taken known phase transacti
           line
           ∙ touches-taken g (learns h r) xid sub size touched.o touched.present touched.room
           ∙ sym (ap (λ s. Ok (learns s r)) touched.is);
-      represents = stands_learnt g v w taken.state (learnt taken.state.relations r) taken.represents (rw touched.is known) phase transactions position;
+      represents = stands_learnt g v w taken.state (learnt taken.state.relations r) taken.represents (rw touched.is known) phase transactions position skip;
       tells = tells_learnt h taken.state r taken.told taken.tells;
       says = taken.says;
       within = taken.within;
@@ -324,8 +333,8 @@ relation_taken g v w h r xid sub size next step line taken known phase transacti
 -- the session once the item is dropped again, since the relation was not learnt
 pub relation_undone : (g : Setting) (u v w : session_type.Session) (h : State) (xid sub size : ℕ) (step : Step) → SessionRepresents g u h → (taken : AdmitsMessage g v h (touches g h xid sub size) step)
     → ((m : OpenTransactions) (o : Open) (item : Item) (bytes : ℕ) → map.get m xid ≡ Some o → Survives item → TransactionsRepresent g v.transactions (map.insert m xid (with_item o item bytes)) → TransactionsRepresent g w.transactions m)
-    → Represents g w.relations taken.state.relations → w.phase ≡ v.phase → w.position ≡ v.position → SessionRepresents g w h
-relation_undone g u v w h xid sub size step was taken undoes known phase position =
+    → Represents g w.relations taken.state.relations → w.phase ≡ v.phase → w.position ≡ v.position → w.skip ≡ v.skip → SessionRepresents g w h
+relation_undone g u v w h xid sub size step was taken undoes known phase position skip =
     let touched = is_touched g h xid sub size taken.state taken.stepped in
     let P : State → Type 0 = λ t. TransactionsRepresent g v.transactions t.transactions in
     let Q : State → Type 0 = λ t. Represents g w.relations t.relations in
@@ -336,6 +345,7 @@ relation_undone g u v w h xid sub size step was taken undoes known phase positio
       transactions = undoes h.transactions touched.o (Touch sub) size touched.present tt (subst P touched.is taken.represents.transactions);
       relations = subst Q touched.is known;
       position = position ∙ taken.represents.position ∙ ap (λ t. t.position) touched.is;
+      skip = skip ∙ taken.represents.skip ∙ ap (skip_set g) touched.is;
     }
 
 -- ---- rollbacks
@@ -359,9 +369,9 @@ says_dropped xid Worker = refl
 says_dropped xid Spooled = refl
 
 pub drops-admitted : (g : Setting) (v w : session_type.Session) (h : State) (m : StreamAbort) (o : Open) (step : Step) → SessionRepresents g v h → h.phase ≡ Outside → map.get h.transactions m.xid ≡ Some o → m.subtransaction ≡ m.xid
-    → TransactionsRepresent g w.transactions (map.remove h.transactions m.xid) → w.phase ≡ v.phase → w.relations ≡ v.relations → w.position ≡ v.position → step ≡ step_dropped m.xid (is_spooled o.way)
+    → TransactionsRepresent g w.transactions (map.remove h.transactions m.xid) → w.phase ≡ v.phase → w.relations ≡ v.relations → w.position ≡ v.position → w.skip ≡ v.skip → step ≡ step_dropped m.xid (is_spooled o.way)
     → AdmitsMessage g w h (Ok (aborts h m)) step
-drops-admitted g v w h m o step represents outside some whole kept phase relations position is = record {
+drops-admitted g v w h m o step represents outside some whole kept phase relations position skip is = record {
   state = record h { transactions = map.remove h.transactions m.xid };
   told = TransactionAborts m.xid o.way;
   stepped = ap Ok (aborts_found h m (Some o) some ∙ rw (eq-eqb m.subtransaction m.xid whole));
@@ -372,6 +382,7 @@ drops-admitted g v w h m o step represents outside some whole kept phase relatio
     transactions = kept;
     relations = rw relations represents.relations;
     position = position ∙ represents.position;
+    skip = skip ∙ represents.skip;
   };
   tells = (o, refl, record { present = some; transactions = refl; position = refl; past = refl });
   says = rw is (says_dropped m.xid o.way);
@@ -395,9 +406,9 @@ item_back-free Spooled item e = cc
 -- ---- further blocks
 
 pub goes_on-admitted : (g : Setting) (v w : session_type.Session) (h : State) (xid : ℕ) → SessionRepresents g v h → h.phase ≡ Outside → map.contains_key h.transactions xid ≡ true
-    → w.phase ≡ Block xid → w.transactions ≡ v.transactions → w.relations ≡ v.relations → w.position ≡ v.position → AdmitsMessage g w h (goes_on h xid) steps.Nothing
-goes_on-admitted g v w h xid represents outside is_open phase transactions relations position =
+    → w.phase ≡ Block xid → w.transactions ≡ v.transactions → w.relations ≡ v.relations → w.position ≡ v.position → w.skip ≡ v.skip → AdmitsMessage g w h (goes_on h xid) steps.Nothing
+goes_on-admitted g v w h xid represents outside is_open phase transactions relations position skip =
     let o = present h.transactions xid is_open in
     let streamed : o.0.way ≢ Direct = λ direct. let no : None ≡ Some xid = sym (none_begun h.phase outside) ∙ represents.alone xid o.0 o.1 direct in cc in
     let P : Option Open → Type 0 = λ f. IsSomeAnd f (λ p. p.way ≢ Direct) in
-    moves-admitted g v w h (Block xid) (goes_on h xid) represents (subst P (sym o.1) streamed) (none_begun h.phase outside) (rw is_open) phase transactions relations position
+    moves-admitted g v w h (Block xid) (goes_on h xid) represents (subst P (sym o.1) streamed) (none_begun h.phase outside) (rw is_open) phase transactions relations position skip

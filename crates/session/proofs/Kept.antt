@@ -323,9 +323,9 @@ pub IsOpened-refused : (g : Setting) (v : Transactions) (m : OpenTransactions) (
 IsOpened-refused g v m xid (Ok u) why kept fault is = absurd is
 IsOpened-refused g v m xid (Err e) why kept fault is = (kept, λ other. (why, fault, is))
 
-pub IsStreamed-refused : (g : Setting) (v : Transactions) (m : OpenTransactions) (xid : ℕ) (result : Result Bool Refused) (why : SessionFault) → Represents g v m → room_fault m xid ≡ Some why → IsErrAnd result (λ e. e ≡ Session why) → IsStreamed g v m xid result
-IsStreamed-refused g v m xid (Ok u) why kept fault is = absurd is
-IsStreamed-refused g v m xid (Err e) why kept fault is = (kept, λ other. (why, fault, is))
+pub IsStreamed-refused : (g : Setting) (v : Transactions) (m : OpenTransactions) (xid : ℕ) (may : Bool) (result : Result Bool Refused) (why : SessionFault) → Represents g v m → room_fault m xid ≡ Some why → IsErrAnd result (λ e. e ≡ Session why) → IsStreamed g v m xid may result
+IsStreamed-refused g v m xid may (Ok u) why kept fault is = absurd is
+IsStreamed-refused g v m xid may (Err e) why kept fault is = (kept, λ other. (why, fault, is))
 
 -- ---- what is kept of one transaction
 

@@ -1,5 +1,5 @@
 -- What a session answers to a message, and to a payload, and the state that it represents afterwards.
-use Rattle.std.specs.Prelude.{◌≡◌, ◌<◌, ℕ, List, length, Option, Some, Result, Ok, Err, MatchResult, true}
+use Rattle.std.specs.Prelude.{◌≡◌, ◌<◌, ℕ, List, length, Option, Some, Result, Ok, Err, MatchResult, MatchOption, true}
 use Rattle.std.specs.FinMap as map
 use Rattle.messages.specs.declared.message.Message.{Message}
 use Rattle.model.specs.declared.change.Change as change_type
@@ -90,12 +90,15 @@ pub record RefusesMessage (g : Setting) (v : session_type.Session) (h : State) (
 abbrev pub AnswersMessage : Setting → session_type.Session → State → Next → Result Step Refused → Type 0
 AnswersMessage g v h next result = MatchResult result (AdmitsMessage g v h next) (RefusesMessage g v h next)
 
--- A change may be taken as an item of this transaction and subtransaction, or the table refuses it, whatever it is.
-abbrev pub IsChangeOf : Setting → State → ℕ → Option ℕ → Result (ℕ × ℕ) SessionFault → Type 0
+-- A change may be taken as an item of this transaction and subtransaction, or it is one of the skipped transaction and
+-- is passed over, or the table refuses it, whatever it is.
+abbrev pub IsChangeOf : Setting → State → ℕ → Option ℕ → Result (Option (ℕ × ℕ)) SessionFault → Type 0
 IsChangeOf g h size sub result =
     MatchResult result
+    (λ found. MatchOption found
+    ((planned : Result change_type.Change RelFault) → change_line g h size sub planned ≡ Ok h)
     (λ of. (o : Open) × (map.get h.transactions of.0 ≡ Some o) × (has_room g h.transactions size o.way ≡ true)
-    × ((planned : Result change_type.Change RelFault) → change_line g h size sub planned ≡ plans planned (λ c. gives h of.0 (Change of.1 c) size o)))
+    × ((planned : Result change_type.Change RelFault) → change_line g h size sub planned ≡ plans planned (λ c. gives h of.0 (Change of.1 c) size o))))
     (λ why. (planned : Result change_type.Change RelFault) → change_line g h size sub planned ≡ refuse why)
 
 -- The payload was taken: it spells a message that the table admits, and the answer says what that tells.

@@ -1,5 +1,5 @@
 -- What is kept of a transaction, as it gets items, drops them and hands them out.
-use Rattle.std.specs.Prelude.{ℕ, ◌-◌, List, [], ◌∷◌, ◌++◌, length, take, map, Bool, true, false, Option, Some, None}
+use Rattle.std.specs.Prelude.{ℕ, ◌-◌, List, [], ◌∷◌, ◌++◌, length, take, map, Bool, true, false, Option, Some, None, if◌then◌else◌}
 use Rattle.model.specs.declared.item.Item.{Item}
 use Rattle.session.specs.declared.transactions.OpenTransaction.{OpenTransaction}
 use Rattle.session.specs.declared.transactions.OpenTransaction.TheVariants.{Direct, Worker, Spooled}
@@ -12,6 +12,10 @@ abbrev pub items_kept : OpenTransaction → List Item
 items_kept Direct = []
 items_kept Worker = []
 items_kept (Spooled spool) = map item_of spool
+
+-- those that a commit hands out: none if the transaction is skipped
+abbrev pub items_left : Bool → OpenTransaction → List Item
+items_left skipped kept = if skipped then [] else items_kept kept
 
 -- the items are kept until the commit
 abbrev pub is_spooled : Way → Bool

@@ -1,5 +1,5 @@
 -- What a session keeps of the open transactions, and what its calls on them answer.
-use Rattle.std.specs.Prelude.{◌≡◌, ◌≢◌, ◌<◌, ◌^◌, ◌++◌, ◌∷◌, [], ℕ, Option, Some, None, option_map, Result, MatchResult, MatchOption, Bool, true, false, nat_lt, if◌then◌else◌}
+use Rattle.std.specs.Prelude.{◌≡◌, ◌≢◌, ◌<◌, ◌^◌, ◌++◌, ◌∷◌, [], ℕ, Option, Some, None, option_map, Result, MatchResult, MatchOption, Bool, true, false, ◌&&◌, nat_lt, if◌then◌else◌}
 use Rattle.std.specs.Ordering.{nat_cmp}
 use Rattle.std.specs.BTreeMap.{get, btree_map_len}
 use Rattle.std.specs.FinMap as map
@@ -51,11 +51,12 @@ abbrev pub way_if : Bool → Way
 way_if true = Worker
 way_if false = Spooled
 
--- The transaction is streamed now, with a worker if there is one left, or it can't be opened, and all is as it was.
-abbrev pub IsStreamed : Setting → Transactions → OpenTransactions → ℕ → Result Bool Refused → Type 0
-IsStreamed g v m xid result =
+-- The transaction is streamed now, with a worker if it may have one and there is one left, or it can't be opened, and
+-- all is as it was.
+abbrev pub IsStreamed : Setting → Transactions → OpenTransactions → ℕ → Bool → Result Bool Refused → Type 0
+IsStreamed g v m xid may_have result =
     MatchResult result
-    (λ got. (room_fault m xid ≡ None) × (got ≡ nat_lt (worker_count m) g.workers) × Represents g v (map.insert m xid (new_open (way_if got))))
+    (λ got. (room_fault m xid ≡ None) × (got ≡ (may_have && nat_lt (worker_count m) g.workers)) × Represents g v (map.insert m xid (new_open (way_if got))))
     (λ refused. Represents g v m × IsFault (room_fault m xid) refused)
 
 -- The transaction was open and is no longer, or it wasn't.

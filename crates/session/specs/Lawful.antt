@@ -1,10 +1,11 @@
 -- Lawful streams: each payload is a message that the session table admits, given those before it.
-use Rattle.std.specs.Prelude.{◌≡◌, ℕ, List, [], ◌∷◌, length, Ok, Err}
+use Rattle.std.specs.Prelude.{◌≡◌, ◌≢◌, ℕ, List, [], ◌∷◌, length, Some, Ok, Err}
+use Rattle.std.specs.FinMap as map
 use Rattle.messages.specs.declared.message.Message.{Message}
 use Rattle.messages.specs.Messages.{Spelled, HasFault}
 use Rattle.session.specs.declared.fault.Refused.{Refused}
 use Rattle.session.specs.declared.fault.Refused.TheVariants.{Msg, Session, Rel, OutOfMemory}
-use Rattle.session.specs.State.{State, Setting, start, in_block}
+use Rattle.session.specs.State.{Open, Committed, State, Setting, start, in_block}
 use Rattle.session.specs.Table.{step}
 
 -- The payload spells a message that the table admits, and that leaves the state.
@@ -32,3 +33,18 @@ Refuses g s payload (Msg fault) = HasFault payload (in_block s.phase) fault
 Refuses g s payload (Session fault) = TableRefuses g s payload (Session fault)
 Refuses g s payload (Rel fault) = TableRefuses g s payload (Rel fault)
 Refuses g s payload OutOfMemory = Unit {0}
+
+-- ---- what is final
+
+-- The commit is the first, and its commit LSN is the skip.
+pub record IsSkipped (g : Setting) (s : State) (c : Committed) : Type 0 where
+  pub given : g.skip ≢ 0
+  pub first : s.past ≡ []
+  pub named : c.info.commit ≡ g.skip
+
+-- Of a transaction that is skipped nothing is final, of any other all that it was given.
+pub record IsFinal (g : Setting) (s : State) (c : Committed) : Type 0 where
+  pub transaction : Open
+  pub present : map.get s.transactions c.xid ≡ Some transaction
+  pub skipped : IsSkipped g s c → c.items ≡ []
+  pub whole : ¬ (IsSkipped g s c) → c.items ≡ transaction.items

@@ -2,6 +2,7 @@
 use Rattle.std.specs.Prelude.{◌≡◌}
 use Rattle.session.specs.declared.session.Session as session_type
 use Rattle.session.specs.State.{State, Setting, IsHere, GoesAlone}
+use Rattle.session.specs.Table.{skip_set}
 use Rattle.session.specs.KeptTransactions.{Represents as TransactionsRepresent}
 use Rattle.session.specs.KnownRelations.{Represents as RelationsRepresent}
 
@@ -13,3 +14,4 @@ pub record Represents (g : Setting) (v : session_type.Session) (h : State) : Typ
   pub transactions : TransactionsRepresent g v.transactions h.transactions
   pub relations : RelationsRepresent g v.relations h.relations
   pub position : v.position ≡ h.position
+  pub skip : v.skip ≡ skip_set g h

@@ -2,7 +2,7 @@
 --     Way, Open      how an open transaction's items go, and what it has done
 --     Committed      what a commit made final
 --     State, start      what all messages so far have left; what there is before the first
---     Setting, setting      what a session is given: workers, room for spools, the catalog; that of these
+--     Setting      what a session is given: workers, room for spools, what to skip, the catalog
 use Rattle.std.specs.Prelude.{◌≡◌, ◌≢◌, ℕ, Bool, true, false, List, [], Option, Some, None, count_by, sum_by, IsSomeAnd}
 use Rattle.std.specs.Ordering.{nat_cmp}
 use Rattle.std.specs.FinMap as map
@@ -52,15 +52,14 @@ pub record State : Type 0 where
 abbrev pub start : State
 start = record { phase = Outside; transactions = map.empty; relations = []; position = 0; past = [] }
 
--- how many workers there are, how many bytes of payloads the spools may keep, and the subscriber's tables
+-- how many workers there are, how many bytes of payloads the spools may keep, which transaction to skip,
+-- and the subscriber's tables
 pub record Setting : Type 0 where
   pub workers : ℕ
   pub spool : ℕ
+  -- the transaction's commit LSN; 0: none
+  pub skip : ℕ
   pub catalog : List Definition
-
--- the setting of so many workers, so many bytes of spools, and these tables
-abbrev pub setting : ℕ → ℕ → List Definition → Setting
-setting workers spool catalog = record { workers = workers; spool = spool; catalog = catalog }
 
 -- a message is read as one in a block of a streamed transaction
 abbrev pub in_block : Phase → Bool

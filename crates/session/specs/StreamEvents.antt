@@ -1,10 +1,10 @@
 -- What an admitted message tells: five cases, whatever the message.
-use Rattle.std.specs.Prelude.{◌≡◌, ℕ, ◌<◌, List, [], ◌∷◌, ◌++◌, map, Some, None}
+use Rattle.std.specs.Prelude.{◌≡◌, ℕ, ◌<◌, List, [], ◌∷◌, ◌++◌, map, Some, None, ◌⊎◌}
 use Rattle.std.specs.FinMap as map
 use Rattle.model.specs.declared.item.Item.{Item}
 use Rattle.model.specs.declared.item.Item.TheVariants.{Change, Touch, BackTo, Last}
 use Rattle.session.specs.declared.phase.Phase.TheVariants.{Outside}
-use Rattle.session.specs.Sized.{item_of}
+use Rattle.session.specs.Sized.{SizedItems, item_of}
 use Rattle.session.specs.State.{Way, Direct, Worker, Spooled, Open, Committed, State, sized_survivors}
 use Rattle.session.specs.Table.{new_open}
 
@@ -43,9 +43,12 @@ IsChange (Touch sub) = ⊥
 IsChange (BackTo sub) = ⊥
 IsChange Last = ⊥
 
--- The transaction commits, past the last commit, and none is begun afterwards.
+-- The transaction commits, past the last commit, and none is begun afterwards. What it has done is final, but
+-- of a spooled one that is skipped.
 pub record IsCommitting (s t : State) (c : Committed) : Type 0 where
-  pub present : map.get s.transactions c.xid ≡ Some (record { way = c.way; items = c.items })
+  pub items : SizedItems
+  pub present : map.get s.transactions c.xid ≡ Some (record { way = c.way; items = items })
+  pub final : (c.items ≡ items) ⊎ ((c.way ≡ Spooled) × (c.items ≡ []))
   pub later : s.position < c.info.end
   pub outside : t.phase ≡ Outside
   pub transactions : t.transactions ≡ map.remove s.transactions c.xid

@@ -1,6 +1,6 @@
 -- The session table: what each message does in each phase, a line a message, and a column each for
 -- outside of transactions, between Begin and Commit, and in a block of a streamed transaction.
-use Rattle.std.specs.Prelude.{ℕ, ◌+◌, ◌==◌, Bool, true, List, [], ◌∷◌, ◌++◌, Option, Some, None, unwrap_or, Result, Ok, Err, nat_lt, nat_le, if◌then◌else◌}
+use Rattle.std.specs.Prelude.{ℕ, ◌+◌, ◌==◌, Bool, true, false, not, is_some, ◌&&◌, List, [], ◌∷◌, ◌++◌, Option, Some, None, unwrap_or, Result, Ok, Err, nat_lt, nat_le, if◌then◌else◌}
 use Rattle.std.specs.FinMap as map
 use Rattle.model.specs.Definition.{Definition}
 use Rattle.model.specs.declared.change.Change as change_type
@@ -29,7 +29,8 @@ use Rattle.session.specs.declared.fault.SessionFault.{SessionFault}
 use Rattle.session.specs.declared.fault.SessionFault.TheVariants.{NotInTransaction, NestedBegin, BlockOpen, NoBlock, UnknownTransaction, AlreadyOpen, OldCommit, CommitMismatch, SpoolFull, TooManyOpen}
 use Rattle.session.specs.declared.fault.Refused.{Refused}
 use Rattle.session.specs.declared.fault.Refused.TheVariants.{Session, Rel}
-use Rattle.session.specs.State.{Way, Direct, Worker, Spooled, Open, OpenTransactions, State, Setting, worker_count, spool_bytes}
+use Rattle.session.specs.Sized.{SizedItems}
+use Rattle.session.specs.State.{Way, Direct, Worker, Spooled, Open, OpenTransactions, Committed, State, Setting, worker_count, spool_bytes}
 
 -- the next state, or why the message is refused
 abbrev pub Next : Type 0
@@ -38,6 +39,33 @@ Next = Result State Refused
 -- the message is refused for this fault
 abbrev pub refuse : SessionFault → Next
 refuse fault = Err (Session fault)
+
+-- ---- the skip
+
+-- the skip of a setting, until a transaction commits
+abbrev pub skip_until : ℕ → List Committed → Option ℕ
+skip_until skip [] = if skip == 0 then None else Some skip
+skip_until skip (c ∷ past) = None
+
+-- the commit LSN that is set to be skipped
+abbrev pub skip_set : Setting → State → Option ℕ
+skip_set g s = skip_until g.skip s.past
+
+-- the skip names the transaction of this commit LSN
+abbrev pub names : ℕ → Option ℕ → Bool
+names commit None = false
+names commit (Some skip) = skip == commit
+
+-- the transaction of this commit LSN is skipped
+abbrev pub is_skipped : Setting → State → ℕ → Bool
+is_skipped g s commit = names commit (skip_set g s)
+
+-- what is final of a transaction's items at its commit: of a spooled one that is skipped, none. (One that was
+-- begun got none, where it is skipped; and none has a worker while the skip is set.)
+abbrev pub final_items : Bool → Way → SizedItems → SizedItems
+final_items skipped Direct items = items
+final_items skipped Worker items = items
+final_items skipped Spooled items = if skipped then [] else items
 
 -- ---- opening
 
@@ -64,9 +92,9 @@ unless_fault (Some fault) t = refuse fault
 abbrev pub opens : State → ℕ → Way → Phase → Next
 opens s xid way phase = unless_fault (room_fault s.transactions xid) (record s { phase = phase; transactions = map.insert s.transactions xid (new_open way) })
 
--- a streamed transaction gets a worker as long as there are any, and is spooled otherwise
+-- a streamed transaction gets a worker as long as there are any and no skip is set, and is spooled otherwise
 abbrev pub next_way : Setting → State → Way
-next_way g s = if nat_lt (worker_count s.transactions) g.workers then Worker else Spooled
+next_way g s = if not (is_some (skip_set g s)) && nat_lt (worker_count s.transactions) g.workers then Worker else Spooled
 
 -- a Begin opens a transaction of the direct way
 abbrev pub begins : State → Begin → Next
@@ -126,23 +154,28 @@ subtransaction_named sub xid = unwrap_or sub xid
 -- ---- closing
 
 -- an open transaction commits; OldCommit where it doesn't end past the last commit
-abbrev pub closes : State → ℕ → CommitInfo → Open → Next
-closes s xid info o =
+abbrev pub closes : Setting → State → ℕ → CommitInfo → Open → Next
+closes g s xid info o =
     if nat_le info.end s.position then refuse OldCommit
     else Ok (record s {
       phase = Outside;
       transactions = map.remove s.transactions xid;
       position = info.end;
-      past = s.past ++ (record { xid = xid; way = o.way; items = o.items; info = info }) ∷ [];
+      past = s.past ++ (record {
+        xid = xid;
+        way = o.way;
+        items = final_items (is_skipped g s info.commit) o.way o.items;
+        info = info;
+      }) ∷ [];
     })
 
 -- the transaction of this xid commits; UnknownTransaction if it isn't open
-abbrev pub commits : State → ℕ → ℕ → ℕ → Next
-commits s xid commit end = of_open (transaction s xid) (λ o. closes s xid (record { commit = commit; end = end }) o)
+abbrev pub commits : Setting → State → ℕ → ℕ → ℕ → Next
+commits g s xid commit end = of_open (transaction s xid) (λ o. closes g s xid (record { commit = commit; end = end }) o)
 
 -- a Commit has to be the one that its Begin foretold
-abbrev pub commits_begun : State → ℕ → ℕ → Commit → Next
-commits_begun s xid final m = if m.commit_lsn == final then commits s xid m.commit_lsn m.end_lsn else refuse CommitMismatch
+abbrev pub commits_begun : Setting → State → ℕ → ℕ → Commit → Next
+commits_begun g s xid final m = if m.commit_lsn == final then commits g s xid m.commit_lsn m.end_lsn else refuse CommitMismatch
 
 -- an open transaction is dropped, or its subtransaction rolled back; an unknown one changes nothing
 abbrev pub aborts_open : State → StreamAbort → Option Open → State
@@ -189,15 +222,20 @@ at Outside outside begun block = outside
 at (Begun xid final) outside begun block = begun xid final
 at (Block xid) outside begun block = block xid
 
+-- a change of the transaction that was begun, and is to commit at this place; of one that is skipped it is no item,
+-- whatever its relation
+abbrev pub changes_begun : Setting → State → ℕ → ℕ → ℕ → Result change_type.Change RelFault → Next
+changes_begun g s size xid final planned = if is_skipped g s final then Ok s else changes g s xid xid size planned
+
 -- a change needs a transaction; between Begin and Commit it names that one
 abbrev pub change_line : Setting → State → ℕ → Option ℕ → Result change_type.Change RelFault → Next
 change_line g s size sub planned =
-    at s.phase (refuse NotInTransaction) (λ xid final. changes g s xid xid size planned) (λ xid. changes g s xid (subtransaction_named sub xid) size planned)
+    at s.phase (refuse NotInTransaction) (λ xid final. changes_begun g s size xid final planned) (λ xid. changes g s xid (subtransaction_named sub xid) size planned)
 
 -- What a message does whose payload has this length.
 abbrev pub step : Setting → State → ℕ → Message → Next
 step g s size (messages.Begin m) = at s.phase (begins s m) (λ xid final. refuse NestedBegin) (λ xid. refuse BlockOpen)
-step g s size (messages.Commit m) = at s.phase (refuse NotInTransaction) (λ xid final. commits_begun s xid final m) (λ xid. refuse BlockOpen)
+step g s size (messages.Commit m) = at s.phase (refuse NotInTransaction) (λ xid final. commits_begun g s xid final m) (λ xid. refuse BlockOpen)
 step g s size (messages.Origin m) = at s.phase (refuse NotInTransaction) (λ xid final. Ok s) (λ xid. Ok s)
 step g s size (messages.Message m) = at s.phase (Ok s) (λ xid final. Ok s) (λ xid. Ok s)
 step g s size (messages.Relation sub r) = at s.phase (Ok (learns s r)) (λ xid final. Ok (learns s r)) (λ xid. touches g (learns s r) xid (subtransaction_named sub xid) size)
@@ -208,5 +246,5 @@ step g s size (messages.Delete m) = change_line g s size m.xid (row_change g s m
 step g s size (messages.Truncate m) = change_line g s size m.xid (truncate_change g s m.relations)
 step g s size (messages.StreamStart m) = at s.phase (streams g s m) (λ xid final. refuse NestedBegin) (λ xid. refuse BlockOpen)
 step g s size messages.StreamStop = at s.phase (refuse NoBlock) (λ xid final. refuse NoBlock) (λ xid. Ok (leaves_block s))
-step g s size (messages.StreamCommit m) = at s.phase (commits s m.xid m.commit_lsn m.end_lsn) (λ xid final. refuse NestedBegin) (λ xid. refuse BlockOpen)
+step g s size (messages.StreamCommit m) = at s.phase (commits g s m.xid m.commit_lsn m.end_lsn) (λ xid final. refuse NestedBegin) (λ xid. refuse BlockOpen)
 step g s size (messages.StreamAbort m) = at s.phase (Ok (aborts s m)) (λ xid final. refuse NestedBegin) (λ xid. refuse BlockOpen)

@@ -1,10 +1,10 @@
 // Laws of streams, each the contract of a function that does nothing.
-ghost use Rattle.std.specs.Prelude.{◌≡◌, ◌≢◌, ◌<◌, ℕ, List, slice_index};
+ghost use Rattle.std.specs.Prelude.{◌≡◌, ◌≢◌, ◌<◌, ◌++◌, ◌∷◌, [], ℕ, List, slice_index};
 ghost use Rattle.messages.specs.declared.message.Message.{Message};
 ghost use Rattle.session.specs.declared.fault.Refused.{Refused as Refusal};
 ghost use Rattle.session.specs.declared.fault.Refused.TheVariants.{OutOfMemory};
-ghost use Rattle.session.specs.State.{Setting, State};
-ghost use Rattle.session.specs.Lawful.{Admits, Refuses, Leads};
+ghost use Rattle.session.specs.State.{Committed, Setting, State};
+ghost use Rattle.session.specs.Lawful.{Admits, Refuses, Leads, IsLawful, IsFinal};
 
 use messages::{one_fault, one_message};
 
@@ -23,3 +23,10 @@ pub fn refused_or_admitted()
     one_message();
     one_fault();
 }
+
+/// Of the first transaction that commits nothing is final if its commit LSN is the skip; of any other
+/// all that its messages gave it.
+pub fn skips_the_first()
+    ensures { (g : Setting) (payloads : List (List ℕ)) (s t : State) (payload : List ℕ) (m : Message) (c : Committed) → IsLawful g payloads s
+        → Admits g s payload m t → t.past ≡ s.past ++ c ∷ [] → IsFinal g s c }
+{}

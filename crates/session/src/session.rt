@@ -1,6 +1,6 @@
 // The session, one function a message.
 ghost use Rattle.std.specs.Prelude.{◌≡◌, ◌≢◌, ◌^◌, ◌<◌, true, ℕ, length};
-ghost use Rattle.session.specs.Kept.{items_kept};
+ghost use Rattle.session.specs.Kept.{items_left};
 
 use crate::fault::{Refused, SessionFault};
 use crate::phase::Phase;
@@ -25,6 +25,8 @@ pub struct Session {
     relations: KnownRelations,
     /// The end of the last commit; 0 before the first.
     position: Lsn,
+    /// The commit LSN of the transaction to skip, until one commits.
+    skip: Option<Lsn>,
 }
 
 impl Session {
@@ -41,9 +43,10 @@ impl Session {
     ghost use Rattle.messages.specs.declared.message.Message.TheVariants as messages;
 
     /// The session at the start of a stream, with so many workers, whose spools may keep so many
-    /// bytes of payloads. It takes no memory.
-    pub fn new(alloc: Global, workers: usize, spool: u64) -> Session
-        ensures { (g : Setting) → g.workers ≡ workers → g.spool ≡ spool → Represents g result start }
+    /// bytes of payloads. If the first transaction to commit does so at the LSN `skip`, its changes are
+    /// left out; 0 skips none. It takes no memory. (PostgreSQL manual: ALTER SUBSCRIPTION, SKIP.)
+    pub fn new(alloc: Global, workers: usize, spool: u64, skip: Lsn) -> Session
+        ensures { (g : Setting) → g.workers ≡ workers → g.spool ≡ spool → g.skip ≡ skip → Represents g result start }
     {
         Session {
             alloc,
@@ -51,6 +54,7 @@ impl Session {
             transactions: Transactions::new(alloc, workers, spool),
             relations: KnownRelations::new(alloc),
             position: 0,
+            skip: if skip == 0 { None } else { Some(skip) },
         }
     }
 
@@ -128,7 +132,7 @@ impl Session {
 
     fn commit(&mut self, m: &Commit) -> Result<Step, Refused>
         ensures { (g : Setting) (h : State) → Represents g self.old h
-            → AnswersMessage g self.new h (table.at h.phase (table.refuse faults.NotInTransaction) (λ xid final. table.commits_begun h xid final m.now) (λ _. table.refuse faults.BlockOpen)) result }
+            → AnswersMessage g self.new h (table.at h.phase (table.refuse faults.NotInTransaction) (λ xid final. table.commits_begun g h xid final m.now) (λ _. table.refuse faults.BlockOpen)) result }
     {
         match self.phase {
             Phase::Outside => Err(SessionFault::NotInTransaction.into()),
@@ -176,7 +180,7 @@ impl Session {
 
     fn stream_commit(&mut self, m: &StreamCommit) -> Result<Step, Refused>
         ensures { (g : Setting) (h : State) → Represents g self.old h
-            → AnswersMessage g self.new h (table.at h.phase (table.commits h m.now.xid m.now.commit_lsn m.now.end_lsn) (λ _ _. table.refuse faults.NestedBegin) (λ _. table.refuse faults.BlockOpen)) result }
+            → AnswersMessage g self.new h (table.at h.phase (table.commits g h m.now.xid m.now.commit_lsn m.now.end_lsn) (λ _ _. table.refuse faults.NestedBegin) (λ _. table.refuse faults.BlockOpen)) result }
     {
         match self.phase {
             Phase::Outside => self.close(m.xid, m.commit_lsn, m.end_lsn),
@@ -264,7 +268,9 @@ impl Session {
         ensures { (g : Setting) (h : State) → g.catalog ≡ catalog.now → Represents g self.old h
             → AnswersMessage g self.new h (table.change_line g h size sub (table.row_change g h oid row.now)) result }
     {
-        let (xid, sub) = self.change_of(sub, size)?;
+        let Some((xid, sub)) = self.change_of(sub, size)? else {
+            return Ok(Step::Nothing);
+        };
         let change = self.relations.plan(catalog, oid, row)?;
         self.add_item(xid, Item::Change { sub, change }, size)
     }
@@ -273,22 +279,25 @@ impl Session {
         ensures { (g : Setting) (h : State) → g.catalog ≡ catalog.now → Represents g self.old h
             → AnswersMessage g self.new h (table.change_line g h size m.now.xid (table.truncate_change g h m.now.relations)) result }
     {
-        let (xid, sub) = self.change_of(m.xid, size)?;
+        let Some((xid, sub)) = self.change_of(m.xid, size)? else {
+            return Ok(Step::Nothing);
+        };
         let change = self.relations.wipe(catalog, m.relations.as_slice())?;
         self.add_item(xid, Item::Change { sub, change }, size)
     }
 
     /// The transaction that a change belongs to and the subtransaction that it names, if it may be
-    /// taken. Between Begin and Commit it names the transaction.
-    fn change_of(&self, sub: Option<Xid>, size: u64) -> Result<(Xid, Xid), SessionFault>
+    /// taken. Between Begin and Commit it names the transaction; of one that is skipped it is none.
+    fn change_of(&self, sub: Option<Xid>, size: u64) -> Result<Option<(Xid, Xid)>, SessionFault>
         ensures { (g : Setting) (h : State) → Represents g self.now h → IsChangeOf g h size sub result }
     {
         match self.phase {
             Phase::Outside => Err(SessionFault::NotInTransaction),
-            Phase::Begun { xid, .. } => Ok((xid, xid)),
+            Phase::Begun { final_lsn, .. } if self.skips(final_lsn) => Ok(None),
+            Phase::Begun { xid, .. } => Ok(Some((xid, xid))),
             Phase::Block(xid) => {
                 self.transactions.check_spool(xid, size)?;
-                Ok((xid, sub.unwrap_or(xid)))
+                Ok(Some((xid, sub.unwrap_or(xid))))
             }
         }
     }
@@ -305,14 +314,22 @@ impl Session {
         }
     }
 
+    /// Whether the transaction of this commit LSN is skipped.
+    fn skips(&self, commit: Lsn) -> bool
+        ensures { result ≡ table.names commit self.now.skip }
+    {
+        self.skip == Some(commit)
+    }
+
     // ---- opening and closing
 
-    /// Opens a streamed transaction and its first block.
+    /// Opens a streamed transaction and its first block. While a skip is set it gets no worker, since
+    /// its commit LSN isn't known before it commits.
     fn open(&mut self, xid: Xid) -> Result<Step, Refused>
         ensures { (g : Setting) (h : State) → Represents g self.old h → h.phase ≡ phases.Outside
             → AnswersMessage g self.new h (table.opens h xid (table.next_way g h) (phases.Block xid)) result }
     {
-        let has_worker = self.transactions.stream(xid)?;
+        let has_worker = self.transactions.stream(xid, self.skip.is_none())?;
         self.phase = Phase::Block(xid);
         if has_worker {
             Ok(Step::Open(xid))
@@ -337,7 +354,7 @@ impl Session {
     fn close(&mut self, xid: Xid, commit: Lsn, end: Lsn) -> Result<Step, Refused>
         ensures { (g : Setting) (h : State) → Represents g self.old h
             → ((begun : ℕ) → begun_at h.phase ≡ Some begun → begun ≡ xid)
-            → AnswersMessage g self.new h (table.commits h xid commit end) result }
+            → AnswersMessage g self.new h (table.commits g h xid commit end) result }
     {
         if self.transactions.contains(xid) && end <= self.position {
             return Err(SessionFault::OldCommit.into());
@@ -346,7 +363,9 @@ impl Session {
             Some(way) => {
                 self.phase = Phase::Outside;
                 self.position = end;
-                let items = handed_out(self.alloc, way);
+                let is_skipped = self.skips(commit);
+                self.skip = None;
+                let items = handed_out(self.alloc, way, is_skipped);
                 Ok(Step::Commit(xid, CommitInfo { commit, end }, items))
             }
             None => Err(SessionFault::UnknownTransaction.into()),
@@ -377,12 +396,12 @@ impl Session {
     }
 }
 
-/// The items that a commit hands out: those of a spooled transaction that survived.
-fn handed_out(alloc: Global, way: OpenTransaction) -> Vec<Item>
-    ensures { result.items ≡ items_kept way }
+/// The items that a commit hands out: those of a spooled transaction that survived, if it isn't skipped.
+fn handed_out(alloc: Global, way: OpenTransaction, is_skipped: bool) -> Vec<Item>
+    ensures { result.items ≡ items_left is_skipped way }
 {
     match way {
-        OpenTransaction::Direct | OpenTransaction::Worker => Vec::new(alloc),
-        OpenTransaction::Spooled(spool) => spool.into_items(),
+        OpenTransaction::Spooled(spool) if !is_skipped => spool.into_items(),
+        _ => Vec::new(alloc),
     }
 }

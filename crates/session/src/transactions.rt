@@ -129,12 +129,12 @@ impl Transactions {
         Ok(())
     }
 
-    /// Opens a streamed transaction. It answers whether the transaction gets a worker.
-    pub(crate) fn stream(&mut self, xid: Xid) -> Result<bool, Refused>
-        ensures { (g : Setting) (m : OpenTransactions) → Represents g self.old m → IsStreamed g self.new m xid result }
+    /// Opens a streamed transaction. It answers whether the transaction gets a worker, where it may.
+    pub(crate) fn stream(&mut self, xid: Xid, may_have_worker: bool) -> Result<bool, Refused>
+        ensures { (g : Setting) (m : OpenTransactions) → Represents g self.old m → IsStreamed g self.new m xid may_have_worker result }
     {
         self.check_room(xid)?;
-        if self.working < self.workers {
+        if may_have_worker && self.working < self.workers {
             self.ways.insert(xid, OpenTransaction::Worker)?;
             self.working += 1;
             Ok(true)

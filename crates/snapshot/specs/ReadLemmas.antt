@@ -19,7 +19,7 @@ use Rattle.model.specs.Rows.{Rows, Schema}
 use Rattle.model.specs.Effect.{serial}
 use Rattle.model.specs.Beginning.{Begins}
 use Rattle.tokens.specs.Half.{Name, Half}
-use Rattle.origin.specs.Commits.{PublishedCommits}
+use Rattle.origin.specs.Commits.{LoadedCommits}
 use Rattle.world.specs.World.{Past, Entry, World, entry_of, journal, changes_in}
 use Rattle.engine.specs.declared.entry.Entry as entry_type
 use Rattle.engine.specs.declared.events.LineEvent.{LineEvent}
@@ -88,7 +88,7 @@ module _ (s : Engine) (told : s.world.line ≡ commits_in s.line.list) where
         ∙ ap (λ (commits : List Past). serial schema start (changes_in (take count commits))) commits_told
 
 -- what was seen is a beginning of the line, and all of that is seen now
-pub sees_more : (s : Engine) (name : Name) (was seen : Half LineEvent) (schema : Schema) (start : Rows) (published : PublishedCommits) → was.name ≡ name
+pub sees_more : (s : Engine) (name : Name) (was seen : Half LineEvent) (schema : Schema) (start : Rows) (published : LoadedCommits) → was.name ≡ name
     → seen.name ≡ name → Begins was.list s.line.list → seen ≡ s.line → IsStrictlyIncreasing (0 ∷ ends_in s.line.list)
     → SeesMore (record { schema = schema; start = start; line = was; published = published }) (record { schema = schema; start = start; line = seen; published = published })
 sees_more s name was seen schema start published named still begins looked rising = record {

@@ -18,7 +18,7 @@ use Rattle.world.specs.World.{Past, World}
 use Rattle.world.specs.Steps.{Fault, ReadsAfter}
 use Rattle.engine.specs.declared.events.LineEvent.{LineEvent}
 use Rattle.engine.specs.Events.{commits_in, ends_in, world_of}
-use Rattle.origin.specs.Commits.{PublishedCommits}
+use Rattle.origin.specs.Commits.{LoadedCommits}
 use Rattle.snapshot.specs.declared.fault.ReadFault.{ReadFault}
 use Rattle.snapshot.specs.declared.fault.ReadFault.TheVariants.{UnknownTable, PositionUnknown, OutOfMemory}
 
@@ -30,7 +30,7 @@ pub record Sight : Type 0 where
   -- what it has seen happen to the store's transactions
   pub line : Half LineEvent
   -- the published commits that it has seen
-  pub published : PublishedCommits
+  pub published : LoadedCommits
 
 -- the commits that it has seen
 abbrev pub commits_seen : Sight → List Past

@@ -79,10 +79,10 @@ impl<'a, N: StoreNames> Reader<'a, N> {
         table: TableId,
         key: &Key,
     ) -> Result<Option<Row>, ReadFault>
-        ensures row { ReadsCommitted (world_seen self.new) (table, key.now) result }
-        ensures seen { OnOk result (SeesMore self.old self.new) }
         ensures known { OnOk result (table < length self.old.schema) }
+        ensures row { ReadsCommitted (world_seen self.new) (table, key.now) result }
         ensures refused { IfErr result (λ fault. IsRefused self.old self.new table fault) }
+        ensures seen { OnOk result (SeesMore self.old self.new) }
     {
         let mut store = self.store.lock(rt);
         store.recall_invariant();
@@ -148,10 +148,11 @@ impl<'a, N: StoreNames> Reader<'a, N> {
         Ok(rows)
     }
 
-    /// The position that was published last: how many commits, and where the last of them ends. It
-    /// doesn't take the store's lock.
+    /// The position that was published last: how many commits, and where the last of them ends; and,
+    /// before the first, the transaction that is to be skipped. It doesn't take the store's lock.
     pub fn position<R: Wait>(&mut self, rt: &R) -> Position
-        ensures position { result ≡ position_after self.new.published.ends }
+        ensures position { result ≡ position_after self.new.published.skip self.new.published.ends }
+        ensures skip { self.new.published.skip ≡ self.old.published.skip }
         ensures origin { self.new.published.origin ≡ self.old.published.origin }
         ensures later { Begins self.old.published.ends self.new.published.ends }
         ensures beside { self.new ≡ record self.old { published = self.new.published } }

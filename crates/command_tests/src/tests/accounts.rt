@@ -30,21 +30,20 @@ fn said<R: Threads + Wait + RandomSource + Sync>(
     rt: &R,
     alloc: Global,
     stream: Vec<u8>,
-    workers: usize,
+    config: &Config,
 ) -> Result<Account, Fail> {
     let mut out = Vec::new(alloc);
     let mut trace = Trace::new(alloc);
     let mut quiet = Quiet;
-    let mut account = Account::new(alloc);
+    let mut account = Account::new(alloc, config.skip);
     let source = ReadSource::new(Cursor::new(stream));
     let watched = Watched::new(source, &mut trace, &mut quiet, true);
     let mut devices = Devices::new(watched, WriteSink::new(Updates::Nowhere), StillClock(5));
-    let config = Config { workers, ..CONFIG };
     let ended = execute_on(
         rt,
         alloc,
-        workers == 0,
-        &config,
+        config.workers == 0,
+        config,
         CATALOG.as_bytes(),
         &mut devices,
         &mut account,
@@ -244,7 +243,8 @@ fn why_and_where_a_run_ended(rt: HostRuntime) -> Result<(), Fail> {
             let mut stream = framed(alloc, case.payloads)?;
             let rest = hex::decode(alloc, case.rest)?;
             stream.extend_from_slice(rest.as_slice())?;
-            let account = said(&rt, alloc, stream, workers)?;
+            let config = Config { workers, ..CONFIG };
+            let account = said(&rt, alloc, stream, &config)?;
             assert_same(account.text(), case.said, case.name)?;
         }
     }
@@ -253,7 +253,7 @@ fn why_and_where_a_run_ended(rt: HostRuntime) -> Result<(), Fail> {
 
 /// What is said where a catalog is refused.
 fn said_of_refusal(alloc: Global, fault: CatalogFault) -> Account {
-    let mut account = Account::new(alloc);
+    let mut account = Account::new(alloc, 0);
     account.hear_refusal(fault);
     account
 }
@@ -267,7 +267,7 @@ fn said_of_end(alloc: Global, end: End) -> Result<Account, Fail> {
         position: 0,
         end,
     };
-    let mut account = Account::new(alloc);
+    let mut account = Account::new(alloc, 0);
     account.hear_end(&catalog, &outcome);
     Ok(account)
 }
@@ -307,6 +307,33 @@ fn ends_that_no_stream_alone_brings_about(rt: HostRuntime) -> Result<(), Fail> {
     ] {
         let account = said_of_end(rt.alloc(), end)?;
         assert_same(account.text(), said, "account")?;
+    }
+    Ok(())
+}
+
+// A transaction from 0/200 to 0/220 that inserts nothing.
+const EMPTY: &[&str] = &[
+    "420000000000000200000000000000000000000258",
+    "4300000000000000020000000000000002200000000000000000",
+];
+
+// With `--skip`, also where all is well.
+#[test]
+fn which_transaction_was_skipped(rt: HostRuntime) -> Result<(), Fail> {
+    for (skip, said_of_it) in [
+        (0, ""),
+        (
+            0x200,
+            "pgapply: transaction 600 was skipped, which committed at 0/200\n",
+        ),
+        (
+            0x1_0000_00ff,
+            "pgapply: no transaction was skipped: none committed first at 1/FF\n",
+        ),
+    ] {
+        let config = Config { skip, ..CONFIG };
+        let account = said(&rt, rt.alloc(), framed(rt.alloc(), EMPTY)?, &config)?;
+        assert_same(account.text(), said_of_it, "account")?;
     }
     Ok(())
 }

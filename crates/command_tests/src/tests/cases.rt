@@ -19,6 +19,8 @@ struct Case {
     opening: &'static [&'static str],
     payloads: &'static [&'static str],
     spool: u64,
+    /// The commit LSN of the transaction to skip; 0 for none.
+    skip: u64,
     /// Workers, or their schedule, may make it another one.
     without_workers: bool,
     report: &'static str,
@@ -79,6 +81,7 @@ const PLAIN: Case = Case {
     opening: &[],
     payloads: &[],
     spool: SPOOL,
+    skip: 0,
     without_workers: false,
     report: "",
     status: 0,
@@ -453,6 +456,110 @@ static CASES: [Case; 28] = [
     },
 ];
 
+/// Where a transaction is to be skipped.
+static SKIPPED: [Case; 7] = [
+    // B(600,0/200) R I(1,a,n) C(0/200,0/220) B(601,0/300) I(2,b,n) C(0/300,0/320)
+    Case {
+        name: "the first transaction is skipped",
+        skip: 0x200,
+        payloads: &[
+            "420000000000000200000000000000000000000258",
+            ACCOUNTS,
+            "49000040014e000374000000013174000000016174000000016e",
+            "4300000000000000020000000000000002200000000000000000",
+            "420000000000000300000000000000000000000259",
+            "49000040014e000374000000013274000000016274000000016e",
+            "4300000000000000030000000000000003200000000000000000",
+        ],
+        report: "table public.accounts 1\n2|b|n\nposition 0/320\nend 0 Clean\n",
+        ..PLAIN
+    },
+    // P B(600,0/200) I(5,b,n) C(0/200,0/220)
+    Case {
+        name: "a later match is not skipped",
+        skip: 0x200,
+        opening: ROWS,
+        payloads: &[
+            "420000000000000200000000000000000000000258",
+            "49000040014e000374000000013574000000016274000000016e",
+            "4300000000000000020000000000000002200000000000000000",
+        ],
+        report: "table public.accounts 2\n1|a|n\n2|b|n\nposition 0/140\nend 5 Unique public.accounts 1\n",
+        status: 3,
+        ..PLAIN
+    },
+    // P B(600,0/200) I(5,c,n) C(0/200,0/220)
+    Case {
+        name: "the first that commits ends a skip that names another",
+        skip: 0x110,
+        opening: ROWS,
+        payloads: &[
+            "420000000000000200000000000000000000000258",
+            "49000040014e000374000000013574000000016374000000016e",
+            "4300000000000000020000000000000002200000000000000000",
+        ],
+        report: "table public.accounts 3\n1|a|n\n2|b|n\n5|c|n\nposition 0/220\nend 0 Clean\n",
+        ..PLAIN
+    },
+    // P B(600,0/200) I(5,b,n) C(0/200,0/220)
+    Case {
+        name: "the transaction that clashes is skipped",
+        skip: 0x100,
+        opening: ROWS,
+        payloads: &[
+            "420000000000000200000000000000000000000258",
+            "49000040014e000374000000013574000000016274000000016e",
+            "4300000000000000020000000000000002200000000000000000",
+        ],
+        report: "table public.accounts 1\n5|b|n\nposition 0/220\nend 0 Clean\n",
+        ..PLAIN
+    },
+    // S(700,1) 700:R 700:I(1,a,n) 700:I(1,b,n) E c(700,0/200,0/220)
+    Case {
+        name: "a streamed transaction that clashes is skipped",
+        skip: 0x200,
+        payloads: &[
+            "53000002bc01",
+            "52000002bc000040017075626c6963006163636f756e7473006400030169640000000017ffffffff00656d61696c0000000019ffffffff006e6f74650000000019ffffffff",
+            "49000002bc000040014e000374000000013174000000016174000000016e",
+            "49000002bc000040014e000374000000013174000000016274000000016e",
+            "45",
+            "63000002bc00000000000000020000000000000002200000000000000000",
+        ],
+        report: "table public.accounts 0\nposition 0/220\nend 0 Clean\n",
+        ..PLAIN
+    },
+    // S(700,1) 700:R 700:I(1,a,n) E A(700,700) B(600,0/200) I(2,b,n) C(0/200,0/220)
+    Case {
+        name: "a rollback doesn't end a skip",
+        skip: 0x200,
+        payloads: &[
+            "53000002bc01",
+            "52000002bc000040017075626c6963006163636f756e7473006400030169640000000017ffffffff00656d61696c0000000019ffffffff006e6f74650000000019ffffffff",
+            "49000002bc000040014e000374000000013174000000016174000000016e",
+            "45",
+            "41000002bc000002bc00000000000000000000000000000000",
+            "420000000000000200000000000000000000000258",
+            "49000040014e000374000000013274000000016274000000016e",
+            "4300000000000000020000000000000002200000000000000000",
+        ],
+        report: "table public.accounts 0\nposition 0/220\nend 0 Clean\n",
+        ..PLAIN
+    },
+    // B(600,0/200) I(1,a,n) C(0/200,0/220)
+    Case {
+        name: "a skipped transaction's relation is unknown",
+        skip: 0x200,
+        payloads: &[
+            "420000000000000200000000000000000000000258",
+            "49000040014e000374000000013174000000016174000000016e",
+            "4300000000000000020000000000000002200000000000000000",
+        ],
+        report: "table public.accounts 0\nposition 0/220\nend 0 Clean\n",
+        ..PLAIN
+    },
+];
+
 /// The stream of a case.
 fn stream_of(alloc: Global, case: &Case) -> Result<Vec<u8>, Fail> {
     let mut stream = Vec::new(alloc);
@@ -472,6 +579,7 @@ fn assert_report<R: Threads + Wait + RandomSource + Sync>(
         let config = Config {
             workers,
             spool: case.spool,
+            skip: case.skip,
             ..CONFIG
         };
         let (ended, out, _) = printed(rt, alloc, stream.as_slice(), usize::MAX, &config);
@@ -485,6 +593,14 @@ fn assert_report<R: Threads + Wait + RandomSource + Sync>(
 #[test]
 fn streams_end_in_their_reports(rt: HostRuntime) -> Result<(), Fail> {
     for case in &CASES {
+        assert_report(&rt, rt.alloc(), case)?;
+    }
+    Ok(())
+}
+
+#[test]
+fn streams_of_which_a_transaction_is_to_be_skipped(rt: HostRuntime) -> Result<(), Fail> {
+    for case in &SKIPPED {
         assert_report(&rt, rt.alloc(), case)?;
     }
     Ok(())

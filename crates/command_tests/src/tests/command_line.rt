@@ -35,6 +35,26 @@ fn number_of(option: &str, config: &Config) -> u64 {
     }
 }
 
+/// What `--skip` is given, and the LSN that is read, or none where the text is refused.
+static SKIPS: [(&str, Option<u64>); 16] = [
+    ("0/200", Some(0x200)),
+    ("16/B374D848", Some(0x16_b374_d848)),
+    ("16/b374d848", Some(0x16_b374_d848)),
+    ("00000001/00000000", Some(1 << 32)),
+    ("ffffffff/FFFFFFFF", Some(u64::MAX)),
+    ("0/0", None),
+    ("00/000", None),
+    ("", None),
+    ("/", None),
+    ("/1", None),
+    ("1/", None),
+    ("200", None),
+    ("0/2/3", None),
+    ("0/123456789", None),
+    ("0/1g", None),
+    ("0/+1", None),
+];
+
 fn owned(alloc: Global, given: &[&str]) -> Result<Vec<String>, Fail> {
     let mut words = Vec::new(alloc);
     for word in given {
@@ -61,6 +81,24 @@ fn numbers_within_their_limits(rt: HostRuntime) -> Result<(), Fail> {
     Ok(())
 }
 
+#[test]
+fn a_transaction_to_skip(rt: HostRuntime) -> Result<(), Fail> {
+    for (text, want) in &SKIPS {
+        let words = owned(
+            rt.alloc(),
+            &[
+                "pgapply", "replay", "--config", "c", "--stream", "s", "--skip", *text,
+            ],
+        )?;
+        let read = match options::parse(rt.alloc(), words.as_slice()) {
+            Ok(asked) => Some(asked.config.skip),
+            Err(_) => None,
+        };
+        assert_same(read, *want, text)?;
+    }
+    Ok(())
+}
+
 /// What is asked for with no number has the defaults of the program.
 fn assert_defaults(asked: &Options<'_>, spooled: bool) -> Result<(), Fail> {
     assert_same(asked.spooled, spooled, "spooled")?;
@@ -68,6 +106,7 @@ fn assert_defaults(asked: &Options<'_>, spooled: bool) -> Result<(), Fail> {
     assert_same(asked.config.workers, if spooled { 0 } else { 2 }, "workers")?;
     assert_same(asked.config.ring, if spooled { 1 } else { 64 }, "ring")?;
     assert_same(asked.config.spool, 1_073_741_824, "spool")?;
+    assert_same(asked.config.skip, 0, "skip")?;
     assert_holds(!asked.verbose && !asked.progress, "what is said")
 }
 
@@ -98,7 +137,7 @@ struct Refused {
     text: &'static str,
 }
 
-static REFUSED: [Refused; 7] = [
+static REFUSED: [Refused; 8] = [
     Refused {
         words: &["pgapply", "--version"],
         is_fault: false,
@@ -124,6 +163,20 @@ static REFUSED: [Refused; 7] = [
         ],
         is_fault: true,
         text: "error: invalid value '+1' for '--ring <N>': only digits are allowed\n\nUsage: pgapply <COMMAND>\n\nFor more information, try '--help'.\n",
+    },
+    Refused {
+        words: &[
+            "pgapply",
+            "follow",
+            "--config",
+            "c",
+            "--connect",
+            "a",
+            "--skip",
+            "0/0",
+        ],
+        is_fault: true,
+        text: "error: invalid value '0/0' for '--skip <LSN>': an LSN is written as 16/B374D848, and 0/0 is none\n\nUsage: pgapply <COMMAND>\n\nFor more information, try '--help'.\n",
     },
     Refused {
         words: &["pgapply", "replay", "--config", "c"],
@@ -210,6 +263,11 @@ const SPOOL: Line = (
     "Bytes of messages of streamed transactions that wait for their commits [default: 1073741824]",
 );
 
+const SKIP: Line = (
+    "      --skip <LSN>",
+    "Leave out the first transaction that commits, if it does so at this LSN: its changes, not its position",
+);
+
 const VERBOSE: Line = (
     "      --verbose",
     "Say on standard error why and where a command ended; slower, since the stream is read frame by frame",
@@ -247,7 +305,7 @@ static HELPS: [Help; 3] = [
         about: "Apply a stream from a file, streamed transactions while they come",
         usage: "apply [OPTIONS] --config <F> --stream <F>",
         options: &[
-            CONFIG, STREAM, SPOOL, VERBOSE, PROGRESS, WORKERS, RING, HELP,
+            CONFIG, STREAM, SPOOL, SKIP, VERBOSE, PROGRESS, WORKERS, RING, HELP,
         ],
         example: "apply --config accounts.toml --stream accounts.stream",
     },
@@ -256,7 +314,7 @@ static HELPS: [Help; 3] = [
         about: "Apply a stream from a connection, and tell its sender how far it was applied",
         usage: "follow [OPTIONS] --config <F> --connect <A>",
         options: &[
-            CONFIG, CONNECT, SPOOL, VERBOSE, PROGRESS, WORKERS, RING, HELP,
+            CONFIG, CONNECT, SPOOL, SKIP, VERBOSE, PROGRESS, WORKERS, RING, HELP,
         ],
         example: "follow --config accounts.toml --connect localhost:5500",
     },
@@ -264,7 +322,7 @@ static HELPS: [Help; 3] = [
         command: "replay",
         about: "Apply a stream from a file, each streamed transaction at its commit",
         usage: "replay [OPTIONS] --config <F> --stream <F>",
-        options: &[CONFIG, STREAM, SPOOL, VERBOSE, PROGRESS, HELP],
+        options: &[CONFIG, STREAM, SPOOL, SKIP, VERBOSE, PROGRESS, HELP],
         example: "replay --config accounts.toml --stream accounts.stream",
     },
 ];

@@ -14,6 +14,7 @@ pub const CONFIG: Config = Config {
     workers: 0,
     ring: 64,
     spool: 1 << 30,
+    skip: 0,
 };
 
 /// The payloads, each in an XLogData frame whose positions and clock are 0.

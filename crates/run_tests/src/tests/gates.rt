@@ -52,9 +52,6 @@ impl Sign {
 // So many turns without success, and a wait is given up: many seconds.
 const TURNS: u32 = 400_000;
 
-// A while: more than a worker needs for what memory is there for.
-const SOME_TURNS: u32 = 1000;
-
 /// A place at which a worker waits until a sign was passed, by its index.
 #[derive(Clone, Copy)]
 pub struct Hold {
@@ -124,6 +121,9 @@ pub struct Withheld<'a, H: Host> {
     failures: u64,
     failed_last: bool,
 }
+
+// A while: more than a worker needs for what memory is there for.
+const SOME_TURNS: u32 = 1000;
 
 impl<'a, H: Host> Withheld<'a, H> {
     pub fn new(host: &'a H, (front, back): (&'a [u8], &'a [u8]), due: Due<'a>) -> Withheld<'a, H> {

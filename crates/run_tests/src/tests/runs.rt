@@ -23,6 +23,7 @@ pub fn config_of(workers: usize, ring: usize) -> Config {
         workers,
         ring,
         spool: 1 << 30,
+        skip: 0,
     }
 }
 

@@ -31,7 +31,7 @@ fn what_a_caller_holds_is_printed(rt: HostRuntime) -> Result<(), Fail> {
     let config = format!(in rt.alloc(); "{:?} {:?}", config_of(2, 64), Point::After(1))?;
     assert_eq!(rt;
         config.as_str(),
-        "Config { workers: 2, ring: 64, spool: 1073741824 } After(1)"
+        "Config { workers: 2, ring: 64, spool: 1073741824, skip: 0 } After(1)"
     );
     let end = End::HeldKey {
         xid: 900,

@@ -3,8 +3,8 @@ use super::gates::{Due, NOWHERE, Place, Sign, Withheld, doors};
 use super::runs::{Plan, Ran, TAKES_ALL, config_of, one, reports, run_on, run_watched};
 use super::worked::{NOTE, P};
 use leader::{
-    Key, OutOfMemory, Point, Position, ReadFault, Reader, Row, StoreNames, Value, ValueRef, Watch,
-    Xid,
+    Config, Key, Lsn, OutOfMemory, Point, Position, ReadFault, Reader, Row, StoreNames, Value,
+    ValueRef, Watch, Xid,
 };
 use std::alloc::Global;
 use std::fmt::Write;
@@ -85,7 +85,11 @@ fn push_note(
     if let Ok(Some(row)) = row {
         push_row(out, &row)?;
     }
-    write!(out, " at {} {};", found.commits, found.end_lsn)?;
+    write!(
+        out,
+        " at {} {} {};",
+        found.commits, found.end_lsn, found.skip
+    )?;
     Ok(())
 }
 
@@ -134,7 +138,7 @@ fn looked_on<R: Threads + Wait + Sync + Host>(
 #[test]
 fn a_watcher_reads_committed_rows_alone(rt: HostRuntime) -> Result<(), OutOfMemory> {
     let want = "table public.accounts 2\n1|a|v\n2|b|n\nposition 0/220\nend 0 Clean\n";
-    let seen = "1|a|n at 1 320;1|a|n at 1 320;1|a|v at 2 544;";
+    let seen = "1|a|n at 1 320 0;1|a|n at 1 320 0;1|a|v at 2 544 0;";
     for _ in 0..100 {
         let (notes, ran) = looked_on(&rt, rt.alloc())?;
         assert_eq!(rt; notes.as_str(), seen);
@@ -146,11 +150,15 @@ fn a_watcher_reads_committed_rows_alone(rt: HostRuntime) -> Result<(), OutOfMemo
 // How many transactions are committed while others watch.
 const COMMITS: u64 = 100;
 
+// Where none of them commits.
+const SKIP: Lsn = 1;
+
 // The position behind so many of them, each of which takes 32 bytes of the log.
 fn position_of(commits: u64) -> Position {
     Position {
         commits,
         end_lsn: commits.saturating_mul(32),
+        skip: if commits == 0 { SKIP } else { 0 },
     }
 }
 
@@ -244,9 +252,21 @@ fn followed<R: Threads + Wait + Sync + Host>(
         wants_more: false,
         log: &idle,
     })?;
-    let plan = Plan::new(stream, config_of(workers, 1));
+    let config = Config {
+        skip: SKIP,
+        ..config_of(workers, 1)
+    };
+    let plan = Plan::new(stream, config);
     let _ran = run_watched(rt, alloc, &plan, 1, watchers)?;
     Ok((eager.into_inner(), idle.into_inner()))
+}
+
+// The skip is told as long as none has committed.
+#[test]
+fn a_skip_is_told_before_the_first_commit(rt: HostRuntime) -> Result<(), OutOfMemory> {
+    let (eager, _idle) = followed(&rt, rt.alloc(), &[], 1)?;
+    assert!(rt; eager.is_well && eager.commits == 0 && eager.turns > 0);
+    Ok(())
 }
 
 // It followed all of the run.

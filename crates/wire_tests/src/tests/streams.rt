@@ -152,7 +152,7 @@ fn answers_all(
 // The same of a session with one worker, over these tables.
 fn answers(alloc: Global, tables: &str, stream: &str) -> Result<(), Fail> {
     let tables = Catalog::read(alloc, tables)?;
-    let mut session = Session::new(alloc, 1, 1000);
+    let mut session = Session::new(alloc, 1, 1000, 0);
     answers_all(alloc, &mut session, &tables, stream)
 }
 
@@ -190,7 +190,7 @@ fn answer_at_last(
 
 // Each payload that is answered is answered as it says, whether memory was refused before or not.
 fn answers_at_last(alloc: Global, tables: &Catalog, stream: &str) -> Result<(), Fail> {
-    let mut session = Session::new(alloc, 1, 1000);
+    let mut session = Session::new(alloc, 1, 1000, 0);
     for line in stream.lines() {
         let (digits, want) = line.split_once(' ').unwrap_or((line, ""));
         if digits != "#" {

@@ -9,7 +9,7 @@ use Rattle.dispatch.specs.Handle.{AreCounted}
 use Rattle.dispatch.specs.Standing.{Standing, own_by, goes_by, holds_in}
 use Rattle.leader.specs.Threads.{led}
 use Rattle.leader.specs.Ending.{HasFinished}
-use Rattle.session.specs.State.{setting}
+use Rattle.run.specs.Settings.{setting_of}
 use Rattle.leader.proofs.Leaving.{has_left, refused_end}
 use Rattle.leader.proofs.threads.lead_all.Goals as goal
 
@@ -23,7 +23,7 @@ new-lead-requires-clause-free g c =
     (All-map (λ goes. goes ≡ None) goes_by c.args.opening.workers.items (λ k d lt. (c.requires.free k d lt).0))
 
 pub lead_stream-proposed-requires : goal.lead_stream-proposed-requires
-lead_stream-proposed-requires g c = (setting c.args.workers c.args.spool c.args.catalog.now, g.N.StoreNames.start, c.new-lead.ensures g.N.StoreNames.start)
+lead_stream-proposed-requires g c = (setting_of c.args.workers c.args.config c.args.catalog.now, g.N.StoreNames.start, c.new-lead.ensures g.N.StoreNames.start)
 
 pub returns-clause-unread : goal.returns-clause-unread
 returns-clause-unread g c = λ told.
@@ -32,7 +32,7 @@ returns-clause-unread g c = λ told.
 
 pub returns-clause-ends : goal.returns-clause-ends
 returns-clause-ends g c =
-    let s = setting c.args.workers c.args.spool c.args.catalog.now in
+    let s = setting_of c.args.workers c.args.config c.args.catalog.now in
     let start = g.N.StoreNames.start in
     let read = c.lead_stream-proposed in
     let l = led read.new.lead.stream read.new.lead.transactions in

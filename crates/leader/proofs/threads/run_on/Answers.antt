@@ -1,7 +1,7 @@
 use Rattle.std.proofs.Common.{◌≡◌, ◌+◌, ◌<◌, [], length, min, refl, ap, ◌∙◌, arith}
 use Rattle.std.proofs.lemmas.Grind.{common_steps}
 use Rattle.std.proofs.lemmas.List.{length-take}
-use Rattle.session.specs.State.{setting}
+use Rattle.run.specs.Settings.{setting_of}
 use Rattle.leader.proofs.Leaving.{shut_at_start, none_run, runs_by}
 use Rattle.leader.proofs.threads.run_on.Goals as goal
 use Rattle.leader.proofs.threads.run_on.Goals.{else-is_empty-via-then-is_empty+else-is_empty-2, else-is_empty-via-else-is_empty}
@@ -18,5 +18,5 @@ returns-in-Err g c =
     let back = c.in-Err.ensures.err in
     runs_by n v c.args.catalog.now c.args.config.now c.args.start.rows c.args.devices.now c.args.devices.now c.unread.result some
     (rw (← back)
-    (none_run (setting n c.args.config.now.spool c.args.catalog.now) c.in-Err.start.rows c.in-Err.start.schema c.args.devices.now [] c.unread.result
+    (none_run (setting_of n c.args.config.now c.args.catalog.now) c.in-Err.start.rows c.in-Err.start.schema c.args.devices.now [] c.unread.result
     (shut_at_start c.in-Err.start.schema c.in-Err.start.rows c.unread.result c.unread.ensures.journal (ap (λ t. t.rows) c.unread.ensures.tables) (ap (λ t. t.schema) c.unread.ensures.tables)) (ap (λ t. t.schema) back ∙ c.requires) refl c.unread.ensures.position c.unread.ensures.end))

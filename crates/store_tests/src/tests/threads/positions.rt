@@ -18,11 +18,12 @@ const COMMITS: u64 = 100;
 // The position behind so many commits, each of which takes 16 bytes of the log.
 fn position(commits: u64) -> Position
     requires { commits ≤ COMMITS }
-    ensures { result.commits ≡ commits }
+    ensures { (result.commits ≡ commits) × (result.skip ≡ 0) }
 {
     Position {
         commits,
         end_lsn: commits * 16,
+        skip: 0,
     }
 }
 
@@ -80,7 +81,7 @@ fn load_in_two<R: Threads + Wait + Sync>(
 #[test]
 fn two_threads_load_while_positions_are_published(rt: HostRuntime) -> Result<(), Fail> {
     for _ in 0..20 {
-        let (origin, publisher, loader) = Origin::new(rt.alloc())?;
+        let (origin, publisher, loader) = Origin::new(rt.alloc(), 0)?;
         let (mut publisher, ((mut one, in_order), (mut other, also_in_order))) = thread::join(
             &rt,
             || publish_all(&rt, &origin, publisher),
@@ -96,7 +97,7 @@ fn two_threads_load_while_positions_are_published(rt: HostRuntime) -> Result<(),
 // A refused allocation is told.
 #[test]
 fn an_origin_where_memory_is_refused(rt: HostRuntime) {
-    match Origin::new(rt.alloc()) {
+    match Origin::new(rt.alloc(), 0) {
         Ok((origin, _publisher, mut loader)) => {
             assert_same(&rt, origin.load(&rt, &mut loader).commits, 0, "commits");
         }

@@ -13,7 +13,7 @@ inside c = elim c.match-matches.branch [
 
 pub returns-in_err-message : goal.returns-in_err-message
 returns-in_err-message c = λ g h same represents.
-    takes_fault g _ h c.args.payload.now c.match-matches.matches c.in_err-message.field-0.0 c.from_residual.result (record { phase = represents.phase; here = represents.here; alone = represents.alone; transactions = represents.transactions; relations = represents.relations; position = represents.position })
+    takes_fault g _ h c.args.payload.now c.match-matches.matches c.in_err-message.field-0.0 c.from_residual.result (record { phase = represents.phase; here = represents.here; alone = represents.alone; transactions = represents.transactions; relations = represents.relations; position = represents.position; skip = represents.skip })
     c.in_err-message.ensures.fault (inside (goal.at.returns-in_err-message c).Joined-matches ∙ ap in_block represents.phase) c.from_residual.ensures.1
 
 pub returns : goal.returns

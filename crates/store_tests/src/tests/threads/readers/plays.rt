@@ -1,7 +1,7 @@
 // What a reader is answered while transactions are open.
 ghost use Rattle.std.specs.Prelude.{◌≡◌, []};
 ghost use Rattle.model.specs.Named.{NamesTables};
-ghost use Rattle.origin.specs.Commits.{commits_of};
+ghost use Rattle.origin.specs.Commits.{commits_of, loaded_of};
 
 use super::scene::{Parts, Scene, Shared, remove, written};
 use super::watchers::{position, watch_in_two};
@@ -187,7 +187,7 @@ fn reads_published<N: StoreNames, R: Abort + Wait>(
     mut reader: Reader<'_, N>,
 )
     requires publisher { publisher ≡ commits_of origin.now [] }
-    requires reader { reader.published ≡ commits_of origin.now [] }
+    requires reader { reader.published ≡ loaded_of origin.now reader.published.skip [] }
 {
     assert_same(rt, reader.position(rt).commits, 0, "commits");
     let first = position(1);

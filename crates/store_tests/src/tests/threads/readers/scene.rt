@@ -1,12 +1,12 @@
 // A store of one table under a lock, and what its transactions do.
 ghost use Rattle.std.specs.Prelude.{◌≡◌, [], IfOk, length};
+ghost use Rattle.origin.specs.Commits.{commits_of, loaded_of};
 ghost use Rattle.std.specs.Coded.{Coded-set};
 ghost use Rattle.model.specs.Named.{NamesTables};
 ghost use Rattle.world.specs.World.{starting};
 ghost use Rattle.engine.specs.EngineCode.{world_code};
 ghost use Rattle.model.specs.Beginning.{last_end};
 ghost use Rattle.engine.specs.Events.{ends_in};
-ghost use Rattle.origin.specs.Commits.{commits_of};
 
 use crate::tests::asserts::assert_same;
 use crate::tests::threads::table::{TABLE, empty_tables, key};
@@ -32,7 +32,7 @@ pub(super) struct Parts {
     ghost lined: { line ≡ store.line },
     ghost nothing: { line.list ≡ [] },
     ghost published: { publisher ≡ commits_of origin [] },
-    ghost loaded: { loader ≡ commits_of origin [] },
+    ghost loaded: { loader ≡ loaded_of origin loader.skip [] },
 }
 
 impl Parts {
@@ -42,7 +42,7 @@ impl Parts {
         let Ok((store, line)) = Store::new(alloc, tables) else {
             return Err(OutOfMemory);
         };
-        let (origin, publisher, loader) = Origin::new(alloc)?;
+        let (origin, publisher, loader) = Origin::new(alloc, 0)?;
         Ok(Parts {
             store,
             line,
@@ -65,7 +65,7 @@ pub(super) struct Shared<N: StoreNames> {
     ghost named: { line.name ≡ N.line },
     ghost nothing: { line.list ≡ [] },
     ghost published: { publisher ≡ commits_of origin [] },
-    ghost loaded: { loader ≡ commits_of origin [] },
+    ghost loaded: { loader ≡ loaded_of origin loader.skip [] },
 }
 
 impl Parts {

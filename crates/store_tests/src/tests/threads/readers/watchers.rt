@@ -22,11 +22,12 @@ const COMMITS: u64 = 100;
 
 /// The position behind so many commits, each of which takes 16 bytes of the log.
 pub(super) fn position(commits: u64) -> Position
-    ensures { result.commits ≡ commits }
+    ensures { (result.commits ≡ commits) × (result.skip ≡ 0) }
 {
     Position {
         commits,
         end_lsn: commits.saturating_mul(16),
+        skip: 0,
     }
 }
 
