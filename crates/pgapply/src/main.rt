@@ -1,8 +1,10 @@
 // Applies a PostgreSQL logical replication stream to tables, and prints what they have in the end.
 //
-//     pgapply apply  --config F --stream F [--workers N] [--ring N] [--spool N] [--verbose] [--progress]
-//     pgapply follow --config F --connect A [--workers N] [--ring N] [--spool N] [--verbose] [--progress]
-//     pgapply replay --config F --stream F [--spool N] [--verbose] [--progress]
+//     pgapply apply  --config F --stream F [--workers N] [--ring N] [OPTIONS]
+//     pgapply follow --config F --connect A [--workers N] [--ring N] [OPTIONS]
+//     pgapply replay --config F --stream F [OPTIONS]
+//
+// OPTIONS are [--spool N] [--skip H/L] [--verbose] [--progress].
 //
 // Faults are found in this order: the command line, the catalog file, the stream file or the connection,
 // the catalog, the run, the output. `pgapply_command` has what each command runs on what it opened: `apply` and
@@ -58,7 +60,7 @@ fn run<T: Threads + Wait + RandomSource + Sync>(
     };
     let catalog = catalog.as_slice();
     match options.input {
-        Input::File(path) => match File::open(rt, path) {
+        Input::File(path) => match open_stream(rt, path) {
             Ok(stream) => {
                 let stream = Stream::File(stream);
                 run_stream(rt, threads, options, catalog, stream, Updates::Nowhere)
@@ -70,6 +72,15 @@ fn run<T: Threads + Wait + RandomSource + Sync>(
             Err(error) => say_failure(rt, options.verbose, Failure::Connect(address), &error),
         },
     }
+}
+
+/// The file of a stream. A directory can be opened too, and is none.
+fn open_stream(rt: &HostRuntime, path: &str) -> io::Result<File> {
+    let file = File::open(rt, path)?;
+    if file.metadata()?.is_dir() {
+        return Err(io::ErrorKind::IsADirectory.into());
+    }
+    Ok(file)
 }
 
 /// What comes over a connection, and where its status updates go.

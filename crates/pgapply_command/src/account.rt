@@ -72,8 +72,9 @@ impl Account {
         };
         write!(self.text, ", of relation {oid}")?;
         if let Some(relation) = trace.relation() {
-            let namespace = relation.namespace.as_str();
-            let name = relation.name.as_str();
+            // The publisher's texts are not for a terminal to obey.
+            let namespace = relation.namespace.escape_debug();
+            let name = relation.name.escape_debug();
             write!(self.text, " ({namespace}.{name})")?;
         }
         Ok(())

@@ -94,7 +94,7 @@ const STOP: &str = "45";
 /// c(700,0/200,0/220)
 const STREAM_COMMIT: &str = "63000002bc00000000000000020000000000000002200000000000000000";
 
-static CASES: [Case; 13] = [
+static CASES: [Case; 14] = [
     Case {
         name: "a frame of no known kind",
         payloads: &[BEGIN],
@@ -154,6 +154,20 @@ static CASES: [Case; 13] = [
         said: "pgapply: not in a transaction: messages were lost or came twice: capture the stream again from the slot's start\n\
             pgapply: 56 bytes were read, whole frames 1; the last frame begins at byte 0, at 0/0 of the publisher's log\n\
             pgapply: it is Insert, of relation 16385\n",
+    },
+    // Its name has an escape, which a terminal would obey.
+    Case {
+        name: "a table that the catalog hasn't",
+        payloads: &[
+            BEGIN,
+            "52000040017075626c6963006163631b6f756e7473006400030169640000000017ffffffff00656d61696c0000000019ffffffff006e6f74650000000019ffffffff",
+            INSERT,
+        ],
+        rest: "",
+        without_workers: false,
+        said: "pgapply: no such table: add the table to the catalog, or take it from the publication\n\
+            pgapply: 203 bytes were read, whole frames 3; the last frame begins at byte 147, at 0/0 of the publisher's log\n\
+            pgapply: it is Insert, of transaction 900, of relation 16385 (public.acc\\u{1b}ounts)\n",
     },
     // The relation has a further column `zip`, and the insert is of (1,a,n,z).
     Case {
