@@ -1,0 +1,13 @@
+pub mod ByTable
+pub mod Parts
+pub mod Marks
+pub mod PartOf
+pub mod Statements
+pub mod ByTableLemmas
+pub mod HeldLemmas
+pub mod PartLemmas
+pub mod TruncateLemmas
+pub mod MoveLemmas
+pub mod MarkLemmas
+pub mod PartOfLemmas
+pub mod FineLemmas

@@ -1,0 +1,152 @@
+-- The laws of parts, each as one statement. `src/laws.rt` names them, so that the check proves them.
+use Rattle.std.specs.Prelude.{◌≡◌, ℕ, ◌==◌, true, false, List, [], ◌∷◌, ◌++◌, Some, None, Ok}
+use Rattle.std.specs.List.{AllByRecursion}
+use Rattle.std.specs.FinMap.{get}
+use Rattle.model.specs.declared.change.Change as change_type
+use Rattle.model.specs.declared.change.Change.TheVariants.{Wipe}
+use Rattle.model.specs.declared.cell.Cell.{Cell}
+use Rattle.model.specs.declared.cell.Cell.TheVariants.{Whole}
+use Rattle.model.specs.declared.item.Item.{Item}
+use Rattle.model.specs.declared.item.Item.TheVariants.{Change, Touch, BackTo}
+use Rattle.model.specs.declared.item.CommitInfo.{CommitInfo}
+use Rattle.model.specs.Rows.{Rows, Schema, IsValid}
+use Rattle.model.specs.Effect.{serial}
+use Rattle.model.specs.Footprint.{held_cells, shares_cell}
+use Rattle.model.specs.Survivors.{survivors}
+use Rattle.world.specs.World.{Opened, World, changes_in, IsHeldBy, IsFree}
+use Rattle.world.specs.Steps.{Acted, IsDone, Held, Acts, opened_with, done_with, wanting, committed_with, aborted_with}
+use Rattle.world.specs.Fine.{StillClashes, IsFine}
+use Rattle.world_parts.specs.ByTable.{names_table, rows_at, change_at, changes_at, IsIn, AreOf}
+use Rattle.world_parts.specs.Parts.{work_if, wanted_if, IsPartOf, after_tried}
+use Rattle.world_parts.specs.Marks.{marked_at, under, items_at, mark_for, kept_by, IsFirstDropped, AreKept, AreMarked}
+
+-- ---- rows and changes by their table
+
+-- rows that agree in each table are the same
+abbrev pub RowsByTable : Type 0
+RowsByTable = (rows others : Rows) → ((table : ℕ) → rows_at table rows ≡ rows_at table others) → rows ≡ others
+
+-- rows are valid just where those of each table are
+abbrev pub ValidByTable : Type 0
+ValidByTable =
+    (schema : Schema) (rows : Rows)
+    → (IsValid schema rows → (table : ℕ) → IsValid schema (rows_at table rows))
+    × (((table : ℕ) → IsValid schema (rows_at table rows)) → IsValid schema rows)
+
+-- the rows of a table after changes are those after the table's changes
+abbrev pub SerialByTable : Type 0
+SerialByTable =
+    (schema : Schema) (table : ℕ) (rows : Rows) (cs : List change_type.Change)
+    → rows_at table (serial schema rows cs) ≡ serial schema (rows_at table rows) (changes_at table cs)
+
+-- of the cells of a table, changes hold those that the table's changes hold
+abbrev pub HeldByTable : Type 0
+HeldByTable =
+    (schema : Schema) (table : ℕ) (rows : Rows) (cs : List change_type.Change) (cells : List Cell) → AreOf table cells
+    → shares_cell cells (held_cells schema rows cs)
+    ≡ shares_cell cells (held_cells schema (rows_at table rows) (changes_at table cs))
+
+-- ---- parts
+
+-- every world has a part of each table, to which the transactions' items were told
+abbrev pub HasEachPart : Type 0
+HasEachPart = (table : ℕ) (w : World) → (part : World) × IsPartOf table w part × AreMarked table w part
+
+-- a change of the table comes to in the world what it comes to in the part
+abbrev pub TriedInPart : Type 0
+TriedInPart =
+    (schema : Schema) (table : ℕ) (w part : World) → IsPartOf table w part
+    → (xid : ℕ) (o p : Opened) → get w.opened xid ≡ Some o → get part.opened xid ≡ Some p
+    → (c : change_type.Change) → IsIn table c → w.stopped ≡ None
+    → (sub mark : ℕ) (answer : Acted) (new : World) → Acts schema part xid p mark c (Ok answer) new
+    → Acts schema w xid o sub c (Ok answer) (after_tried w xid o sub c answer)
+
+-- no other transaction holds a cell of the table, by its part
+abbrev pub IsFreeByPart : Schema → World → ℕ → ℕ → Type 0
+IsFreeByPart schema w xid table = (part : World) × IsPartOf table w part × IsFree schema part xid (Whole table ∷ [])
+
+-- a truncate is done where each of its tables is free by its part, and held where one is
+abbrev pub TruncatedByParts : Type 0
+TruncatedByParts =
+    (schema : Schema) (w : World) (xid : ℕ) (o : Opened) → w.stopped ≡ None → (sub : ℕ) (tables : List ℕ)
+    → (AllByRecursion (IsFreeByPart schema w xid) tables
+    → Acts schema w xid o sub (Wipe tables) (Ok IsDone) (done_with w xid o (Change sub (Wipe tables))))
+    × ((table : ℕ) (part : World) → IsPartOf table w part → names_table tables table ≡ true → (holder : ℕ)
+    → IsHeldBy schema part xid (Whole table ∷ []) holder
+    → Acts schema w xid o sub (Wipe tables) (Ok (Held holder)) (wanting w xid o sub (Wipe tables)))
+
+-- ---- what a part is behind each call
+
+-- a transaction opens in the world, and in the part at any time behind that
+abbrev pub PartAfterOpen : Type 0
+PartAfterOpen =
+    (table : ℕ) (w part : World) → IsPartOf table w part → (xid : ℕ)
+    → (get w.opened xid ≡ None → IsPartOf table (opened_with w xid) part)
+    × (get part.opened xid ≡ None → IsPartOf table w (opened_with part xid))
+
+-- a change is tried in the parts of its tables, there as what it is in the table; the others' parts stay
+abbrev pub PartAfterTry : Type 0
+PartAfterTry =
+    (table : ℕ) (w part : World) → IsPartOf table w part → (xid : ℕ) (o : Opened) → get w.opened xid ≡ Some o
+    → (sub : ℕ) (c : change_type.Change) (answer : Acted)
+    → ((p : Opened) (mark : ℕ) (cut : change_type.Change) → get part.opened xid ≡ Some p → change_at table c ≡ cut ∷ []
+    → IsPartOf table (after_tried w xid o sub c answer) (after_tried part xid p mark cut answer))
+    × (change_at table c ≡ [] → wanted_if (get part.opened xid) ≡ [] → IsPartOf table (after_tried w xid o sub c answer) part)
+
+-- a commit comes in the parts in which its transaction did something; the others' stay
+abbrev pub PartAfterCommit : Type 0
+PartAfterCommit =
+    (schema : Schema) (table : ℕ) (w part : World) → IsPartOf table w part
+    → (xid : ℕ) (o : Opened) → get w.opened xid ≡ Some o → (info : CommitInfo)
+    → ((p : Opened) → get part.opened xid ≡ Some p
+    → IsPartOf table (committed_with schema w xid o info) (committed_with schema part xid p info))
+    × (work_if xid (get part.opened xid) ≡ [] → wanted_if (get part.opened xid) ≡ []
+    → IsPartOf table (committed_with schema w xid o info) part)
+
+-- so does an abort
+abbrev pub PartAfterAbort : Type 0
+PartAfterAbort =
+    (table : ℕ) (w part : World) → IsPartOf table w part → (xid : ℕ)
+    → IsPartOf table (aborted_with w xid) (aborted_with part xid)
+    × (work_if xid (get part.opened xid) ≡ [] → wanted_if (get part.opened xid) ≡ [] → IsPartOf table (aborted_with w xid) part)
+
+-- ---- savepoints
+
+-- a change is told to its tables under the latest mark; to others nothing, and nothing of an item that changes no row
+abbrev pub ChangesAreTold : Type 0
+ChangesAreTold =
+    (table top sub : ℕ) (items mine : List Item) → survivors top mine ≡ items_at table top (survivors top items)
+    → ((c cut : change_type.Change) → change_at table c ≡ cut ∷ []
+    → survivors top (mine ++ Change (mark_for top sub (survivors top items)) cut ∷ [])
+    ≡ items_at table top (survivors top (items ++ Change sub c ∷ [])))
+    × ((c : change_type.Change) → change_at table c ≡ []
+    → survivors top mine ≡ items_at table top (survivors top (items ++ Change sub c ∷ [])))
+    × (survivors top mine ≡ items_at table top (survivors top (items ++ Touch sub ∷ [])))
+
+-- a rollback is one in the part to the first of its marks that is dropped, and none where no mark of it is
+abbrev pub RollbackByTable : Type 0
+RollbackByTable =
+    (table top sub : ℕ) (items mine : List Item) → (sub == top) ≡ false
+    → survivors top mine ≡ items_at table top (survivors top items)
+    → ((mark : ℕ) → IsFirstDropped top (kept_by top sub (survivors top items)) mark (marked_at table (under top [] (survivors top items)))
+    → survivors top (mine ++ BackTo mark ∷ []) ≡ items_at table top (survivors top (items ++ BackTo sub ∷ [])))
+    × (AreKept top (kept_by top sub (survivors top items)) (marked_at table (under top [] (survivors top items)))
+    → survivors top mine ≡ items_at table top (survivors top (items ++ BackTo sub ∷ [])))
+
+-- ---- what every world keeps that calls reach
+
+-- a part that begins with its committed rows keeps it where its world does
+abbrev pub PartIsFine : Type 0
+PartIsFine =
+    (schema : Schema) (table : ℕ) (w part : World) → IsPartOf table w part → IsFine schema w
+    → part.start ≡ part.committed → part.line ≡ [] → StillClashes schema part → IsFine schema part
+
+-- the part of the table, which keeps it
+abbrev pub HasFinePart : Schema → World → ℕ → Type 0
+HasFinePart schema w table = (part : World) × IsPartOf table w part × IsFine schema part
+
+-- and a world does where each of its parts does
+abbrev pub FineByParts : Type 0
+FineByParts =
+    (schema : Schema) (w : World) → ((table : ℕ) → HasFinePart schema w table) → IsValid schema w.start
+    → w.committed ≡ serial schema w.start (changes_in w.line) → StillClashes schema w → IsFine schema w

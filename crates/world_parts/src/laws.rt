@@ -1,0 +1,78 @@
+// The laws of parts. Each function does nothing: its contract is a law, and the check of this crate
+// proves it.
+ghost use Rattle.world_parts.specs.Statements.{RowsByTable, ValidByTable, SerialByTable, HeldByTable, HasEachPart, TriedInPart, TruncatedByParts, PartAfterOpen, PartAfterTry, PartAfterCommit, PartAfterAbort, ChangesAreTold, RollbackByTable, PartIsFine, FineByParts};
+
+/// Rows that agree in each table are the same.
+pub fn rows_by_table()
+    ensures { RowsByTable }
+{}
+
+/// Rows are valid just where those of each table are.
+pub fn valid_by_table()
+    ensures { ValidByTable }
+{}
+
+/// The rows of a table after changes are those after the table's changes.
+pub fn serial_by_table()
+    ensures { SerialByTable }
+{}
+
+/// Of the cells of a table, changes hold those that the table's changes hold.
+pub fn held_by_table()
+    ensures { HeldByTable }
+{}
+
+/// Every world has a part of each table.
+pub fn has_each_part()
+    ensures { HasEachPart }
+{}
+
+/// A change of a table comes to in the world what it comes to in the part.
+pub fn tried_in_part()
+    ensures { TriedInPart }
+{}
+
+/// A truncate is done where each of its tables is free by its part, and held where one is.
+pub fn truncated_by_parts()
+    ensures { TruncatedByParts }
+{}
+
+/// A transaction may open in a part at any time behind its open in the world.
+pub fn part_after_open()
+    ensures { PartAfterOpen }
+{}
+
+/// A change is tried in the parts of its tables, and the others' stay.
+pub fn part_after_try()
+    ensures { PartAfterTry }
+{}
+
+/// A commit comes in the parts in which its transaction did something.
+pub fn part_after_commit()
+    ensures { PartAfterCommit }
+{}
+
+/// So does an abort.
+pub fn part_after_abort()
+    ensures { PartAfterAbort }
+{}
+
+/// A change is told to its tables under the latest mark.
+pub fn changes_are_told()
+    ensures { ChangesAreTold }
+{}
+
+/// A rollback is one in the part, to the first of its marks that is dropped.
+pub fn rollback_by_table()
+    ensures { RollbackByTable }
+{}
+
+/// A part keeps what every world keeps that calls reach.
+pub fn part_is_fine()
+    ensures { PartIsFine }
+{}
+
+/// A world keeps it where each of its parts does.
+pub fn fine_by_parts()
+    ensures { FineByParts }
+{}
