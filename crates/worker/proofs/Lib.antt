@@ -1,1 +1,2 @@
 mod OutboxLists
+mod Refusals

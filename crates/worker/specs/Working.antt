@@ -5,18 +5,23 @@
 --     IsInStep      what the type of a job keeps
 --     GoesOn      the same transaction of the same worker, with more done
 --     HasNext, HasDone      an item of the transaction is taken, and not done; it is done
---     IsEndedBy      why a worker came back
+--     IsMet, WasRefused      a world that the store came to; why an item was refused there
+--     Shows, IsEndedBy      why a worker came back, as its job shows it, and as the store was
 --     Wanted, Comes      the events of a transaction once an item was tried
 --     ComesTo      what the transaction has done once it was tried until it was done or refused
 use Rattle.std.specs.Prelude.{◌≡◌, ◌≢◌, ℕ, true, List, [], ◌∷◌, ◌++◌, Option, Some, None, IsSome, All, MatchOption, Result, Ok, Err}
 use Rattle.atomic_table.specs.Seated.{TableId}
+use Rattle.std.specs.FinMap.{get}
 use Rattle.model.specs.declared.change.Change as change_type
+use Rattle.model.specs.Effect.{ClashCause}
+use Rattle.model.specs.Rows.{Rows, Schema}
 use Rattle.model.specs.declared.item.Item.{Item}
 use Rattle.model.specs.declared.item.Item.TheVariants.{Change, Last}
 use Rattle.model.specs.Beginning.{Begins}
 use Rattle.tokens.specs.Lists.{OpenList}
 use Rattle.ring.specs.Ends.{Taking}
-use Rattle.world.specs.World.{Opened}
+use Rattle.world.specs.World.{Opened, ByClash, World, starting}
+use Rattle.world.specs.Steps.{Reaches}
 use Rattle.engine.specs.declared.events.Event.{Event}
 use Rattle.engine.specs.declared.events.Event.TheVariants.{Done, Wants}
 use Rattle.engine.specs.Events.{opened_by}
@@ -79,13 +84,34 @@ HasNext j = (item : Item) × (j.taker.taken ≡ Some item) × (item ≢ Last)
 abbrev pub HasDone : Working → Working → Type 0
 HasDone old new = (item : Item) × (old.taker.taken ≡ Some item) × (done_in new ≡ done_in old ++ item ∷ [])
 
+-- A world that the store came to, in which the transaction is open with just these events. The store has these keys, and
+-- started from these rows.
+pub record IsMet (keys : Schema) (first : Rows) (xid : ℕ) (events : List Event) (w : World) : Type 0 where
+  pub reached : ∥ Reaches keys (starting first) w ∥₁
+  pub open_one : get w.opened xid ≡ Some (opened_by events)
+
+-- Why an item of a transaction was refused: the store was stopped, by the transaction's change that it tells as wanted, or
+-- by whatever before; it was not, where memory was.
+abbrev pub WasRefused : Schema → Rows → Ended → ℕ → List Event → Type 0
+WasRefused keys first AtLast xid events = Unit {0}
+WasRefused keys first Doomed xid events = Unit {0}
+WasRefused keys first Clashed xid events =
+    (w : World) × IsMet keys first xid events w × (sub : ℕ) × (c : change_type.Change) × (cause : ClashCause) ×
+    ((opened_by events).wants ≡ Some (sub, c)) × (w.stopped ≡ Some (ByClash xid c cause))
+WasRefused keys first Stopped xid events = (w : World) × IsMet keys first xid events w × IsSome w.stopped
+WasRefused keys first OutOfMemory xid events = (w : World) × IsMet keys first xid events w × (w.stopped ≡ None)
+
 -- why a worker came back, as its job then shows it
-abbrev pub IsEndedBy : Ended → Working → Type 0
-IsEndedBy AtLast j = j.taker.taken ≡ Some Last
-IsEndedBy Doomed j = j.taker.doomed ≡ true
-IsEndedBy Clashed j = HasNext j × IsSome (wanted_in j)
-IsEndedBy Stopped j = HasNext j
-IsEndedBy OutOfMemory j = HasNext j
+abbrev pub Shows : Ended → Working → Type 0
+Shows AtLast j = j.taker.taken ≡ Some Last
+Shows Doomed j = j.taker.doomed ≡ true
+Shows Clashed j = HasNext j
+Shows Stopped j = HasNext j
+Shows OutOfMemory j = HasNext j
+
+-- why a worker of a store came back: the job shows it, and the store was so
+abbrev pub IsEndedBy : Schema → Rows → Ended → Working → Type 0
+IsEndedBy keys first ended j = Shows ended j × WasRefused keys first ended j.xid j.events
 
 -- why a worker comes back whose item was refused
 abbrev pub ended_by : EngineFault → Ended

@@ -93,7 +93,7 @@ impl<N: StoreNames, L: RingNames> Job<N, L> {
         ensures goes_on { GoesOn self.old self.new }
         ensures same { self.new.events ≡ self.old.events }
         ensures ok { OnOk result (HasNext self.new) }
-        ensures err { IfErr result (λ ended. IsEndedBy ended self.new) }
+        ensures err { IfErr result (λ ended. IsEndedBy N.schema N.start ended self.new) }
     {
         self.taker.wait_more(rt);
         if self.taker.doomed() {
@@ -122,7 +122,7 @@ impl<N: StoreNames, L: RingNames> Job<N, L> {
         ensures goes_on { GoesOn self.old self.new }
         ensures ok { OnOk result (HasDone self.old self.new) }
         ensures same { OnErr result (done_in self.new ≡ done_in self.old) }
-        ensures err { IfErr result (λ ended. IsEndedBy ended self.new) }
+        ensures err { IfErr result (λ ended. IsEndedBy N.schema N.start ended self.new) }
     {
         try_until_done(
             rt,

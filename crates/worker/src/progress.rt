@@ -20,7 +20,7 @@ pub fn work<N: StoreNames, L: RingNames, G: Gate, R: Wait>(
     gate: &mut G,
 ) -> Job<N, L>
     ensures goes_on { GoesOn job result }
-    ensures ended { (ended : EndedBy) × IsEndedBy ended result }
+    ensures ended { (ended : EndedBy) × IsEndedBy N.schema N.start ended result }
 {
     work_on(rt, alloc, store, changed, &mut job, gate);
     job
@@ -40,7 +40,7 @@ pub fn work_on<N: StoreNames, L: RingNames, G: Gate, R: Wait>(
     gate: &mut G,
 ) -> Ended
     ensures goes_on { GoesOn job.old job.new }
-    ensures ended { IsEndedBy result job.new }
+    ensures ended { IsEndedBy N.schema N.start result job.new }
 {
     let xid = job.xid();
     let mut number = 1u64;

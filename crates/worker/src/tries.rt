@@ -1,12 +1,12 @@
 // One item of a transaction under the store's lock.
-ghost use Rattle.std.specs.Prelude.{◌≡◌, ◌≢◌, Some};
+ghost use Rattle.std.specs.Prelude.{◌≡◌, ◌≢◌, Some, IfErr};
 ghost use Rattle.model.specs.Beginning.{Begins};
 ghost use Rattle.model.specs.declared.item.Item.{Item as AnyItem};
 ghost use Rattle.model.specs.declared.item.Item.TheVariants.{Last};
 ghost use Rattle.ring.specs.Ends.{Waited};
 ghost use Rattle.engine.specs.Events.{opened_by};
 ghost use Rattle.live_tables.specs.declared.answers.EngineFault.TheVariants.{AlreadyOpen as AlreadyOpenFault, TooManyOpen as TooManyOpenFault};
-ghost use Rattle.worker.specs.Working.{IsTaken, Comes, ComesTo, ended_by};
+ghost use Rattle.worker.specs.Working.{IsTaken, Comes, ComesTo, WasRefused, ended_by};
 
 use crate::ended::{Ended, Tried};
 use crate::gate::Gate;
@@ -37,6 +37,7 @@ pub fn try_until_done<N: StoreNames, G: Gate, R: Wait>(
     ensures number { ticket.new.number ≡ ticket.old.number }
     ensures events { Begins ticket.old.list ticket.new.list }
     ensures comes { ComesTo result taker.new (opened_by ticket.old.list) (opened_by ticket.new.list) }
+    ensures why { IfErr result (λ ended. WasRefused N.schema N.start ended ticket.new.number ticket.new.list) }
 {
     let xid = ticket.xid();
     let mut locked = store.lock(rt);
@@ -70,16 +71,23 @@ fn try_item<N: StoreNames>(
     ensures name { ticket.new.name ≡ ticket.old.name }
     ensures number { ticket.new.number ≡ ticket.old.number }
     ensures comes { Comes result item.now ticket.old.list ticket.new.list }
+    ensures why { IfErr result (λ ended. WasRefused N.schema N.start ended ticket.new.number ticket.new.list) }
 {
     match item.item() {
         Item::Change { sub, change } => match store.act(alloc, ticket, *sub, change) {
             Ok(Acted::Held(_)) => Ok(Tried::Held),
             Ok(_) => Ok(Tried::Done),
-            Err(fault) => Err(end_refused(changed, fault)),
+            Err(fault) => {
+                store.recall_invariant();
+                Err(end_refused(changed, fault))
+            }
         },
         Item::Touch(sub) => match store.touch(ticket, *sub) {
             Ok(()) => Ok(Tried::Done),
-            Err(fault) => Err(end_refused(changed, fault)),
+            Err(fault) => {
+                store.recall_invariant();
+                Err(end_refused(changed, fault))
+            }
         },
         Item::BackTo(sub) => {
             store.back_to(ticket, *sub);

@@ -25,6 +25,19 @@ pub fn make_mailboxes<J: Drop>(alloc: Global, count: usize) -> Result<Vec<Mailbo
     Ok(mailboxes)
 }
 
+// As `MailboxState::give`: what is given can't be dropped here.
+impl<J> Mailbox<J> {
+    /// Lays a job into the mailbox, for its worker. It is handed back where one is there already or with the
+    /// worker, and where the mailbox is closed.
+    pub fn give<R: Wait>(&self, rt: &R, job: J) -> Result<(), J>
+        ensures { IfErr result (λ handed. handed ≡ job) }
+    {
+        self.place.lock(rt).give(job)?;
+        self.changed.notify_all();
+        Ok(())
+    }
+}
+
 impl<J: Drop> Mailbox<J> {
     pub(crate) fn new() -> Mailbox<J> {
         Mailbox {
@@ -34,16 +47,6 @@ impl<J: Drop> Mailbox<J> {
             }),
             changed: Condvar::new(),
         }
-    }
-
-    /// Lays a job into the mailbox, for its worker. It is handed back where one is there already or with the
-    /// worker, and where the mailbox is closed.
-    pub fn give<R: Wait>(&self, rt: &R, job: J) -> Result<(), J>
-        ensures { IfErr result (λ handed. handed ≡ job) }
-    {
-        self.place.lock(rt).give(job)?;
-        self.changed.notify_all();
-        Ok(())
     }
 
     /// The job, if it was done.

@@ -26,7 +26,8 @@ pub struct MailboxState<J> {
     pub closed: bool,
 }
 
-impl<J: Drop> MailboxState<J> {
+// A job is of a type that can't be dropped here, so one that is not laid in is handed back.
+impl<J> MailboxState<J> {
     /// A job is laid into a mailbox that is open and has none.
     pub fn give(&mut self, job: J) -> Result<(), J>
         ensures free { OnOk result (IsVacant self.old) }
@@ -35,15 +36,17 @@ impl<J: Drop> MailboxState<J> {
         ensures same { OnErr result (self.new ≡ self.old) }
         ensures back { IfErr result (λ handed. handed ≡ job) }
     {
-        match (&self.slot, self.closed) {
-            (JobState::Empty, false) => {
-                self.slot = JobState::Given(job);
-                Ok(())
-            }
-            _ => Err(job),
+        let (JobState::Empty, false) = (&self.slot, self.closed) else {
+            return Err(job);
+        };
+        match mem::replace(&mut self.slot, JobState::Given(job)) {
+            JobState::Empty | JobState::Working => Ok(()),
+            JobState::Given(other) | JobState::Back(other) => Err(other),
         }
     }
+}
 
+impl<J: Drop> MailboxState<J> {
     /// The worker takes the job that is to be done. A closed mailbox starts none.
     pub fn start(&mut self) -> Option<J>
         ensures job { result ≡ job_to_do self.old }
