@@ -1,5 +1,5 @@
 // A desk where accounts are asked for while the stream comes.
-ghost use Rattle.std.specs.Prelude.{◌∷◌, []};
+ghost use Rattle.std.specs.Prelude.{◌≡◌, ◌∷◌, []};
 ghost use Rattle.model.specs.declared.value.Value.TheVariants.{Int};
 ghost use Rattle.world.specs.Steps.{ReadsCommitted};
 ghost use Rattle.snapshot.specs.Reads.{world_seen};
@@ -25,7 +25,9 @@ pub struct Desk<'a, H: Print + Clock> {
 
 impl<'a, H: Print + Clock> Desk<'a, H> {
     /// Where this account is asked for, and the answer is printed.
-    pub fn new(host: &'a H, alloc: Global, number: i64) -> Desk<'a, H> {
+    pub fn new(host: &'a H, alloc: Global, number: i64) -> Desk<'a, H>
+        ensures { result.commits ≡ 0 }
+    {
         Desk {
             host,
             alloc,
@@ -52,7 +54,8 @@ fn look_up<N: StoreNames, R: Wait>(
     reader: &mut Reader<'_, N>,
     number: i64,
 ) -> Result<Option<Row>, ReadFault>
-    ensures { ReadsCommitted (world_seen reader.new) (0, Int number ∷ []) result }
+    ensures row { ReadsCommitted (world_seen reader.new) (0, Int number ∷ []) result }
+    ensures published { reader.new.published ≡ reader.old.published }
 {
     let Ok(key) = Key::from_value(alloc, Value::Int(number)) else {
         return Err(ReadFault::OutOfMemory);
@@ -61,6 +64,11 @@ fn look_up<N: StoreNames, R: Wait>(
 }
 
 impl<H: Print + Clock> Watch for Desk<'_, H> {
+    ghost use Rattle.std.specs.Prelude.{◌≤◌, length};
+
+    // The commits that it has looked at were published.
+    ghost knows = { λ desk sight. desk.commits ≤ length sight.published.ends };
+
     fn turn<N: StoreNames, R: Wait>(&mut self, rt: &R, reader: &mut Reader<'_, N>) -> bool {
         // The position costs no lock, so it is asked first.
         let commits = reader.position(rt).commits;

@@ -23,7 +23,8 @@ mod accounts;
 mod desk;
 mod shown;
 
-ghost use Rattle.std.specs.Prelude.{◌≡◌, None, IfOk, length, min};
+ghost use Rattle.std.specs.Prelude.{◌≡◌, ◌∷◌, [], None, IfOk, min};
+ghost use Rattle.snapshot.specs.Reads.{Sight};
 ghost use Rattle.run.specs.Devices.{device_state, health};
 ghost use Rattle.cache_example.specs.Accounts.{IsKeptFrom};
 
@@ -91,6 +92,7 @@ fn keep<T: Threads + Wait + Sync, R: Source + Drop, W: Sink + Drop, D: Watch + D
     writer: W,
     desk: D,
 ) -> Result<Tables, End>
+    requires { (s : Sight) → D.knows desk s }
     ensures { IfOk result (λ tables. IsKeptFrom (min config.now.workers 1) 1 catalog.now config.now
         (device_state (R.remaining reader) (W.contents writer) None (R.reads_left reader)
         (health (R.failures reader) (R.failed_last reader)) (health (W.failures writer) (W.failed_last writer)))
@@ -111,7 +113,7 @@ fn keep<T: Threads + Wait + Sync, R: Source + Drop, W: Sink + Drop, D: Watch + D
 
 /// A list of one.
 fn only<T: Drop>(alloc: Global, item: T) -> Result<Vec<T>, OutOfMemory>
-    ensures { IfOk result (λ items. length items.items ≡ 1) }
+    ensures { IfOk result (λ items. items.items ≡ item ∷ []) }
 {
     let mut items = Vec::new(alloc);
     items.push(item)?;

@@ -32,7 +32,7 @@ mod transactions;
 
 pub use handle::WorkerHandle;
 pub use parts::{LeaderEnds, Parts, WorkerPool, make_handles, make_parts};
-pub use positions::Positions;
+pub use positions::{Positions, RunNames};
 pub use shared::{OpenGate, Shared, WorkerShared};
 pub use slot::Slot;
 pub use transactions::{Left, Transactions};

@@ -4,6 +4,7 @@ ghost use Rattle.model.specs.Named.{NamesTables};
 ghost use Rattle.model.specs.declared.item.Item.TheVariants.{Last, Change as ChangeItem, Touch as TouchItem};
 ghost use Rattle.tokens.specs.Lists.{open_list};
 ghost use Rattle.engine.specs.Events.{ends_in};
+ghost use Rattle.origin.specs.Commits.{commits_of};
 ghost use Rattle.model.specs.Beginning.{last_end};
 ghost use Rattle.engine.specs.declared.events.LineEvent.TheVariants.{Opened as WasOpened, Committed as WasCommitted};
 ghost use Rattle.session.specs.Answers.{IsOfTables};
@@ -12,10 +13,11 @@ ghost use Rattle.dispatch.specs.Standing.{own_by, goes_by, items_by, GoesBy, IsO
 
 use crate::ends::{end_of_fault, end_of_stop, end_of_unasked};
 use crate::handle::{WorkerHandle, is_last};
-use crate::positions::Positions;
+use crate::positions::{Positions, RunNames};
 use crate::shared::Shared;
 use engine::{Acted, Line, SharedStore, StoreNames, Ticket};
 use model::{Change, CommitInfo, Item, Xid};
+use origin::Publisher;
 use run::End;
 use std::alloc::Global;
 use std::marker::Model;
@@ -31,7 +33,7 @@ use worker::{Gate, OutboxNames, WorkItem};
 ///
 /// The position behind each commit is published, once that stands and the store's lock was let go.
 #[derive(Debug, Drop)]
-pub struct Transactions<'a, N: StoreNames, L: OutboxNames, R: Wait, G: Gate + Drop> {
+pub struct Transactions<'a, N: StoreNames, L: RunNames, R: Wait, G: Gate + Drop> {
     rt: &'a R,
     alloc: Global,
     shared: &'a Shared<N, L, G>,
@@ -42,10 +44,10 @@ pub struct Transactions<'a, N: StoreNames, L: OutboxNames, R: Wait, G: Gate + Dr
     /// The transaction between Begin and Commit, or one that was spooled while it commits.
     begun: Option<Ticket>,
     /// Tells those who watch how far the line has come.
-    positions: Positions<'a>,
+    positions: Positions<'a, L>,
 }
 
-impl<'a, N: StoreNames, L: OutboxNames, R: Wait, G: Gate + Drop> Model
+impl<'a, N: StoreNames, L: RunNames, R: Wait, G: Gate + Drop> Model
     for Transactions<'a, N, L, R, G> {
     ghost use Rattle.std.specs.Prelude.{◌≡◌, length};
     ghost use Rattle.engine.specs.Events.{ends_in};
@@ -67,9 +69,10 @@ pub struct Left<'a, N: StoreNames, L: OutboxNames, G: Drop> {
     pub begun: Option<Ticket>,
     pub workers: Vec<WorkerHandle<'a, N, L, G>>,
     pub given: Vec<(Xid, u64)>,
+    pub publisher: Publisher,
 }
 
-impl<'a, N: StoreNames, L: OutboxNames, R: Wait, G: Gate + Drop> Transactions<'a, N, L, R, G> {
+impl<'a, N: StoreNames, L: RunNames, R: Wait, G: Gate + Drop> Transactions<'a, N, L, R, G> {
     /// None is open, and no worker is in use.
     pub fn new(
         rt: &'a R,
@@ -77,7 +80,7 @@ impl<'a, N: StoreNames, L: OutboxNames, R: Wait, G: Gate + Drop> Transactions<'a
         line: Line,
         workers: Vec<WorkerHandle<'a, N, L, G>>,
         given: Vec<(Xid, u64)>,
-        positions: Positions<'a>,
+        positions: Positions<'a, L>,
     ) -> Transactions<'a, N, L, R, G>
         requires name { line.name ≡ N.line }
         requires none { line.list ≡ [] }
@@ -106,6 +109,7 @@ impl<'a, N: StoreNames, L: OutboxNames, R: Wait, G: Gate + Drop> Transactions<'a
         ensures workers { map goes_by result.workers.items ≡ self.entry.workers }
         ensures home { All IsHome result.workers.items }
         ensures given { AreCounted self.entry.workers result.given.items }
+        ensures publisher { result.publisher ≡ commits_of L.origin (ends_in self.entry.line) }
     {
         let Transactions {
             rt,
@@ -114,6 +118,7 @@ impl<'a, N: StoreNames, L: OutboxNames, R: Wait, G: Gate + Drop> Transactions<'a
             mut workers,
             mut given,
             begun,
+            positions,
             ..
         } = self;
         bring_home(rt, shared, &mut workers);
@@ -123,6 +128,7 @@ impl<'a, N: StoreNames, L: OutboxNames, R: Wait, G: Gate + Drop> Transactions<'a
             begun,
             workers,
             given,
+            publisher: positions.into_publisher(),
         }
     }
 

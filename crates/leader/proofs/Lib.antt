@@ -6,3 +6,5 @@ mod Deciding
 mod Held
 mod InHand
 mod Leaving
+mod Iterated
+mod Watched

@@ -1,3 +1,4 @@
 pub mod Threads
 pub mod Ending
 pub mod WithWorkers
+pub mod Watching

@@ -3,13 +3,13 @@
 // `worker_threads` takes a leader as a closure. What a run's leader needs has more than one type parameter, and a
 // closure that holds references to it gets no proof yet; so the closure holds a value of a type
 // parameter, which leads.
-ghost use Rattle.std.specs.Prelude.{◌≡◌, ℕ, Bool, false, ◌&&◌, nat_eq, IfErr, IfNone, IfSome, length};
+ghost use Rattle.std.specs.Prelude.{◌≡◌, ◌≤◌, ℕ, Bool, [], ◌&&◌, nat_eq, IfNone, IfSome, length, vec_capacity};
 
-use crate::watching::{Turn, Watching, give_turns};
-use model::OutOfMemory;
+use crate::watching::Watching;
+use dispatch::RunNames;
 use std::sync::Wait;
 use std::thread;
-use std::thread::Threads;
+use std::thread::{JoinHandle, Threads};
 use worker_threads::{Mailbox, Work, with_workers};
 
 /// Leads while workers work, and hands back what it was lent.
@@ -36,48 +36,95 @@ pub trait Leading<J, W> {
         ensures { lead_gives self (length mailboxes.now) has_all result };
 }
 
+/// Who watches a run with workers that share `S`.
+pub trait Turns<S, L: RunNames> {
+    /// Has its turns, until the run has ended, and one more.
+    fn take_turns<R: Wait>(self, rt: &R, shared: &S, watching: &Watching<L>) -> Self;
+}
+
+/// One who watches: here, or in a thread of its own.
+#[derive(Drop)]
+pub enum Onlooker<V: Drop> {
+    Here(V),
+    Away(JoinHandle<V>),
+}
+
+impl<V: Drop> Onlooker<V> {
+    /// Whoever it is, once its thread has ended.
+    pub fn join<R: Threads>(self, rt: &R) -> V {
+        match self {
+            Onlooker::Here(watcher) => watcher,
+            Onlooker::Away(thread) => thread.join(rt),
+        }
+    }
+}
+
+/// Those who watch, and room for them while they do.
+#[derive(Drop)]
+pub struct Onlookers<V: Drop> {
+    pub all: Vec<Onlooker<V>>,
+    pub room: Vec<Onlooker<V>>,
+    ghost empty: { room.items ≡ [] },
+    ghost fits: { length all.items ≤ vec_capacity room },
+}
+
+impl<V: Drop> Onlookers<V> {
+    // All of them, and the room.
+    fn into_parts(self) -> (Vec<Onlooker<V>>, Vec<Onlooker<V>>)
+        ensures all { result.0 ≡ self.all }
+        ensures empty { result.1.items ≡ [] }
+        ensures fits { length self.all.items ≤ vec_capacity result.1 }
+    {
+        let Onlookers { all, room } = self;
+        (all, room)
+    }
+}
+
 /// Starts a thread for each watcher and a worker for each mailbox, and lets the leader lead, which tells
-/// the watchers the end. It returns when each of them has had its last turn. Without the memory for the
-/// watchers none is started.
-pub fn beside<J, R, W, V, T, X>(
+/// the watchers the end. It returns when each of them has had its last turn, which one whose thread can't
+/// be started has here: then nothing is read.
+pub fn beside<J, R, W, L, V, T, X>(
     rt: &R,
     mailboxes: &[Mailbox<J>],
     shared: &W,
-    watching: &Watching,
-    watchers: Result<Vec<V>, OutOfMemory>,
+    watching: &Watching<L>,
+    watchers: Onlookers<V>,
     leader: T,
-) -> X
+) -> (X, Vec<Onlooker<V>>)
 where
     J: Drop + Send,
     R: Threads + Wait + Sync,
     W: Work<J> + Sync,
-    V: Turn + Drop + Send,
+    L: RunNames + Sync,
+    V: Turns<W, L> + Drop + Send,
     T: Leading<J, W, Left = X> + Drop,
     requires { T.can_lead leader (length mailboxes.now) }
-    ensures led { (has_all : Bool) × T.lead_gives leader (length mailboxes.now) has_all result }
-    ensures unwatched { IfErr watchers (λ _. T.lead_gives leader (length mailboxes.now) false result) }
+    ensures led { (has_all : Bool) × T.lead_gives leader (length mailboxes.now) has_all result.0 }
+    ensures count { length result.1.items ≡ length watchers.all.items }
 {
-    let Ok(watchers) = watchers else {
-        return beside_workers(rt, mailboxes, shared, leader, false);
-    };
     thread::scope(
         thread::scope_env(),
         rt,
-        move |scope| -> X
+        move |scope| -> (X, Vec<Onlooker<V>>)
             requires { T.can_lead leader (length mailboxes.now) }
-            ensures { (has_all : Bool) × T.lead_gives leader (length mailboxes.entry.now) has_all result }
+            ensures led { (has_all : Bool) × T.lead_gives leader (length mailboxes.entry.now) has_all result.0 }
+            ensures count { length result.1.items ≡ length watchers.all.items }
         {
+            let (all, mut away) = watchers.into_parts();
             let mut are_watching = true;
-            for watcher in watchers {
-                if scope
-                    .spawn(move || give_turns(rt, watching, watcher))
-                    .is_err()
-                {
-                    are_watching = false;
-                    break;
+            for onlooker in all {
+                let watcher = onlooker.join(rt);
+                match scope.spawn(move || watcher.take_turns(rt, shared, watching)) {
+                    Ok(thread) => away.push_reserved(Onlooker::Away(thread)),
+                    Err(refused) => {
+                        are_watching = false;
+                        watching.signal_end();
+                        away.push_reserved(Onlooker::Here((refused.value)()));
+                    }
                 }
             }
-            beside_workers(rt, mailboxes, shared, leader, are_watching)
+            let left = beside_workers(rt, mailboxes, shared, leader, are_watching);
+            (left, away)
         },
     )
 }

@@ -3,6 +3,7 @@ ghost use Rattle.std.specs.Prelude.{◌≡◌, ◌<◌, ◌⊎◌, [], None, len
 ghost use Rattle.model.specs.Beginning.{last_end};
 ghost use Rattle.model.specs.Rows.{Rows};
 ghost use Rattle.engine.specs.Events.{ends_in};
+ghost use Rattle.origin.specs.Commits.{commits_of};
 ghost use Rattle.session.specs.Answers.{IsOfTables};
 ghost use Rattle.session.specs.State.{Setting};
 ghost use Rattle.run.specs.Settings.{setting_of};
@@ -10,7 +11,7 @@ ghost use Rattle.run.specs.Progress.{Progress, start_progress, seen_with};
 
 use bytes::Bytes;
 use catalog::Catalog;
-use dispatch::{Left, Transactions};
+use dispatch::{Left, RunNames, Transactions};
 use engine::StoreNames;
 use frames::{CopyItem, Lsn};
 use model::{CommitInfo, Item, Xid};
@@ -18,7 +19,7 @@ use run::{Config, End, Handler, written_with};
 use session::{Session, Step};
 use std::alloc::Global;
 use std::sync::Wait;
-use worker::{Gate, OutboxNames};
+use worker::Gate;
 
 /// How far a leader is in its stream.
 #[derive(Drop)]
@@ -42,12 +43,12 @@ impl Stream<'_> {
 
 /// What the items of a stream have done so far, where streamed transactions have workers.
 #[derive(Drop)]
-pub struct Lead<'a, N: StoreNames, L: OutboxNames, R: Wait, G: Gate + Drop> {
+pub struct Lead<'a, N: StoreNames, L: RunNames, R: Wait, G: Gate + Drop> {
     stream: Stream<'a>,
     transactions: Transactions<'a, N, L, R, G>,
 }
 
-impl<'a, N: StoreNames, L: OutboxNames, R: Wait, G: Gate + Drop> Lead<'a, N, L, R, G> {
+impl<'a, N: StoreNames, L: RunNames, R: Wait, G: Gate + Drop> Lead<'a, N, L, R, G> {
     ghost use Rattle.dispatch.specs.Handle.{IsHome, AreCounted};
     ghost use Rattle.dispatch.specs.Standing.{own_by, goes_by, IsOurs, IsCommitted, HasTried, IsStoreEnd};
     ghost use Rattle.leader.specs.Threads.{led, after_commit, Represents, RepresentsSome, LeadTakes};
@@ -91,6 +92,7 @@ impl<'a, N: StoreNames, L: OutboxNames, R: Wait, G: Gate + Drop> Lead<'a, N, L, 
         ensures workers { map goes_by result.0.workers.items ≡ self.entry.transactions.workers }
         ensures home { All IsHome result.0.workers.items }
         ensures given { AreCounted self.entry.transactions.workers result.0.given.items }
+        ensures published { result.0.publisher ≡ commits_of L.origin (ends_in self.entry.transactions.line) }
         ensures position { result.1 ≡ self.entry.stream.position }
     {
         let Lead {
@@ -140,7 +142,7 @@ impl<'a, N: StoreNames, L: OutboxNames, R: Wait, G: Gate + Drop> Lead<'a, N, L, 
     }
 }
 
-impl<'a, N: StoreNames, L: OutboxNames, R: Wait, G: Gate + Drop> Handler for Lead<'a, N, L, R, G> {
+impl<'a, N: StoreNames, L: RunNames, R: Wait, G: Gate + Drop> Handler for Lead<'a, N, L, R, G> {
     ghost use Rattle.leader.specs.Threads.{led, Represents, HasLedTo};
 
     ghost at = { λ g rows l p. Represents g rows (led l.stream l.transactions) p };

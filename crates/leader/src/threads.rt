@@ -1,7 +1,9 @@
 // A run whose streamed transactions have workers.
-ghost use Rattle.std.specs.Prelude.{◌≡◌, ◌<◌, ℕ, All, [], false, length, map, max, min, slice_index_or};
+ghost use Rattle.std.specs.Prelude.{◌≡◌, ◌<◌, ◌≤◌, ℕ, All, [], false, length, map, max, min, slice_index_or, vec_capacity};
 ghost use Rattle.model.specs.Rows.{Rows, keys_of, IsValid};
 ghost use Rattle.world.specs.World.{starting};
+ghost use Rattle.engine.specs.Events.{ends_in};
+ghost use Rattle.origin.specs.Commits.{commits_of};
 ghost use Rattle.session.specs.State.{Setting};
 ghost use Rattle.run.specs.Settings.{setting_of};
 ghost use Rattle.run.specs.Progress.{start_progress};
@@ -14,20 +16,22 @@ ghost use Rattle.dispatch.specs.Parts.{IsFresh, HasSlots, AreNumbered, ring_of, 
 ghost use Rattle.tokens.specs.Half.{no_name};
 ghost use Rattle.leader.specs.Threads.{led, Represents, RepresentsStart, HasLedTo};
 ghost use Rattle.leader.specs.WithWorkers.{LeavesLine, IsRunByWorkers, RunsBy, IsShutSo};
+ghost use Rattle.leader.specs.Watching.{KnowsStart, KnowsRun};
 
-use crate::chief::{Leading, beside};
+use crate::chief::{Leading, Onlooker, Onlookers, beside};
 use crate::ending::finish;
 use crate::lead::Lead;
-use crate::watching::{Audience, Watcher, Watching, make_watchers};
+use crate::watching::{Audience, Watcher, Watching, gather, make_watchers};
 use catalog::Catalog;
 use crossbeam_utils::sync::EventCount;
 use dispatch::{
-    Left, Parts, Positions, Shared, Transactions, WorkerHandle, WorkerPool, make_handles,
-    make_parts,
+    Left, Parts, Positions, RunNames, Shared, Transactions, WorkerHandle, WorkerPool, WorkerShared,
+    make_handles, make_parts,
 };
 use engine::{Line, SharedStore, Store, StoreNames};
 use frames::{Lsn, Sink, Source};
-use model::{OutOfMemory, Xid};
+use model::Xid;
+use origin::Publisher;
 use run::{Clock, Config, Devices, End, Outcome, Tables, read_all, run_spooled_on};
 use snapshot::Watch;
 use std::alloc::Global;
@@ -35,7 +39,7 @@ use std::marker::Brand;
 use std::sync::atomic::AtomicBool;
 use std::sync::{Condvar, Mutex, Wait};
 use std::thread::Threads;
-use worker::{Gate, Job, OutboxNames};
+use worker::{Gate, Job};
 use worker_threads::{Mailbox, make_mailboxes};
 
 /// Reads the stream to its end and applies its transactions, streamed ones by workers as their items
@@ -45,7 +49,7 @@ use worker_threads::{Mailbox, make_mailboxes};
 /// Each watcher has turns meanwhile, in a thread of its own, and one more behind the end.
 ///
 /// The start tables must be those of the catalog. It is `run_on` with devices of its own: what
-/// it sends is said there.
+/// it sends is said there, and what its watchers know behind it.
 pub fn run<R, S, W, C, G, V>(
     rt: &R,
     alloc: Global,
@@ -65,14 +69,15 @@ where
     C: Clock + Drop,
     G: Gate + Drop + Send,
     V: Watch + Drop + Send,
-    requires { start.schema ≡ map keys_of catalog.now }
+    requires catalog { start.schema ≡ map keys_of catalog.now }
+    requires knows { All (KnowsStart V.knows start.schema start.rows config.now.skip) watchers.items }
     ensures { (after : DeviceState) × RunsBy (min config.now.workers (length gates.items)) (length watchers.items) catalog.now config.now start.rows
         (device_state (S.remaining reader) (W.contents writer) (C.told clock) (S.reads_left reader)
         (health (S.failures reader) (S.failed_last reader)) (health (W.failures writer) (W.failed_last writer)))
         after result }
 {
     let mut devices = Devices::new(reader, writer, clock);
-    run_on(
+    let (outcome, _watchers) = run_on(
         rt,
         alloc,
         &mut devices,
@@ -81,10 +86,12 @@ where
         config,
         gates,
         watchers,
-    )
+    );
+    outcome
 }
 
-/// `run` over devices that are looked at afterwards: what was read and sent.
+/// `run` over devices that are looked at afterwards: what was read and sent. It hands the watchers back.
+/// Each knows a reader of this run, if it knows each reader of its start that has seen nothing yet.
 pub fn run_on<R, S, W, C, G, V>(
     rt: &R,
     alloc: Global,
@@ -94,7 +101,7 @@ pub fn run_on<R, S, W, C, G, V>(
     config: &Config,
     mut gates: Vec<G>,
     watchers: Vec<V>,
-) -> Outcome
+) -> (Outcome, Vec<V>)
 where
     R: Threads + Wait + Sync,
     S: Source,
@@ -102,19 +109,27 @@ where
     C: Clock,
     G: Gate + Drop + Send,
     V: Watch + Drop + Send,
-    requires { start.schema ≡ map keys_of catalog.now }
-    ensures { RunsBy (min config.now.workers (length gates.items)) (length watchers.items) catalog.now config.now start.rows devices.old devices.new result }
+    requires catalog { start.schema ≡ map keys_of catalog.now }
+    requires knows { All (KnowsStart V.knows start.schema start.rows config.now.skip) watchers.items }
+    ensures run { RunsBy (min config.now.workers (length gates.items)) (length watchers.items) catalog.now config.now start.rows devices.old devices.new result.0 }
+    ensures knows { All (KnowsRun V.knows start.schema start.rows config.now.skip result.0) result.1.items }
+    ensures count { length result.1.items ≡ length watchers.items }
 {
     gates.truncate(config.workers);
     if gates.is_empty() && watchers.is_empty() {
-        return run_spooled_on(alloc, devices, catalog, start, config);
+        let outcome = run_spooled_on(alloc, devices, catalog, start, config);
+        return (outcome, watchers);
     }
     start.recall_invariant();
+    let audience = match Audience::new(alloc, watchers, config.skip) {
+        Ok(audience) => audience,
+        Err(watchers) => return (Outcome::unread(alloc, start), watchers),
+    };
     match Store::new(alloc, start) {
         Ok((store, line)) => run_store::<Brand, R, S, W, C, G, V>(
-            rt, alloc, devices, catalog, store, line, config, gates, watchers,
+            rt, alloc, devices, catalog, store, line, config, gates, audience,
         ),
-        Err(start) => Outcome::unread(alloc, start),
+        Err(start) => (Outcome::unread(alloc, start), audience.into_watches()),
     }
 }
 
@@ -128,8 +143,8 @@ fn run_store<N, R, S, W, C, G, V>(
     line: Line,
     config: &Config,
     gates: Vec<G>,
-    watchers: Vec<V>,
-) -> Outcome
+    audience: Audience<V>,
+) -> (Outcome, Vec<V>)
 where
     N: StoreNames + Send + Sync,
     R: Threads + Wait + Sync,
@@ -146,14 +161,20 @@ where
     requires name { line.name ≡ N.line }
     requires none { line.list ≡ [] }
     requires keys { N.schema ≡ map keys_of catalog.now }
-    ensures { IsRunByWorkers (setting_of (length gates.items) config.now catalog.now) N.start devices.old devices.new result }
+    requires knows { All (KnowsStart V.knows N.schema N.start audience.loader.skip) audience.watches.items }
+    ensures run { IsRunByWorkers (setting_of (length gates.items) config.now catalog.now) N.start devices.old devices.new result.0 }
+    ensures knows { All (KnowsRun V.knows N.schema N.start audience.loader.skip result.0) result.1.items }
+    ensures count { length result.1.items ≡ length audience.watches.items }
 {
     let store = SharedStore::<N>::new(store);
     match make_parts(alloc, gates.len(), config.ring) {
         Ok(parts) => run_workers::<N, Brand, R, S, W, C, G, V>(
-            rt, alloc, devices, catalog, store, line, config, parts, gates, watchers,
+            rt, alloc, devices, catalog, store, line, config, parts, gates, audience,
         ),
-        Err(_) => shut(store, line, 0, End::OutOfMemory),
+        Err(_) => {
+            let outcome = shut(store, line, 0, End::OutOfMemory);
+            (outcome, audience.into_watches())
+        }
     }
 }
 
@@ -168,11 +189,11 @@ fn run_workers<N, L, R, S, W, C, G, V>(
     config: &Config,
     parts: Vec<Parts<N>>,
     gates: Vec<G>,
-    watchers: Vec<V>,
-) -> Outcome
+    audience: Audience<V>,
+) -> (Outcome, Vec<V>)
 where
     N: StoreNames + Send + Sync,
-    L: OutboxNames + Send + Sync,
+    L: RunNames + Send + Sync,
     R: Threads + Wait + Sync,
     S: Source,
     W: Sink,
@@ -188,16 +209,22 @@ where
     requires fresh { All IsFresh parts.items }
     requires rings { (i : ℕ) → i < length parts.items → slice_index_or (map ring_of parts.items) i no_name ≡ L.ring i }
     requires outboxes { (i : ℕ) → i < length parts.items → slice_index_or (map outbox_of parts.items) i no_name ≡ L.outbox i }
-    ensures { IsRunByWorkers (setting_of (length gates.items) config.now catalog.now) N.start devices.old devices.new result }
+    requires origin { (audience.origin ≡ L.origin) × (audience.loader.skip ≡ L.skip) }
+    requires knows { All (KnowsStart V.knows N.schema N.start L.skip) audience.watches.items }
+    ensures run { IsRunByWorkers (setting_of (length gates.items) config.now catalog.now) N.start devices.old devices.new result.0 }
+    ensures knows { All (KnowsRun V.knows N.schema N.start L.skip result.0) result.1.items }
+    ensures count { length result.1.items ≡ length audience.watches.items }
 {
     let mailboxes = make_mailboxes::<Job<N, L>>(alloc, gates.len());
     let pool = WorkerPool::<N, L, G>::new(alloc, parts, gates);
-    let audience = Audience::new(alloc, watchers, config.skip);
-    match (mailboxes, pool, audience) {
-        (Ok(mailboxes), Ok(pool), Ok(audience)) => run_pool(
+    match (mailboxes, pool) {
+        (Ok(mailboxes), Ok(pool)) => run_pool(
             rt, alloc, devices, catalog, store, line, *config, mailboxes, pool, audience,
         ),
-        _ => shut(store, line, 0, End::OutOfMemory),
+        _ => {
+            let outcome = shut(store, line, 0, End::OutOfMemory);
+            (outcome, audience.into_watches())
+        }
     }
 }
 
@@ -207,16 +234,16 @@ fn run_pool<N, L, R, S, W, C, G, V>(
     alloc: Global,
     devices: &mut Devices<S, W, C>,
     catalog: &Catalog,
-    store: SharedStore<N>,
-    line: Line,
+    mut store: SharedStore<N>,
+    mut line: Line,
     config: Config,
     mailboxes: Vec<Mailbox<Job<N, L>>>,
     pool: WorkerPool<N, L, G>,
     audience: Audience<V>,
-) -> Outcome
+) -> (Outcome, Vec<V>)
 where
     N: StoreNames + Send + Sync,
-    L: OutboxNames + Send + Sync,
+    L: RunNames + Send + Sync,
     R: Threads + Wait + Sync,
     S: Source,
     W: Sink,
@@ -231,48 +258,68 @@ where
     requires given { length pool.given.items ≡ length mailboxes.items }
     requires keys { N.schema ≡ map keys_of catalog.now }
     requires valid { IsValid N.schema N.start }
-    ensures { IsRunByWorkers (setting_of (length mailboxes.items) config catalog.now) N.start devices.old devices.new result }
+    requires origin { (audience.origin ≡ L.origin) × (audience.loader.skip ≡ L.skip) }
+    requires knows { All (KnowsStart V.knows N.schema N.start L.skip) audience.watches.items }
+    ensures run { IsRunByWorkers (setting_of (length mailboxes.items) config catalog.now) N.start devices.old devices.new result.0 }
+    ensures knows { All (KnowsRun V.knows N.schema N.start L.skip result.0) result.1.items }
+    ensures count { length result.1.items ≡ length audience.watches.items }
 {
-    let WorkerPool {
-        shared: workers,
-        ends,
-        given,
-    } = pool;
-    let shared = Shared {
+    let Audience {
+        watches,
+        home,
+        origin,
+        publisher,
+        loader,
+        ..
+    } = audience;
+    store.meet(&mut line);
+    let watching = Watching::<L>::new(origin);
+    let watchers = match make_watchers(alloc, &mut store, &watching.origin, loader, watches) {
+        Ok(watchers) => watchers,
+        Err(watches) => return (shut(store, line, 0, End::OutOfMemory), watches),
+    };
+    let shared = share(alloc, store, pool.shared);
+    let Ok(workers) = make_handles(alloc, pool.ends, &shared.workers, &mailboxes) else {
+        let finished = Finished {
+            end: End::OutOfMemory,
+            line,
+            position: 0,
+            publisher,
+        };
+        return shut_shared(rt, shared, &watching, finished, watchers.all, home);
+    };
+    let opening = Opening {
+        line,
+        workers,
+        given: pool.given,
+        positions: Positions::new(&watching.origin, publisher),
+        watching: &watching,
+    };
+    let (finished, watchers) = lead_beside(
+        rt, alloc, devices, catalog, config, &mailboxes, &shared, opening, watchers,
+    );
+    shut_shared(rt, shared, &watching, finished, watchers, home)
+}
+
+// What a leader and its workers share, at the start.
+fn share<N: StoreNames, L: RunNames, G: Drop>(
+    alloc: Global,
+    store: SharedStore<N>,
+    workers: Vec<WorkerShared<N, L, G>>,
+) -> Shared<N, L, G>
+    ensures { result.workers ≡ workers }
+{
+    Shared {
         alloc,
         store: Mutex::new(store),
         changed: Condvar::new(),
         workers,
         moved: EventCount::new(),
         refused: AtomicBool::new(false),
-    };
-    let Ok(workers) = make_handles(alloc, ends, &shared.workers, &mailboxes) else {
-        return shut_shared(shared, line, 0, End::OutOfMemory);
-    };
-    let Audience {
-        watches,
-        origin,
-        publisher,
-        loader,
-        ..
-    } = audience;
-    let watching = Watching::new(origin);
-    let opening = Opening {
-        line,
-        workers,
-        given,
-        positions: Positions::new(&watching.origin, publisher),
-        watching: &watching,
-    };
-    let watchers = make_watchers(rt, alloc, &shared.store, &watching.origin, loader, watches);
-    let (end, line, position) = lead_beside(
-        rt, alloc, devices, catalog, config, &mailboxes, &shared, opening, watchers,
-    );
-    shut_shared(shared, line, position, end)
+    }
 }
 
-// Leads a run while its workers work and others watch. Answers its end, the line, and the position that
-// the commits reach.
+// Leads a run while its workers work and others watch.
 fn lead_beside<N, L, R, S, W, C, G, V>(
     rt: &R,
     alloc: Global,
@@ -282,11 +329,11 @@ fn lead_beside<N, L, R, S, W, C, G, V>(
     mailboxes: &[Mailbox<Job<N, L>>],
     shared: &Shared<N, L, G>,
     opening: Opening<'_, N, L, G>,
-    watchers: Result<Vec<Watcher<'_, N, V>>, OutOfMemory>,
-) -> (End, Line, Lsn)
+    watchers: Onlookers<Watcher<N, L, V>>,
+) -> (Finished, Vec<Onlooker<Watcher<N, L, V>>>)
 where
     N: StoreNames + Send + Sync,
-    L: OutboxNames + Send + Sync,
+    L: RunNames + Send + Sync,
     R: Threads + Wait + Sync,
     S: Source,
     W: Sink,
@@ -300,8 +347,10 @@ where
     requires workers { length opening.workers.items ≡ length mailboxes.now }
     requires keys { N.schema ≡ map keys_of catalog.now }
     requires valid { IsValid N.schema N.start }
-    ensures name { result.1.name ≡ N.line }
-    ensures ends { LeavesLine (setting_of (length mailboxes.now) config catalog.now) N.start devices.old devices.new result.1.list result.2 result.0 }
+    ensures name { result.0.line.name ≡ N.line }
+    ensures published { result.0.publisher ≡ commits_of L.origin (ends_in result.0.line.list) }
+    ensures ends { LeavesLine (setting_of (length mailboxes.now) config catalog.now) N.start devices.old devices.new result.0.line.list result.0.position result.0.end }
+    ensures count { length result.1.items ≡ length watchers.all.items }
 {
     let watching = opening.watching;
     let leader = Leader {
@@ -311,9 +360,9 @@ where
         config,
         opening,
     };
-    let (devices, end, line, position) = beside(rt, mailboxes, shared, watching, watchers, leader);
+    let ((devices, finished), watchers) = beside(rt, mailboxes, shared, watching, watchers, leader);
     take_again(devices);
-    (end, line, position)
+    (finished, watchers)
 }
 
 // The devices are their caller's again, as they were left.
@@ -323,7 +372,7 @@ fn take_again<D>(devices: &mut D)
 
 // What a leader of a run leads with.
 #[derive(Drop)]
-struct Leader<'a, N: StoreNames, L: OutboxNames, G: Drop, S: Source, W: Sink, C: Clock> {
+struct Leader<'a, N: StoreNames, L: RunNames, G: Drop, S: Source, W: Sink, C: Clock> {
     alloc: Global,
     devices: &'a mut Devices<S, W, C>,
     catalog: &'a Catalog,
@@ -333,18 +382,28 @@ struct Leader<'a, N: StoreNames, L: OutboxNames, G: Drop, S: Source, W: Sink, C:
 
 // The line of a new store, workers to which nothing was given, and what is told to those who watch.
 #[derive(Drop)]
-struct Opening<'a, N: StoreNames, L: OutboxNames, G: Drop> {
+struct Opening<'a, N: StoreNames, L: RunNames, G: Drop> {
     line: Line,
     workers: Vec<WorkerHandle<'a, N, L, G>>,
     given: Vec<(Xid, u64)>,
-    positions: Positions<'a>,
-    watching: &'a Watching,
+    positions: Positions<'a, L>,
+    watching: &'a Watching<L>,
+}
+
+// What a leader leaves: how the run ends, the store's line, the position that the commits reach, and who
+// has published.
+#[derive(Drop)]
+struct Finished {
+    end: End,
+    line: Line,
+    position: Lsn,
+    publisher: Publisher,
 }
 
 impl<'a, N, L, S, W, C, G> Leading<Job<N, L>, Shared<N, L, G>> for Leader<'a, N, L, G, S, W, C>
 where
     N: StoreNames,
-    L: OutboxNames,
+    L: RunNames,
     S: Source,
     W: Sink,
     C: Clock,
@@ -352,19 +411,22 @@ where
 {
     ghost use Rattle.std.specs.Prelude.{◌≡◌, [], All, false, length, map};
     ghost use Rattle.model.specs.Rows.{keys_of, IsValid};
+    ghost use Rattle.engine.specs.Events.{ends_in};
+    ghost use Rattle.origin.specs.Commits.{commits_of};
     ghost use Rattle.run.specs.declared.end.End.TheVariants.{OutOfMemory as NoMemory};
     ghost use Rattle.dispatch.specs.Handle.{IsIdle};
     ghost use Rattle.leader.specs.WithWorkers.{LeavesLine};
     ghost use Rattle.run.specs.Settings.{setting_of};
 
-    type Left = (&'a mut Devices<S, W, C>, End, Line, Lsn);
+    type Left = (&'a mut Devices<S, W, C>, Finished);
 
     ghost can_lead = { λ l n. (l.opening.line.name ≡ N.line) × (l.opening.line.list ≡ []) × (l.opening.positions ≡ [])
         × All IsIdle l.opening.workers.items × (length l.opening.workers.items ≡ n) × (N.schema ≡ map keys_of l.catalog.now) × IsValid N.schema N.start };
 
-    ghost lead_gives = { λ l n has_all left. (left.0.ghost_name ≡ l.devices.ghost_name) × (left.2.name ≡ N.line)
-        × (has_all ≡ false → (left.1 ≡ NoMemory) × (left.0.now ≡ l.devices.now))
-        × LeavesLine (setting_of n l.config l.catalog.now) N.start l.devices.now left.0.now left.2.list left.3 left.1 };
+    ghost lead_gives = { λ l n has_all left. (left.0.ghost_name ≡ l.devices.ghost_name) × (left.1.line.name ≡ N.line)
+        × (left.1.publisher ≡ commits_of L.origin (ends_in left.1.line.list))
+        × (has_all ≡ false → (left.1.end ≡ NoMemory) × (left.0.now ≡ l.devices.now))
+        × LeavesLine (setting_of n l.config l.catalog.now) N.start l.devices.now left.0.now left.1.line.list left.1.position left.1.end };
 
     fn lead<R: Wait>(
         self,
@@ -372,7 +434,7 @@ where
         mailboxes: &[Mailbox<Job<N, L>>],
         shared: &Shared<N, L, G>,
         has_all: bool,
-    ) -> (&'a mut Devices<S, W, C>, End, Line, Lsn) {
+    ) -> (&'a mut Devices<S, W, C>, Finished) {
         let Leader {
             alloc,
             devices,
@@ -380,7 +442,7 @@ where
             config,
             opening,
         } = self;
-        let (end, line, position) = lead_all(
+        let finished = lead_all(
             rt,
             alloc,
             devices,
@@ -391,7 +453,7 @@ where
             opening,
             has_all,
         );
-        (devices, end, line, position)
+        (devices, finished)
     }
 }
 
@@ -408,10 +470,10 @@ fn lead_all<'a, N, L, R, S, W, C, G>(
     shared: &'a Shared<N, L, G>,
     opening: Opening<'a, N, L, G>,
     has_all: bool,
-) -> (End, Line, Lsn)
+) -> Finished
 where
     N: StoreNames,
-    L: OutboxNames,
+    L: RunNames,
     R: Wait,
     S: Source,
     W: Sink,
@@ -424,9 +486,10 @@ where
     requires workers { length opening.workers.items ≡ workers }
     requires keys { N.schema ≡ map keys_of catalog.now }
     requires valid { IsValid N.schema N.start }
-    ensures name { result.1.name ≡ N.line }
-    ensures unread { has_all ≡ false → (result.0 ≡ NoMemory) × (devices.new ≡ devices.old) }
-    ensures ends { LeavesLine (setting_of workers config catalog.now) N.start devices.old devices.new result.1.list result.2 result.0 }
+    ensures name { result.line.name ≡ N.line }
+    ensures published { result.publisher ≡ commits_of L.origin (ends_in result.line.list) }
+    ensures unread { has_all ≡ false → (result.end ≡ NoMemory) × (devices.new ≡ devices.old) }
+    ensures ends { LeavesLine (setting_of workers config catalog.now) N.start devices.old devices.new result.line.list result.position result.end }
 {
     let Opening {
         line,
@@ -444,12 +507,18 @@ where
         begun,
         workers: handles,
         given,
+        publisher,
     } = left;
     let mut store = shared.store.lock(rt);
     let end = finish(&mut *store, &mut line, begun, handles, &given, proposed);
     drop(store);
     watching.signal_end();
-    (end, line, position)
+    Finished {
+        end,
+        line,
+        position,
+        publisher,
+    }
 }
 
 // The end that the stream proposes. Nothing is read where a thread could not be started.
@@ -461,7 +530,7 @@ fn lead_stream<N, L, R, S, W, C, G>(
 ) -> End
 where
     N: StoreNames,
-    L: OutboxNames,
+    L: RunNames,
     R: Wait,
     S: Source,
     W: Sink,
@@ -481,20 +550,43 @@ where
     }
 }
 
-// What a run leaves whose store was shared.
-fn shut_shared<N: StoreNames, L: OutboxNames, G: Drop>(
+// What a run leaves whose store was shared, and those who watched it.
+fn shut_shared<N, L, R, G, V>(
+    rt: &R,
     shared: Shared<N, L, G>,
-    line: Line,
-    position: Lsn,
-    end: End,
-) -> Outcome
-    requires { line.name ≡ N.line }
-    ensures shut { IsShutSo N.schema N.start line.list result }
-    ensures position { result.position ≡ position }
-    ensures end { result.end ≡ end }
+    watching: &Watching<L>,
+    finished: Finished,
+    watchers: Vec<Onlooker<Watcher<N, L, V>>>,
+    home: Vec<V>,
+) -> (Outcome, Vec<V>)
+where
+    N: StoreNames,
+    L: RunNames,
+    R: Threads + Wait,
+    G: Drop,
+    V: Watch + Drop,
+    requires name { finished.line.name ≡ N.line }
+    requires published { finished.publisher ≡ commits_of L.origin (ends_in finished.line.list) }
+    requires empty { home.items ≡ [] }
+    requires room { length watchers.items ≤ vec_capacity home }
+    ensures shut { IsShutSo N.schema N.start finished.line.list result.0 }
+    ensures position { result.0.position ≡ finished.position }
+    ensures end { result.0.end ≡ finished.end }
+    ensures knows { All (KnowsRun V.knows N.schema N.start L.skip result.0) result.1.items }
+    ensures count { length result.1.items ≡ length watchers.items }
 {
+    let Finished {
+        end,
+        mut line,
+        position,
+        mut publisher,
+    } = finished;
     let Shared { store, .. } = shared;
-    shut(store.into_inner(), line, position, end)
+    let mut store = store.into_inner();
+    store.meet(&mut line);
+    let origin = watching.origin();
+    let watches = gather(rt, &mut store, origin, &mut publisher, watchers, home);
+    (shut(store, line, position, end), watches)
 }
 
 // What a run leaves: all that is still open is undone.

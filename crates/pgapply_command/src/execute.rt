@@ -128,7 +128,10 @@ where
         run_spooled_on(alloc, devices, &catalog, start, config)
     } else {
         let watchers = Vec::<NoWatch>::new(alloc);
-        run_on(rt, alloc, devices, &catalog, start, config, gates, watchers)
+        let (outcome, _watchers) = run_on(
+            rt, alloc, devices, &catalog, start, config, gates, watchers,
+        );
+        outcome
     };
     hearer.hear_end(&catalog, &outcome);
     // The report tells nothing of the journal: its memory goes before the report's text grows.

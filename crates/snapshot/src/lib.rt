@@ -20,6 +20,7 @@
 //   watch     `Watch`, who reads while a run goes on
 //   fault     `ReadFault`
 //   entries   a position among the entries of a journal
+//   taking    `TakeEntries`, who takes them (`reader/changes` gives them)
 //   laws      what follows of what a reader has seen
 //
 //   specs/Reads      what a reader knows, and what its answers tell
@@ -32,8 +33,10 @@ mod entries;
 mod fault;
 pub mod laws;
 mod reader;
+mod taking;
 mod watch;
 
 pub use fault::ReadFault;
 pub use reader::Reader;
+pub use taking::TakeEntries;
 pub use watch::Watch;

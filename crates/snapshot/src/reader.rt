@@ -1,4 +1,6 @@
 // Whoever reads the committed rows while transactions are open.
+mod changes;
+
 ghost use Rattle.std.specs.Prelude.{◌≡◌, ◌<◌, ◌≤◌, IfOk, IfErr, OnOk, length};
 ghost use Rattle.world.specs.Steps.{ReadsCommitted};
 ghost use Rattle.origin.specs.Commits.{position_after};
@@ -66,6 +68,7 @@ impl<'a, N: StoreNames> Reader<'a, N> {
     /// What it has seen, for whoever reads or compares after it.
     pub fn into_parts(self) -> (Seen, Loader)
         ensures parts { (result.0 ≡ self.entry.line) × (result.1 ≡ self.entry.published) }
+        ensures whole { self.entry ≡ record { schema = N.schema; start = N.start; line = result.0; published = result.1 } }
         ensures name { result.0.name ≡ N.line }
     {
         let Reader { seen, loader, .. } = self;
@@ -83,6 +86,7 @@ impl<'a, N: StoreNames> Reader<'a, N> {
         ensures row { ReadsCommitted (world_seen self.new) (table, key.now) result }
         ensures refused { IfErr result (λ fault. IsRefused self.old self.new table fault) }
         ensures seen { OnOk result (SeesMore self.old self.new) }
+        ensures published { self.new.published ≡ self.old.published }
     {
         let mut store = self.store.lock(rt);
         store.recall_invariant();
@@ -107,6 +111,7 @@ impl<'a, N: StoreNames> Reader<'a, N> {
         ensures seen { OnOk result (SeesMore self.old self.new) }
         ensures known { OnOk result (table < length self.old.schema) }
         ensures refused { IfErr result (λ fault. IsRefused self.old self.new table fault) }
+        ensures published { self.new.published ≡ self.old.published }
     {
         let mut store = self.store.lock(rt);
         store.recall_invariant();
@@ -133,6 +138,7 @@ impl<'a, N: StoreNames> Reader<'a, N> {
         ensures seen { OnOk result (SeesMore self.old self.new) }
         ensures known { OnOk result (table < length self.old.schema) }
         ensures refused { IfErr result (λ fault. IsRefusedAt self.old self.new table position fault) }
+        ensures published { self.new.published ≡ self.old.published }
     {
         let mut store = self.store.lock(rt);
         store.recall_invariant();

@@ -1,4 +1,6 @@
 // Who reads while a run goes on.
+ghost use Rattle.std.specs.Prelude.{◌≡◌};
+
 use crate::reader::Reader;
 use engine::StoreNames;
 use std::sync::Wait;
@@ -9,6 +11,15 @@ use std::sync::Wait;
 /// false or the run has ended, and then once more, when no transaction is open: so the last turn sees
 /// what the run leaves.
 pub trait Watch {
-    /// Reads what it likes. True asks for another turn.
-    fn turn<N: StoreNames, R: Wait>(&mut self, rt: &R, reader: &mut Reader<'_, N>) -> bool;
+    ghost use Rattle.snapshot.specs.Reads.{Sight};
+
+    /// What it knows of its reader, by what that has seen. Whoever needs nothing of it says so of all.
+    ghost knows: { Self → Sight → Type 0 };
+
+    /// Reads what it likes. True asks for another turn. The reader is the one that it had before.
+    fn turn<N: StoreNames, R: Wait>(&mut self, rt: &R, reader: &mut Reader<'_, N>) -> bool
+        requires { ∥ knows self.old reader.old ∥₁ }
+        ensures knows { ∥ knows self.new reader.new ∥₁ }
+        ensures origin { reader.new.published.origin ≡ reader.old.published.origin }
+        ensures skip { reader.new.published.skip ≡ reader.old.published.skip };
 }

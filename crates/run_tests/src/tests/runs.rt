@@ -1,6 +1,7 @@
 // Runs of these tests, over devices of their own, and what they leave.
 ghost use Rattle.std.specs.Prelude.{◌≡◌, IfOk, map};
 ghost use Rattle.model.specs.Rows.{keys_of};
+ghost use Rattle.snapshot.specs.Reads.{Sight};
 
 use leader::{
     Catalog, Config, End, Entry, Gate, NoWatch, OpenGate, OutOfMemory, Outcome, Point, Sink,
@@ -51,7 +52,8 @@ where
     K: Sink + Drop,
     G: Gate + Drop + Send,
     V: Watch + Drop + Send,
-    requires { start.schema ≡ map keys_of catalog.now }
+    requires catalog { start.schema ≡ map keys_of catalog.now }
+    requires knows { (watcher : V) (s : Sight) → V.knows watcher s }
     ensures { result.tables.schema ≡ map keys_of catalog.now }
 {
     let clock = StillClock(5);
@@ -170,7 +172,7 @@ pub fn run_on<R, S, G, V>(
     rt: &R,
     alloc: Global,
     source: S,
-    (taken, writes): (usize, u64),
+    takes: (usize, u64),
     config: &Config,
     gates: Vec<G>,
     watchers: Vec<V>,
@@ -180,9 +182,11 @@ where
     S: Source + Drop,
     G: Gate + Drop + Send,
     V: Watch + Drop + Send,
+    requires { (watcher : V) (s : Sight) → V.knows watcher s }
 {
     let catalog = catalog(alloc)?;
     let start = Tables::empty(alloc, &catalog)?;
+    let (taken, writes) = takes;
     let mut sent = Vec::new(alloc);
     let sink = Kept::with_writes(&mut sent, taken, writes);
     let outcome = run_all(
@@ -234,6 +238,7 @@ pub fn run_watched<R, V>(
 where
     R: Threads + Wait + Sync + Host,
     V: Watch + Drop + Send,
+    requires { (watcher : V) (s : Sight) → V.knows watcher s }
 {
     let gates = paces(rt, alloc, plan.config.workers, seed)?;
     let takes = (plan.taken, plan.writes);

@@ -1,4 +1,6 @@
 // Those who watch a run: what they read while it goes on, and in their last turn.
+ghost use Rattle.std.specs.Prelude.{◌≡◌};
+
 use super::gates::{Due, NOWHERE, Place, Sign, Withheld, doors};
 use super::runs::{Plan, Ran, TAKES_ALL, config_of, one, reports, run_on, run_watched};
 use super::worked::{NOTE, P};
@@ -68,7 +70,9 @@ impl Onlooker<'_> {
         rt: &R,
         reader: &mut Reader<'_, N>,
         found: Position,
-    ) -> Result<(), OutOfMemory> {
+    ) -> Result<(), OutOfMemory>
+        ensures { reader.new.published ≡ reader.old.published }
+    {
         let key = Key::from_value(self.alloc, Value::Int(1))?;
         let row = reader.get(rt, 0, &key);
         let mut notes = self.notes.lock(rt);
@@ -94,6 +98,8 @@ fn push_note(
 }
 
 impl Watch for Onlooker<'_> {
+    ghost knows = { λ _ _. Unit {0} };
+
     fn turn<N: StoreNames, R: Wait>(&mut self, rt: &R, reader: &mut Reader<'_, N>) -> bool {
         let found = reader.position(rt);
         if self.waits(found) {
@@ -199,7 +205,9 @@ fn has_row<N: StoreNames, R: Wait>(
     alloc: Global,
     reader: &mut Reader<'_, N>,
     number: u64,
-) -> bool {
+) -> bool
+    ensures { reader.new.published ≡ reader.old.published }
+{
     if number == 0 {
         return true;
     }
@@ -220,6 +228,8 @@ struct Follower<'a> {
 }
 
 impl Watch for Follower<'_> {
+    ghost knows = { λ _ _. Unit {0} };
+
     fn turn<N: StoreNames, R: Wait>(&mut self, rt: &R, reader: &mut Reader<'_, N>) -> bool {
         let found = reader.position(rt);
         let is_there = has_row(rt, self.alloc, reader, found.commits);
@@ -301,16 +311,33 @@ fn push_rows(out: &mut String, rows: Result<Vec<Row>, ReadFault>) -> Result<(), 
     Ok(())
 }
 
+// Appends the rows at a position.
+fn push_at<N: StoreNames, R: Wait>(
+    out: &mut String,
+    rt: &R,
+    alloc: Global,
+    reader: &mut Reader<'_, N>,
+    position: Lsn,
+) -> Result<(), OutOfMemory>
+    ensures { reader.new.published ≡ reader.old.published }
+{
+    let rows = reader.rows_at(rt, alloc, 0, position);
+    push_rows(out, rows)
+}
+
 // The rows at some positions.
 fn history<N: StoreNames, R: Wait>(
     rt: &R,
     alloc: Global,
     reader: &mut Reader<'_, N>,
-) -> Result<String, OutOfMemory> {
+) -> Result<String, OutOfMemory>
+    ensures { reader.new.published ≡ reader.old.published }
+{
     let mut note = String::new(alloc);
-    for position in [0, 320, 544, 321] {
-        push_rows(&mut note, reader.rows_at(rt, alloc, 0, position))?;
-    }
+    push_at(&mut note, rt, alloc, reader, 0)?;
+    push_at(&mut note, rt, alloc, reader, 320)?;
+    push_at(&mut note, rt, alloc, reader, 544)?;
+    push_at(&mut note, rt, alloc, reader, 321)?;
     Ok(note)
 }
 
@@ -322,6 +349,8 @@ struct Historian<'a> {
 }
 
 impl Watch for Historian<'_> {
+    ghost knows = { λ _ _. Unit {0} };
+
     fn turn<N: StoreNames, R: Wait>(&mut self, rt: &R, reader: &mut Reader<'_, N>) -> bool {
         if let Ok(note) = history(rt, self.alloc, reader) {
             let mut notes = self.notes.lock(rt);

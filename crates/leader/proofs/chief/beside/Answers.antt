@@ -11,7 +11,8 @@ scoped-requires g c = record {
     c.requires,
     (
       record { owned = c.type_bounds.send-J.owned; leaving = λ k. Quiet-if (k (of_param 0)) unseen unseen (λ x w. tt) (λ x w. tt) },
-      record { owned = c.type_bounds.send-V.owned; leaving = λ k. Quiet-if (k (of_param 3)) unseen unseen (λ x w. tt) (λ x w. tt) },
+      record { owned = c.type_bounds.send-V.owned; leaving = λ k. Quiet-if (k (of_param 4)) unseen unseen (λ x w. tt) (λ x w. tt) },
+      search rules,
       search rules,
       search rules,
     ),

@@ -4,6 +4,8 @@ use Rattle.std.proofs.lemmas.List.{length-map}
 use Rattle.std.proofs.lemmas.List.Elements.{All-map}
 use Rattle.model.specs.Rows.{Schema, IsValid}
 use Rattle.engine.specs.declared.events.LineEvent.{LineEvent}
+use Rattle.origin.specs.Commits.{commits_of}
+use Rattle.world.specs.World.{Past}
 use Rattle.engine.specs.Events.{commits_in}
 use Rattle.dispatch.specs.Handle.{AreCounted}
 use Rattle.dispatch.specs.Standing.{Standing, own_by, goes_by, holds_in}
@@ -12,6 +14,12 @@ use Rattle.leader.specs.Ending.{HasFinished}
 use Rattle.run.specs.Settings.{setting_of}
 use Rattle.leader.proofs.Leaving.{has_left, refused_end}
 use Rattle.leader.proofs.threads.lead_all.Goals as goal
+
+-- what was published are the ends of the line's commits, which what is undone at the end leaves as they are
+pub returns-clause-published : goal.returns-clause-published
+returns-clause-published g c =
+    c.into_left-left.ensures.published
+    ∙ ap (λ (ps : List Past). commits_of g.L.RunNames.origin (map (λ (p : Past). p.info.end) ps)) (sym (c.finish-end.ensures.commits ∙ ap commits_in c.into_left-left.ensures.list))
 
 pub new-lead-requires-clause-workers : goal.new-lead-requires-clause-workers
 new-lead-requires-clause-workers g c =

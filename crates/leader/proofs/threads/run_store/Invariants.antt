@@ -9,3 +9,6 @@ ghosts-run_workers-L-RingNames g a = record { ring = λ i. slice_index_or (map r
 
 abbrev pub ghosts-run_workers-L-OutboxNames : goal.ghosts-run_workers-L-OutboxNames
 ghosts-run_workers-L-OutboxNames g a = record { outbox = λ i. slice_index_or (map outbox_of a.parts.items) i no_name }
+
+abbrev pub ghosts-run_workers-L-RunNames : goal.ghosts-run_workers-L-RunNames
+ghosts-run_workers-L-RunNames g a = record { origin = a.audience.origin; skip = a.audience.loader.skip }

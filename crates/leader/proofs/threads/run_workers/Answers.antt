@@ -1,9 +1,18 @@
-use Rattle.std.proofs.Common.{length}
+use Rattle.std.proofs.Common.{length, sym, ap, subst}
+use Rattle.std.specs.Prelude.{All}
 use Rattle.run.specs.Settings.{setting_of}
+use Rattle.leader.specs.Watching.{KnowsRun}
 use Rattle.leader.proofs.Leaving.{none_run}
+use Rattle.leader.proofs.Watched.{known_at_start}
 use Rattle.leader.proofs.threads.run_workers.Goals as goal
 
-pub returns-in_default : goal.returns-in_default
-returns-in_default g c =
-    none_run (setting_of (length c.args.gates.items) c.args.config.now c.args.catalog.now) g.N.StoreNames.start g.N.StoreNames.schema c.args.devices.now c.args.line.list c.shut.result
-    c.shut.ensures.shut c.requires.keys c.requires.none c.shut.ensures.position c.shut.ensures.end
+pub returns-in_default-clause-run : goal.returns-in_default-clause-run
+returns-in_default-clause-run g c =
+    none_run (setting_of (length c.args.gates.items) c.args.config.now c.args.catalog.now) g.N.StoreNames.start g.N.StoreNames.schema c.args.devices.now c.args.line.list c.shut-outcome.result
+    c.shut-outcome.ensures.shut c.requires.keys c.requires.none c.shut-outcome.ensures.position c.shut-outcome.ensures.end
+
+-- they are handed back as they came
+pub returns-in_default-clause-knows : goal.returns-in_default-clause-knows
+returns-in_default-clause-knows g c =
+    subst (All (KnowsRun g.V.Watch.knows g.N.StoreNames.schema g.N.StoreNames.start g.L.RunNames.skip c.shut-outcome.result)) (sym (ap (λ v. v.items) c.into_watches.ensures))
+    (known_at_start g.V.Watch.knows g.N.StoreNames.schema g.N.StoreNames.start g.L.RunNames.skip c.args.audience.watches.items c.shut-outcome.result c.requires.knows)

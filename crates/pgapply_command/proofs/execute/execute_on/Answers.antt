@@ -28,8 +28,8 @@ returns g c =
           (ap (λ b. workers_of b config) w.if-spooled.true) refl c.in-Ok-empty_tables.ensures.rows w.devices-is w.outcome-is w.run_spooled_on-outcome.ensures
       | else-spooled w ↦
           let count : config.workers ≡ min config.workers (length c.in-Ok-open_gates.gates.items) = omega (arith, c.in-Ok-open_gates.ensures) in
-          same_run (min config.workers (length c.in-Ok-open_gates.gates.items)) (workers_of c.args.spooled config) (length w.new-watchers.result.items) c.in-Ok.catalog config c.in-Ok-empty_tables.start.rows finite.empty c.args.devices.now w.run_on-outcome.new.devices c.if-spooled.devices w.run_on-outcome.result c.if-spooled.outcome
-          (ap (λ b. workers_of b config) w.if-spooled.false ∙ count) (ap length w.new-watchers.ensures.items) c.in-Ok-empty_tables.ensures.rows w.devices-is w.outcome-is w.run_on-outcome.ensures
+          same_run (min config.workers (length c.in-Ok-open_gates.gates.items)) (workers_of c.args.spooled config) (length w.new-watchers.result.items) c.in-Ok.catalog config c.in-Ok-empty_tables.start.rows finite.empty c.args.devices.now w.run_on-outcome.new.devices c.if-spooled.devices w.run_on-outcome.result.0 c.if-spooled.outcome
+          (ap (λ b. workers_of b config) w.if-spooled.false ∙ count) (ap length w.new-watchers.ensures.items) c.in-Ok-empty_tables.ensures.rows w.devices-is w.outcome-is w.run_on-outcome.ensures.run
     ] in
     let ran : HasRun (workers_of c.args.spooled config) c.args.catalog.now config c.args.devices.now c.if-spooled.devices = record {
       definitions = c.in-Ok.catalog;

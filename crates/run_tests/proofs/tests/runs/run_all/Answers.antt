@@ -14,5 +14,9 @@ of_catalog zero zero catalog config rows old new o ran = ran.schema
 of_catalog zero (suc v) catalog config rows old new o ran = ran.run.schema
 of_catalog (suc n) v catalog config rows old new o ran = ran.run.schema
 
+-- each watcher knows any reader
+pub run-requires-clause-knows : goal.run-requires-clause-knows
+run-requires-clause-knows g c = λ lifetimes within k d below s unseen. c.requires.knows _ s
+
 pub returns : goal.returns
 returns g c = of_catalog _ _ _ _ _ _ _ _ c.run.ensures.1

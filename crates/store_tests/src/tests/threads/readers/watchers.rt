@@ -49,12 +49,9 @@ impl Follower {
     }
 
     // Whether the row of the last commit before a position is there, as it is once that was published.
-    fn sees<N: StoreNames, R: Wait>(
-        &self,
-        rt: &R,
-        reader: &mut Reader<'_, N>,
-        commits: u64,
-    ) -> bool {
+    fn sees<N: StoreNames, R: Wait>(&self, rt: &R, reader: &mut Reader<'_, N>, commits: u64) -> bool
+        ensures { reader.new.published ≡ reader.old.published }
+    {
         if commits == 0 {
             return true;
         }
@@ -69,6 +66,8 @@ impl Follower {
 }
 
 impl Watch for Follower {
+    ghost knows = { λ _ _. Unit {0} };
+
     fn turn<N: StoreNames, R: Wait>(&mut self, rt: &R, reader: &mut Reader<'_, N>) -> bool {
         let found = reader.position(rt);
         if found.commits < self.last
@@ -84,7 +83,9 @@ impl Watch for Follower {
 }
 
 // Gives a watcher its turns, as a run does.
-fn watch<V: Watch, N: StoreNames, R: Wait>(rt: &R, mut watcher: V, mut reader: Reader<'_, N>) -> V {
+fn watch<V: Watch, N: StoreNames, R: Wait>(rt: &R, mut watcher: V, mut reader: Reader<'_, N>) -> V
+    requires { ∥ V.knows watcher reader ∥₁ }
+{
     for _ in rt.forever() {
         if !watcher.turn(rt, &mut reader) {
             return watcher;
