@@ -8,13 +8,15 @@ Beside it `pgapply follow` takes the same work from `publisher serve` while it c
 server down, which ends both, applies the file with `pgapply replay` and `pgapply apply`, and prints a line
 for each table. Further captures are applied too: of a slot that was made before the work and is read after
 it; one with `--copy`, of a slot that is made while sessions write to tables that have rows; and one that is
-killed again and again, the server once too, each time with `--append` behind it. A follower that reads
-slowly stays to the shutdown, and has to hear its end. It exits with 0 where all rows are right.
+killed again and again, each time with `--append` behind it. A follower that reads slowly stays to the
+shutdown, and has to hear its end. At last sessions write while `serve`, `follow` and the server are killed at
+drawn moments: a follower that keeps what it was given goes on behind each `serve`, `follow` begins anew with
+the rows that are there, and a capture goes on with `--append`. It exits with 0 where all rows are right.
 
 Needs: python3 (3.11), PostgreSQL's programs (Debian: postgresql-16 or later) in --bin, and the built
 programs `publisher` and `pgapply` (`rt run` or `rt ci` leave them in crates/NAME/out).
 """
-import argparse, json, os, random, shutil, socket, struct, subprocess, sys, tempfile, threading, time, tomllib
+import argparse, json, os, random, shutil, signal, socket, struct, subprocess, sys, tempfile, threading, time, tomllib
 
 FORMS = ("-c datestyle=ISO -c intervalstyle=postgres -c extra_float_digits=3 -c timezone=UTC "
          "-c bytea_output=hex")
@@ -60,16 +62,39 @@ class Server:
                      "--locale=C")
         self.start()
 
-    def start(self):
+    def start(self, **more):
         settings = (f"-c port={self.port} -c listen_addresses=127.0.0.1 -c unix_socket_directories={self.folder} "
                     "-c wal_level=logical -c logical_decoding_work_mem=64kB -c fsync=off")
         self.program("pg_ctl", "-D", self.data, "-l", os.path.join(self.folder, "log"), "-w", "-o", settings,
-                     "start")
+                     "start", **more)
         self.runs = True
 
     def stop(self, mode="fast"):
         self.runs = False
         self.program("pg_ctl", "-D", self.data, "-m", mode, "-w", "-t", "300", "stop")
+
+    def kill(self):
+        """Kills the server, and starts it again once its processes have seen that."""
+        self.runs = False
+        with open(os.path.join(self.data, "postmaster.pid")) as file:
+            os.kill(int(file.readline()), signal.SIGKILL)
+        for _ in range(60):
+            time.sleep(0.5)
+            try:
+                return self.start(stderr=subprocess.DEVNULL)
+            except subprocess.CalledProcessError:
+                pass
+        sys.exit("the server does not start again")
+
+    def drop_slot(self, slot):
+        """Drops a slot as soon as nobody streams through it, if it is there."""
+        there = f"FROM pg_replication_slots WHERE slot_name = '{slot}'"
+        while self.sql(f"SELECT 1 {there};")[0]:
+            self.sql(f"SELECT pg_drop_replication_slot(slot_name) {there} AND NOT active;")
+            time.sleep(0.05)
+
+    def log_end(self):
+        return self.sql("SELECT pg_current_wal_insert_lsn();")[0].strip()
 
     def sql(self, text):
         words = ["psql", "-X", "-q", "-At", "-v", "ON_ERROR_STOP=1", "-h", "127.0.0.1", "-p", str(self.port), "-U",
@@ -206,121 +231,262 @@ def compare_file(name, verb, options, catalog_file, stream, wanted):
     return compare(f"{name} {verb}", done.stdout.decode(), done.returncode, wanted)
 
 
+def compare_files(server, options, names, wanted):
+    """Whether these files give the server's rows, each by both commands."""
+    place = lambda name: os.path.join(server.folder, name)
+    right = True
+    for name in names:
+        for verb in ["replay", "apply"]:
+            right = compare_file(name, verb, options, place("catalog.toml"), place(f"{name}.stream"), wanted) and right
+    return right
+
+
+class Service:
+    """A `publisher serve` that listens, and what it says."""
+
+    def __init__(self, options, where, slot, number, more):
+        self.address = f"127.0.0.1:{options.port + number}"
+        self.process = subprocess.Popen([options.publisher, "serve", *where, "--slot", slot, "--listen",
+                                         self.address, *more], stderr=subprocess.PIPE, text=True)
+        self.said = [self.process.stderr.readline().strip()]
+        if "listening at" not in self.said[0]:
+            sys.exit(f"serve: {self.said[0]}")
+        self.thread = threading.Thread(target=self.hear)
+        self.thread.start()
+
+    def hear(self):
+        for line in self.process.stderr:
+            self.said.append(line.strip())
+
+    def runs(self):
+        return self.process.poll() is None
+
+    def kill(self):
+        self.process.kill()
+        self.wait()
+
+    def wait(self):
+        self.process.wait(timeout=60)
+        self.thread.join()
+
+
 class Follower:
     """`pgapply follow`, which takes a slot's stream from `publisher serve`."""
 
-    def __init__(self, server, options, where, catalog_file):
-        address = f"127.0.0.1:{options.port + 1}"
-        self.serve = subprocess.Popen([options.publisher, "serve", *where, "--slot", "followed", "--create",
-                                       "--listen", address, "--once"])
-        # A follower that comes before anybody listens is refused.
-        while True:
-            self.follow = subprocess.Popen([options.pgapply, "follow", "--config", catalog_file, "--connect", address],
-                                           stdout=subprocess.PIPE, stderr=subprocess.PIPE)
-            while self.follow.poll() is None:
-                if server.sql("SELECT 1 FROM pg_replication_slots WHERE slot_name = 'followed' AND active;")[0]:
-                    return
-                time.sleep(0.1)
-            if self.serve.poll() is not None:
-                sys.exit("serve ended before the work")
-            time.sleep(0.2)
+    def __init__(self, options, service, catalog_file):
+        self.service = service
+        self.follow = subprocess.Popen([options.pgapply, "follow", "--config", catalog_file, "--connect",
+                                        service.address], stdout=subprocess.PIPE, stderr=subprocess.PIPE)
+
+    def kill(self):
+        self.follow.kill()
+        self.follow.communicate()
 
     def report(self):
         report, errors = self.follow.communicate(timeout=120)
         sys.stderr.write(errors.decode())
-        self.serve.wait(timeout=60)
+        self.service.wait()
         return report.decode(), self.follow.returncode
 
 
-def open_address(options, number):
-    return f"127.0.0.1:{options.port + number}"
+class Own:
+    """A follower of the test's own, which answers as `pgapply follow` does."""
 
+    def __init__(self):
+        self.frames, self.applied, self.seen, self.end = {}, 0, 0, "nothing"
 
-class Slow:
-    """A follower of the test's own that reads some ten kilobytes a second until the stream ends."""
-
-    def __init__(self, options, where):
-        address = open_address(options, 2)
-        self.serve = subprocess.Popen([options.publisher, "serve", *where, "--slot", "slow", "--create",
-                                       "--listen", address, "--once"], stderr=subprocess.PIPE)
-        self.serve.stderr.readline()
+    def connect(self, address):
         host, port = address.split(":")
         self.socket = socket.create_connection((host, int(port)))
-        self.frames, self.applied, self.seen, self.end = {}, 0, 0, "nothing"
-        self.thread = threading.Thread(target=self.read)
-        self.hurries = False
-        self.thread.start()
+
+    def receive(self):
+        return self.socket.recv(65536)
 
     def read(self):
         rest = b""
         try:
-            while chunk := self.socket.recv(1000 if not self.hurries else 65536):
-                rest = self.take(rest + chunk)
-                if not self.hurries:
-                    time.sleep(0.1)
+            while chunk := self.receive():
+                rest = self.take_all(rest + chunk)
             self.end = "the end"
         except OSError as error:
             self.end = repr(error)
+        self.socket.close()
 
-    def take(self, rest):
-        while len(rest) >= 5 and len(rest) >= (length := struct.unpack(">I", rest[1:5])[0] + 1):
-            frame, rest = rest[:length], rest[length:]
-            kind = frame[:1].decode() + (frame[5:6].decode() if frame[:1] == b"d" else "")
-            self.frames[kind] = self.frames.get(kind, 0) + 1
-            if kind == "dk":
-                self.seen = max(self.seen, struct.unpack(">Q", frame[6:14])[0])
-            if kind == "dw":
-                self.seen = max(self.seen, *struct.unpack(">QQ", frame[6:22]))
-                if frame[30:31] in b"Cc":
-                    self.applied = struct.unpack(">Q", frame[40:48] if frame[30:31] == b"C" else frame[44:52])[0]
-            if kind == "dk" and frame[22] or kind == "dw" and frame[30:31] in b"Cc":
-                places = struct.pack(">QQQQB", self.seen, self.applied, self.applied, 0, 0)
-                self.socket.sendall(b"d\0\0\0\x26r" + places)
-        return rest
+    def take_all(self, chunk):
+        at = 0
+        while len(chunk) >= at + 5 and len(chunk) > (last := at + struct.unpack_from(">I", chunk, at + 1)[0]):
+            frame, at = chunk[at:last + 1], last + 1
+            self.take(frame)
+        return chunk[at:]
+
+    def take(self, frame):
+        kind = frame[:1].decode() + (frame[5:6].decode() if frame[:1] == b"d" else "")
+        self.frames[kind] = self.frames.get(kind, 0) + 1
+        commits = kind == "dw" and frame[30:31] in b"Cc"
+        if kind == "dk":
+            self.seen = max(self.seen, struct.unpack(">Q", frame[6:14])[0])
+        if kind == "dw":
+            self.seen = max(self.seen, *struct.unpack(">QQ", frame[6:22]))
+            if commits:
+                self.applied = struct.unpack(">Q", frame[40:48] if frame[30:31] == b"C" else frame[44:52])[0]
+        if kind == "dk" and frame[22] or commits:
+            places = struct.pack(">QQQQB", self.seen, self.applied, self.applied, 0, 0)
+            self.socket.sendall(b"d\0\0\0\x26r" + places)
+
+
+class Slow(Own):
+    """One that reads some ten kilobytes a second until it is to hurry."""
+
+    def __init__(self, options, where):
+        super().__init__()
+        self.service = Service(options, where, "slow", 2, ["--create", "--once"])
+        self.hurries = False
+        self.connect(self.service.address)
+        self.thread = threading.Thread(target=self.read)
+        self.thread.start()
+
+    def receive(self):
+        if self.hurries:
+            return super().receive()
+        time.sleep(0.1)
+        return self.socket.recv(1000)
 
     def is_right(self):
         """Whether it heard CopyDone and then the end, and not a keepalive for each answer."""
         self.thread.join(timeout=120)
-        said = self.serve.communicate(timeout=60)[1].decode().strip()
+        self.service.wait()
         keepalives = self.frames.get("dk", 0)
         right = self.end == "the end" and self.frames.get("c") == 1 and keepalives < 2000
-        print(f"slow: {self.frames.get('dw', 0)} pieces, {keepalives} keepalives, then {self.end}; {said}: "
-              f"{'right' if right else 'WRONG'}")
+        print(f"slow: {self.frames.get('dw', 0)} pieces, {keepalives} keepalives, then {self.end}; "
+              f"{self.service.said[-1]}: {'right' if right else 'WRONG'}")
         return right
+
+
+class Keeping(Own):
+    """One that keeps what it is given up to the last edge outside of transactions, and goes on there behind
+    each `serve` that is killed."""
+
+    def __init__(self, server, options, where, seed):
+        super().__init__()
+        self.server, self.options, self.where, self.chance = server, options, where, random.Random(seed)
+        self.bytes, self.edge, self.inside, self.open, self.fresh = bytearray(), 0, False, [], None
+        self.done, self.in_copy = False, 0
+
+    def serve(self, *more):
+        """A service that begins with the rows, as long as they did not come whole."""
+        if not self.applied:
+            self.server.drop_slot("kept")
+        begins = [] if self.applied else ["--create", "--copy"]
+        self.service = Service(self.options, self.where, "kept", 3, [*begins, *more])
+        self.thread = threading.Thread(target=self.follow)
+        self.thread.start()
+
+    def kill(self):
+        for kill in range(self.options.kills):
+            self.serve()
+            # The first kills come while the rows are copied, the others behind that.
+            while kill >= self.options.kills // 4 and self.service.runs() and not self.applied:
+                time.sleep(0.01)
+            time.sleep(self.chance.uniform(0.05, 1.5 if self.applied else 0.3))
+            self.service.kill()
+            self.thread.join()
+            self.in_copy += not self.applied
+
+    def finish(self, until, path):
+        self.serve("--until", until)
+        self.thread.join(timeout=120)
+        self.service.kill()
+        with open(path, "wb") as file:
+            file.write(self.bytes)
+
+    def follow(self):
+        """Follows until the service is gone, or says that the stream is over. A slot is taken for a moment by
+        the service before."""
+        while self.service.runs() and not self.done:
+            try:
+                self.connect(self.service.address)
+            except OSError:
+                continue
+            self.read()
+            self.cut()
+            time.sleep(0.05)
+
+    def take(self, frame):
+        self.keep(frame)
+        super().take(frame)
+
+    def keep(self, frame):
+        if frame[:1] in b"Ec":
+            self.done = self.done or frame[:1] == b"c"
+            return
+        self.bytes += frame
+        if frame[:1] == b"d" and frame[5:6] == b"w":
+            self.note(frame[30:31], frame[31:35], frame[35:39])
+        if not self.inside:
+            self.edge, self.fresh = len(self.bytes), None
+
+    def note(self, tag, xid, subtransaction):
+        if tag == b"S" and xid not in self.open:
+            self.open.append(xid)
+            self.fresh = xid
+        if (tag == b"c" or tag == b"A" and xid == subtransaction) and xid in self.open:
+            self.open.remove(xid)
+        self.inside = tag in b"BS" or self.inside and tag not in b"CEc"
+
+    def cut(self):
+        """Streamed transactions that are open come again from their beginnings: each is aborted here."""
+        del self.bytes[self.edge:]
+        for xid in self.open:
+            if xid != self.fresh:
+                body = struct.pack(">cQQQc", b"w", self.seen, self.seen, 0, b"A") + xid + xid
+                body += struct.pack(">QQ", self.seen, 0)
+                self.bytes += b"d" + struct.pack(">I", len(body) + 4) + body
+        self.edge, self.inside, self.open, self.fresh = len(self.bytes), False, [], None
+        self.seen = self.applied
 
 
 class Killed:
     """A capture that is killed at drawn moments, and goes on with --append."""
 
-    def __init__(self, server, options, where, path, seed):
-        self.words = [options.publisher, "capture", *where, "--slot", "killed", "--out", path]
-        self.path, self.server, self.kills, self.chance = path, server, 0, random.Random(seed)
-        self.goes_on = True
+    def __init__(self, server, options, where, slot, path, seed):
+        self.words = [options.publisher, "capture", *where, "--slot", slot, "--out", path]
+        self.slot, self.server, self.kills, self.chance = slot, server, 0, random.Random(seed)
+        self.least = options.kills
         self.capture = subprocess.Popen([*self.words, "--create", "--copy"], stderr=subprocess.DEVNULL)
-        wait_for_slot(server, "killed", self.capture)
-        self.thread = threading.Thread(target=self.kill)
-        self.thread.start()
+        wait_for_slot(server, slot, self.capture)
 
-    def kill(self):
-        while self.goes_on:
-            time.sleep(self.chance.uniform(0.05, 0.9))
-            self.capture.kill()
+    def append(self, *more):
+        return subprocess.Popen([*self.words, "--append", *more], stderr=subprocess.DEVNULL)
+
+    def kill_captures(self):
+        while self.kills < self.least:
+            time.sleep(self.chance.uniform(0.05, 1.5))
+            if self.capture.poll() is None:
+                self.capture.kill()
+                self.kills += 1
             self.capture.wait()
-            self.kills += 1
             self.capture = self.append()
 
-    def append(self):
-        return subprocess.Popen([*self.words, "--append"], stderr=subprocess.DEVNULL)
+    def kill_servers(self):
+        """The capture has to end by itself each time."""
+        while self.kills < self.least:
+            time.sleep(self.chance.uniform(0.05, 1.5))
+            self.server.kill()
+            self.kills += 1
+            if self.capture.wait(timeout=60) == 0:
+                sys.exit("a capture did not see that the server was killed")
+            self.capture = self.append()
 
     def finish(self, until):
-        """No kill more; then the server is killed too, and the file is brought up to the place."""
-        self.goes_on = False
-        self.thread.join()
-        self.server.stop("immediate")
-        self.capture.wait(timeout=60)
-        self.server.start()
-        subprocess.run([*self.words, "--append", "--until", until], check=True)
-        print(f"killed: {self.kills} times, and the server once")
+        """Brings the file up to the place."""
+        self.capture.kill()
+        self.capture.wait()
+        for _ in range(100):
+            # The server may not have seen yet that the capture before is gone.
+            if self.append("--until", until).wait() == 0:
+                return
+            time.sleep(0.2)
+        sys.exit(f"the capture of {self.slot} does not go on")
 
 
 def wait_for_slot(server, slot, process):
@@ -331,6 +497,66 @@ def wait_for_slot(server, slot, process):
         time.sleep(0.1)
         if process.poll() is not None:
             sys.exit(f"the capture of {slot} ended before the work")
+
+
+def is_next_served(service):
+    """Whether one who comes next is served. Else the service has ended: the copy of its rows broke off."""
+    host, port = service.address.split(":")
+    for _ in range(600):
+        try:
+            with socket.create_connection((host, int(port)), timeout=5) as stranger:
+                if stranger.recv(1) == b"d":
+                    return True
+        except OSError:
+            pass
+        if not service.runs():
+            return False
+        time.sleep(0.1)
+    sys.exit("serve did not see that its follower was killed")
+
+
+def kill_followers(server, options, where, catalog_file, seed):
+    """Kills `follow`, each time behind a slot that is made anew. No slot stays of a copy that broke off."""
+    chance, in_copy, right = random.Random(seed), 0, True
+    for kill in range(options.kills):
+        service = Service(options, where, "again", 4, ["--create", "--copy"])
+        follower = Follower(options, service, catalog_file)
+        if kill % 2:
+            wait_for_slot(server, "again", service.process)
+        time.sleep(chance.uniform(0.05, 1.5))
+        follower.kill()
+        if not is_next_served(service):
+            in_copy += 1
+            right = right and not server.sql("SELECT 1 FROM pg_replication_slots WHERE slot_name = 'again';")[0]
+        service.kill()
+        server.drop_slot("again")
+    print(f"follow: killed {options.kills} times, {in_copy} of them in the copy: {'right' if right else 'WRONG'}")
+    return right
+
+
+class Writers:
+    """Sessions that write until they are to stop. What fails, as the server is gone, is passed over."""
+
+    def __init__(self, server, options, sessions, seed):
+        self.server, self.seed, self.goes_on = server, seed, True
+        self.threads = [threading.Thread(target=self.write, args=(session,)) for session in sessions]
+        for thread in self.threads:
+            thread.start()
+
+    def write(self, session):
+        chance, turn = random.Random(self.seed * 100 + session), 0
+        while self.goes_on:
+            lines = []
+            for turn in range(turn + 1, turn + 5):
+                kind = large_work if chance.random() < 0.15 else small_work
+                lines += kind(session, turn, chance)
+            self.server.sql("\n".join(lines))
+            time.sleep(0.2)
+
+    def stop(self):
+        self.goes_on = False
+        for thread in self.threads:
+            thread.join()
 
 
 def work(server, options, sessions, seed, title):
@@ -364,12 +590,17 @@ def main():
     parser.add_argument("--port", type=int, default=5499)
     parser.add_argument("--sessions", type=int, default=4)
     parser.add_argument("--turns", type=int, default=300)
+    parser.add_argument("--kills", type=int, default=20, help="how often each program and the server is killed")
     parser.add_argument("--seed", type=int, default=1)
     options = parser.parse_args()
     server = Server(options)
     try:
         server.set_up()
-        sys.exit(0 if run(server, options) else 1)
+        _, errors = server.sql(TABLES)
+        if errors:
+            sys.exit(errors)
+        right = run(server, options)
+        sys.exit(0 if right else 1)
     finally:
         if server.runs:
             server.stop()
@@ -377,21 +608,25 @@ def main():
 
 
 def run(server, options):
-    _, errors = server.sql(TABLES)
-    if errors:
-        sys.exit(errors)
     where = ["--host", "127.0.0.1", "--port", str(server.port), "--user", "postgres", "--dbname", "postgres",
              "--publication", "live"]
-    place = lambda name: os.path.join(server.folder, name)
     catalog = subprocess.run([options.publisher, "catalog", "--text", *where], capture_output=True, check=True)
-    with open(place("catalog.toml"), "wb") as file:
+    with open(os.path.join(server.folder, "catalog.toml"), "wb") as file:
         file.write(catalog.stdout)
+    tables = tomllib.loads(catalog.stdout.decode())
+    right = run_beside_work(server, options, where, tables)
+    return run_beside_kills(server, options, where, tables) and right
+
+
+def run_beside_work(server, options, where, tables):
+    """Captures and followers while sessions work, up to a fast shutdown."""
+    place = lambda name: os.path.join(server.folder, name)
     late = [options.publisher, "capture", *where, "--slot", "late"]
     subprocess.run([*late, "--create", "--out", place("none"), "--seconds", "1"], check=True)
     live = subprocess.Popen([options.publisher, "capture", *where, "--slot", "live", "--create", "--out",
                              place("live.stream")])
     wait_for_slot(server, "live", live)
-    follower = Follower(server, options, where, place("catalog.toml"))
+    follower = Follower(options, Service(options, where, "followed", 1, ["--create", "--once"]), place("catalog.toml"))
     finish_work(work(server, options, range(1, options.sessions + 1), options.seed, "work"), options)
     # Tables that have rows, and sessions that write to them while they are copied.
     going = work(server, options, range(options.sessions + 1, 2 * options.sessions + 1), options.seed, "more work")
@@ -399,15 +634,14 @@ def run(server, options):
     copied = subprocess.Popen([options.publisher, "capture", *where, "--slot", "copied", "--create", "--copy",
                                "--out", place("copied.stream")])
     slow = Slow(options, where)
-    killed = Killed(server, options, where, place("killed.stream"), options.seed)
     finish_work(going, options)
-    until = server.sql("SELECT pg_current_wal_insert_lsn();")[0].strip()
+    until = server.log_end()
     began = time.monotonic()
     subprocess.run([*late, "--out", place("late.stream"), "--until", until], check=True)
     seconds = time.monotonic() - began
     size = os.path.getsize(place("late.stream"))
     print(f"late: captured up to {until} in {seconds:.2f} s ({size / 1e6 / seconds:.1f} MB/s)")
-    wanted = expected(server, tomllib.loads(catalog.stdout.decode()))
+    wanted = expected(server, tables)
     stopping = threading.Thread(target=server.stop)
     stopping.start()
     time.sleep(2)
@@ -417,11 +651,47 @@ def run(server, options):
         sys.exit("a capture failed")
     right = [compare("follow", *follower.report(), wanted), slow.is_right()]
     server.start()
+    for slot in ["late", "live", "followed", "copied", "slow"]:
+        server.drop_slot(slot)
+    return compare_files(server, options, ["live", "late", "copied"], wanted) and all(right)
+
+
+def run_beside_kills(server, options, where, tables):
+    """Sessions write while `capture`, `serve` and `follow`, and then the server, are killed."""
+    place = lambda name: os.path.join(server.folder, name)
+    first = 2 * options.sessions + 1
+    writers = Writers(server, options, [first, first + 1], options.seed)
+    killed = Killed(server, options, where, "killed", place("killed.stream"), options.seed)
+    keeping = Keeping(server, options, where, options.seed)
+    killing = [threading.Thread(target=killed.kill_captures), threading.Thread(target=keeping.kill)]
+    for thread in killing:
+        thread.start()
+    right = kill_followers(server, options, where, place("catalog.toml"), options.seed)
+    for thread in killing:
+        thread.join()
+    print(f"capture: killed {options.kills} times")
+    print(f"serve: killed {options.kills} times, {keeping.in_copy} of them in the copy")
+    service = Service(options, where, "again", 4, ["--create", "--copy", "--once"])
+    follower = Follower(options, service, place("catalog.toml"))
+    downed = Killed(server, options, where, "downed", place("downed.stream"), options.seed)
+    time.sleep(1)
+    writers.stop()
+    until = server.log_end()
     killed.finish(until)
-    for name in ["live", "late", "copied", "killed"]:
-        for verb in ["replay", "apply"]:
-            right.append(compare_file(name, verb, options, place("catalog.toml"), place(f"{name}.stream"), wanted))
-    return all(right)
+    keeping.finish(until, place("kept.stream"))
+    wanted = expected(server, tables)
+    right = compare_files(server, options, ["killed", "kept"], wanted) and right
+    server.stop()
+    right = compare("follow", *follower.report(), wanted) and right
+    downed.capture.wait(timeout=60)
+    server.start()
+    downed.capture = downed.append()
+    writers = Writers(server, options, [first + 2, first + 3], options.seed)
+    downed.kill_servers()
+    writers.stop()
+    print(f"server: killed {downed.kills} times")
+    downed.finish(server.log_end())
+    return compare_files(server, options, ["downed"], expected(server, tables)) and right
 
 
 if __name__ == "__main__":

@@ -26,6 +26,7 @@ use publisher_command::{
 };
 use server::auth::{Password, Ways};
 use server::capture::{Destination, capture};
+use server::events::{Event, say};
 use server::fault::Fault;
 use server::host::Server;
 use server::serve::serve;
@@ -50,7 +51,7 @@ fn main(rt: HostRuntime) -> anyhow::Result<ExitCode> {
 /// Runs a command. It answers the exit status.
 fn run(rt: &HostRuntime, options: &Options<'_>) -> io::Result<u8> {
     match choose_server(rt, options)? {
-        Some(server) => run_at(rt, options, &server),
+        Some(server) => Ok(run_at(rt, options, &server)),
         None => {
             eprintln!(rt; "publisher: NoUser: give --user, or set PGUSER")?;
             Ok(1)
@@ -87,12 +88,12 @@ fn passfile_path(rt: &HostRuntime) -> Result<Option<String>, AllocError> {
 }
 
 /// Runs a command at this server, and says its fault. It answers the exit status.
-fn run_at(rt: &HostRuntime, options: &Options<'_>, server: &Server) -> io::Result<u8> {
+fn run_at(rt: &HostRuntime, options: &Options<'_>, server: &Server) -> u8 {
     match run_job(rt, options, server) {
-        Ok(()) => Ok(0),
+        Ok(()) => 0,
         Err(fault) => {
-            eprintln!(rt; "publisher: {fault}")?;
-            Ok(1)
+            say(rt, Event::Failed(&fault));
+            1
         }
     }
 }

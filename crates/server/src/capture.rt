@@ -2,14 +2,14 @@
 use crate::checks::check_stream;
 use crate::connection::Connection;
 use crate::copy::copy_rows;
+use crate::events::{Event, relay_and_say, say, say_end};
 use crate::fault::Fault;
 use crate::kept::{Kept, aborts, label, read_kept};
 use crate::line::Line;
 use crate::place::Place;
-use crate::relay::{Bounds, Output, Relayed, relay, whole_frames};
+use crate::relay::{Bounds, Output, Relayed, whole_frames};
 use crate::slots::{drop_made, make_if_asked};
-use crate::stream::{Subscription, confirmed, identify, start, status};
-use crate::summary::say;
+use crate::stream::{Subscription, System, confirmed, identify, start, status};
 use crate::wire;
 use std::alloc::Global;
 use std::fs::{File, Files};
@@ -41,14 +41,13 @@ pub fn capture<H: Net<Stream = TcpStream> + Clock + RandomSource + Files<File = 
 ) -> Result<(), Fault> {
     let mut connection = asked.server.connect(alloc, host, true)?;
     check_stream(&mut connection, asked.publication, asked.slot)?;
-    let identifier = identify(&mut connection)?.identifier;
-    let identifier = identifier.as_str();
+    let system = identify(&mut connection)?;
     let mut relayed = Relayed::NOTHING;
     let (target, path) = open(
         &mut connection,
         host,
         asked,
-        identifier,
+        system.identifier.as_str(),
         destination,
         &mut relayed,
     )?;
@@ -56,8 +55,9 @@ pub fn capture<H: Net<Stream = TcpStream> + Clock + RandomSource + Files<File = 
     let mut made = false;
     let begun = begin(
         &mut connection,
+        host,
         asked,
-        identifier,
+        &system,
         &mut keeper,
         &mut relayed,
         &mut made,
@@ -69,12 +69,26 @@ pub fn capture<H: Net<Stream = TcpStream> + Clock + RandomSource + Files<File = 
             let _ = std::fs::remove_file(host, path);
         }
         if made {
-            drop_made(alloc, host, asked)?;
+            drop_made(alloc, host, asked);
         }
         return Err(fault);
     }
-    let ended = relay(&mut connection, &mut keeper, bounds, &mut relayed);
-    say(host, &relayed, &ended)?;
+    let ended = relay_and_say(
+        &mut connection,
+        host,
+        asked.server,
+        &mut keeper,
+        bounds,
+        &mut relayed,
+    );
+    say_end(
+        alloc,
+        host,
+        asked.server,
+        &relayed,
+        keeper.confirmed(),
+        &ended,
+    );
     ended?;
     Ok(())
 }
@@ -153,15 +167,16 @@ fn cut<H: Files<File = File>>(
 
 /// Makes the slot and copies the rows, if that is asked, and starts the stream. Whether a slot was made is
 /// said in any case.
-fn begin<L: Line + Drop>(
+fn begin<L: Line + Drop, H: Clock + Eprint>(
     connection: &mut Connection<L>,
+    host: &H,
     asked: &Subscription<'_>,
-    identifier: &str,
+    system: &System,
     keeper: &mut Keeper,
     relayed: &mut Relayed,
     made: &mut bool,
 ) -> Result<(), Fault> {
-    let point = make_if_asked(connection, asked.slot)?;
+    let point = make_if_asked(connection, host, asked.slot)?;
     *made = point.is_some();
     if keeper.is_new() {
         let alloc = connection.alloc();
@@ -169,7 +184,7 @@ fn begin<L: Line + Drop>(
             Some(point) => point,
             None => confirmed(connection, asked.slot.name)?,
         };
-        let title = label(alloc, asked, identifier, asked.slot.copy)?;
+        let title = label(alloc, asked, system.identifier.as_str(), asked.slot.copy)?;
         keeper.put(&title[..whole_frames(title.as_slice())])?;
         let place = wire::keepalive(alloc, stands, false)?;
         keeper.put(&place[..whole_frames(place.as_slice())])?;
@@ -183,7 +198,12 @@ fn begin<L: Line + Drop>(
             keeper,
             relayed,
         )?;
+        say(host, Event::Copied(relayed));
     }
+    say(
+        host,
+        Event::Begins(Place(relayed.position), Place(system.log_end)),
+    );
     start(
         connection,
         asked.publication,
@@ -206,12 +226,17 @@ pub enum Target {
 pub struct Keeper {
     alloc: Global,
     target: Target,
+    confirmed: u64,
 }
 
 impl Keeper {
     /// What keeps frames there.
     pub fn new(alloc: Global, target: Target) -> Keeper {
-        Keeper { alloc, target }
+        Keeper {
+            alloc,
+            target,
+            confirmed: 0,
+        }
     }
 
     /// Whether nothing was put before: an earlier capture left more than nothing.
@@ -241,10 +266,15 @@ impl Output for Keeper {
     fn tell(&mut self, put: &Relayed, due: bool, updates: &mut Vec<u8>) -> Result<bool, Fault> {
         if due {
             settle(&mut self.target)?;
+            self.confirmed = put.position;
             let update = status(self.alloc, put.position, true)?;
             updates.extend_from_slice(update.as_slice())?;
         }
         Ok(true)
+    }
+
+    fn confirmed(&self) -> u64 {
+        self.confirmed
     }
 }
 

@@ -346,6 +346,10 @@ impl Output for Follower<'_> {
         }
         Ok(goes_on)
     }
+
+    fn confirmed(&self) -> u64 {
+        self.told.flushed
+    }
 }
 
 /// An ErrorResponse of our own, which ends a follower's run with a server's error.

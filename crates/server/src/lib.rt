@@ -10,13 +10,14 @@
 // `checks` asks what has to be there before `slots` makes a slot. `stream` starts replication and says what
 // a frame is, `marks` what a message opens or closes; `copy` makes the first transaction of the rows that are
 // there (`tuples`). `relay` hands the frames to whoever takes them: `capture` to a file, behind what `kept`
-// keeps of it, or to standard output, `serve` to one `follower` after another. `shown` and `place` print
-// texts of others and places of the log.
+// keeps of it, or to standard output, `serve` to one `follower` after another. `events` says what happens, with
+// its time; `shown` and `place` print texts of others and places of the log.
 //
 // There is no TLS: a password in clear text and the rows go over the wire as they are.
 //
-// It stands on `md5`, `sha2`, `base64`, `hex` and `unicode_normalization` for the ways to log in, `thiserror` for the texts of faults,
-// and std's sockets. What needs no socket is tried by scripted servers, in the crate `server_tests`.
+// It stands on `md5`, `sha2`, `base64`, `hex` and `unicode_normalization` for the ways to log in, `thiserror` for
+// the texts of faults, `jiff` for times, and std's sockets. What needs no socket is tried by scripted servers, in
+// the crate `server_tests`.
 #![tactic(auto)]
 
 pub mod auth;
@@ -24,6 +25,7 @@ pub mod capture;
 pub mod checks;
 pub mod connection;
 pub mod copy;
+pub mod events;
 pub mod fault;
 pub mod follower;
 pub mod host;
@@ -42,6 +44,5 @@ pub mod shown;
 pub mod slots;
 pub mod stream;
 mod stringprep;
-mod summary;
 mod tuples;
 pub mod wire;

@@ -20,6 +20,9 @@ pub trait Output {
     /// Appends status updates for the server, of a stream of which this was put. One is `due` where a
     /// keepalive wants it and now and then. It answers whether more frames are wanted.
     fn tell(&mut self, put: &Relayed, due: bool, updates: &mut Vec<u8>) -> Result<bool, Fault>;
+
+    /// The place up to which the server was told that it may forget the log; 0 before it was told one.
+    fn confirmed(&self) -> u64;
 }
 
 /// When a relay ends by itself.

@@ -2,14 +2,14 @@
 use crate::checks::check_stream;
 use crate::connection::Connection;
 use crate::copy::copy_rows;
+use crate::events::{Event, relay_and_say, say, say_end};
 use crate::fault::Fault;
 use crate::follower::Follower;
 use crate::line::SocketLine;
 use crate::place::Place;
-use crate::relay::{Bounds, COPY_DONE, End, Output, Relayed, relay, whole_frames};
+use crate::relay::{Bounds, COPY_DONE, End, Output, Relayed, whole_frames};
 use crate::slots::{drop_made, make_if_asked};
 use crate::stream::{Subscription, identify, start};
-use crate::summary::say;
 use std::alloc::Global;
 use std::io;
 use std::io::ErrorKind;
@@ -41,7 +41,7 @@ pub fn serve<H: Net<Stream = TcpStream, Listener = TcpListener> + Clock + Random
 ) -> Result<(), Fault> {
     let mut connection = asked.server.connect(alloc, host, true)?;
     check_stream(&mut connection, asked.publication, asked.slot)?;
-    let made = make_if_asked(&mut connection, asked.slot)?;
+    let made = make_if_asked(&mut connection, host, asked.slot)?;
     let snapshot = match made {
         Some(place) if asked.slot.copy => Some(Snapshot { connection, place }),
         _ => {
@@ -54,7 +54,7 @@ pub fn serve<H: Net<Stream = TcpStream, Listener = TcpListener> + Clock + Random
         Err(fault) => {
             drop(snapshot);
             if made.is_some() {
-                drop_made(alloc, host, asked)?;
+                drop_made(alloc, host, asked);
             }
             Err(fault)
         }
@@ -69,13 +69,13 @@ struct Snapshot<'a, H: Clock> {
 }
 
 /// Listens, and says where.
-fn open<H: Net<Stream = TcpStream, Listener = TcpListener> + Eprint>(
+fn open<H: Net<Stream = TcpStream, Listener = TcpListener> + Clock + Eprint>(
     host: &H,
     service: &Service<'_>,
 ) -> Result<TcpListener, Fault> {
     let listener = listen(host, service)?;
     let address = listener.local_addr().map_err(Fault::CannotListen)?;
-    eprintln!(host; "publisher: listening at {address}").map_err(Fault::CannotWrite)?;
+    say(host, Event::Listening(address));
     Ok(listener)
 }
 
@@ -119,6 +119,9 @@ fn serve_all<'a, H: Net<Stream = TcpStream> + Clock + RandomSource + Eprint>(
             Err(error) => return Err(Fault::CannotListen(error)),
         };
         listener.set_nonblocking(true).map_err(Fault::CannotListen)?;
+        if let Ok(address) = stream.peer_addr() {
+            say(host, Event::Came(address));
+        }
         let follower = Follower::new(alloc, stream, Some(listener));
         let mut relayed = Relayed::NOTHING;
         let copies = snapshot.is_some();
@@ -131,14 +134,14 @@ fn serve_all<'a, H: Net<Stream = TcpStream> + Clock + RandomSource + Eprint>(
             .set_nonblocking(false)
             .map_err(Fault::CannotListen)?;
         if copies && relayed.committed == 0 {
-            drop_made(alloc, host, asked)?;
+            drop_made(alloc, host, asked);
             return served;
         }
         if service.once {
             return served;
         }
         if let Err(fault) = served {
-            eprintln!(host; "publisher: {fault}").map_err(Fault::CannotWrite)?;
+            say(host, Event::Failed(&fault));
         }
     }
     Ok(())
@@ -174,13 +177,14 @@ fn serve_one<'a, H: Net<Stream = TcpStream> + Clock + RandomSource + Eprint>(
         Ok(_) => {}
     }
     follower.part(host, limit);
-    say(host, relayed, &ended)?;
+    let confirmed = follower.confirmed();
+    say_end(alloc, host, asked.server, relayed, confirmed, &ended);
     ended?;
     Ok(())
 }
 
 /// Begins the stream at the place up to which the follower has it, and hands it on.
-fn hand_over<'a, H: Net<Stream = TcpStream> + Clock + RandomSource>(
+fn hand_over<'a, H: Net<Stream = TcpStream> + Clock + RandomSource + Eprint>(
     alloc: Global,
     host: &'a H,
     asked: &Subscription<'_>,
@@ -203,6 +207,7 @@ fn hand_over<'a, H: Net<Stream = TcpStream> + Clock + RandomSource>(
                 follower,
                 relayed,
             )?;
+            say(host, Event::Copied(relayed));
             connection
         }
         None => asked.server.connect(alloc, host, true)?,
@@ -211,6 +216,17 @@ fn hand_over<'a, H: Net<Stream = TcpStream> + Clock + RandomSource>(
     if place > end {
         return Err(Fault::Ahead(Place(place), Place(end)));
     }
+    say(
+        host,
+        Event::Begins(Place(place.max(relayed.committed)), Place(end)),
+    );
     start(&mut connection, asked.publication, asked.slot.name, place)?;
-    relay(&mut connection, follower, bounds, relayed)
+    relay_and_say(
+        &mut connection,
+        host,
+        asked.server,
+        follower,
+        bounds,
+        relayed,
+    )
 }

@@ -1,6 +1,7 @@
 // The files, and what each tests or gives the others.
 //
 //   catalogs   `publication`
+//   events     `server`, what is said of events
 //   lines      `server`, questions and their rows
 //   logins     `server`, logging in
 //   loopback   `server`, over sockets of this machine
@@ -9,11 +10,13 @@
 //   relays     `server`, the stream
 //   copies     `server`, rows that are there as a slot is made, and what of a file can be kept
 //   script     a line in memory: what the server says is written before
+//   services   `server`, whole services and their followers
 //   slots      `server`, what commands leave of slots and files
 //   uris       `publisher_command`, connection URIs and password files
 //   vectors    `server`, hashes and SCRAM
 mod catalogs;
 mod copies;
+mod events;
 mod lines;
 mod logins;
 mod loopback;
@@ -21,6 +24,7 @@ mod options;
 mod refusals;
 mod relays;
 mod script;
+mod services;
 mod slots;
 mod uris;
 mod vectors;

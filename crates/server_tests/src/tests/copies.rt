@@ -23,6 +23,10 @@ impl Output for Frames<'_> {
     fn tell(&mut self, _put: &Relayed, _due: bool, _updates: &mut Vec<u8>) -> Result<bool, Fault> {
         Ok(true)
     }
+
+    fn confirmed(&self) -> u64 {
+        0
+    }
 }
 
 /// The answers to one question after another: the tables, the columns of the first, its rows, those of the

@@ -47,6 +47,12 @@ fn pair(rt: &HostRuntime) -> Result<(TcpStream, TcpStream), Fail> {
     Ok((ours, theirs))
 }
 
+/// An address of this machine where nobody listens.
+pub fn free_address(rt: &HostRuntime) -> Result<String, Fail> {
+    let listener = TcpListener::bind(rt, "127.0.0.1:0")?;
+    Ok(format!(in rt.alloc(); "{}", listener.local_addr()?)?)
+}
+
 /// The client's end of a connection.
 fn client(rt: &HostRuntime, stream: TcpStream) -> Result<Client<'_>, Fail> {
     let socket = Socket::Tcp(stream);

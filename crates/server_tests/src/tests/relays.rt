@@ -34,6 +34,10 @@ impl Output for Kept<'_> {
         }
         Ok(self.wanted)
     }
+
+    fn confirmed(&self) -> u64 {
+        0
+    }
 }
 
 /// What came of a stream: what was put and sent, what ended it, and the fault's name.

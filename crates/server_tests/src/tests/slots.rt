@@ -22,19 +22,19 @@ use testing::asserts::{assert_holds, assert_same};
 
 /// What a server says on one connection behind its welcome: rows, each the answer to a question, or an empty
 /// text for an answer without, and messages.
-type Words = (&'static [&'static str], &'static [Message<'static>]);
+pub type Words = (&'static [&'static str], &'static [Message<'static>]);
 
 /// A connection that is asked to drop a slot.
-const DROPPED: Words = (&[], &[(b'C', b"\0"), (b'Z', b"I")]);
+pub const DROPPED: Words = (&[], &[(b'C', b"\0"), (b'Z', b"I")]);
 
-const MADE: &str = "s|0/10|\\N|pgoutput";
+pub const MADE: &str = "s|0/10|\\N|pgoutput";
 
-const SYSTEM: &str = "74|1|0/20|shop";
+pub const SYSTEM: &str = "74|1|0/20|shop";
 
 /// A refusal to stream, and a stream that ends at once.
 const REFUSED: [Message<'static>; 1] = [(b'E', b"SERROR\0C42704\0Mgone\0\0")];
 
-const ENDED: [Message<'static>; 3] = [(b'W', b"\0\0\0"), (b'c', b""), (b'C', b"\0")];
+pub const ENDED: [Message<'static>; 3] = [(b'W', b"\0\0\0"), (b'c', b""), (b'C', b"\0")];
 
 /// A file of a capture: whether its title says that it begins with a copy, and its bytes behind that.
 type Captured = (bool, &'static [u8]);
@@ -217,7 +217,7 @@ static CASES: [Case; 18] = [
 ];
 
 /// What a server says on a connection.
-fn spell_words(alloc: Global, words: &Words) -> Result<Vec<u8>, Fail> {
+pub fn spell_words(alloc: Global, words: &Words) -> Result<Vec<u8>, Fail> {
     let mut out = Vec::new(alloc);
     out.extend_from_slice(WELCOME)?;
     let (rows, messages) = words;
@@ -232,7 +232,7 @@ fn spell_words(alloc: Global, words: &Words) -> Result<Vec<u8>, Fail> {
 }
 
 /// Says this on one connection after another, and answers what was heard on the last.
-fn tell(alloc: Global, listener: &UnixListener, said: &[Vec<u8>]) -> io::Result<Vec<u8>> {
+pub fn tell(alloc: Global, listener: &UnixListener, said: &[Vec<u8>]) -> io::Result<Vec<u8>> {
     let mut heard = Vec::new(alloc);
     for words in said {
         heard.clear();
@@ -245,20 +245,20 @@ fn tell(alloc: Global, listener: &UnixListener, said: &[Vec<u8>]) -> io::Result<
 
 /// Where captures go: a server at a Unix socket of this machine, and a file.
 #[derive(Drop)]
-struct Place {
-    server: Server,
-    listener: UnixListener,
-    socket: String,
+pub struct Place {
+    pub server: Server,
+    pub listener: UnixListener,
+    pub socket: String,
     file: String,
 }
 
 impl Place {
     /// A run that failed may have left its files there: this one's have names of its own.
-    fn new(rt: &HostRuntime) -> Result<Place, Fail> {
+    pub fn new(rt: &HostRuntime, test: &str) -> Result<Place, Fail> {
         let alloc = rt.alloc();
         let folder = env::temp_dir(rt)?;
         let folder = folder.as_str();
-        let port = format!(in alloc; "{}", process::id(rt.process()))?;
+        let port = format!(in alloc; "{test}-{}", process::id(rt.process()))?;
         let socket = format!(in alloc; "{folder}/.s.PGSQL.{port}")?;
         Ok(Place {
             server: server_at(alloc, folder, port.as_str())?,
@@ -364,7 +364,7 @@ fn assert_file(rt: &HostRuntime, place: &Place, case: &Case, number: usize) -> R
 
 #[test]
 fn slots_and_files_of_commands(rt: HostRuntime) -> Result<(), Fail> {
-    let place = Place::new(&rt)?;
+    let place = Place::new(&rt, "slots")?;
     for (number, case) in CASES.iter().enumerate() {
         let mut said = Vec::new(rt.alloc());
         for words in case.words {

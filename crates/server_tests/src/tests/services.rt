@@ -1,0 +1,338 @@
+// Whole services: a scripted server at a Unix socket, a follower that lags, and a stranger who comes beside it.
+use super::loopback::free_address;
+use super::script::{Message, SLOT, name_of, spell};
+use super::slots::{DROPPED, ENDED, MADE, Place, SYSTEM, Words, spell_words, tell};
+use server::fault::Fault;
+use server::follower::farewell;
+use server::relay::Bounds;
+use server::serve::{Service, serve};
+use server::stream::{Slot, Subscription};
+use std::alloc::Global;
+use std::io::{Read, Write};
+use std::net::{Net, TcpListener, TcpStream};
+use std::random::RandomSource;
+use std::rt::Clock;
+use std::test::Fail;
+use std::thread::Threads;
+use std::time::Duration;
+use std::{fs, thread};
+use testing::asserts::{assert_holds, assert_same};
+
+/// A service, what a server says on one connection after another, what the follower says and hears behind the
+/// first keepalive, the fault that ends the service, and what the server was asked in the last connection.
+#[derive(Clone, Copy)]
+struct Case {
+    copies: bool,
+    creates: bool,
+    until: Option<u64>,
+    words: &'static [Words],
+    said: &'static [u8],
+    heard: &'static [Message<'static>],
+    fault: &'static str,
+    asked: &'static str,
+}
+
+const SERVICE: Case = Case {
+    copies: false,
+    creates: false,
+    until: None,
+    words: &[],
+    said: AT_0,
+    heard: &[],
+    fault: "none",
+    asked: "",
+};
+
+/// Status updates at 0, at 9 and at 33.
+const AT_0: &[u8] =
+    b"d\0\0\0\x26r\0\0\0\0\0\0\0\0\0\0\0\0\0\0\0\0\0\0\0\0\0\0\0\0\0\0\0\0\0\0\0\0\0";
+
+const AT_9: &[u8] =
+    b"d\0\0\0\x26r\0\0\0\0\0\0\0\x09\0\0\0\0\0\0\0\x09\0\0\0\0\0\0\0\x09\0\0\0\0\0\0\0\0\0";
+
+const AT_33: &[u8] =
+    b"d\0\0\0\x26r\0\0\0\0\0\0\0\x21\0\0\0\0\0\0\0\x21\0\0\0\0\0\0\0\x21\0\0\0\0\0\0\0\0\0";
+
+/// A transaction that commits at 16.
+const BEGIN: Message<'static> = (
+    b'd',
+    b"w\0\0\0\0\0\0\0\x10\0\0\0\0\0\0\0\x10\0\0\0\0\0\0\0\0B\0\0\0\0\0\0\0\x10\0\0\0\0\0\0\0\0\0\0\x02\xbc",
+);
+
+const COMMIT: Message<'static> = (
+    b'd',
+    b"w\0\0\0\0\0\0\0\x18\0\0\0\0\0\0\0\x18\0\0\0\0\0\0\0\0C\0\0\0\0\0\0\0\0\x10\0\0\0\0\0\0\0\x18\0\0\0\0\0\0\0\0",
+);
+
+/// A keepalive at 64 that wants no answer.
+const KEEPALIVE: Message<'static> = (b'd', b"k\0\0\0\0\0\0\0\x40\0\0\0\0\0\0\0\0\0");
+
+const BEGUN: Message<'static> = (b'W', b"\0\0\0");
+
+const DONE: Message<'static> = (b'c', b"");
+
+static CASES: [Case; 9] = [
+    // The server shuts down.
+    Case {
+        creates: true,
+        words: &[
+            (&["160000", "1", MADE], &[]),
+            (&[SYSTEM], &[BEGUN, BEGIN, COMMIT, (b'C', b"COPY 0\0")]),
+        ],
+        heard: &[BEGIN, COMMIT, DONE],
+        asked: "LOGICAL 0/0",
+        ..SERVICE
+    },
+    // The stream begins where the follower is.
+    Case {
+        words: &[
+            (&["160000", "1", "1"], &[]),
+            (&[SYSTEM], &[BEGUN, BEGIN, COMMIT, (b'C', b"COPY 0\0")]),
+        ],
+        said: AT_9,
+        heard: &[BEGIN, COMMIT, DONE],
+        asked: "LOGICAL 0/9",
+        ..SERVICE
+    },
+    // Which can't be beyond the server's log.
+    Case {
+        words: &[(&["160000", "1", "1"], &[]), (&[SYSTEM], &[])],
+        said: AT_33,
+        heard: &[(
+            b'E',
+            b"SFATAL\0C08006\0MAhead: the follower confirmed 0/21, and was given the log up to 0/20\0\0",
+        )],
+        fault: "Ahead",
+        asked: "IDENTIFY_SYSTEM",
+        ..SERVICE
+    },
+    // A fault of the server is heard behind the frames before it.
+    Case {
+        words: &[
+            (&["160000", "1", "1"], &[]),
+            (&[SYSTEM], &[BEGUN, BEGIN, (b'Z', b"I")]),
+        ],
+        heard: &[
+            BEGIN,
+            (
+                b'E',
+                b"SFATAL\0C08006\0MNonsense: a message that may not come here\0\0",
+            ),
+        ],
+        fault: "Nonsense",
+        asked: "LOGICAL 0/0",
+        ..SERVICE
+    },
+    // Whoever comes first and is no follower is told so, and the server is not asked for a stream.
+    Case {
+        words: &[(&["160000", "1", "1"], &[])],
+        said: b"GET / HTTP/1.0\r\n\r\n",
+        heard: &[(
+            b'E',
+            b"SFATAL\0C08006\0MFollower: it sent what is no frame\0\0",
+        )],
+        fault: "Follower",
+        asked: "pg_replication_slots",
+        ..SERVICE
+    },
+    // A place ends the stream; then the server is asked where its log ends.
+    Case {
+        until: Some(64),
+        words: &[
+            (&["160000", "1", "1"], &[]),
+            (
+                &[SYSTEM],
+                &[BEGUN, BEGIN, COMMIT, KEEPALIVE, DONE, (b'C', b"\0")],
+            ),
+            (&[SYSTEM], &[]),
+        ],
+        heard: &[BEGIN, COMMIT, KEEPALIVE, DONE],
+        asked: "IDENTIFY_SYSTEM",
+        ..SERVICE
+    },
+    // The rows that are there, of no table.
+    Case {
+        copies: true,
+        creates: true,
+        words: &[(&["160000", "1", "", MADE, "", "", SYSTEM], &ENDED)],
+        heard: &[
+            (
+                b'd',
+                b"w\0\0\0\0\0\0\0\x10\0\0\0\0\0\0\0\x10\0\0\0\0\0\0\0\0B\0\0\0\0\0\0\0\x10\0\0\0\0\0\0\0\0\0\0\0\x02",
+            ),
+            (
+                b'd',
+                b"w\0\0\0\0\0\0\0\x10\0\0\0\0\0\0\0\x10\0\0\0\0\0\0\0\0C\0\0\0\0\0\0\0\0\x10\0\0\0\0\0\0\0\x10\0\0\0\0\0\0\0\0",
+            ),
+            DONE,
+        ],
+        asked: "LOGICAL 0/0",
+        ..SERVICE
+    },
+    // They are for a follower that has none. Else the slot is dropped again.
+    Case {
+        copies: true,
+        creates: true,
+        words: &[(&["160000", "1", "", MADE], &[]), DROPPED],
+        said: AT_9,
+        heard: &[(
+            b'E',
+            b"SFATAL\0C08006\0MFollower: it has rows, and the copy is for one that has none\0\0",
+        )],
+        fault: "Follower",
+        asked: "DROP_REPLICATION_SLOT",
+        ..SERVICE
+    },
+    // So it is where the copy breaks off.
+    Case {
+        copies: true,
+        creates: true,
+        words: &[
+            (
+                &["160000", "1", "", MADE],
+                &[(b'E', b"SERROR\0C42501\0Mno\0\0")],
+            ),
+            DROPPED,
+        ],
+        heard: &[(b'E', b"SFATAL\0C08006\0MServer: ERROR 42501: no\0\0")],
+        fault: "Server",
+        asked: "DROP_REPLICATION_SLOT",
+        ..SERVICE
+    },
+];
+
+/// How often a follower tries to connect before anybody listens.
+const TRIES: usize = 1000;
+
+/// How long a follower lags: milliseconds.
+const LAG: u64 = 50;
+
+/// The first keepalive, which asks how far the follower is.
+const FIRST: [Message<'static>; 1] = [(b'd', b"k\0\0\0\0\0\0\0\0\0\0\0\0\0\0\0\0\x01")];
+
+/// How many bytes it has.
+const ASKING: usize = 23;
+
+fn come<R: Net<Stream = TcpStream> + Clock>(rt: &R, address: &str) -> Result<TcpStream, Fail> {
+    for _ in 0..TRIES {
+        match TcpStream::connect(rt, address) {
+            Ok(stream) => return Ok(stream),
+            Err(_) => thread::sleep(rt, Duration::from_millis(10)),
+        }
+    }
+    Err(Fail::from("nobody listens"))
+}
+
+/// What a follower hears that says this and lags, and one who comes beside it, as soon as it is served.
+fn follow<R: Net<Stream = TcpStream> + Clock>(
+    alloc: Global,
+    rt: &R,
+    address: &str,
+    said: &[u8],
+) -> Result<(Vec<u8>, Vec<u8>), Fail> {
+    let mut follower = come(rt, address)?;
+    let mut heard = vec![in alloc; 0; ASKING]?;
+    follower.read_exact(heard.as_mut_slice())?;
+    let mut stranger = come(rt, address)?;
+    let mut refused = Vec::new(alloc);
+    stranger.read_to_end(&mut refused)?;
+    // The second and the third are not read before the end.
+    for part in [said, AT_0, AT_0] {
+        let _ = follower.write_all(part);
+    }
+    thread::sleep(rt, Duration::from_millis(LAG));
+    follower.read_to_end(&mut heard)?;
+    Ok((heard, refused))
+}
+
+/// What came of a case.
+#[derive(Drop)]
+struct Came {
+    fault: String,
+    asked: Vec<u8>,
+    heard: Vec<u8>,
+    refused: Vec<u8>,
+}
+
+fn run_case<'a, R>(
+    alloc: Global,
+    rt: &'a R,
+    place: &'a Place,
+    case: Case,
+    said: &'a [Vec<u8>],
+    address: &'a str,
+) -> Result<Came, Fail>
+where
+    R: Threads
+        + Net<Stream = TcpStream, Listener = TcpListener>
+        + Clock
+        + RandomSource
+        + Eprint
+        + Sync,
+{
+    let asked = Subscription {
+        server: &place.server,
+        publication: "p",
+        slot: Slot {
+            create: case.creates,
+            copy: case.copies,
+            ..SLOT
+        },
+    };
+    let service = Service {
+        listen: address,
+        any: false,
+        once: true,
+        bounds: Bounds {
+            until: case.until,
+            millis: None,
+        },
+    };
+    let ((told, answer), followed) = thread::join(
+        rt,
+        move || {
+            thread::join(
+                rt,
+                move || tell(alloc, &place.listener, said),
+                move || serve(alloc, rt, &asked, &service),
+            )
+        },
+        move || follow(alloc, rt, address, case.said),
+    );
+    let (heard, refused) = followed?;
+    Ok(Came {
+        fault: name_of(alloc, answer)?,
+        asked: told?,
+        heard,
+        refused,
+    })
+}
+
+#[test]
+fn services_for_a_follower_that_lags(rt: HostRuntime) -> Result<(), Fail> {
+    let place = Place::new(&rt, "services")?;
+    let busy = farewell(rt.alloc(), &Fault::Busy)?;
+    for (number, case) in CASES.iter().enumerate() {
+        let mut said = Vec::new(rt.alloc());
+        for words in case.words {
+            said.push(spell_words(rt.alloc(), words)?)?;
+        }
+        let address = free_address(&rt)?;
+        let came = run_case(
+            rt.alloc(),
+            &rt,
+            &place,
+            *case,
+            said.as_slice(),
+            address.as_str(),
+        )?;
+        assert_same(came.fault.as_str(), case.fault, number)?;
+        let want = spell(rt.alloc(), &[&FIRST, case.heard])?;
+        assert_same(came.heard.as_slice(), want.as_slice(), number)?;
+        assert_same(came.refused.as_slice(), busy.as_slice(), number)?;
+        let asked = String::from_utf8_lossy(rt.alloc(), came.asked.as_slice())?;
+        assert_holds(asked.as_str().find(case.asked).is_some(), number)?;
+    }
+    fs::remove_file(&rt, place.socket.as_str())?;
+    Ok(())
+}
