@@ -6,6 +6,8 @@
 //   follow         a stream over a connection, and the status updates that go back
 //   accounts       what `--verbose` says of a command that did not end well
 //   progress       what `--progress` says, by a clock of the test's own
+//   mistakes       where a catalog has its fault
+//   opens          which transactions are open where a stream stops
 //   output         what is said where a command can't go on
 //   command_line   options, their limits, and help
 mod accounts;
@@ -13,6 +15,8 @@ mod cases;
 mod command_line;
 mod devices;
 mod follow;
+mod mistakes;
+mod opens;
 mod output;
 mod progress;
 mod runs;

@@ -18,14 +18,16 @@ use frames::{ReadSource, Source, WriteSink};
 use leader::Devices;
 use pgapply_command::account::Account;
 use pgapply_command::execute::{Hearer, Nobody, execute_on};
+use pgapply_command::mistake::find_mistake;
+use pgapply_command::open::{Looks, Open};
 use pgapply_command::options::{Input, Options, parse};
 use pgapply_command::output::{Failure, print, say_failure};
 use pgapply_command::progress::Progress;
-use pgapply_command::stream::{Stream, Updates};
+use pgapply_command::stream::{RECVLOGICAL, Stream, Updates, begins_as_recvlogical};
 use pgapply_command::system::SystemClock;
 use std::fs::File;
 use std::io;
-use std::io::BufReader;
+use std::io::{BufReader, Read};
 use std::process::ExitCode;
 use std::random::RandomSource;
 use std::sync::Wait;
@@ -63,10 +65,20 @@ fn run<T: Threads + Wait + RandomSource + Sync>(
         Input::File(path) => match open_stream(rt, path) {
             Ok(stream) => {
                 let stream = Stream::File(stream);
-                run_stream(rt, threads, options, catalog, stream, Updates::Nowhere)
+                let status = run_stream(rt, threads, options, catalog, stream, Updates::Nowhere)?;
+                if status == 2 && is_of_recvlogical(rt, path) {
+                    eprintln!(rt;
+                        "pgapply: {path} is of pg_recvlogical, which leaves the frames out: take publisher capture"
+                    )?;
+                }
+                Ok(status)
             }
             Err(error) => say_failure(rt, options.verbose, Failure::Open(path), &error),
         },
+        Input::Stdin => {
+            let stream = Stream::Stdin(rt.stdin());
+            run_stream(rt, threads, options, catalog, stream, Updates::Nowhere)
+        }
         Input::Connection(address) => match connect(rt, address) {
             Ok((stream, updates)) => run_stream(rt, threads, options, catalog, stream, updates),
             Err(error) => say_failure(rt, options.verbose, Failure::Connect(address), &error),
@@ -81,6 +93,15 @@ fn open_stream(rt: &HostRuntime, path: &str) -> io::Result<File> {
         return Err(io::ErrorKind::IsADirectory.into());
     }
     Ok(file)
+}
+
+/// Whether a file begins as one of pg_recvlogical does.
+fn is_of_recvlogical(rt: &HostRuntime, path: &str) -> bool {
+    let mut front = [0; RECVLOGICAL];
+    match File::open(rt, path).and_then(|mut file| file.read_exact(&mut front)) {
+        Ok(()) => begins_as_recvlogical(&front),
+        Err(_) => false,
+    }
 }
 
 /// What comes over a connection, and where its status updates go.
@@ -117,13 +138,19 @@ fn run_watched<T: Threads + Wait + RandomSource + Sync>(
     sink: WriteSink<Updates>,
 ) -> io::Result<u8> {
     let mut trace = Trace::new(rt.alloc());
-    let mut progress = Progress::new(rt.clone()?, options.progress);
+    let mut looks = Looks {
+        progress: Progress::new(rt.clone()?, options.progress),
+        open: Open::new(rt.alloc()),
+    };
     let mut account = Account::new(rt.alloc(), options.config.skip);
-    let watched = Watched::new(source, &mut trace, &mut progress, options.verbose);
+    let watched = Watched::new(source, &mut trace, &mut looks, options.verbose);
     let devices = Devices::new(watched, sink, SystemClock::new(rt));
     let status = run_over(rt, threads, options, catalog, devices, &mut account)?;
-    progress.say(&trace);
+    looks.progress.say(&trace);
     if options.verbose {
+        if let Some(count) = looks.open.count(status == 0) {
+            let _added = account.add_open(count);
+        }
         if status >= 2 {
             // Without memory the place is not said.
             let _added = account.add_place(&trace);
@@ -154,5 +181,18 @@ fn run_over<T: Threads + Wait + RandomSource + Sync, S: Source + Drop, H: Hearer
         hearer,
         &mut out,
     );
-    print(rt, options.verbose, &mut rt.stdout(), out.as_slice(), ended)
+    let status = print(rt, options.verbose, &mut rt.stdout(), out.as_slice(), ended)?;
+    if ended.status == 1 {
+        say_mistake(rt, catalog)?;
+    }
+    Ok(status)
+}
+
+/// Says where a catalog has its fault.
+fn say_mistake(rt: &HostRuntime, catalog: &[u8]) -> io::Result<()> {
+    match find_mistake(rt.alloc(), catalog) {
+        Ok(Some(mistake)) => eprintln!(rt; "pgapply: {mistake}"),
+        // Without memory it isn't found.
+        Ok(None) | Err(_) => Ok(()),
+    }
 }

@@ -1,6 +1,8 @@
-// What `--verbose` says of a command that did not end well: why, and where in the stream.
+// What `--verbose` says of a command: why it did not end well, where in the stream, what is undone, and how
+// many changes met no row.
 use crate::execute::Hearer;
 use crate::lsn::write_lsn;
+use crate::unmet::count_unmet;
 use catalog::{Catalog, CatalogFault, TableDef, TableId};
 use leader::{End, Entry, Lsn, Outcome};
 use std::alloc::{AllocError, Global};
@@ -9,6 +11,7 @@ use trace::Trace;
 /// Writes down why a command ended. Where memory is refused, there is less to read.
 #[derive(Debug, Drop)]
 pub struct Account {
+    alloc: Global,
     text: String,
     /// Whether a run has ended. Without one there is no place in the stream to tell.
     has_run: bool,
@@ -20,13 +23,14 @@ impl Account {
     /// Of a command that was to skip the transaction of this commit LSN; 0 for none.
     pub fn new(alloc: Global, skip: Lsn) -> Account {
         Account {
+            alloc,
             text: String::new(alloc),
             has_run: false,
             skip,
         }
     }
 
-    /// Lines for standard error, none where the command ended well.
+    /// Lines for standard error, none where the command ended well and all its changes met their rows.
     pub fn text(&self) -> &str {
         self.text.as_str()
     }
@@ -64,6 +68,34 @@ impl Account {
             self.text.push('\n')?;
         }
         Ok(())
+    }
+
+    /// Adds how many transactions were open where the run ended, if some were.
+    pub fn add_open(&mut self, count: usize) -> Result<(), AllocError> {
+        match count {
+            0 => Ok(()),
+            1 => self
+                .text
+                .push_str("pgapply: 1 transaction was open, and is undone\n"),
+            _ => write!(
+                self.text,
+                "pgapply: {count} transactions were open, and are undone\n"
+            ),
+        }
+    }
+
+    /// Adds how many changes met no row, if some did.
+    fn add_unmet(&mut self, catalog: &Catalog, journal: &[Entry]) -> Result<(), AllocError> {
+        let Ok(count) = count_unmet(self.alloc, catalog, journal) else {
+            return Ok(());
+        };
+        if count == 0 {
+            return Ok(());
+        }
+        write!(
+            self.text,
+            "pgapply: {count} changes met no row: the tables are no true copy of the publisher's: begin again, with publisher's --copy\n"
+        )
     }
 
     fn add_relation(&mut self, trace: &Trace, oid: Option<u32>) -> Result<(), AllocError> {
@@ -116,15 +148,15 @@ impl Account {
         let Some(definition) = catalog.tables().get(table) else {
             return Ok(());
         };
-        let namespace = definition.namespace().as_str();
-        let name = definition.name().as_str();
+        let namespace = definition.namespace().as_str().escape_debug();
+        let name = definition.name().as_str().escape_debug();
         write!(
             self.text,
             "pgapply: key {key} of {namespace}.{name} has the columns"
         )?;
         for number in columns_of(definition, key) {
             if let Some(column) = definition.columns().get(*number) {
-                let name = column.name.as_str();
+                let name = column.name.as_str().escape_debug();
                 write!(self.text, " {name}")?;
             }
         }
@@ -143,6 +175,7 @@ impl Hearer for Account {
     fn hear_end(&mut self, catalog: &Catalog, outcome: &Outcome) {
         self.has_run = true;
         let _added = self.add_skip(&outcome.journal);
+        let _added = self.add_unmet(catalog, &outcome.journal);
         let _added = self.add_end(catalog, outcome.end);
     }
 }

@@ -12,7 +12,10 @@
 //
 //   execute    what each command runs on what it opened, and how it ends
 //   options    the command line, with its limits and defaults
-//   account    what `--verbose` says of a command that did not end well
+//   account    what `--verbose` says of a command
+//   mistake    where a text that is no catalog has its fault
+//   open       which transactions are open where a stream stops
+//   unmet      how many changes met no row
 //   progress   what `--progress` says while a stream is read
 //   lsn        LSNs as PostgreSQL writes them
 //   output     the report, or why a command can't go on
@@ -24,8 +27,11 @@
 pub mod account;
 pub mod execute;
 pub mod lsn;
+pub mod mistake;
+pub mod open;
 pub mod options;
 pub mod output;
 pub mod progress;
 pub mod stream;
 pub mod system;
+mod unmet;

@@ -11,6 +11,8 @@ use std::alloc::{AllocError, Global};
 pub enum Input<'a> {
     /// A file.
     File(&'a str),
+    /// Standard input, given as `-`.
+    Stdin,
     /// Whoever listens at this `HOST:PORT`, to whom status updates go back.
     Connection(&'a str),
 }
@@ -93,7 +95,23 @@ pub fn parse<'a>(alloc: Global, words: &'a [String]) -> Result<Options<'a>, Erro
             return Err(program.error(ErrorKind::ValueValidation, message.as_str())?);
         }
     };
+    if let Some(text) = given.get_str("connect")
+        && !is_address(text)
+    {
+        let message = format!(in alloc;
+            "invalid value '{text}' for '--connect <A>': an address is HOST:PORT, as localhost:5500"
+        )?;
+        return Err(program.error(ErrorKind::ValueValidation, message.as_str())?);
+    }
     Ok(options_of(name == "replay", skip, given))
+}
+
+/// Whether a text is a host, which is not looked at, and the number of a port.
+fn is_address(text: &str) -> bool {
+    match text.rsplit_once(':') {
+        Some((host, port)) => !host.is_empty() && port.parse::<u16>().is_ok(),
+        None => false,
+    }
 }
 
 fn apply<'a>(alloc: Global) -> Result<Command<'a>, AllocError> {
@@ -180,7 +198,7 @@ fn stream_file<'a>(alloc: Global) -> Arg<'a> {
     file(
         alloc,
         "stream",
-        "The stream: the CopyData bytes of a replication connection",
+        "The stream: the CopyData bytes of a replication connection; - is standard input",
     )
 }
 
@@ -256,7 +274,10 @@ fn options_of<'a>(spooled: bool, skip: Lsn, given: &ArgMatches<'a>) -> Options<'
         catalog: given.get_str("config").unwrap_or(""),
         input: match given.get_str("connect") {
             Some(address) => Input::Connection(address),
-            None => Input::File(given.get_str("stream").unwrap_or("")),
+            None => match given.get_str("stream") {
+                Some("-") => Input::Stdin,
+                path => Input::File(path.unwrap_or("")),
+            },
         },
         config: Config {
             workers: number_of(given, "workers").unwrap_or(0) as usize,

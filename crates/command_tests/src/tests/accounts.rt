@@ -94,7 +94,7 @@ const STOP: &str = "45";
 /// c(700,0/200,0/220)
 const STREAM_COMMIT: &str = "63000002bc00000000000000020000000000000002200000000000000000";
 
-static CASES: [Case; 14] = [
+static CASES: [Case; 15] = [
     Case {
         name: "a frame of no known kind",
         payloads: &[BEGIN],
@@ -240,6 +240,21 @@ static CASES: [Case; 14] = [
             pgapply: 197 bytes were read, whole frames 3; the last frame begins at byte 146, at 0/0 of the publisher's log\n\
             pgapply: it is Insert, of transaction 900, of relation 16385 (public.accounts)\n",
     },
+    // U(7,a,n) and D(8): the tables have no such rows.
+    Case {
+        name: "changes that met no row",
+        payloads: &[
+            BEGIN,
+            RELATION,
+            INSERT,
+            "55000040014e000374000000013774000000016174000000016e",
+            "44000040014b00037400000001386e6e",
+            "4300000000000000010000000000000001200000000000000000",
+        ],
+        rest: "",
+        without_workers: false,
+        said: "pgapply: 2 changes met no row: the tables are no true copy of the publisher's: begin again, with publisher's --copy\n",
+    },
     Case {
         name: "a stream that ends well",
         payloads: &[BEGIN, RELATION, INSERT],
@@ -261,6 +276,20 @@ fn why_and_where_a_run_ended(rt: HostRuntime) -> Result<(), Fail> {
             let account = said(&rt, alloc, stream, &config)?;
             assert_same(account.text(), case.said, case.name)?;
         }
+    }
+    Ok(())
+}
+
+#[test]
+fn transactions_that_are_undone(rt: HostRuntime) -> Result<(), Fail> {
+    for (count, want) in [
+        (0, ""),
+        (1, "pgapply: 1 transaction was open, and is undone\n"),
+        (2, "pgapply: 2 transactions were open, and are undone\n"),
+    ] {
+        let mut account = Account::new(rt.alloc(), 0);
+        account.add_open(count)?;
+        assert_same(account.text(), want, "account")?;
     }
     Ok(())
 }

@@ -112,14 +112,22 @@ fn assert_defaults(asked: &Options<'_>, spooled: bool) -> Result<(), Fail> {
 
 #[test]
 fn numbers_that_are_not_given(rt: HostRuntime) -> Result<(), Fail> {
-    for (command, spooled, option, input) in [
-        ("apply", false, "--stream", Input::File("s")),
-        ("follow", false, "--connect", Input::Connection("s")),
-        ("replay", true, "--stream", Input::File("s")),
+    for (command, spooled, option, text, input) in [
+        ("apply", false, "--stream", "s", Input::File("s")),
+        (
+            "follow",
+            false,
+            "--connect",
+            "s:1",
+            Input::Connection("s:1"),
+        ),
+        ("replay", true, "--stream", "s", Input::File("s")),
+        ("apply", false, "--stream", "-", Input::Stdin),
+        ("replay", true, "--stream", "-", Input::Stdin),
     ] {
         let words = owned(
             rt.alloc(),
-            &["pgapply", command, option, "s", "--config", "c"],
+            &["pgapply", command, option, text, "--config", "c"],
         )?;
         let asked = options::parse(rt.alloc(), words.as_slice())
             .ok()
@@ -137,7 +145,7 @@ struct Refused {
     text: &'static str,
 }
 
-static REFUSED: [Refused; 8] = [
+static REFUSED: [Refused; 9] = [
     Refused {
         words: &["pgapply", "--version"],
         is_fault: false,
@@ -171,12 +179,24 @@ static REFUSED: [Refused; 8] = [
             "--config",
             "c",
             "--connect",
-            "a",
+            "a:1",
             "--skip",
             "0/0",
         ],
         is_fault: true,
         text: "error: invalid value '0/0' for '--skip <LSN>': an LSN is written as 16/B374D848, and 0/0 is none\n\nUsage: pgapply <COMMAND>\n\nFor more information, try '--help'.\n",
+    },
+    Refused {
+        words: &[
+            "pgapply",
+            "follow",
+            "--config",
+            "c",
+            "--connect",
+            "localhost",
+        ],
+        is_fault: true,
+        text: "error: invalid value 'localhost' for '--connect <A>': an address is HOST:PORT, as localhost:5500\n\nUsage: pgapply <COMMAND>\n\nFor more information, try '--help'.\n",
     },
     Refused {
         words: &["pgapply", "replay", "--config", "c"],
@@ -250,7 +270,7 @@ const CONFIG: Line = (
 
 const STREAM: Line = (
     "      --stream <F>",
-    "The stream: the CopyData bytes of a replication connection",
+    "The stream: the CopyData bytes of a replication connection; - is standard input",
 );
 
 const CONNECT: Line = (
