@@ -1,0 +1,4 @@
+pub mod Cut
+pub mod Reached
+pub mod Statements
+pub mod Updates
