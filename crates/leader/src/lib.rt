@@ -38,7 +38,7 @@ pub use run::{
     ReadSource, RelFault, Row, RowView, Seed, SessionFault, Sink, Source, StillClock, TableDef,
     TableId, Tables, Value, ValueRef, Walk, WriteSink, Xid, report, run_spooled, run_spooled_on,
 };
-pub use snapshot::{ReadFault, Reader, Watch};
+pub use snapshot::{ReadFault, Reader, TakeEntries, Watch};
 pub use threads::{run, run_on};
 pub use watching::NoWatch;
 pub use worker::{Gate, Point};

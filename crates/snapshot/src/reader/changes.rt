@@ -23,6 +23,7 @@ impl<'a, N: StoreNames> Reader<'a, N> {
         ensures taken { OnOk result (T.taken into.new ≡ T.taken into.old ++ drop commits (map entry_of (commits_seen self.new))) }
         ensures seen { OnOk result (SeesMore self.old self.new) }
         ensures refused { IfErr result (λ fault. (fault ≡ OutOfMemory) × (self.new ≡ self.old)) }
+        ensures published { self.new.published ≡ self.old.published }
     {
         let mut store = self.store.lock(rt);
         store.recall_invariant();
