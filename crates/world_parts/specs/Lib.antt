@@ -2,6 +2,7 @@ pub mod ByTable
 pub mod Parts
 pub mod Marks
 pub mod PartOf
+pub mod Reached
 pub mod Statements
 pub mod ByTableLemmas
 pub mod HeldLemmas
@@ -10,4 +11,6 @@ pub mod TruncateLemmas
 pub mod MoveLemmas
 pub mod MarkLemmas
 pub mod PartOfLemmas
+pub mod ToldLemmas
+pub mod ReachedLemmas
 pub mod FineLemmas

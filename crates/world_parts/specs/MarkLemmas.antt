@@ -1,5 +1,5 @@
 -- What follows of savepoints that are cut by table.
---     work_of_marked      the part has the table's changes
+--     works_told, no_work, work_of_marked      the part has the table's changes
 --     cut_at, one_cut      a rollback drops of a table what is under the marks that it drops; one mark says so
 --     told_with      one more change is told under the latest mark
 --     back_here, back_nowhere      a rollback in the part, where a mark of it is dropped, and where none is
@@ -58,12 +58,19 @@ work_as : (xid : ℕ) (open_one : Option Opened) → work_if xid open_one ≡ ch
 work_as xid None = refl
 work_as xid (Some o) = refl
 
+-- where these items were told, what was done of them is the table's
+pub works_told : (table top : ℕ) (open_one : Option Opened) (items : List Item) → survivors_if top open_one ≡ items_at table top items
+    → work_if top open_one ≡ changes_at table (changes_of items)
+works_told table top open_one items told = work_as top open_one ∙ ap changes_of told ∙ changes_at_told table top items
+
+pub no_work : (xid : ℕ) (open_one : Option Opened) → survivors_if xid open_one ≡ [] → work_if xid open_one ≡ []
+no_work xid open_one nothing = work_as xid open_one ∙ ap changes_of nothing
+
 -- the part has the table's changes
 pub work_of_marked : (table : ℕ) (w part : World) → AreMarked table w part → (xid : ℕ)
     → work_if xid (get part.opened xid) ≡ changes_at table (work_if xid (get w.opened xid))
 work_of_marked table w part are xid =
-    work_as xid (get part.opened xid) ∙ ap changes_of (are xid)
-    ∙ changes_at_told table xid (survivors_if xid (get w.opened xid))
+    works_told table xid (get part.opened xid) (survivors_if xid (get w.opened xid)) (are xid)
     ∙ ap (changes_at table) (sym (work_as xid (get w.opened xid)))
 
 -- ---- one list after another

@@ -6,6 +6,8 @@
 --     is_kept, AreKept, before_dropped      a rollback leaves the mark, and those of these; the changes before the first whose mark it drops
 --     AreMarked      of each transaction the part has just these items
 --     IsFirstDropped      the first dropped mark among those of a table
+--     HasPart      the part of a table, with just these items
+--     CutsTo, CutsNothing      what a rollback drops of a table
 use Rattle.std.specs.Prelude.{◌≡◌, ◌⊎◌, ℕ, ◌==◌, Bool, true, false, ◌||◌, List, [], ◌∷◌, Option, Some, None, map, flat_map, take_while, if◌then◌else◌}
 use Rattle.std.specs.List.{AllByRecursion, list_any}
 use Rattle.std.specs.FinMap.{get}
@@ -15,6 +17,7 @@ use Rattle.model.specs.declared.item.Item.TheVariants.{Change, Touch, BackTo, La
 use Rattle.model.specs.Survivors.{survivors, before_savepoint}
 use Rattle.world.specs.World.{Opened, World}
 use Rattle.world_parts.specs.ByTable.{change_at}
+use Rattle.world_parts.specs.Parts.{IsPartOf}
 
 -- ---- marks
 
@@ -109,3 +112,17 @@ survivors_if xid (Some o) = survivors xid o.items
 abbrev pub AreMarked : ℕ → World → World → Type 0
 AreMarked table w part =
     (xid : ℕ) → survivors_if xid (get part.opened xid) ≡ items_at table xid (survivors_if xid (get w.opened xid))
+
+-- It is the part of the table, and has just these items.
+abbrev pub HasPart : ℕ → World → World → Type 0
+HasPart table w part = IsPartOf table w part × AreMarked table w part
+
+-- A rollback of the subtransaction drops of the table the changes from the first on that is under this mark; or nothing.
+abbrev pub CutsTo : ℕ → ℕ → ℕ → List Item → ℕ → Type 0
+CutsTo table top sub items mark =
+    ((sub == top) ≡ false) × IsFirstDropped top (kept_by top sub items) mark (marked_at table (under top [] items))
+
+abbrev pub CutsNothing : ℕ → ℕ → ℕ → List Item → Type 0
+CutsNothing table top sub items =
+    ((sub == top) ≡ true)
+    ⊎ (((sub == top) ≡ false) × AreKept top (kept_by top sub items) (marked_at table (under top [] items)))

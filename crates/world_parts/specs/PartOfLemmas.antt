@@ -40,7 +40,8 @@ got_at table w xid =
 
 -- ---- items that all survive
 
-all_stay : (top : ℕ) (kept : List Item) (ms : List Marked) → surviving top kept (map told_of ms) ≡ kept ++ map told_of ms
+-- those that are told all survive
+pub all_stay : (top : ℕ) (kept : List Item) (ms : List Marked) → surviving top kept (map told_of ms) ≡ kept ++ map told_of ms
 all_stay top kept [] = sym (append-nil kept)
 all_stay top kept (m ∷ ms) =
     all_stay top (kept ++ told_of m ∷ []) ms ∙ append_assoc kept (told_of m ∷ []) (map told_of ms)

@@ -3,8 +3,9 @@
 --     own_if      the rows as it sees them
 --     IsPartOf      the committed rows of the table, and of each transaction its changes there and what it wants there
 --     after_tried      the world once a change was tried, by what came of it
+--     rested      the world once a transaction waits no more
 use Rattle.std.specs.Prelude.{◌≡◌, ℕ, List, [], ◌∷◌, Option, Some, None}
-use Rattle.std.specs.FinMap.{get}
+use Rattle.std.specs.FinMap.{get, insert}
 use Rattle.model.specs.declared.change.Change as change_type
 use Rattle.model.specs.declared.item.Item.TheVariants.{Change}
 use Rattle.model.specs.Rows.{Rows, Schema}
@@ -45,3 +46,7 @@ after_tried w xid o sub c IsDone = done_with w xid o (Change sub c)
 after_tried w xid o sub c IsSkipped = done_with w xid o (Change sub c)
 after_tried w xid o sub c (Held holder) = wanting w xid o sub c
 after_tried w xid o sub c (Clashed cause) = record (wanting w xid o sub c) { stopped = Some (ByClash xid c cause) }
+
+-- the world once an open transaction waits no more
+abbrev pub rested : World → ℕ → Opened → World
+rested w xid o = record w { opened = insert w.opened xid (record o { wants = None }) }

@@ -13,12 +13,13 @@ use Rattle.model.specs.Rows.{Rows, Schema, IsValid}
 use Rattle.model.specs.Effect.{serial}
 use Rattle.model.specs.Footprint.{held_cells, shares_cell}
 use Rattle.model.specs.Survivors.{survivors}
-use Rattle.world.specs.World.{Opened, World, changes_in, IsHeldBy, IsFree}
-use Rattle.world.specs.Steps.{Acted, IsDone, Held, Acts, opened_with, done_with, wanting, committed_with, aborted_with}
+use Rattle.world.specs.World.{Opened, World, starting, changes_in, IsHeldBy, IsFree}
+use Rattle.world.specs.Steps.{Acted, IsDone, Held, Acts, Reaches, opened_with, done_with, wanting, committed_with, aborted_with}
 use Rattle.world.specs.Fine.{StillClashes, IsFine}
 use Rattle.world_parts.specs.ByTable.{names_table, rows_at, change_at, changes_at, IsIn, AreOf}
-use Rattle.world_parts.specs.Parts.{work_if, wanted_if, IsPartOf, after_tried}
-use Rattle.world_parts.specs.Marks.{marked_at, under, items_at, mark_for, kept_by, IsFirstDropped, AreKept, AreMarked}
+use Rattle.world_parts.specs.Parts.{wanted_if, IsPartOf, after_tried, rested}
+use Rattle.world_parts.specs.Marks.{marked_at, under, items_at, mark_for, kept_by, survivors_if, IsFirstDropped, AreKept, HasPart, CutsTo, CutsNothing}
+use Rattle.world_parts.specs.Reached.{IsReachedByParts}
 
 -- ---- rows and changes by their table
 
@@ -50,7 +51,7 @@ HeldByTable =
 
 -- every world has a part of each table, to which the transactions' items were told
 abbrev pub HasEachPart : Type 0
-HasEachPart = (table : ℕ) (w : World) → (part : World) × IsPartOf table w part × AreMarked table w part
+HasEachPart = (table : ℕ) (w : World) → (part : World) × HasPart table w part
 
 -- a change of the table comes to in the world what it comes to in the part
 abbrev pub TriedInPart : Type 0
@@ -80,35 +81,59 @@ TruncatedByParts =
 -- a transaction opens in the world, and in the part at any time behind that
 abbrev pub PartAfterOpen : Type 0
 PartAfterOpen =
-    (table : ℕ) (w part : World) → IsPartOf table w part → (xid : ℕ)
-    → (get w.opened xid ≡ None → IsPartOf table (opened_with w xid) part)
-    × (get part.opened xid ≡ None → IsPartOf table w (opened_with part xid))
+    (table : ℕ) (w part : World) → HasPart table w part → (xid : ℕ)
+    → (get w.opened xid ≡ None → HasPart table (opened_with w xid) part)
+    × (get part.opened xid ≡ None → HasPart table w (opened_with part xid))
 
--- a change is tried in the parts of its tables, there as what it is in the table; the others' parts stay
+-- a change is tried in the parts of its tables, there as what it is in the table, under the latest mark; the others stay
 abbrev pub PartAfterTry : Type 0
 PartAfterTry =
-    (table : ℕ) (w part : World) → IsPartOf table w part → (xid : ℕ) (o : Opened) → get w.opened xid ≡ Some o
+    (table : ℕ) (w part : World) → HasPart table w part → (xid : ℕ) (o : Opened) → get w.opened xid ≡ Some o
     → (sub : ℕ) (c : change_type.Change) (answer : Acted)
-    → ((p : Opened) (mark : ℕ) (cut : change_type.Change) → get part.opened xid ≡ Some p → change_at table c ≡ cut ∷ []
-    → IsPartOf table (after_tried w xid o sub c answer) (after_tried part xid p mark cut answer))
-    × (change_at table c ≡ [] → wanted_if (get part.opened xid) ≡ [] → IsPartOf table (after_tried w xid o sub c answer) part)
+    → ((p : Opened) (cut : change_type.Change) → get part.opened xid ≡ Some p → change_at table c ≡ cut ∷ []
+    → HasPart table (after_tried w xid o sub c answer)
+    (after_tried part xid p (mark_for xid sub (survivors xid o.items)) cut answer))
+    × (change_at table c ≡ [] → wanted_if (get part.opened xid) ≡ [] → HasPart table (after_tried w xid o sub c answer) part)
 
--- a commit comes in the parts in which its transaction did something; the others' stay
+-- of an item that changes no row a part hears that the transaction waits no more, where it waited there
+abbrev pub PartAfterTouch : Type 0
+PartAfterTouch =
+    (table : ℕ) (w part : World) → HasPart table w part → (xid : ℕ) (o : Opened) → get w.opened xid ≡ Some o → (sub : ℕ)
+    → ((p : Opened) → get part.opened xid ≡ Some p → HasPart table (done_with w xid o (Touch sub)) (rested part xid p))
+    × (wanted_if (get part.opened xid) ≡ [] → HasPart table (done_with w xid o (Touch sub)) part)
+
+-- a rollback is one in each part that it drops something of; of the others a transaction waits no more
+abbrev pub PartAfterRollback : Type 0
+PartAfterRollback =
+    (table : ℕ) (w part : World) → HasPart table w part → (xid : ℕ) (o : Opened) → get w.opened xid ≡ Some o → (sub : ℕ)
+    → ((p : Opened) (mark : ℕ) → get part.opened xid ≡ Some p → CutsTo table xid sub (survivors xid o.items) mark
+    → HasPart table (done_with w xid o (BackTo sub)) (done_with part xid p (BackTo mark)))
+    × (CutsNothing table xid sub (survivors xid o.items)
+    → ((p : Opened) → get part.opened xid ≡ Some p → HasPart table (done_with w xid o (BackTo sub)) (rested part xid p))
+    × (wanted_if (get part.opened xid) ≡ [] → HasPart table (done_with w xid o (BackTo sub)) part))
+
+-- a commit comes in the parts in which its transaction did something; the others stay
 abbrev pub PartAfterCommit : Type 0
 PartAfterCommit =
-    (schema : Schema) (table : ℕ) (w part : World) → IsPartOf table w part
+    (schema : Schema) (table : ℕ) (w part : World) → HasPart table w part
     → (xid : ℕ) (o : Opened) → get w.opened xid ≡ Some o → (info : CommitInfo)
     → ((p : Opened) → get part.opened xid ≡ Some p
-    → IsPartOf table (committed_with schema w xid o info) (committed_with schema part xid p info))
-    × (work_if xid (get part.opened xid) ≡ [] → wanted_if (get part.opened xid) ≡ []
-    → IsPartOf table (committed_with schema w xid o info) part)
+    → HasPart table (committed_with schema w xid o info) (committed_with schema part xid p info))
+    × (survivors_if xid (get part.opened xid) ≡ [] → wanted_if (get part.opened xid) ≡ []
+    → HasPart table (committed_with schema w xid o info) part)
 
 -- so does an abort
 abbrev pub PartAfterAbort : Type 0
 PartAfterAbort =
-    (table : ℕ) (w part : World) → IsPartOf table w part → (xid : ℕ)
-    → IsPartOf table (aborted_with w xid) (aborted_with part xid)
-    × (work_if xid (get part.opened xid) ≡ [] → wanted_if (get part.opened xid) ≡ [] → IsPartOf table (aborted_with w xid) part)
+    (table : ℕ) (w part : World) → HasPart table w part → (xid : ℕ)
+    → HasPart table (aborted_with w xid) (aborted_with part xid)
+    × (survivors_if xid (get part.opened xid) ≡ [] → wanted_if (get part.opened xid) ≡ []
+    → HasPart table (aborted_with w xid) part)
+
+-- each part of a world that calls lead to is reached by what they are in its table
+abbrev pub ReachedByParts : Type 0
+ReachedByParts =
+    (schema : Schema) (start : Rows) (w : World) → Reaches schema (starting start) w → IsReachedByParts schema start w
 
 -- ---- savepoints
 

@@ -1,6 +1,6 @@
 // The laws of parts. Each function does nothing: its contract is a law, and the check of this crate
 // proves it.
-ghost use Rattle.world_parts.specs.Statements.{RowsByTable, ValidByTable, SerialByTable, HeldByTable, HasEachPart, TriedInPart, TruncatedByParts, PartAfterOpen, PartAfterTry, PartAfterCommit, PartAfterAbort, ChangesAreTold, RollbackByTable, PartIsFine, FineByParts};
+ghost use Rattle.world_parts.specs.Statements.{RowsByTable, ValidByTable, SerialByTable, HeldByTable, HasEachPart, TriedInPart, TruncatedByParts, PartAfterOpen, PartAfterTry, PartAfterTouch, PartAfterRollback, PartAfterCommit, PartAfterAbort, ReachedByParts, ChangesAreTold, RollbackByTable, PartIsFine, FineByParts};
 
 /// Rows that agree in each table are the same.
 pub fn rows_by_table()
@@ -47,6 +47,16 @@ pub fn part_after_try()
     ensures { PartAfterTry }
 {}
 
+/// Of an item that changes no row a part hears that the transaction waits no more.
+pub fn part_after_touch()
+    ensures { PartAfterTouch }
+{}
+
+/// A rollback is one in each part that it drops something of, to the first mark there that it drops.
+pub fn part_after_rollback()
+    ensures { PartAfterRollback }
+{}
+
 /// A commit comes in the parts in which its transaction did something.
 pub fn part_after_commit()
     ensures { PartAfterCommit }
@@ -55,6 +65,11 @@ pub fn part_after_commit()
 /// So does an abort.
 pub fn part_after_abort()
     ensures { PartAfterAbort }
+{}
+
+/// What calls lead to is, table by table, what they are in the parts lead to.
+pub fn reached_by_parts()
+    ensures { ReachedByParts }
 {}
 
 /// A change is told to its tables under the latest mark.

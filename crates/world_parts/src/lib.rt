@@ -17,6 +17,7 @@
 //   specs/Parts           the part of a table in a world
 //   specs/Marks           savepoints, cut by table
 //   specs/PartOf          a part that is made of a world
+//   specs/Reached         a world whose parts are reached, each by calls of its own
 //   specs/Statements      the laws as statements, which `laws` promises
 //   specs/..Lemmas        the same for the layers above
 //

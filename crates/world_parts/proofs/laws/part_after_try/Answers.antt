@@ -1,8 +1,8 @@
-use Rattle.world_parts.specs.MoveLemmas.{part_tried, tried_beside}
+use Rattle.world_parts.specs.ToldLemmas.{tried_here, tried_elsewhere}
 use Rattle.world_parts.proofs.laws.part_after_try.Goals as goal
 
 pub returns : goal.returns
-returns c = λ table w part is xid o at sub c answer. (
-  λ p mark cut here its. part_tried table w part is xid o p at here sub mark c cut its answer,
-  λ not none. tried_beside table w part is xid o at sub c not none answer,
+returns c = λ table w part has xid o at sub c answer. (
+  λ p cut here is. tried_here table w part has xid o p at here sub c cut answer is,
+  tried_elsewhere table w part has xid o at sub c answer,
 )
