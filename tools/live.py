@@ -248,9 +248,13 @@ class Service:
         self.address = f"127.0.0.1:{options.port + number}"
         self.process = subprocess.Popen([options.publisher, "serve", *where, "--slot", slot, "--listen",
                                          self.address, *more], stderr=subprocess.PIPE, text=True)
-        self.said = [self.process.stderr.readline().strip()]
-        if "listening at" not in self.said[0]:
-            sys.exit(f"serve: {self.said[0]}")
+        self.said = [""]
+        # It says before that it made the slot.
+        while "listening at" not in self.said[-1]:
+            line = self.process.stderr.readline()
+            if not line:
+                sys.exit(f"serve: {self.said[-1]}")
+            self.said.append(line.strip())
         self.thread = threading.Thread(target=self.hear)
         self.thread.start()
 

@@ -114,10 +114,7 @@ fn print_table(
     let oid = table.number(0)?;
     let label = label(alloc, table)?;
     let label = label.as_str();
-    if table.value(4)?.is_some() {
-        let note = format!(in alloc; "table {label}: its rows are filtered, and only those come")?;
-        printed.notes.push(note)?;
-    }
+    note_filter(alloc, &mut printed.notes, table, label)?;
     let columns = kept_columns(alloc, &mut printed.notes, answers, oid, label, text)?;
     let keys = read_keys(alloc, answers.keys.as_slice(), oid)?;
     let kept = Kept {
@@ -145,6 +142,20 @@ fn print_table(
             Ok(None)
         }
     }
+}
+
+/// Adds a note where a table's rows are filtered.
+fn note_filter(
+    alloc: Global,
+    notes: &mut Vec<String>,
+    table: &Row,
+    label: &str,
+) -> Result<(), Fault> {
+    if table.value(4)?.is_some() {
+        let note = format!(in alloc; "table {label}: its rows are filtered, and only those come")?;
+        notes.push(note)?;
+    }
+    Ok(())
 }
 
 /// What is kept of a table, and its keys.

@@ -30,6 +30,17 @@ pub enum Destination<'a> {
     Stdout(Stdout),
 }
 
+/// A capture: where its frames go, what was put there, and what was made for it.
+#[derive(Drop)]
+struct Opened<'a> {
+    keeper: Keeper,
+    relayed: Relayed,
+    /// The path of a file that was made.
+    path: Option<&'a str>,
+    /// Whether a slot was made.
+    made: bool,
+}
+
 /// Captures a stream until it ends, and says on standard error what was captured. Nothing is left of a file
 /// nor of a slot that was made for it, where the stream can't be started.
 pub fn capture<H: Net<Stream = TcpStream> + Clock + RandomSource + Files<File = File> + Eprint>(
@@ -39,84 +50,73 @@ pub fn capture<H: Net<Stream = TcpStream> + Clock + RandomSource + Files<File = 
     destination: Destination<'_>,
     bounds: Bounds,
 ) -> Result<(), Fault> {
-    let mut connection = asked.server.connect(alloc, host, true)?;
+    let server = asked.server;
+    let mut connection = server.connect(alloc, host, true)?;
     check_stream(&mut connection, asked.publication, asked.slot)?;
     let system = identify(&mut connection)?;
-    let mut relayed = Relayed::NOTHING;
-    let (target, path) = open(
-        &mut connection,
-        host,
-        asked,
-        system.identifier.as_str(),
-        destination,
-        &mut relayed,
-    )?;
-    let mut keeper = Keeper::new(alloc, target);
-    let mut made = false;
-    let begun = begin(
-        &mut connection,
-        host,
-        asked,
-        &system,
-        &mut keeper,
-        &mut relayed,
-        &mut made,
-    );
-    if let Err(fault) = begun {
+    let mut opened = open(&mut connection, host, asked, &system, destination)?;
+    if let Err(fault) = begin(&mut connection, host, asked, &system, &mut opened) {
         drop(connection);
-        if let Some(path) = path {
-            // The file is ours; the fault says more than one of removing it.
-            let _ = std::fs::remove_file(host, path);
-        }
-        if made {
-            drop_made(alloc, host, asked);
-        }
+        take_back(alloc, host, asked, &opened);
         return Err(fault);
     }
-    let ended = relay_and_say(
-        &mut connection,
-        host,
-        asked.server,
-        &mut keeper,
-        bounds,
-        &mut relayed,
-    );
-    say_end(
-        alloc,
-        host,
-        asked.server,
-        &relayed,
-        keeper.confirmed(),
-        &ended,
-    );
+    let Opened {
+        keeper,
+        relayed,
+        ..
+    } = &mut opened;
+    let ended = relay_and_say(&mut connection, host, server, keeper, bounds, relayed);
+    say_end(alloc, host, server, relayed, keeper.confirmed(), &ended);
     ended?;
     Ok(())
 }
 
-/// Opens what the frames go to. The path is that of a file that was made. Behind an earlier capture
-/// `relayed` is where that one came to; a file that is refused is left as it is.
+/// Opens what the frames go to. Behind an earlier capture it begins where that one came to; a file that
+/// is refused is left as it is.
 fn open<'a, L: Line + Drop, H: Files<File = File>>(
     connection: &mut Connection<L>,
     host: &H,
     asked: &Subscription<'_>,
-    identifier: &str,
+    system: &System,
     destination: Destination<'a>,
-    relayed: &mut Relayed,
-) -> Result<(Target, Option<&'a str>), Fault> {
-    match destination {
-        Destination::File(path) => Ok((Target::File(create(host, path)?, 0), Some(path))),
-        Destination::Stdout(stdout) => Ok((Target::Stdout(stdout), None)),
+) -> Result<Opened<'a>, Fault> {
+    let alloc = connection.alloc();
+    let mut relayed = Relayed::NOTHING;
+    let (target, path) = match destination {
+        Destination::File(path) => (Target::File(create(host, path)?, 0), Some(path)),
+        Destination::Stdout(stdout) => (Target::Stdout(stdout), None),
         Destination::Behind(path) => {
-            let alloc = connection.alloc();
-            let kept = read_file(alloc, host, asked, identifier, path)?;
+            let kept = read_file(alloc, host, asked, system, path)?;
             let stands = confirmed(connection, asked.slot.name)?;
             if stands > kept.position {
                 return Err(Fault::Lost(Place(stands), Place(kept.position)));
             }
             relayed.position = kept.position;
             relayed.committed = kept.committed;
-            Ok((cut(alloc, host, path, &kept)?, None))
+            (cut(alloc, host, path, &kept)?, None)
         }
+    };
+    Ok(Opened {
+        keeper: Keeper::new(alloc, target),
+        relayed,
+        path,
+        made: false,
+    })
+}
+
+/// Takes back what was made for a capture that goes no further.
+fn take_back<H: Net<Stream = TcpStream> + Clock + RandomSource + Files<File = File> + Eprint>(
+    alloc: Global,
+    host: &H,
+    asked: &Subscription<'_>,
+    opened: &Opened<'_>,
+) {
+    if let Some(path) = opened.path {
+        // The fault that ended it says more than one of removing the file.
+        let _ = std::fs::remove_file(host, path);
+    }
+    if opened.made {
+        drop_made(alloc, host, asked);
     }
 }
 
@@ -133,9 +133,10 @@ fn read_file<H: Files<File = File>>(
     alloc: Global,
     host: &H,
     asked: &Subscription<'_>,
-    identifier: &str,
+    system: &System,
     path: &str,
 ) -> Result<Kept, Fault> {
+    let identifier = system.identifier.as_str();
     let file = File::open(host, path).map_err(Fault::CannotRead)?;
     let plain = label(alloc, asked, identifier, false)?;
     let copied = label(alloc, asked, identifier, true)?;
@@ -172,44 +173,52 @@ fn begin<L: Line + Drop, H: Clock + Eprint>(
     host: &H,
     asked: &Subscription<'_>,
     system: &System,
-    keeper: &mut Keeper,
-    relayed: &mut Relayed,
-    made: &mut bool,
+    opened: &mut Opened<'_>,
 ) -> Result<(), Fault> {
     let point = make_if_asked(connection, host, asked.slot)?;
-    *made = point.is_some();
-    if keeper.is_new() {
-        let alloc = connection.alloc();
+    opened.made = point.is_some();
+    if opened.keeper.is_new() {
         let stands = match point {
             Some(point) => point,
             None => confirmed(connection, asked.slot.name)?,
         };
-        let title = label(alloc, asked, system.identifier.as_str(), asked.slot.copy)?;
-        keeper.put(&title[..whole_frames(title.as_slice())])?;
-        let place = wire::keepalive(alloc, stands, false)?;
-        keeper.put(&place[..whole_frames(place.as_slice())])?;
-        relayed.position = stands;
-    }
-    if asked.slot.copy {
-        copy_rows(
-            connection,
-            asked.publication,
-            relayed.position,
-            keeper,
-            relayed,
+        put_title(
+            connection.alloc(),
+            asked,
+            system,
+            stands,
+            &mut opened.keeper,
         )?;
+        opened.relayed.position = stands;
+    }
+    let Opened {
+        keeper,
+        relayed,
+        ..
+    } = opened;
+    if asked.slot.copy {
+        let place = relayed.position;
+        copy_rows(connection, asked.publication, place, keeper, relayed)?;
         say(host, Event::Copied(relayed));
     }
-    say(
-        host,
-        Event::Begins(Place(relayed.position), Place(system.log_end)),
-    );
-    start(
-        connection,
-        asked.publication,
-        asked.slot.name,
-        relayed.committed,
-    )
+    let (place, log_end) = (Place(relayed.position), Place(system.log_end));
+    say(host, Event::Begins(place, log_end));
+    let from = relayed.committed;
+    start(connection, asked.publication, asked.slot.name, from)
+}
+
+/// Puts what a capture begins with: a notice of what it is, and a keepalive of where its stream begins.
+fn put_title(
+    alloc: Global,
+    asked: &Subscription<'_>,
+    system: &System,
+    stands: u64,
+    keeper: &mut Keeper,
+) -> Result<(), Fault> {
+    let title = label(alloc, asked, system.identifier.as_str(), asked.slot.copy)?;
+    keeper.put(&title[..whole_frames(title.as_slice())])?;
+    let place = wire::keepalive(alloc, stands, false)?;
+    keeper.put(&place[..whole_frames(place.as_slice())])
 }
 
 /// Where the frames go.

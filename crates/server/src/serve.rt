@@ -118,21 +118,13 @@ fn serve_all<'a, H: Net<Stream = TcpStream> + Clock + RandomSource + Eprint>(
             Err(error) if error.kind() == ErrorKind::ConnectionAborted => continue,
             Err(error) => return Err(Fault::CannotListen(error)),
         };
-        listener.set_nonblocking(true).map_err(Fault::CannotListen)?;
-        if let Ok(address) = stream.peer_addr() {
-            say(host, Event::Came(address));
-        }
-        let follower = Follower::new(alloc, stream, Some(listener));
-        let mut relayed = Relayed::NOTHING;
         let copies = snapshot.is_some();
         let source = Source {
             bounds: service.bounds,
             snapshot: snapshot.take(),
         };
-        let served = serve_one(alloc, host, asked, source, follower, &mut relayed);
-        listener
-            .set_nonblocking(false)
-            .map_err(Fault::CannotListen)?;
+        let mut relayed = Relayed::NOTHING;
+        let served = serve_alone(alloc, host, asked, source, listener, stream, &mut relayed);
         if copies && relayed.committed == 0 {
             drop_made(alloc, host, asked);
             return served;
@@ -145,6 +137,28 @@ fn serve_all<'a, H: Net<Stream = TcpStream> + Clock + RandomSource + Eprint>(
         }
     }
     Ok(())
+}
+
+/// Serves one who came. Others who come meanwhile are turned away.
+fn serve_alone<'a, H: Net<Stream = TcpStream> + Clock + RandomSource + Eprint>(
+    alloc: Global,
+    host: &'a H,
+    asked: &Subscription<'_>,
+    source: Source<'a, H>,
+    listener: &TcpListener,
+    stream: TcpStream,
+    relayed: &mut Relayed,
+) -> Result<(), Fault> {
+    if let Ok(address) = stream.peer_addr() {
+        say(host, Event::Came(address));
+    }
+    listener.set_nonblocking(true).map_err(Fault::CannotListen)?;
+    let follower = Follower::new(alloc, stream, Some(listener));
+    let served = serve_one(alloc, host, asked, source, follower, relayed);
+    listener
+        .set_nonblocking(false)
+        .map_err(Fault::CannotListen)?;
+    served
 }
 
 /// What a follower is given.
@@ -195,21 +209,10 @@ fn hand_over<'a, H: Net<Stream = TcpStream> + Clock + RandomSource + Eprint>(
     let Source { bounds, snapshot } = source;
     let place = follower.ask_place(host, asked.server.limit)?;
     let mut connection = match snapshot {
-        Some(snapshot) => {
-            let mut connection = snapshot.connection;
-            if place > 0 {
-                return Err(Fault::Follower("it has rows, and the copy is for one that has none"));
-            }
-            copy_rows(
-                &mut connection,
-                asked.publication,
-                snapshot.place,
-                follower,
-                relayed,
-            )?;
-            say(host, Event::Copied(relayed));
-            connection
+        Some(_) if place > 0 => {
+            return Err(Fault::Follower("it has rows, and the copy is for one that has none"));
         }
+        Some(snapshot) => copy_to(host, asked, snapshot, follower, relayed)?,
         None => asked.server.connect(alloc, host, true)?,
     };
     let end = identify(&mut connection)?.log_end;
@@ -229,4 +232,19 @@ fn hand_over<'a, H: Net<Stream = TcpStream> + Clock + RandomSource + Eprint>(
         bounds,
         relayed,
     )
+}
+
+/// Hands over the rows that the snapshot sees. Its connection is free for the stream then.
+fn copy_to<'a, H: Clock + Eprint>(
+    host: &H,
+    asked: &Subscription<'_>,
+    snapshot: Snapshot<'a, H>,
+    follower: &mut Follower<'_>,
+    relayed: &mut Relayed,
+) -> Result<Connection<SocketLine<'a, H>>, Fault> {
+    let Snapshot { connection, place } = snapshot;
+    let mut connection = connection;
+    copy_rows(&mut connection, asked.publication, place, follower, relayed)?;
+    say(host, Event::Copied(relayed));
+    Ok(connection)
 }

@@ -93,10 +93,19 @@ const KNOWN: Progress = Progress {
     ..PROGRESS
 };
 
+/// Each event is said so.
+fn assert_said(alloc: Global, cases: &[(Event<'_>, &str)]) -> Result<(), Fail> {
+    for (event, want) in cases {
+        let text = format!(in alloc; "{event}")?;
+        assert_same(text.as_str(), *want, *want)?;
+    }
+    Ok(())
+}
+
 #[test]
 fn what_is_said_of_events(rt: HostRuntime) -> Result<(), Fail> {
     let address: SocketAddr = "127.0.0.1:5500".parse().map_err(|_| "no address")?;
-    let cases: [(Event<'_>, &str); 10] = [
+    let cases: [(Event<'_>, &str); 7] = [
         (Event::Dropped("s"), "the slot s was dropped"),
         (
             Event::Stays("s", &Fault::Closed),
@@ -113,6 +122,17 @@ fn what_is_said_of_events(rt: HostRuntime) -> Result<(), Fail> {
             "the stream begins at 0/10, and the server's log is 16 bytes ahead",
         ),
         (
+            Event::Failed(&Fault::Closed),
+            "Closed: the server closed the connection",
+        ),
+    ];
+    assert_said(rt.alloc(), &cases)
+}
+
+#[test]
+fn what_is_said_of_a_stream(rt: HostRuntime) -> Result<(), Fail> {
+    let cases: [(Event<'_>, &str); 3] = [
+        (
             Event::Going(PROGRESS),
             "3 frames, 200 bytes, up to 0/28, confirmed up to 0/20",
         ),
@@ -124,16 +144,8 @@ fn what_is_said_of_events(rt: HostRuntime) -> Result<(), Fail> {
             Event::Ended(PROGRESS, Some(End::Shutdown)),
             "3 frames, 200 bytes, up to 0/28, confirmed up to 0/20: the server shut down",
         ),
-        (
-            Event::Failed(&Fault::Closed),
-            "Closed: the server closed the connection",
-        ),
     ];
-    for (event, want) in &cases {
-        let text = format!(in rt.alloc(); "{event}")?;
-        assert_same(text.as_str(), *want, *want)?;
-    }
-    Ok(())
+    assert_said(rt.alloc(), &cases)
 }
 
 /// Takes nothing, and has confirmed nothing.

@@ -1,6 +1,6 @@
 // The command line of `publisher`, and libpq's variables.
 use publisher_command::{Job, NOTHING_SAID, Parts, Variables};
-use server::auth::Password;
+use server::auth::{Password, Ways};
 use server::host::Server;
 use std::alloc::Global;
 use std::test::Fail;
@@ -65,6 +65,19 @@ fn a_usage_fault_names_option_and_value(rt: HostRuntime) -> Result<(), Fail> {
     assert_holds(text.as_str().starts_with(first), text.as_str())
 }
 
+#[test]
+fn a_version_is_said_on_standard_output(rt: HostRuntime) -> Result<(), Fail> {
+    let words = words(rt.alloc(), "publisher --version")?;
+    match publisher_command::parse(rt.alloc(), words.as_slice()) {
+        Ok(_) => Err(Fail::from("a command")),
+        Err(said) => {
+            assert_holds(!said.use_stderr(), "standard output")?;
+            let text = format!(in rt.alloc(); "{said}")?;
+            assert_same(text.as_str(), "publisher 0.1.0\n", "version")
+        }
+    }
+}
+
 const CAPTURE: &str =
     "publisher capture --publication p --slot s --out f --until 1/2A --create --seconds 7";
 
@@ -91,11 +104,14 @@ fn a_place_is_two_halves(rt: HostRuntime) -> Result<(), Fail> {
     assert_same(found, (Some(0x1_0000_002a), Some(7000)), "bounds")
 }
 
-/// The server of an option for the port, and of variables for the host, the password and who is logged in.
+/// The server of options for the port and how to log in, and of variables for the host, TLS, the password,
+/// other ways to log in and who is logged in.
 fn chosen(alloc: Global) -> Result<Server, Fail> {
     let variables = Variables {
         parts: Parts {
             host: Some(String::from_str(alloc, "db.example")?),
+            ways: Some(Ways::NONE),
+            tls: Some(true),
             ..NOTHING_SAID
         },
         password: Some(Password {
@@ -103,12 +119,19 @@ fn chosen(alloc: Global) -> Result<Server, Fail> {
         }),
         login: Some(String::from_str(alloc, "carol")?),
     };
-    let words = words(alloc, "publisher catalog --publication p --port 5433")?;
+    let line = "publisher catalog --publication p --port 5433 --require-auth md5 --allow-cleartext";
+    let words = words(alloc, line)?;
     let options = publisher_command::parse(alloc, words.as_slice())
         .ok()
         .ok_or("refused")?;
     Ok(publisher_command::choose_server(alloc, &options, &variables)?.ok_or("no user")?)
 }
+
+/// MD5 alone.
+const MD5: Ways = Ways {
+    md5: true,
+    ..Ways::NONE
+};
 
 #[test]
 fn options_go_before_variables(rt: HostRuntime) -> Result<(), Fail> {
@@ -117,6 +140,8 @@ fn options_go_before_variables(rt: HostRuntime) -> Result<(), Fail> {
     assert_same(server.port.as_str(), "5433", "port")?;
     assert_same(server.user.as_str(), "carol", "user")?;
     assert_same(server.database.as_str(), "carol", "database")?;
+    assert_same(server.ways, MD5, "ways")?;
+    assert_holds(server.tls && server.clear_text, "TLS and clear text")?;
     let password = server.password.as_ref().ok_or("no password")?;
     assert_same(password.text.as_str(), "secret", "password")
 }

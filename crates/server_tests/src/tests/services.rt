@@ -1,12 +1,11 @@
 // Whole services: a scripted server at a Unix socket, a follower that lags, and a stranger who comes beside it.
 use super::loopback::free_address;
-use super::script::{Message, SLOT, name_of, spell};
+use super::script::{Message, name_of, spell};
 use super::slots::{DROPPED, ENDED, MADE, Place, SYSTEM, Words, spell_words, tell};
 use server::fault::Fault;
 use server::follower::farewell;
 use server::relay::Bounds;
 use server::serve::{Service, serve};
-use server::stream::{Slot, Subscription};
 use std::alloc::Global;
 use std::io::{Read, Write};
 use std::net::{Net, TcpListener, TcpStream};
@@ -245,6 +244,19 @@ fn follow<R: Net<Stream = TcpStream> + Clock>(
     Ok((heard, refused))
 }
 
+/// A service at this address for one follower.
+fn service_of<'a>(address: &'a str, until: Option<u64>) -> Service<'a> {
+    Service {
+        listen: address,
+        any: false,
+        once: true,
+        bounds: Bounds {
+            until,
+            millis: None,
+        },
+    }
+}
+
 /// What came of a case.
 #[derive(Drop)]
 struct Came {
@@ -270,24 +282,8 @@ where
         + Eprint
         + Sync,
 {
-    let asked = Subscription {
-        server: &place.server,
-        publication: "p",
-        slot: Slot {
-            create: case.creates,
-            copy: case.copies,
-            ..SLOT
-        },
-    };
-    let service = Service {
-        listen: address,
-        any: false,
-        once: true,
-        bounds: Bounds {
-            until: case.until,
-            millis: None,
-        },
-    };
+    let asked = place.subscription(case.creates, case.copies);
+    let service = service_of(address, case.until);
     let ((told, answer), followed) = thread::join(
         rt,
         move || {

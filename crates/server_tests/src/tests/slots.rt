@@ -267,7 +267,28 @@ impl Place {
             file: format!(in alloc; "{folder}/stream-{port}")?,
         })
     }
+
+    /// What a command asks of the server.
+    pub fn subscription(&self, create: bool, copy: bool) -> Subscription<'_> {
+        Subscription {
+            server: &self.server,
+            publication: "p",
+            slot: Slot {
+                create,
+                copy,
+                ..SLOT
+            },
+        }
+    }
 }
+
+/// What a service listens at that is not for this machine alone.
+const ANYWHERE: Service<'static> = Service {
+    listen: "0.0.0.0:0",
+    any: false,
+    once: true,
+    bounds: Bounds::NONE,
+};
 
 /// The fault of a case, and what the server was asked in the last connection.
 fn run_case<'a, R>(
@@ -285,33 +306,19 @@ where
         + Files<File = File>
         + Eprint,
 {
-    let asked = Subscription {
-        server: &place.server,
-        publication: "p",
-        slot: Slot {
-            create: case.creates,
-            copy: case.copies,
-            ..SLOT
-        },
-    };
+    let asked = place.subscription(case.creates, case.copies);
     let path = place.file.as_str();
     let destination = if case.appends {
         Destination::Behind(path)
     } else {
         Destination::File(path)
     };
-    let service = Service {
-        listen: "0.0.0.0:0",
-        any: false,
-        once: true,
-        bounds: Bounds::NONE,
-    };
     let (heard, answer) = thread::join(
         rt,
         move || tell(alloc, &place.listener, said),
         move || {
             if case.serves {
-                serve(alloc, rt, &asked, &service)
+                serve(alloc, rt, &asked, &ANYWHERE)
             } else {
                 capture(alloc, rt, &asked, destination, Bounds::NONE)
             }
