@@ -1,6 +1,7 @@
 pub mod Entries
 pub mod Elements
 pub mod Room
+pub mod Patterns
 pub mod Indexing
 pub mod Steps
 pub mod Tabling

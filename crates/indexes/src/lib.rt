@@ -12,10 +12,12 @@
 // slot and an entry outlive their row, empty, until `settle` gives up a row's, or `release` that of
 // one cell: the tables have `room` for what was there, and each change has a restoring form that needs
 // room alone, takes no memory and succeeds. `wipe` moves a table's whole content out, and `unwipe`
-// moves it back; no row is copied.
+// moves it back; no row is copied. A table is made when it is first written to: until then, and once
+// it was emptied, it reads as an empty one that copies of the tables share.
 //
 //   tables       `Tables`, all of a catalog
-//   table        `Table`, one of them
+//   lazy         one of them, made or not; `Contents`, what was moved out of one
+//   table        `Table`, one that is made
 //   unique       the index of a unique key
 //   kept_values  what an entry of an index keeps: a row, in which its values lie
 //   sought       what an index is asked for: values as they lie in a row
@@ -23,12 +25,14 @@
 //   columns      a row's values in the columns of a key, of any row that is read in place
 pub mod columns;
 mod kept_values;
+mod lazy;
 pub mod seed;
 mod sought;
 pub mod table;
 pub mod tables;
 mod unique;
 
+pub use lazy::Contents;
 pub use seed::Seed;
-pub use table::{Contents, Table};
+pub use table::Table;
 pub use tables::Tables;

@@ -1,6 +1,7 @@
 // One table: its rows, and an index for each unique key.
-ghost use Rattle.std.specs.Prelude.{◌≡◌, ◌≢◌, ◌+◌, ◌-◌, ◌<◌, ◌≤◌, IfOk, OnOk, OnErr, IfSome, IfNone, IsSome, Some, None, true, length, ◌^◌};
+ghost use Rattle.std.specs.Prelude.{◌≡◌, ◌≢◌, ◌+◌, ◌-◌, ◌<◌, ◌≤◌, IfOk, OnOk, OnErr, IfSome, IfNone, IsSome, Some, None, true, [], length, ◌^◌};
 ghost use Rattle.std.specs.FinMap as finite;
+ghost use Rattle.std.specs.Box.{box_value};
 ghost use Rattle.std.specs.List.{AllByRecursion, Contains};
 ghost use Rattle.model.specs.Rows.{values_in, keys_of};
 ghost use Rattle.indexes.specs.Unique.{HasNone, columns_of};
@@ -17,7 +18,6 @@ use model::{Key, OutOfMemory, Row, TableDef};
 use rows::{HashedRows, RowView, Walk};
 use std::alloc::Global;
 use std::marker::Model;
-use std::mem;
 
 /// One table: rows with a primary key and unique keys. A clause sees its keys' columns, its rows by
 /// their keys, and its room.
@@ -46,34 +46,6 @@ impl Model for Table {
     ghost invariant = { λ a. IsIndexed a.primary.items a.rows a.uniques.items };
 }
 
-/// A table's whole content, moved out of it. A clause sees it as a table by itself.
-#[derive(Debug, Drop)]
-pub struct Contents {
-    table: Table,
-}
-
-impl Model for Contents {
-    ghost use Rattle.indexes.specs.Table.{TableContent, IsSound};
-    ghost use Rattle.indexes.specs.Codes.{table_code};
-
-    ghost Value = { TableContent };
-
-    ghost coded = { table_code };
-
-    ghost view = { λ a. a.table };
-
-    ghost invariant = { λ a. IsSound a.table };
-}
-
-impl Contents {
-    /// The row that the table held at a key. It takes no memory.
-    pub fn get(&self, key: &Key) -> Option<RowView<'_>>
-        ensures { result ≡ finite.get self.now.rows key.now }
-    {
-        self.table.get(key)
-    }
-}
-
 impl Table {
     /// The empty table of a definition, whose indexes hash from a seed.
     pub fn of_definition(
@@ -83,6 +55,7 @@ impl Table {
     ) -> Result<Table, OutOfMemory>
         ensures keys { IfOk result (λ table. table.keys ≡ keys_of definition.now) }
         ensures empty { IfOk result (λ table. table.rows ≡ finite.empty) }
+        ensures room { IfOk result (λ table. table.room ≡ []) }
         ensures sound { IfOk result IsSound }
     {
         let mut uniques = Vec::new(alloc);
@@ -106,25 +79,18 @@ impl Table {
         })
     }
 
-    // An empty table with the same keys.
-    fn emptied(&self) -> Result<Table, OutOfMemory>
-        ensures keys { IfOk result (λ table. table.keys ≡ self.now.keys) }
-        ensures empty { IfOk result (λ table. table.rows ≡ finite.empty) }
-        ensures sound { IfOk result IsSound }
+    // An equal table, in a box of its own.
+    pub(crate) fn boxed_copy(&self) -> Result<Box<Table>, OutOfMemory>
+        ensures { IfOk result (λ copy. box_value copy ≡ self.now) }
     {
-        let alloc = self.alloc;
-        let mut uniques = Vec::new(alloc);
-        for unique in &self.uniques {
-            uniques.push(Unique::new(alloc, unique.columns.as_slice(), self.seed)?)?;
-        }
-        let primary = copy_numbers(alloc, self.primary.as_slice())?;
-        Ok(Table::empty(alloc, primary, uniques, self.seed))
+        Ok(Box::new(self.alloc, self.copy()?)?)
     }
 
     fn empty(alloc: Global, primary: Vec<usize>, uniques: Vec<Unique>, seed: Seed) -> Table
         requires { AllByRecursion HasNone uniques.items }
         ensures keys { result.keys ≡ record { primary = primary.items; uniques = columns_of uniques.items } }
         ensures empty { result.rows ≡ finite.empty }
+        ensures room { result.room ≡ [] }
         ensures sound { IsSound result }
     {
         Table {
@@ -373,21 +339,6 @@ impl Table {
         Ok(self.replace_back(key, new_key, row))
     }
 
-    /// All rows go, moved out with their room: none is copied. A refusal changes nothing.
-    pub fn wipe(&mut self) -> Result<Contents, OutOfMemory>
-        ensures keys { self.new.keys ≡ self.old.keys }
-        ensures empty { OnOk result (self.new.rows ≡ finite.empty) }
-        ensures out { IfOk result (λ contents. contents ≡ self.old) }
-        ensures err { OnErr result (self.new ≡ self.old) }
-        ensures sound { IsSound self.new }
-    {
-        self.recall_invariant();
-        let emptied = self.emptied()?;
-        Ok(Contents {
-            table: mem::replace(self, emptied),
-        })
-    }
-
     /// Takes a `put` back: the row at a key goes. It takes no memory.
     pub fn take_back(&mut self, key: &Key)
         requires { IsSome (finite.get self.old.rows key.now) }
@@ -397,17 +348,6 @@ impl Table {
         ensures sound { IsSound self.new }
     {
         self.remove(key);
-    }
-
-    /// Takes a `wipe` back: moves the content in again, in place of an empty table of the same keys.
-    /// It takes no memory.
-    pub fn unwipe(&mut self, contents: Contents)
-        requires keys { contents.keys ≡ self.old.keys }
-        requires empty { (key : AnyKey) → finite.get self.old.rows key ≡ None }
-        ensures back { self.new ≡ contents }
-        ensures sound { IsSound self.new }
-    {
-        *self = contents.table;
     }
 
     /// Drops the slot of a key and the entries of a row's unique values, where they are empty. It

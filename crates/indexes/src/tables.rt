@@ -13,8 +13,8 @@ ghost use Rattle.model.specs.Effect.{first_taken, are_taken_unless_null};
 ghost use Rattle.indexes.specs.Table.{cells_in};
 ghost use Rattle.indexes.specs.Content.{KeepsCells, HasRoom, unique_columns, IsTable, SameElsewhere, SameRoomElsewhere, ReleasesCell};
 
+use crate::lazy::{Contents, LazyTable};
 use crate::seed::Seed;
-use crate::table::{Contents, Table};
 use catalog::Catalog;
 use model::{Cell, Key, OutOfMemory, Row, TableDef};
 use rows::{RowView, Walk};
@@ -25,7 +25,7 @@ use std::marker::Model;
 /// key, and the cells that there is room for.
 #[derive(Debug, Drop)]
 pub struct Tables {
-    tables: Vec<Table>,
+    tables: Vec<LazyTable>,
 }
 
 impl Model for Tables {
@@ -72,7 +72,7 @@ impl Tables {
     {
         let mut tables = Vec::new(alloc);
         for definition in definitions {
-            tables.push(Table::of_definition(alloc, definition, seed)?)?;
+            tables.push(LazyTable::of_definition(alloc, definition, seed)?)?;
         }
         Ok(Tables { tables })
     }
