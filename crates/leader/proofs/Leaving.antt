@@ -45,9 +45,10 @@ use Rattle.run_laws.proofs.Threading.{entries_done, ends_done, changes_told}
 use Rattle.dispatch.specs.Handle.{HandleModel, IsHome, AreCounted}
 use Rattle.dispatch.specs.Standing.{own_by, goes_by, holds_in, KeepsGiven}
 use Rattle.leader.specs.Threads.{Led, HasCommitted, Represents, AreOpenAtEnd, MayEndBy, HasLedTo}
-use Rattle.leader.specs.Ending.{Hand, IsDecided, HasFinished, AreInHand, AreGiven}
+use Rattle.leader.specs.Decided.{IsNotedIn, IsDecided}
+use Rattle.leader.specs.Ending.{Hand, IsNoted, HasFinished, AreInHand, AreGiven}
 use Rattle.leader.specs.WithWorkers.{WasSent, LeavesLine, IsShutSo, IsRunByWorkers, RunsBy}
-use Rattle.leader.proofs.Held.{is_world_of, is_cause}
+use Rattle.leader.proofs.Held.{is_world_of, is_cause, is_decided}
 use Rattle.leader.proofs.InHand.{in_hand, are_given}
 use Rattle.leader.proofs.Serving.{all_held}
 
@@ -78,7 +79,7 @@ nothing_read g rows devices l at = record {
 pub refused_end : (schema : Schema) (rows : Rows) (line : List LineEvent) (hand : Hand) (given : List (ℕ × ℕ)) (proposed end : End)
     → HasFinished schema rows line hand given proposed end → proposed ≡ ends.OutOfMemory → end ≡ ends.OutOfMemory
 refused_end schema rows line hand given proposed end finished refused =
-    subst (λ (p : End). IsDecided schema finished.world hand given p end) refused finished.decided
+    subst (λ (p : End). IsDecided schema finished.world (IsNoted finished.world hand) given p end) refused finished.decided
 
 -- what follows from why a run is over: its commits, what was sent, and that a clean end leaves no item
 module _ (g : Setting) (rows : Rows) (old new : DeviceState) (l : Led) (part : StreamPart g old new) where
@@ -132,6 +133,8 @@ module _ (g : Setting) (rows : Rows) (old new : DeviceState) (l : Led) (proposed
     world = f.world;
     is_world = is_world_of g rows (Represents g rows) (HasLedTo g rows) old new l proposed end over valid l.standing.line (option_map own_by begun ∷ map holds_in workers) given f at_held ended_held;
     cause = is_cause g rows (Represents g rows) (HasLedTo g rows) old new l proposed end over valid l.standing.line (option_map own_by begun ∷ map holds_in workers) given f at_held ended_held;
+    given = given;
+    decided = is_decided g rows (Represents g rows) (HasLedTo g rows) old new l proposed end over valid l.standing.line (option_map own_by begun ∷ map holds_in workers) given f at_held ended_held;
     committed = f.committed;
     told = told ∙ sym f.commits;
     reached = reached;
@@ -197,6 +200,9 @@ module _ (g : Setting) (rows : Rows) where
           };
           schema = shut.schema;
         };
+        proposed = left.proposed;
+        given = left.given;
+        decided = subst (IsDecided (schema_of g) left.world (IsNotedIn left.world) left.given left.proposed) (sym ended) left.decided;
         sent = so.1;
         clean = λ clean.
             let none = none_left g old new over.part left.world end left.cause (sym ended ∙ clean) in
@@ -226,6 +232,9 @@ module _ (g : Setting) (rows : Rows) where
       };
       schema = shut.schema;
     };
+    proposed = ends.OutOfMemory;
+    given = [];
+    decided = end;
     sent = inl (refl, Appends-nil devices.sent);
     clean = λ clean. let refused : ends.OutOfMemory ≡ ends.Clean = sym end ∙ clean in cc;
     journal = journal_told (schema_of g) rows [] start refl o.journal.items shut.journal;

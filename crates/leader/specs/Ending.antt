@@ -1,21 +1,18 @@
 -- The end of a run with workers, where all is in one hand: the store, its line, and the ticket of each open transaction.
 --     Hand, EachHeld      slots in which tickets lie; a fact of each transaction there
 --     AreOpenIn, AreGone      each is open in the world, with what its ticket tells; none is open there
---     IsNoted, TellsNoted      a change clashed, and its transaction wants one still; an answer tells which, or that none
---         does
+--     IsNoted, TellsNoted      a change clashed, and its transaction in hand wants one still; an answer tells which, or
+--         that none does
 --     TellsHolder, TellsHeld      whom a transaction waits for, where nothing goes on; the one that an end names
---     end_for, EndsAsNoted      the end of a clash; the end by the clash that is noted, or that none is
---     EndsAsHeld      the end by whom a transaction waits for, where nothing goes on
---     IsDecided      the end of a run, by what was proposed
 --     IsLessOpen      the same world, in which no more is open
 --     HasFinished      at which world a run ended
 --     AreInHand, AreGiven      what a leader has of its transactions as the run ends; how many items were given to each
-use Rattle.std.specs.Prelude.{◌≡◌, ◌≢◌, ℕ, true, ◌-◌, ◌^◌, ◌<◌, List, length, map, All, Contains, Option, Some, None, IsSome, IfSome, is_some, ◌⊎◌}
+use Rattle.std.specs.Prelude.{◌≡◌, ◌≢◌, ℕ, true, ◌-◌, ◌^◌, ◌<◌, List, length, map, All, Contains, Option, Some, None, IsSome, IfSome, is_some}
 use Rattle.std.specs.FinMap.{get}
 use Rattle.model.specs.declared.change.Change as change_type
 use Rattle.model.specs.declared.item.Item.{Item}
 use Rattle.model.specs.Rows.{Rows, Schema}
-use Rattle.model.specs.Effect.{ClashCause, NullKey, Unique, serial}
+use Rattle.model.specs.Effect.{ClashCause, serial}
 use Rattle.change.specs.declared.outcome.Clash.{Clash}
 use Rattle.world.specs.World.{Opened, ByClash, World, starting, changes_in}
 use Rattle.world.specs.Steps.{IsStuck, Reaches}
@@ -29,6 +26,7 @@ use Rattle.run.specs.declared.end.End.TheVariants as ends
 use Rattle.run_laws.specs.Threads.{IsWork, done_by_commit}
 use Rattle.dispatch.specs.Standing.{Own}
 use Rattle.leader.specs.Threads.{KeepsToWork}
+use Rattle.leader.specs.Decided.{IsDecided}
 
 -- ---- what is in hand
 
@@ -72,37 +70,6 @@ abbrev pub TellsHeld : Schema → World → List (ℕ × ℕ) → End → Option
 TellsHeld schema w given end answer =
     (xid holder : ℕ) → end ≡ ends.HeldKey xid holder → TellsHolder schema w given xid answer
 
--- the end of a run in which a change clashed
-abbrev pub end_for : ClashCause → End
-end_for (Unique table key) = ends.Unique table key
-end_for (NullKey table) = ends.NullKey table
-
--- It is the end of the clash that is noted; where none is, memory was refused.
-abbrev pub EndsAsNoted : World → Hand → End → Type 0
-EndsAsNoted w hand end =
-    ((cause : ClashCause) × IsNoted w hand cause × (end ≡ end_for cause))
-    ⊎ (((cause : ClashCause) → ¬ (IsNoted w hand cause)) × (end ≡ ends.OutOfMemory))
-
--- It is that of the holder for which the transaction waits, where nothing goes on; where there is none, memory was
--- refused.
-abbrev pub EndsAsHeld : Schema → World → List (ℕ × ℕ) → ℕ → End → Type 0
-EndsAsHeld schema w given xid end =
-    ((holder : ℕ) × IsStuck schema w given xid holder × (end ≡ ends.HeldKey xid holder))
-    ⊎ (((holder : ℕ) → ¬ (IsStuck schema w given xid holder)) × (end ≡ ends.OutOfMemory))
-
--- The end of a run at this world, by the end that was proposed.
-abbrev pub IsDecided : Schema → World → Hand → List (ℕ × ℕ) → End → End → Type 0
-IsDecided schema w hand given ends.Clean end =
-    ((w.stopped ≡ None) × (end ≡ ends.Clean)) ⊎ (IsSome w.stopped × EndsAsNoted w hand end)
-IsDecided schema w hand given (ends.Frame fault) end = end ≡ ends.Frame fault
-IsDecided schema w hand given (ends.Msg fault) end = end ≡ ends.Msg fault
-IsDecided schema w hand given (ends.Session fault) end = end ≡ ends.Session fault
-IsDecided schema w hand given (ends.Rel fault) end = end ≡ ends.Rel fault
-IsDecided schema w hand given (ends.Unique table key) end = EndsAsNoted w hand end
-IsDecided schema w hand given (ends.NullKey table) end = EndsAsNoted w hand end
-IsDecided schema w hand given (ends.HeldKey xid holder) end = EndsAsHeld schema w given xid end
-IsDecided schema w hand given ends.OutOfMemory end = end ≡ ends.OutOfMemory
-
 -- What is open in the new world was open in the old one, with what it had done; and the same stopped it.
 pub record IsLessOpen (old new : World) : Type 0 where
   pub opened : (xid : ℕ) (done : Opened) → get new.opened xid ≡ Some done → get old.opened xid ≡ Some done
@@ -118,7 +85,7 @@ pub record HasFinished (schema : Schema) (start : Rows) (line : List LineEvent) 
   pub committed : world.committed ≡ serial schema start (changes_in world.line)
   pub opened : (xid : ℕ) → is_open_in line xid ≡ is_some (get world.opened xid)
   pub stood : AreOpenIn world hand
-  pub decided : IsDecided schema world hand given proposed end
+  pub decided : IsDecided schema world (IsNoted world hand) given proposed end
 
 -- ---- what a leader has as a run ends, with these items left
 

@@ -1,4 +1,5 @@
 pub mod Threads
+pub mod Decided
 pub mod Ending
 pub mod WithWorkers
 pub mod Watching

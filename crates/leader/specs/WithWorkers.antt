@@ -31,13 +31,15 @@ use Rattle.run.specs.StreamPart.{StreamPart}
 use Rattle.run_laws.specs.Threads.{IsWorldOf}
 use Rattle.run_laws.specs.ThreadedRun.{IsThreadedCause, IsThreadedRun}
 use Rattle.leader.specs.Threads.{Led, Represents, HasLedTo}
+use Rattle.leader.specs.Decided.{IsNotedIn, IsDecided}
 
 -- The status updates went out: all of them, or all but a part of the last.
 abbrev pub WasSent : {g : Setting} {old new : DeviceState} → StreamPart g old new → Type 0
 WasSent part = AreAllSent part ⊎ LastIsCut part
 
--- A leader has ended a run so, at a world of its items, for a cause there; it has left a line that tells the world's
--- commits, and the position that they reach.
+-- A leader has ended a run so, at a world of its items, for a cause there: a clash that is noted in it, and whom a
+-- transaction waits for there, are answered by what was proposed. It has left a line that tells the world's commits, and
+-- the position that they reach.
 pub record LeavesLine (g : Setting) (rows : Rows) (old new : DeviceState) (line : List LineEvent) (position : ℕ) (end : End) : Type 0 where
   pub led : Led
   pub proposed : End
@@ -45,6 +47,8 @@ pub record LeavesLine (g : Setting) (rows : Rows) (old new : DeviceState) (line 
   pub world : World
   pub is_world : IsWorldOf g rows over.part.progress.state over.part.rest world
   pub cause : IsThreadedCause over.part world end
+  pub given : List (ℕ × ℕ)
+  pub decided : IsDecided (schema_of g) world (IsNotedIn world) given proposed end
   pub committed : world.committed ≡ serial (schema_of g) rows (changes_in world.line)
   pub told : commits_in line ≡ world.line
   pub reached : position ≡ led.position
@@ -58,11 +62,15 @@ pub record IsShutSo (keys : Schema) (rows : Rows) (line : List LineEvent) (o : O
   pub world : ∥ ((w : World) × Reaches keys (starting rows) w × Closes w o.tables.rows (map entry_in o.journal.items)) ∥₁
 
 -- A run with workers from these rows: the items handled are those of the bytes up to its end, at which there is a world
--- of theirs that calls on a store reach, and a cause of the end; all of them if it ended cleanly. What is left are the
+-- of theirs that calls on a store reach, and a cause of the end; all of them if it ended cleanly. The end is the one that
+-- was decided there: of a clash, where its change stopped that world and is still wanted. What is left are the
 -- commits among them, each with the changes of its transaction that survived its rollbacks, applied one after another in
 -- their order. A world that calls reach closes with them.
 pub record IsRunByWorkers (g : Setting) (rows : Rows) (old new : DeviceState) (o : Outcome) : Type 0 where
   pub run : IsThreadedRun g rows old new o
+  pub proposed : End
+  pub given : List (ℕ × ℕ)
+  pub decided : IsDecided (schema_of g) run.world (IsNotedIn run.world) given proposed o.end
   pub sent : WasSent run.part
   pub clean : o.end ≡ Clean → run.part.handled ≡ copy_items run.part.bytes
   pub journal : map entry_in o.journal.items ≡ commits run.part.progress.state

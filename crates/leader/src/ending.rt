@@ -10,7 +10,8 @@ ghost use Rattle.world.specs.World.{World};
 ghost use Rattle.live_tables.specs.Answers.{TellsWhatStopped};
 ghost use Rattle.engine.specs.Events.{commits_in};
 ghost use Rattle.dispatch.specs.Standing.{own_by};
-ghost use Rattle.leader.specs.Ending.{Hand, AreOpenIn, AreGone, TellsNoted, TellsHeld, EndsAsNoted, IsDecided, IsLessOpen, HasFinished};
+ghost use Rattle.leader.specs.Decided.{EndsAsNoted, IsDecided};
+ghost use Rattle.leader.specs.Ending.{Hand, AreOpenIn, AreGone, IsNoted, TellsNoted, TellsHeld, IsLessOpen, HasFinished};
 
 use change::Clash;
 use dispatch::Slot;
@@ -135,7 +136,7 @@ fn clash_of<N: StoreNames>(store: &mut SharedStore<N>, ticket: &mut Ticket) -> O
 // clash that is noted.
 fn decide(proposed: End, stop: Option<Stop>, holder: Option<Xid>, noted: Option<Clash>) -> End
     ensures { (schema : Schema) (w : World) (hand : Hand) (given : List (ℕ × ℕ)) → TellsWhatStopped stop w.stopped → TellsHeld schema w given proposed holder
-        → TellsNoted w hand noted → IsDecided schema w hand given proposed result }
+        → TellsNoted w hand noted → IsDecided schema w (IsNoted w hand) given proposed result }
 {
     match proposed {
         End::Clean => match stop {
@@ -153,7 +154,7 @@ fn decide(proposed: End, stop: Option<Stop>, holder: Option<Xid>, noted: Option<
 
 // The end of the clash that is noted.
 fn end_of_noted(noted: Option<Clash>) -> End
-    ensures { (w : World) (hand : Hand) → TellsNoted w hand noted → EndsAsNoted w hand result }
+    ensures { (w : World) (hand : Hand) → TellsNoted w hand noted → EndsAsNoted (IsNoted w hand) result }
 {
     match noted {
         Some(clash) => End::from(clash),
