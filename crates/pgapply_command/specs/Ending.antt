@@ -70,20 +70,23 @@ abbrev pub workers_of : Bool → Config → ℕ
 workers_of true config = 0
 workers_of false config = config.workers
 
--- The catalog is refused: no device was used, and nothing was appended.
-pub record IsRefused (bytes : List ℕ) (given left : DeviceState) (old new : List ℕ) (ended : Ended) : Type 0 where
+-- The catalog is refused, which whoever hears was told: no device was used, and nothing was appended.
+pub record IsRefused (HeardFault : CatalogFault → Type 0) (bytes : List ℕ) (given left : DeviceState) (old new : List ℕ) (ended : Ended) : Type 0 where
   pub fault : CatalogFault
   pub faulty : IsFault bytes fault
+  pub heard : HeardFault fault
   pub said : Says ended (fault_status fault) (fault_line fault)
   pub unused : left ≡ given
   pub nothing : new ≡ old
 
 -- The bytes are those of a catalog, and the stream was run from its tables, all empty, by so many workers; nobody watched.
-pub record HasRun (workers : ℕ) (bytes : List ℕ) (config : Config) (given left : DeviceState) : Type 0 where
+-- Whoever hears was told what the run left.
+pub record HasRun (HeardEnd : List Definition → Outcome → Type 0) (workers : ℕ) (bytes : List ℕ) (config : Config) (given left : DeviceState) : Type 0 where
   pub definitions : List Definition
   pub catalog : IsCatalog bytes definitions
   pub outcome : Outcome
   pub run : RunsBy workers 0 definitions config finite.empty given left outcome
+  pub heard : HeardEnd definitions outcome
 
 -- The report of an outcome was appended.
 pub record IsTold (definitions : List Definition) (outcome : Outcome) (old new : List ℕ) (ended : Ended) : Type 0 where
@@ -91,8 +94,9 @@ pub record IsTold (definitions : List Definition) (outcome : Outcome) (old new :
   pub said : Says ended (end_status outcome.end) []
 
 -- The stream was run, and the report of what it left was appended.
-pub record HasReported (workers : ℕ) (bytes : List ℕ) (config : Config) (given left : DeviceState) (old new : List ℕ) (ended : Ended) : Type 0 where
-  pub ran : HasRun workers bytes config given left
+pub record HasReported (HeardEnd : List Definition → Outcome → Type 0) (workers : ℕ) (bytes : List ℕ) (config : Config) (given left : DeviceState)
+    (old new : List ℕ) (ended : Ended) : Type 0 where
+  pub ran : HasRun HeardEnd workers bytes config given left
   pub told : IsTold ran.definitions ran.outcome old new ended
 
 -- Memory was refused, and nothing was appended.
@@ -105,13 +109,15 @@ abbrev pub Tells : List Definition → Outcome → List ℕ → List ℕ → End
 Tells definitions outcome old new ended = IsTold definitions outcome old new ended ⊎ HasNoMemory old new ended
 
 -- Memory was refused: before a device was used, or for the report of a run.
-pub record LacksMemory (workers : ℕ) (bytes : List ℕ) (config : Config) (given left : DeviceState) (old new : List ℕ) (ended : Ended) : Type 0 where
-  pub when : (left ≡ given) ⊎ HasRun workers bytes config given left
+pub record LacksMemory (HeardEnd : List Definition → Outcome → Type 0) (workers : ℕ) (bytes : List ℕ) (config : Config) (given left : DeviceState)
+    (old new : List ℕ) (ended : Ended) : Type 0 where
+  pub when : (left ≡ given) ⊎ HasRun HeardEnd workers bytes config given left
   pub said : HasNoMemory old new ended
 
--- The catalog was refused, the stream was run and reported, or memory was refused.
-abbrev pub Executes : ℕ → List ℕ → Config → DeviceState → DeviceState → List ℕ → List ℕ → Ended → Type 0
-Executes workers bytes config given left old new ended =
-    IsRefused bytes given left old new ended
-    ⊎ HasReported workers bytes config given left old new ended
-    ⊎ LacksMemory workers bytes config given left old new ended
+-- The catalog was refused, the stream was run and reported, or memory was refused. Whoever hears was told of the catalog's
+-- fault, or of the run's end.
+abbrev pub Executes : (CatalogFault → Type 0) → (List Definition → Outcome → Type 0) → ℕ → List ℕ → Config → DeviceState → DeviceState → List ℕ → List ℕ → Ended → Type 0
+Executes HeardFault HeardEnd workers bytes config given left old new ended =
+    IsRefused HeardFault bytes given left old new ended
+    ⊎ HasReported HeardEnd workers bytes config given left old new ended
+    ⊎ LacksMemory HeardEnd workers bytes config given left old new ended

@@ -165,6 +165,10 @@ impl Account {
 }
 
 impl Hearer for Account {
+    ghost has_heard_fault = { λ _ _. Unit {0} };
+
+    ghost has_heard_end = { λ _ _ _. Unit {0} };
+
     // The line of a catalog that was refused for memory says so already.
     fn hear_refusal(&mut self, fault: CatalogFault) {
         if fault != CatalogFault::OutOfMemory {

@@ -54,7 +54,7 @@ where
     R: Source + Drop,
     W: Sink + Drop,
     C: Clock + Drop,
-    ensures { (left : DeviceState) × Executes (workers_of spooled config.now) catalog.now config.now
+    ensures { (left : DeviceState) × Executes (λ fault. Unit {0}) (λ definitions outcome. Unit {0}) (workers_of spooled config.now) catalog.now config.now
         (device_state (R.remaining reader) (W.contents writer) (C.told clock) (R.reads_left reader)
         (health (R.failures reader) (R.failed_last reader)) (health (W.failures writer) (W.failed_last writer)))
         left out.old.items out.new.items result }
@@ -74,11 +74,24 @@ where
 
 /// Hears why a command ended, while it is known. It is shown what there is, and can change nothing of it.
 pub trait Hearer {
+    ghost use Rattle.std.specs.Prelude.{List};
+    ghost use Rattle.catalog.specs.Definition.{Definition};
+    ghost use Rattle.catalog.specs.declared.fault.CatalogFault.{CatalogFault as AnyFault};
+    ghost use Rattle.run.specs.declared.outcome.Outcome.{Outcome as AnyOutcome};
+
+    /// What it is once it has heard that a catalog was refused.
+    ghost has_heard_fault: { AnyFault → Self → Type 0 };
+
+    /// What it is once it has heard of a run's end.
+    ghost has_heard_end: { List Definition → AnyOutcome → Self → Type 0 };
+
     /// The catalog was refused.
-    fn hear_refusal(&mut self, fault: CatalogFault);
+    fn hear_refusal(&mut self, fault: CatalogFault)
+        ensures { ∥ has_heard_fault fault self.new ∥₁ };
 
     /// The run has ended, and its report comes next.
-    fn hear_end(&mut self, catalog: &Catalog, outcome: &Outcome);
+    fn hear_end(&mut self, catalog: &Catalog, outcome: &Outcome)
+        ensures { ∥ has_heard_end catalog.now outcome.now self.new ∥₁ };
 }
 
 /// Nobody hears.
@@ -86,13 +99,17 @@ pub trait Hearer {
 pub struct Nobody;
 
 impl Hearer for Nobody {
+    ghost has_heard_fault = { λ _ _. Unit {0} };
+
+    ghost has_heard_end = { λ _ _ _. Unit {0} };
+
     fn hear_refusal(&mut self, _fault: CatalogFault) {}
 
     fn hear_end(&mut self, _catalog: &Catalog, _outcome: &Outcome) {}
 }
 
 /// `execute` over devices that are looked at afterwards: what was read and sent. Somebody may hear why it
-/// ends.
+/// ends: of a fault of the catalog, or of what the run left.
 pub fn execute_on<H, R, W, C, L>(
     rt: &H,
     alloc: Global,
@@ -109,7 +126,8 @@ where
     W: Sink,
     C: Clock,
     L: Hearer,
-    ensures { Executes (workers_of spooled config.now) catalog.now config.now devices.old devices.new out.old.items out.new.items result }
+    ensures { Executes (λ fault. ∥ L.has_heard_fault fault hearer.new ∥₁) (λ definitions outcome. ∥ L.has_heard_end definitions outcome hearer.new ∥₁)
+        (workers_of spooled config.now) catalog.now config.now devices.old devices.new out.old.items out.new.items result }
 {
     let catalog = match read_catalog(alloc, catalog) {
         Ok(catalog) => catalog,

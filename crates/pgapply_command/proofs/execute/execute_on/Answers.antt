@@ -31,11 +31,12 @@ returns g c =
           same_run (min config.workers (length c.in-Ok-open_gates.gates.items)) (workers_of c.args.spooled config) (length w.new-watchers.result.items) c.in-Ok.catalog config c.in-Ok-empty_tables.start.rows finite.empty c.args.devices.now w.run_on-outcome.new.devices c.if-spooled.devices w.run_on-outcome.result.0 c.if-spooled.outcome
           (ap (λ b. workers_of b config) w.if-spooled.false ∙ count) (ap length w.new-watchers.ensures.items) c.in-Ok-empty_tables.ensures.rows w.devices-is w.outcome-is w.run_on-outcome.ensures.run
     ] in
-    let ran : HasRun (workers_of c.args.spooled config) c.args.catalog.now config c.args.devices.now c.if-spooled.devices = record {
+    let ran : HasRun (λ definitions outcome. ∥ g.L.Hearer.has_heard_end definitions outcome c.hear_end.new.self ∥₁) (workers_of c.args.spooled config) c.args.catalog.now config c.args.devices.now c.if-spooled.devices = record {
       definitions = c.in-Ok.catalog;
       catalog = c.in-Ok.ensures.catalog;
       outcome = c.if-spooled.outcome;
       run = run;
+      heard = c.hear_end.ensures;
     } in
     elim c.tell-ended.ensures [
       | inl told ↦ inr (inl (record { ran = ran; told = record { report = told.report; said = told.said } }))
