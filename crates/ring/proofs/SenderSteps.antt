@@ -37,15 +37,15 @@ module _ {T : Type 0} where
   -- the sender has counted all that were acknowledged
   counts_all : (s : State (Option T) (View T)) (law : Flow s) (id : ℕ) (v : View T)
       → get_elem? s.views id ≡ some v → v.sends ≡ true
-      → Seats (set s.views id (record v { counted = length law.course.acked })) law.course
+      → Seats (set s.views id (record v { counted = length law.course.acked; looks = v.looks + 1 })) law.course
   counts_all s law id v at on = let c = law.course in let a : ℕ = length c.acked in
       let k = (law.seats.of_sender id v at on).1 in
-      sender_steps s.views c c id v (record v { counted = a }) law.seats at on record { before_is = k.before_is; sent_is = k.sent_is; counted_is = le_refl a; dooms_is = k.dooms_is; writing_is = k.writing_is } refl (λ t. t) (λ _ t. t)
+      sender_steps s.views c c id v (record v { counted = a; looks = v.looks + 1 }) law.seats at on record { before_is = k.before_is; sent_is = k.sent_is; counted_is = le_refl a; dooms_is = k.dooms_is; writing_is = k.writing_is } refl (λ t. t) (λ _ t. t)
 
   pub counts : (n id : ℕ) (me : Me (Option T) (View T)) → me.0.sends ≡ true
       → Allows Flow n id me HEAD (λ m. m) (counted (step n HEAD 0 0 none) me)
   counts n id me on s law wide at _ = let a : ℕ = length law.course.acked in
-      let w : View T = record me.0 { counted = a } in
+      let w : View T = record me.0 { counted = a; looks = me.0.looks + 1 } in
       (w, keeps, tt, looked s law HEAD id me w (counts_all s law id me.0 at on), (a, sees_head s law n id me.0 wide at on, refl))
 
   -- the slot that is taken where there is room
@@ -64,7 +64,7 @@ module _ {T : Type 0} where
       → ((length me.0.sent < length law.course.acked + n) × (me.0.sent_before + length me.0.sent < 2 ^ 63) → ⊥)
       → Loads s HEAD id me (sought (step n HEAD 0 0 none) me)
   stays n id me on s law wide at full = let a : ℕ = length law.course.acked in
-      let w : View T = record me.0 { counted = a } in (
+      let w : View T = record me.0 { counted = a; looks = me.0.looks + 1 } in (
         w,
         keeps,
         tt,
@@ -82,7 +82,7 @@ module _ {T : Type 0} where
       let parts : length (c.acked ++ c.left) ≡ a + length c.left = length-append c.acked c.left in
       dite (dec_le (a + n) l) (λ full. stays n id me on s law wide at (λ z. let y = z.0 in omega arith))
       (λ room. dite (dec_le (2 ^ 63) (v.sent_before + l)) (λ far. stays n id me on s law wide at (λ z. let y = z.1 in omega arith))
-      (λ near. let w : View T = record v { counted = a; writing = true } in
+      (λ near. let w : View T = record v { counted = a; looks = v.looks + 1; writing = true } in
       let c' : Course T = record c { writing = true } in let p : ℕ = (head_of c + length c.left) % n in
       let q : ℕ = (v.sent_before + l) % n in let same : p ≡ q = slot_of s law n id v at on in
       let there : length c.left < n = omega arith in (

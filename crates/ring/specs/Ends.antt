@@ -13,7 +13,8 @@ pub record Sending (T : Type 0) : Type 0 where
   pub ring : TableId  -- which ring it is; `ring.slots` is its capacity
   pub before : ℕ  -- how many items were sent over the ring's life before
   pub sent : List T
-  pub counted : ℕ  -- how many acknowledged ones the sender has seen
+  pub counted : ℕ  -- how many acknowledged ones the sender saw when it last looked
+  pub looks : ℕ  -- how many times it has looked
   pub dooms : Bool  -- whether it doomed the taker
 
 -- the items that were acknowledged since then, oldest first
@@ -33,17 +34,18 @@ pub record Meeting (T : Type 0) : Type 0 where
   pub left : List T
 
 module _ {T : Type 0} where
-  -- it has sent these items, and the acknowledged ones that it has seen leave no more than the capacity
+  -- it has looked once more how many were acknowledged, which leave no more than the capacity, and has sent these items
   pub record SentThrough (old new : Sending T) (items : List T) : Type 0 where
     pub ring : new.ring ≡ old.ring
     pub before : new.before ≡ old.before
     pub sent : new.sent ≡ items
     pub dooms : new.dooms ≡ old.dooms
+    pub looked : new.looks ≡ old.looks + 1
     pub grows : old.counted ≤ new.counted
     pub behind : new.counted ≤ length new.sent
     pub near : length new.sent ≤ new.counted + new.ring.slots
 
-  -- every slot has an item that the sender has not seen acknowledged, or a ring's life is over
+  -- every slot has an item that the sender did not see acknowledged as it last looked, or a ring's life is over
   abbrev pub HasNoRoom : Sending T → Type 0
   HasNoRoom s = (length s.sent ≡ s.counted + s.ring.slots) ⊎ (2 ^ 63 ≤ s.before + length s.sent)
 

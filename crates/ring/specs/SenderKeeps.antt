@@ -13,6 +13,7 @@ module _ {T : Type 0} where
     before = v.sent_before;
     sent = v.sent;
     counted = v.counted;
+    looks = v.looks;
     dooms = v.dooms;
   }
 

@@ -25,6 +25,7 @@ module _ {T : Type 0} where
     sent_before = 0;
     sent = [];
     counted = 0;
+    looks = 0;
     dooms = false;
     writing = false;
     acked_before = 0;
@@ -65,9 +66,9 @@ module _ {T : Type 0} where
     pub behind : a ≤ length v.sent
     pub near : length v.sent ≤ a + st.slots
 
-  -- the sender learns how many were acknowledged
+  -- the sender looks once more how many were acknowledged
   abbrev pub counted : StepRule T
-  counted st m n m' = (a : ℕ) × SeesHead st m.0 n a × (m' ≡ (record m.0 { counted = a }, m.1))
+  counted st m n m' = (a : ℕ) × SeesHead st m.0 n a × (m' ≡ (record m.0 { counted = a; looks = m.0.looks + 1 }, m.1))
 
   -- where there is room, the slot behind the last item is taken
   abbrev pub sought : StepRule T
@@ -75,11 +76,11 @@ module _ {T : Type 0} where
       (a : ℕ) × SeesHead st m.0 n a
       × (length m.0.sent < a + st.slots → m.0.sent_before + length m.0.sent < 2 ^ 63
       → m' ≡ (
-        record m.0 { counted = a; writing = true },
+        record m.0 { counted = a; looks = m.0.looks + 1; writing = true },
         ((m.0.sent_before + length m.0.sent) % st.slots, None) ∷ m.1,
       ))
       × ((length m.0.sent ≡ a + st.slots) ⊎ (2 ^ 63 ≤ m.0.sent_before + length m.0.sent)
-      → m' ≡ (record m.0 { counted = a }, m.1))
+      → m' ≡ (record m.0 { counted = a; looks = m.0.looks + 1 }, m.1))
 
   -- the item that was written is sent, and its slot with it
   abbrev pub sent_next : StepRule T

@@ -23,6 +23,7 @@ pub struct View<T> {
     pub sent_before: u64,
     pub sent: LinkedList<T>,
     pub counted: u64,
+    pub looks: u64,
     pub dooms: bool,
     pub writing: bool,
     pub acked_before: u64,

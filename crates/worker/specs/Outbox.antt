@@ -35,7 +35,7 @@ pub record OutboxModel : Type 0 where
 -- the end of a ring, which an outbox has but while it is collected
 abbrev pub the_end : Option (Sending Item) → Sending Item
 the_end (Some s) = s
-the_end None = record { ring = no_name; before = 0; sent = []; counted = 0; dooms = false }
+the_end None = record { ring = no_name; before = 0; sent = []; counted = 0; looks = 0; dooms = false }
 
 -- what an outbox knows, by its parts
 abbrev pub outbox_model : ℕ → List OutboxEvent → Option (Sending Item) → List Item → OutboxModel
