@@ -8,29 +8,34 @@ use std::io;
 use std::io::Read;
 use std::os::unix::fs::PermissionsExt;
 
-/// Reads a password file, if it is there. One that its group or others may read, and what is no file, is
-/// passed over, which is said on standard error.
+/// Reads a password file, if it is there. One that its group or others may read, what is no file, and what
+/// can't be read is passed over, which is said on standard error.
 pub fn read_passfile<H: Files<File = File> + Eprint>(
     alloc: Global,
     host: &H,
     path: &str,
 ) -> io::Result<Vec<u8>> {
-    let mut bytes = Vec::new(alloc);
     let Ok(found) = std::fs::metadata(host, path) else {
-        return Ok(bytes);
+        return Ok(Vec::new(alloc));
     };
-    let is_open = found.permissions().mode() & 0o077 != 0;
-    if found.is_file() && !is_open {
-        let mut file: File = File::open(host, path)?;
-        file.read_to_end(&mut bytes)?;
-        return Ok(bytes);
-    }
-    let reason = if is_open {
+    let reason = if found.permissions().mode() & 0o077 != 0 {
         "its group or others may use it, and its mode should be 0600"
-    } else {
+    } else if !found.is_file() {
         "it is no plain file"
+    } else {
+        match read_file(alloc, host, path) {
+            Ok(bytes) => return Ok(bytes),
+            Err(_) => "it can't be read",
+        }
     };
     eprintln!(host; "publisher: the password file {path:?} is passed over: {reason}")?;
+    Ok(Vec::new(alloc))
+}
+
+fn read_file<H: Files<File = File>>(alloc: Global, host: &H, path: &str) -> io::Result<Vec<u8>> {
+    let mut bytes = Vec::new(alloc);
+    let mut file: File = File::open(host, path)?;
+    file.read_to_end(&mut bytes)?;
     Ok(bytes)
 }
 

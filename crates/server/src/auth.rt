@@ -73,9 +73,11 @@ impl Ways {
     };
 }
 
-/// Text forms of values that don't change with the server's settings, as PostgreSQL's subscriber asks.
-const FORMS: &str =
-    "-c datestyle=ISO -c intervalstyle=postgres -c extra_float_digits=3 -c timezone=UTC -c bytea_output=hex -c standard_conforming_strings=on";
+/// What a session is asked to hold by, whatever is set for the role or the database: text forms of values, as
+/// PostgreSQL's subscriber asks; rows that a policy would hide are an error; and no limit of the server ends a
+/// copy, or the snapshot that waits for a follower.
+const SETTINGS: &str =
+    "-c datestyle=ISO -c intervalstyle=postgres -c extra_float_digits=3 -c timezone=UTC -c bytea_output=hex -c standard_conforming_strings=on -c row_security=off -c statement_timeout=0 -c lock_timeout=0 -c idle_in_transaction_session_timeout=0";
 
 /// Connects as `login`, until the server is ready for a query. `random` makes the nonce of SCRAM.
 pub fn log_in<L: Line + Drop>(
@@ -88,7 +90,7 @@ pub fn log_in<L: Line + Drop>(
         ("database", login.database),
         ("client_encoding", "UTF8"),
         ("application_name", "publisher"),
-        ("options", FORMS),
+        ("options", SETTINGS),
         ("replication", "false"),
     ];
     if login.replication {

@@ -12,7 +12,7 @@ use crate::slots::{drop_made, make_if_asked};
 use crate::stream::{Subscription, System, confirmed, identify, start, status};
 use crate::wire;
 use std::alloc::Global;
-use std::fs::{File, Files};
+use std::fs::{File, Files, TryLockError};
 use std::io::{Seek, SeekFrom, Stdout, Write};
 use std::net::{Net, TcpStream};
 use std::os::unix::fs::OpenOptionsExt;
@@ -86,14 +86,14 @@ fn open<'a, L: Line + Drop, H: Files<File = File>>(
         Destination::File(path) => (Target::File(create(host, path)?, 0), Some(path)),
         Destination::Stdout(stdout) => (Target::Stdout(stdout), None),
         Destination::Behind(path) => {
-            let kept = read_file(alloc, host, asked, system, path)?;
+            let (file, kept) = open_kept(alloc, host, asked, system, path)?;
             let stands = confirmed(connection, asked.slot.name)?;
             if stands > kept.position {
                 return Err(Fault::Lost(Place(stands), Place(kept.position)));
             }
             relayed.position = kept.position;
             relayed.committed = kept.committed;
-            (cut(alloc, host, path, &kept)?, None)
+            (cut(alloc, file, &kept)?, None)
         }
     };
     Ok(Opened {
@@ -124,20 +124,45 @@ fn take_back<H: Net<Stream = TcpStream> + Clock + RandomSource + Files<File = Fi
 fn create<H: Files<File = File>>(host: &H, path: &str) -> Result<File, Fault> {
     let mut options = File::options();
     options.write(true).create_new(true).mode(0o600);
-    options.open(host, path).map_err(Fault::CannotWrite)
+    let file: File = options.open(host, path).map_err(Fault::CannotWrite)?;
+    lock(&file)?;
+    Ok(file)
 }
 
-/// What can be kept of a file, which has to be of this stream, and whose copy of the rows, if it begins
-/// with one, has to be whole.
-fn read_file<H: Files<File = File>>(
+/// Sees that no other capture has the file, as long as this one has it.
+fn lock(file: &File) -> Result<(), Fault> {
+    match file.try_lock() {
+        Ok(()) => Ok(()),
+        Err(TryLockError::WouldBlock) => Err(Fault::InUse),
+        Err(TryLockError::Error(error)) => Err(Fault::CannotWrite(error)),
+    }
+}
+
+/// Opens a file that an earlier capture left, and answers what of it can be kept.
+fn open_kept<H: Files<File = File>>(
     alloc: Global,
     host: &H,
     asked: &Subscription<'_>,
     system: &System,
     path: &str,
+) -> Result<(File, Kept), Fault> {
+    let reading = File::open(host, path).map_err(Fault::CannotRead)?;
+    let mut options = File::options();
+    options.write(true);
+    let file: File = options.open(host, path).map_err(Fault::CannotWrite)?;
+    lock(&file)?;
+    Ok((file, read_file(alloc, asked, system, reading)?))
+}
+
+/// What can be kept of a file, which has to be of this stream, and whose copy of the rows, if it begins
+/// with one, has to be whole.
+fn read_file(
+    alloc: Global,
+    asked: &Subscription<'_>,
+    system: &System,
+    file: File,
 ) -> Result<Kept, Fault> {
     let identifier = system.identifier.as_str();
-    let file = File::open(host, path).map_err(Fault::CannotRead)?;
     let plain = label(alloc, asked, identifier, false)?;
     let copied = label(alloc, asked, identifier, true)?;
     let (kept, is_copied) = read_kept(alloc, file, plain.as_slice(), copied.as_slice())?;
@@ -148,15 +173,8 @@ fn read_file<H: Files<File = File>>(
 }
 
 /// Cuts the file back to what is kept, and ends the streamed transactions that are open there.
-fn cut<H: Files<File = File>>(
-    alloc: Global,
-    host: &H,
-    path: &str,
-    kept: &Kept,
-) -> Result<Target, Fault> {
-    let mut options = File::options();
-    options.write(true);
-    let mut file: File = options.open(host, path).map_err(Fault::CannotWrite)?;
+fn cut(alloc: Global, file: File, kept: &Kept) -> Result<Target, Fault> {
+    let mut file = file;
     file.set_len(kept.length).map_err(Fault::CannotWrite)?;
     file.seek(SeekFrom::Start(kept.length))
         .map_err(Fault::CannotWrite)?;

@@ -38,8 +38,8 @@ pub enum Fault {
     /// The server asks for a way to authenticate, here by libpq's name, that is not to be taken.
     #[error("Excluded: the server asks for authentication {0}, which --require-auth excludes")]
     Excluded(&'static str),
-    /// PGSSLMODE asks for TLS.
-    #[error("NoTls: PGSSLMODE asks for TLS, and there is none: go through a tunnel, as ssh -L")]
+    /// PGSSLMODE, or the URI's sslmode, asks for TLS.
+    #[error("NoTls: PGSSLMODE or sslmode asks for TLS, and there is none: go through a tunnel, as ssh -L")]
     NoTls,
     /// The server offers no SASL mechanism that is known here.
     #[error("NoMechanism: the server does not offer SCRAM-SHA-256")]
@@ -72,6 +72,9 @@ pub enum Fault {
     /// The file is no capture of this publication through this slot of this server.
     #[error("OtherCapture: the file is no capture of this publication through this slot of this server")]
     OtherCapture,
+    /// Another capture has the file.
+    #[error("InUse: another capture has the file")]
+    InUse,
     /// The copy of the rows that the file begins with isn't whole.
     #[error("HalfCopy: the file's copy of the rows is not whole: drop the slot, and begin again")]
     HalfCopy,

@@ -4,13 +4,13 @@ use server::auth::{Login, Password, Ways, log_in};
 use server::fault::Fault;
 use std::alloc::Global;
 use std::test::Fail;
-use testing::asserts::assert_same;
+use testing::asserts::{assert_holds, assert_same};
 
 /// The first bytes of the client, up to the settings: length, version, user and database.
-const STARTUP: &[u8] = b"\x00\x00\x00\xf5\x00\x03\x00\x00user\0alice\0database\0shop\0";
+const STARTUP: &[u8] = b"\x00\x00\x01\x5b\x00\x03\x00\x00user\0alice\0database\0shop\0";
 
 /// How many bytes the client says first.
-const STARTUP_LENGTH: usize = 245;
+const STARTUP_LENGTH: usize = 347;
 
 const RANDOM: [u8; 18] = [0, 1, 2, 3, 4, 5, 6, 7, 8, 9, 10, 11, 12, 13, 14, 15, 16, 17];
 
@@ -325,6 +325,26 @@ fn a_server_that_talks_of_other_things(rt: HostRuntime) -> Result<(), Fail> {
     let mut attempt = Attempt::of(input.as_slice(), 14);
     attempt.behind = Behind::Slow;
     attempt.assert_fault(rt.alloc(), "TimedOut", 0)
+}
+
+/// Settings of a session without which a role's own may hide rows, or end a copy.
+static SETTINGS: [&str; 4] = [
+    "row_security=off",
+    "statement_timeout=0",
+    "lock_timeout=0",
+    "idle_in_transaction_session_timeout=0",
+];
+
+#[test]
+fn no_setting_of_a_role_hides_rows_or_ends_a_copy(rt: HostRuntime) -> Result<(), Fail> {
+    let input = spell(rt.alloc(), &[&WELCOME])?;
+    let (answer, sent) = Attempt::of(input.as_slice(), 9).log_in(rt.alloc())?;
+    answer?;
+    let text = String::from_utf8_lossy(rt.alloc(), sent.as_slice())?;
+    for setting in &SETTINGS {
+        assert_holds(text.as_str().find(*setting).is_some(), *setting)?;
+    }
+    Ok(())
 }
 
 #[test]

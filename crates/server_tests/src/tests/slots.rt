@@ -47,6 +47,8 @@ struct Case {
     copies: bool,
     appends: bool,
     serves: bool,
+    /// Whether another capture has the file.
+    is_held: bool,
     words: &'static [Words],
     fault: &'static str,
     asked: &'static str,
@@ -59,6 +61,7 @@ const CAPTURE: Case = Case {
     copies: false,
     appends: false,
     serves: false,
+    is_held: false,
     words: &[],
     fault: "none",
     asked: "",
@@ -83,7 +86,7 @@ const COPY: &[u8] =
 const HALF: &[u8] =
     b"d\0\0\0\x16k\0\0\0\0\0\0\0\x10\0\0\0\0\0\0\0\0\0d\0\0\02w\0\0\0\0\0\0\0\x10\0\0\0\0\0\0\0\x10\0\0\0\0\0\0\0\0B\0\0\0\0\0\0\0\x10\0\0\0\0\0\0\0\0\0\0\0\x02";
 
-static CASES: [Case; 18] = [
+static CASES: [Case; 19] = [
     Case {
         words: &[(&["150009"], &[])],
         fault: "OldServer",
@@ -174,6 +177,16 @@ static CASES: [Case; 18] = [
         left: Some((false, FILE)),
         words: &[(&["160000", "1", "1", "75|1|0/20|shop"], &[])],
         fault: "OtherCapture",
+        asked: "IDENTIFY_SYSTEM",
+        file: Some((false, FILE)),
+        ..APPEND
+    },
+    // Another capture writes the file.
+    Case {
+        is_held: true,
+        left: Some((false, FILE)),
+        words: &[(&["160000", "1", "1", SYSTEM], &[])],
+        fault: "InUse",
         asked: "IDENTIFY_SYSTEM",
         file: Some((false, FILE)),
         ..APPEND
@@ -353,6 +366,18 @@ fn leave_file(rt: &HostRuntime, place: &Place, left: &Option<Captured>) -> Resul
     Ok(())
 }
 
+/// The file as another capture has it that goes on, or none.
+fn hold_file(rt: &HostRuntime, place: &Place, case: &Case) -> Result<Option<File>, Fail> {
+    if !case.is_held {
+        return Ok(None);
+    }
+    let file = File::open(rt, place.file.as_str())?;
+    match file.try_lock() {
+        Ok(()) => Ok(Some(file)),
+        Err(_) => Err(Fail::from("the file is locked")),
+    }
+}
+
 /// Asserts what the file has, or that there is none. One that a command made is for its owner alone.
 fn assert_file(rt: &HostRuntime, place: &Place, case: &Case, number: usize) -> Result<(), Fail> {
     let path = place.file.as_str();
@@ -378,6 +403,7 @@ fn slots_and_files_of_commands(rt: HostRuntime) -> Result<(), Fail> {
             said.push(spell_words(rt.alloc(), words)?)?;
         }
         leave_file(&rt, &place, &case.left)?;
+        let _other = hold_file(&rt, &place, case)?;
         let (name, heard) = run_case(rt.alloc(), &rt, &place, *case, said.as_slice())?;
         assert_same(name.as_str(), case.fault, number)?;
         let text = String::from_utf8_lossy(rt.alloc(), heard.as_slice())?;
