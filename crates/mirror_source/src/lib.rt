@@ -8,7 +8,7 @@
 // Begin says; of a streamed one its commit alone, which comes last: so the stream is scanned first
 // (`find_applied`), where it can be read twice.
 //
-// What is promised: each call is safe and returns. Which messages are left out tests show.
+// What is promised: each call is safe and returns. Which messages are left out no clause says.
 //
 //   behind   `Behind`, the source
 //   scan     `find_applied`, the streamed transactions that a file has
