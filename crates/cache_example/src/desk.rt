@@ -9,13 +9,11 @@ use crate::shown::line_of;
 use leader::{Key, ReadFault, Reader, Row, RowView, StoreNames, Value, Watch};
 use std::alloc::{AllocError, Global};
 use std::sync::Wait;
-use std::thread;
-use std::time::{Clock, Duration};
 
-/// Answers for one account, once a commit has brought it. It has a turn again and again while the run
+/// Answers for one account, once a commit has brought it. It has a turn behind each commit while the run
 /// goes on, and a last one behind its end.
 #[derive(Drop)]
-pub struct Desk<'a, H: Print + Clock> {
+pub struct Desk<'a, H: Print> {
     host: &'a H,
     alloc: Global,
     number: i64,
@@ -23,7 +21,7 @@ pub struct Desk<'a, H: Print + Clock> {
     commits: u64,
 }
 
-impl<'a, H: Print + Clock> Desk<'a, H> {
+impl<'a, H: Print> Desk<'a, H> {
     /// Where this account is asked for, and the answer is printed.
     pub fn new(host: &'a H, alloc: Global, number: i64) -> Desk<'a, H>
         ensures { result.commits ≡ 0 }
@@ -63,17 +61,16 @@ fn look_up<N: StoreNames, R: Wait>(
     reader.get(rt, ACCOUNTS, &key)
 }
 
-impl<H: Print + Clock> Watch for Desk<'_, H> {
+impl<H: Print> Watch for Desk<'_, H> {
     ghost use Rattle.std.specs.Prelude.{◌≤◌, length};
 
     // The commits that it has looked at were published.
     ghost knows = { λ desk sight. desk.commits ≤ length sight.published.ends };
 
     fn turn<N: StoreNames, R: Wait>(&mut self, rt: &R, reader: &mut Reader<'_, N>) -> bool {
-        // The position costs no lock, so it is asked first.
-        let commits = reader.position(rt).commits;
+        // A commit wakes it, or the end of the run.
+        let commits = reader.wait_past(rt, self.commits).commits;
         if commits == self.commits {
-            thread::sleep(self.host, Duration::from_millis(1));
             return true;
         }
         self.commits = commits;

@@ -39,6 +39,6 @@ pub use run::{
     TableId, Tables, Value, ValueRef, Walk, WriteSink, Xid, report, run_spooled, run_spooled_on,
 };
 pub use snapshot::{ReadFault, Reader, TakeEntries, Watch};
-pub use threads::{run, run_on};
+pub use threads::{open_gates, run, run_on};
 pub use watching::NoWatch;
 pub use worker::{Gate, Point};

@@ -1,5 +1,5 @@
 // A run whose streamed transactions have workers.
-ghost use Rattle.std.specs.Prelude.{◌≡◌, ◌<◌, ◌≤◌, ℕ, All, [], false, length, map, max, min, slice_index_or, vec_capacity};
+ghost use Rattle.std.specs.Prelude.{◌≡◌, ◌<◌, ◌≤◌, ℕ, All, IfOk, [], false, length, map, max, min, slice_index_or, vec_capacity};
 ghost use Rattle.model.specs.Rows.{Rows, keys_of, IsValid};
 ghost use Rattle.world.specs.World.{starting};
 ghost use Rattle.engine.specs.Events.{ends_in};
@@ -25,12 +25,12 @@ use crate::watching::{Audience, Watcher, Watching, gather, make_watchers};
 use catalog::Catalog;
 use crossbeam_utils::sync::EventCount;
 use dispatch::{
-    Left, Parts, Positions, RunNames, Shared, Transactions, WorkerHandle, WorkerPool, WorkerShared,
-    make_handles, make_parts,
+    Left, OpenGate, Parts, Positions, RunNames, Shared, Transactions, WorkerHandle, WorkerPool,
+    WorkerShared, make_handles, make_parts,
 };
 use engine::{Line, SharedStore, Store, StoreNames};
 use frames::{Lsn, Sink, Source};
-use model::Xid;
+use model::{OutOfMemory, Xid};
 use origin::Publisher;
 use run::{Clock, Config, Devices, End, Outcome, Tables, read_all, run_spooled_on};
 use snapshot::Watch;
@@ -88,6 +88,17 @@ where
         watchers,
     );
     outcome
+}
+
+/// A gate for each of so many workers, which holds none.
+pub fn open_gates(alloc: Global, workers: usize) -> Result<Vec<OpenGate>, OutOfMemory>
+    ensures { IfOk result (λ gates. length gates.items ≡ workers) }
+{
+    let mut gates = Vec::new(alloc);
+    for _ in 0..workers {
+        gates.push(OpenGate)?;
+    }
+    Ok(gates)
 }
 
 /// `run` over devices that are looked at afterwards: what was read and sent. It hands the watchers back.

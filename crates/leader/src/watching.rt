@@ -117,9 +117,10 @@ impl<L: RunNames> Watching<L> {
         &self.origin
     }
 
-    /// Tells that the run has ended: no transaction is open.
+    /// Tells that the run has ended: no transaction is open, and nothing more is published.
     pub fn signal_end(&self) {
         self.has_ended.store(true, Ordering::SeqCst);
+        self.origin.close();
         self.ended.notify_all();
     }
 

@@ -11,14 +11,15 @@
 //   - `load` answers the position behind the commits that its loader then has seen: all that it had
 //     seen before, and maybe more. So whoever passes a loader on, or splits it for two threads,
 //     passes on what it has seen, and nobody loads an older position with it.
+//   - `wait_past` does the same once there is more than its caller has, or nothing more will come.
 //   - What a loader has seen is a beginning of what was published; `meet` shows it. So what is
 //     loaded was published, or is the position at the start: no commit, and LSN 0.
 //   - Positions are published one commit after another, and the caller counts them. So a position
 //     that is loaded has as many commits as LSNs were published up to its own.
 //
 // Callers owe that tokens belong to the origin. That a load sees what was published just before is
-// tested, and no clause says it. Only `Origin::new` takes memory; `publish`, `load` and `meet` may
-// wait for each other, and `split` does not.
+// tested, and that whoever waits is woken, and no clause says it. Only `Origin::new` takes memory;
+// `publish`, `load` and `meet` may wait for each other, and `split` does not.
 //
 // Inside, an origin is a cell of two words. Each call on it takes effect at one step, a store by
 // the publisher or a load, and `specs/Rule` is the rule that holds between any two of them.

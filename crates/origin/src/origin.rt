@@ -6,16 +6,22 @@ ghost use Rattle.model.specs.Beginning.{Begins};
 use crate::position::{Position, Published};
 use crate::protocol::{Compare, InOrder, Load, Met, Publish, Seen, View};
 use crossbeam_utils::atomic::seq_cell::{Pass, RuledSeqCell};
+use crossbeam_utils::sync::EventCount;
 use model::{Lsn, OutOfMemory};
 use std::alloc::Global;
 use std::fmt;
 use std::marker::Model;
 use std::sync::Wait;
+use std::sync::atomic::{AtomicBool, Ordering};
 
 /// The position of the last commit that was published.
 #[derive(Drop)]
 pub struct Origin {
     cell: RuledSeqCell<Published, View, InOrder, 2>,
+    /// Whether nothing more will be published.
+    is_closed: AtomicBool,
+    /// Wakes those who wait for a position.
+    moved: EventCount,
 }
 
 impl fmt::Debug for Origin {
@@ -96,7 +102,11 @@ impl Origin {
         let (cell, mut pass) = RuledSeqCell::ruled(alloc, start)?;
         let other = cell.split_pass::<Seen>(&mut pass);
         Ok((
-            Origin { cell },
+            Origin {
+                cell,
+                is_closed: AtomicBool::new(false),
+                moved: EventCount::new(),
+            },
             Publisher { pass },
             Loader { pass: other, skip },
         ))
@@ -115,6 +125,13 @@ impl Origin {
             end_lsn: p.end_lsn,
         };
         self.cell.swap_as::<Publish, R>(rt, &mut by.pass, published);
+        self.moved.notify_all();
+    }
+
+    /// Nothing more will be published: nobody waits for that any more.
+    pub fn close(&self) {
+        self.is_closed.store(true, Ordering::SeqCst);
+        self.moved.notify_all();
     }
 
     /// The position that was published last. The loader then has seen all commits up to it: those
@@ -128,6 +145,28 @@ impl Origin {
     {
         let published = self.cell.load_as::<Load, R>(rt, &mut by.pass);
         published.position(by.skip)
+    }
+
+    /// The position that was published last, once it has more commits than these. Where the origin is
+    /// closed before, it is the last position of all.
+    pub fn wait_past<R: Wait>(&self, rt: &R, by: &mut Loader, commits: u64) -> Position
+        requires own { by.old.origin ≡ self.now }
+        ensures same { by.new.origin ≡ by.old.origin }
+        ensures later { Begins by.old.ends by.new.ends }
+        ensures skip { by.new.skip ≡ by.old.skip }
+        ensures position { result ≡ position_after by.new.skip by.new.ends }
+    {
+        for _ in rt.forever() {
+            // Announced before the looks, so that what comes behind them ends the wait.
+            let moved = self.moved.prepare_wait();
+            let is_closed = self.is_closed.load(Ordering::SeqCst);
+            let position = self.load(rt, by);
+            if is_closed || position.commits > commits {
+                return position;
+            }
+            moved.wait(rt);
+        }
+        unreachable!()
     }
 
     /// Learns that what a loader has seen was published.

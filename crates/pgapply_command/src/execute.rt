@@ -10,7 +10,7 @@ use catalog::{Catalog, CatalogFault};
 use frames::{Sink, Source};
 use indexes::{Seed, Tables};
 use leader::{
-    Clock, Config, Devices, End, NoWatch, OpenGate, OutOfMemory, Outcome, report, run_on,
+    Clock, Config, Devices, End, NoWatch, OutOfMemory, Outcome, open_gates, report, run_on,
     run_spooled_on,
 };
 use std::alloc::Global;
@@ -162,7 +162,7 @@ where
 
 /// The tables of a catalog, all empty. A publisher's users choose the values, so nobody is to foretell the
 /// hashes; where the system has no random numbers they are the fixed ones.
-fn empty_tables(
+pub fn empty_tables(
     rt: &impl RandomSource,
     alloc: Global,
     catalog: &Catalog,
@@ -175,17 +175,6 @@ fn empty_tables(
         Err(_) => Seed::fixed(),
     };
     Tables::with_seed(alloc, catalog.tables(), seed)
-}
-
-/// A gate for each worker, which holds none.
-fn open_gates(alloc: Global, workers: usize) -> Result<Vec<OpenGate>, OutOfMemory>
-    ensures { IfOk result (λ gates. length gates.items ≡ workers) }
-{
-    let mut gates = Vec::new(alloc);
-    for _ in 0..workers {
-        gates.push(OpenGate)?;
-    }
-    Ok(gates)
 }
 
 /// Appends the report of what a run left.

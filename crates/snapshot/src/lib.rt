@@ -20,7 +20,7 @@
 //   watch     `Watch`, who reads while a run goes on
 //   fault     `ReadFault`
 //   entries   a position among the entries of a journal
-//   taking    `TakeEntries`, who takes them (`reader/changes` gives them)
+//   taking    `TakeEntries`, who takes them (`reader/changes` gives them); `give_behind`
 //   laws      what follows of what a reader has seen
 //
 //   specs/Reads      what a reader knows, and what its answers tell
@@ -38,5 +38,5 @@ mod watch;
 
 pub use fault::ReadFault;
 pub use reader::Reader;
-pub use taking::TakeEntries;
+pub use taking::{TakeEntries, give_behind};
 pub use watch::Watch;

@@ -165,6 +165,18 @@ impl<'a, N: StoreNames> Reader<'a, N> {
     {
         self.origin.load(rt, &mut self.loader)
     }
+
+    /// The position once it has more commits than these, or, where the run ends before, the last one of
+    /// it. Nothing is looked at meanwhile: a commit or the end wakes whoever waits.
+    pub fn wait_past<R: Wait>(&mut self, rt: &R, commits: u64) -> Position
+        ensures position { result ≡ position_after self.new.published.skip self.new.published.ends }
+        ensures skip { self.new.published.skip ≡ self.old.published.skip }
+        ensures origin { self.new.published.origin ≡ self.old.published.origin }
+        ensures later { Begins self.old.published.ends self.new.published.ends }
+        ensures beside { self.new ≡ record self.old { published = self.new.published } }
+    {
+        self.origin.wait_past(rt, &mut self.loader, commits)
+    }
 }
 
 // The table is one of so many.

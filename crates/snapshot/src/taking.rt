@@ -17,8 +17,8 @@ pub trait TakeEntries {
         ensures { OnOk result (taken self.new ≡ taken self.old ++ entry_in entry.now ∷ []) };
 }
 
-/// Gives the entries behind the first so many.
-pub(crate) fn give_behind<T: TakeEntries>(
+/// Gives the entries behind the first so many. Where memory is refused, it may have given some of them.
+pub fn give_behind<T: TakeEntries>(
     entries: &[Entry],
     count: usize,
     into: &mut T,

@@ -4,9 +4,9 @@
 use super::commits::FIRST_COMMIT;
 use super::features::FEATURES;
 use super::left::{Commit, assert_left, left};
-use super::runs::{Plan, Ran, config_of, is_same, open_gates, run_by, run_unwatched};
+use super::runs::{Plan, Ran, config_of, is_same, run_by, run_unwatched};
 use super::worked::{FIRST, ONE_INSERT, P, ROWS, SECOND, THIRD, UNNAMED_FOURTH};
-use leader::{End, FrameFault, OutOfMemory, ReadSource};
+use leader::{End, FrameFault, OutOfMemory, ReadSource, open_gates};
 use std::alloc::Global;
 use std::io;
 use std::io::{ErrorKind, Read, Write};

@@ -7,11 +7,9 @@
 use super::commits::{CLASH, Case, REFUSED};
 use super::gates::{Due, Place, Sign, Withheld, doors};
 use super::left::{Commit, Email, assert_made, emails};
-use super::runs::{
-    Plan, Ran, catalog, config_of, open_gates, run_by, run_over, run_unwatched, tables_of,
-};
+use super::runs::{Plan, Ran, catalog, config_of, run_by, run_over, run_unwatched, tables_of};
 use super::worked::{EMPTIED, LET_GO, MOVED, NOTE, NULLS, P, ROLLED_BACK, TWO_NULLS, unnamed};
-use leader::{Config, End, OutOfMemory, Outcome, Point, Xid};
+use leader::{Config, End, OutOfMemory, Outcome, Point, Xid, open_gates};
 use std::alloc::Global;
 use std::process::Abort;
 use std::rt::Clock as Host;

@@ -92,15 +92,6 @@ impl<'a> Plan<'a> {
     }
 }
 
-/// A gate for each worker, which holds none.
-pub fn open_gates(alloc: Global, workers: usize) -> Result<Vec<OpenGate>, OutOfMemory> {
-    let mut gates = Vec::new(alloc);
-    for _ in 0..workers {
-        gates.push(OpenGate)?;
-    }
-    Ok(gates)
-}
-
 /// A run by a plan that nobody watches, over tables of the catalog. What it sends is appended: nothing else
 /// here takes memory.
 pub fn run_over<R: Threads + Wait + Sync>(

@@ -1,5 +1,5 @@
 use Rattle.std.proofs.Common.{◌≡◌, length}
-use Rattle.pgapply_command.proofs.execute.open_gates.Given as goal
+use Rattle.leader.proofs.threads.open_gates.Given as goal
 
 -- one for each so far
 abbrev pub invariant-loop : goal.invariant-loop
