@@ -9,14 +9,18 @@ server down, which ends both, applies the file with `pgapply replay` and `pgappl
 for each table. Further captures are applied too: of a slot that was made before the work and is read after
 it; one with `--copy`, of a slot that is made while sessions write to tables that have rows; and one that is
 killed again and again, each time with `--append` behind it. A follower that reads slowly stays to the
-shutdown, and has to hear its end. At last sessions write while `serve`, `follow` and the server are killed at
+shutdown, and has to hear its end. Then sessions write while `serve`, `follow` and the server are killed at
 drawn moments: a follower that keeps what it was given goes on behind each `serve`, `follow` begins anew with
-the rows that are there, and a capture goes on with `--append`. It exits with 0 where all rows are right.
+the rows that are there, and a capture goes on with `--append`. At last `mirror` is killed at drawn moments, and
+goes on with its file behind the same `serve`. It exits with 0 where all rows are right.
+
+With --mirror-figures it measures `mirror` alone: how fast it takes a slot's stream, and the memory that it has.
 
 Needs: python3 (3.11), PostgreSQL's programs (Debian: postgresql-16 or later) in --bin, and the built
-programs `publisher` and `pgapply` (`rt run` or `rt ci` leave them in crates/NAME/out).
+programs `publisher`, `pgapply` and `mirror` (`rt run` or `rt ci` leave them in crates/NAME/out).
 """
-import argparse, json, os, random, shutil, signal, socket, struct, subprocess, sys, tempfile, threading, time, tomllib
+import argparse, json, os, random, shutil, signal, socket, sqlite3, struct, subprocess, sys, tempfile, threading
+import time, tomllib
 
 FORMS = ("-c datestyle=ISO -c intervalstyle=postgres -c extra_float_digits=3 -c timezone=UTC "
          "-c bytea_output=hex")
@@ -176,27 +180,71 @@ def shown(kind, text):
     return escape(text) if kind == "text" else text
 
 
+def named(name):
+    """A name in SQL."""
+    return '"' + name.replace('"', '""') + '"'
+
+
+def lines_of(table, rows):
+    """What pgapply prints of a table with these rows, whose values are texts."""
+    columns = table["column"]
+    places = [next(i for i, c in enumerate(columns) if c["name"] == key) for key in table["primary"]]
+    kinds = [column["type"] for column in columns]
+
+    def order(row):
+        return [int(row[p]) if kinds[p] == "int" else row[p].encode() for p in places]
+
+    return ["|".join(shown(kind, value) for kind, value in zip(kinds, row)) for row in sorted(rows, key=order)]
+
+
+def label_of(table):
+    return escape(table["namespace"]) + "." + escape(table["name"])
+
+
 def expected(server, catalog):
     """What pgapply has to print of the server's own rows."""
     lines = {}
     for table in catalog["table"]:
-        named = lambda name: '"' + name.replace('"', '""') + '"'
-        columns = table["column"]
-        texts = ", ".join(named(column["name"]) + "::text" for column in columns)
+        texts = ", ".join(named(column["name"]) + "::text" for column in table["column"])
         output, errors = server.sql(
             f"SELECT json_build_array({texts}) FROM {named(table['namespace'])}.{named(table['name'])};")
         if errors:
             sys.exit(errors)
-        places = [next(i for i, c in enumerate(columns) if c["name"] == key) for key in table["primary"]]
-        kinds = [column["type"] for column in columns]
-
-        def order(row):
-            return [int(row[p]) if kinds[p] == "int" else row[p].encode() for p in places]
-
-        rows = sorted((json.loads(line) for line in output.split("\n") if line), key=order)
-        label = escape(table["namespace"]) + "." + escape(table["name"])
-        lines[label] = ["|".join(shown(kind, value) for kind, value in zip(kinds, row)) for row in rows]
+        lines[label_of(table)] = lines_of(table, (json.loads(line) for line in output.split("\n") if line))
     return lines
+
+
+def rows_of_file(path, catalog):
+    """What pgapply would print of the rows in a file of `mirror`."""
+    file = sqlite3.connect(f"file:{path}?mode=ro", uri=True)
+    if file.execute("PRAGMA integrity_check").fetchall() != [("ok",)]:
+        sys.exit(f"{path} is not whole")
+    lines = {}
+    for table in catalog["table"]:
+        kinds = [column["type"] for column in table["column"]]
+        columns = ", ".join(named(column["name"]) for column in table["column"])
+        name = table["name"] if table["namespace"] == "public" else f"{table['namespace']}.{table['name']}"
+        rows = file.execute(f"SELECT {columns} FROM {named(name)}")
+        lines[label_of(table)] = lines_of(table, (list(map(text_of, kinds, row)) for row in rows))
+    file.close()
+    return lines
+
+
+def position_of(path):
+    """How far in the log a file of `mirror` is; 0 where there is none."""
+    if not os.path.exists(path):
+        return 0
+    file = sqlite3.connect(f"file:{path}?mode=ro", uri=True)
+    (position,) = file.execute("SELECT lsn FROM pgapply_position").fetchone()
+    file.close()
+    return position
+
+
+def text_of(kind, value):
+    """The server's text of a value in a file of `mirror`."""
+    if value is None:
+        return None
+    return ("false", "true")[value] if kind == "bool" else str(value)
 
 
 def reported(text):
@@ -209,16 +257,22 @@ def reported(text):
     return tables, lines[at:]
 
 
-def compare(name, report, status, wanted):
-    """Whether a report has the server's rows, with a line for each table."""
-    tables, rest = reported(report)
-    right = status == 0
+def compare_tables(name, tables, wanted):
+    """Whether tables have the server's rows, with a line for each."""
+    right = True
     for label, rows in wanted.items():
         same = tables.get(label) == rows
         right = right and same
         print(f"{name}: {label}: {len(rows)} rows {'right' if same else 'WRONG'}")
-    print(f"{name}: {sum(map(len, wanted.values()))} rows, {rest[0]}, {rest[1]}, status {status}")
     return right
+
+
+def compare(name, report, status, wanted):
+    """Whether a report has the server's rows."""
+    tables, rest = reported(report)
+    right = compare_tables(name, tables, wanted)
+    print(f"{name}: {sum(map(len, wanted.values()))} rows, {rest[0]}, {rest[1]}, status {status}")
+    return right and status == 0
 
 
 def compare_file(name, verb, options, catalog_file, stream, wanted):
@@ -241,26 +295,27 @@ def compare_files(server, options, names, wanted):
     return right
 
 
-class Service:
-    """A `publisher serve` that listens, and what it says."""
+class Program:
+    """A program that goes on, and what it says on standard error."""
 
-    def __init__(self, options, where, slot, number, more):
-        self.address = f"127.0.0.1:{options.port + number}"
-        self.process = subprocess.Popen([options.publisher, "serve", *where, "--slot", slot, "--listen",
-                                         self.address, *more], stderr=subprocess.PIPE, text=True)
-        self.said = [""]
-        # It says before that it made the slot.
-        while "listening at" not in self.said[-1]:
-            line = self.process.stderr.readline()
-            if not line:
-                sys.exit(f"serve: {self.said[-1]}")
-            self.said.append(line.strip())
-        self.thread = threading.Thread(target=self.hear)
+    STARTED = []
+
+    def __init__(self, words):
+        self.process = subprocess.Popen(words, stderr=subprocess.PIPE, text=True)
+        self.STARTED.append(self.process)
+        self.said = []
+        self.thread = threading.Thread(target=self.hear, daemon=True)
         self.thread.start()
 
     def hear(self):
         for line in self.process.stderr:
             self.said.append(line.strip())
+
+    def last(self):
+        return self.said[-1] if self.said else ""
+
+    def has_said(self, text):
+        return any(text in line for line in list(self.said))
 
     def runs(self):
         return self.process.poll() is None
@@ -269,9 +324,30 @@ class Service:
         self.process.kill()
         self.wait()
 
-    def wait(self):
-        self.process.wait(timeout=60)
+    def wait(self, seconds=60):
+        """Waits until it has ended, and answers its status."""
+        self.process.wait(timeout=seconds)
         self.thread.join()
+        return self.process.returncode
+
+
+class Service(Program):
+    """A `publisher serve` that listens."""
+
+    def __init__(self, options, where, slot, number, more):
+        self.address = f"127.0.0.1:{options.port + number}"
+        super().__init__([options.publisher, "serve", *where, "--slot", slot, "--listen", self.address, *more])
+        # It says before that it made the slot.
+        while not self.has_said("listening at"):
+            time.sleep(0.01)
+            if not self.runs():
+                sys.exit(f"serve: {self.last()}")
+
+    def is_free(self):
+        """Whether it has seen that each one whom it served is gone."""
+        said = list(self.said)
+        gone = sum(line.endswith((": the follower closed", ": a fault")) for line in said)
+        return gone == sum("a follower came" in line for line in said)
 
 
 class Follower:
@@ -346,7 +422,7 @@ class Slow(Own):
         self.service = Service(options, where, "slow", 2, ["--create", "--once"])
         self.hurries = False
         self.connect(self.service.address)
-        self.thread = threading.Thread(target=self.read)
+        self.thread = threading.Thread(target=self.read, daemon=True)
         self.thread.start()
 
     def receive(self):
@@ -362,7 +438,7 @@ class Slow(Own):
         keepalives = self.frames.get("dk", 0)
         right = self.end == "the end" and self.frames.get("c") == 1 and keepalives < 2000
         print(f"slow: {self.frames.get('dw', 0)} pieces, {keepalives} keepalives, then {self.end}; "
-              f"{self.service.said[-1]}: {'right' if right else 'WRONG'}")
+              f"{self.service.last()}: {'right' if right else 'WRONG'}")
         return right
 
 
@@ -382,7 +458,7 @@ class Keeping(Own):
             self.server.drop_slot("kept")
         begins = [] if self.applied else ["--create", "--copy"]
         self.service = Service(self.options, self.where, "kept", 3, [*begins, *more])
-        self.thread = threading.Thread(target=self.follow)
+        self.thread = threading.Thread(target=self.follow, daemon=True)
         self.thread.start()
 
     def kill(self):
@@ -509,7 +585,8 @@ def is_next_served(service):
     for _ in range(600):
         try:
             with socket.create_connection((host, int(port)), timeout=5) as stranger:
-                if stranger.recv(1) == b"d":
+                # A notice comes first, to one who is served, and an error to one who isn't.
+                if stranger.recv(1) == b"N":
                     return True
         except OSError:
             pass
@@ -538,12 +615,80 @@ def kill_followers(server, options, where, catalog_file, seed):
     return right
 
 
+def start_mirror(server, options, service, file, *more):
+    return Program([options.mirror, "--config", os.path.join(server.folder, "catalog.toml"), "--connect",
+                    service.address, "--into", file, *more])
+
+
+class Mirror:
+    """`mirror`, which is killed at drawn moments and goes on with its file. `serve` stays, but where a copy of the
+    rows broke off: then it has dropped its slot, and both begin anew, with a new file."""
+
+    SLOT, FILES = "mirrored", ["mirror.sqlite", "copy.sqlite"]
+
+    def __init__(self, server, options, where, seed):
+        self.server, self.options, self.where, self.chance = server, options, where, random.Random(seed)
+        self.file, self.copy = [os.path.join(server.folder, name) for name in self.FILES]
+        self.begun = 0
+
+    def serve(self, *more):
+        slot = self.server.sql(f"SELECT 1 FROM pg_replication_slots WHERE slot_name = '{self.SLOT}';")[0]
+        if not slot:
+            self.begun += 1
+            for name in os.listdir(self.server.folder):
+                if name.startswith(tuple(self.FILES)):
+                    os.remove(os.path.join(self.server.folder, name))
+        begins = [] if slot else ["--create", "--copy"]
+        self.service = Service(self.options, self.where, self.SLOT, 5, [*begins, *more])
+
+    def start(self, *more):
+        self.mirror = start_mirror(self.server, self.options, self.service, self.file, "--publish", self.copy, *more)
+
+    def kill(self):
+        """Each second time from the moment on at which it is connected: before that it reads its file. The first
+        kills come while the rows are copied, the others behind that. It answers whether `mirror` never ended by
+        itself."""
+        self.serve()
+        for kill in range(self.options.mirror_kills):
+            if not self.service.runs():
+                self.serve()
+            self.start()
+            if kill % 2:
+                self.wait_for(lambda: self.mirror.has_said("connected to"))
+            if kill >= self.options.mirror_kills // 4:
+                self.wait_for(lambda: position_of(self.copy))
+            time.sleep(self.chance.uniform(0.05, 1.5))
+            if not self.mirror.runs():
+                print(f"mirror: ended by itself: {self.mirror.last()}: WRONG")
+                return False
+            self.mirror.kill()
+            self.wait_for(self.service.is_free)
+        return True
+
+    def wait_for(self, is_so):
+        """Waits until this is so, or the service has ended."""
+        while self.service.runs() and not is_so():
+            time.sleep(0.02)
+
+    def finish(self, until):
+        """Brings the file up to this place, and answers whether `mirror` ended well."""
+        if is_next_served(self.service):
+            self.service.kill()
+        self.serve("--once", "--until", until)
+        self.start("--once")
+        status = self.mirror.wait(600)
+        self.service.wait()
+        print(f"mirror: killed {self.options.mirror_kills} times, {self.begun - 1} of them in the copy; then "
+              f"{self.mirror.last()}, status {status}")
+        return status == 0
+
+
 class Writers:
     """Sessions that write until they are to stop. What fails, as the server is gone, is passed over."""
 
-    def __init__(self, server, options, sessions, seed):
-        self.server, self.seed, self.goes_on = server, seed, True
-        self.threads = [threading.Thread(target=self.write, args=(session,)) for session in sessions]
+    def __init__(self, server, options, sessions, seed, pause=0.2):
+        self.server, self.seed, self.pause, self.goes_on = server, seed, pause, True
+        self.threads = [threading.Thread(target=self.write, args=(session,), daemon=True) for session in sessions]
         for thread in self.threads:
             thread.start()
 
@@ -555,7 +700,7 @@ class Writers:
                 kind = large_work if chance.random() < 0.15 else small_work
                 lines += kind(session, turn, chance)
             self.server.sql("\n".join(lines))
-            time.sleep(0.2)
+            time.sleep(self.pause)
 
     def stop(self):
         self.goes_on = False
@@ -588,6 +733,7 @@ def main():
     parser.add_argument("--bin", default="/usr/lib/postgresql/16/bin")
     parser.add_argument("--publisher", default="crates/publisher/out/publisher")
     parser.add_argument("--pgapply", default="crates/pgapply/out/pgapply")
+    parser.add_argument("--mirror", default="crates/mirror/out/mirror")
     parser.add_argument("--run-as", default="postgres" if os.geteuid() == 0 else "",
                         help="who runs the server, as PostgreSQL refuses root; empty: who runs this")
     parser.add_argument("--folder", default=None, help="where the temporary folder is made")
@@ -595,6 +741,9 @@ def main():
     parser.add_argument("--sessions", type=int, default=4)
     parser.add_argument("--turns", type=int, default=300)
     parser.add_argument("--kills", type=int, default=20, help="how often each program and the server is killed")
+    parser.add_argument("--mirror-kills", type=int, default=50, help="how often mirror is killed")
+    parser.add_argument("--mirror-figures", type=float, nargs="?", const=1.0, default=0.0, metavar="SHARE",
+                        help="measure mirror, and nothing else, on this share of the work")
     parser.add_argument("--seed", type=int, default=1)
     options = parser.parse_args()
     server = Server(options)
@@ -606,6 +755,8 @@ def main():
         right = run(server, options)
         sys.exit(0 if right else 1)
     finally:
+        for process in Program.STARTED:
+            process.kill()
         if server.runs:
             server.stop()
         shutil.rmtree(server.folder, ignore_errors=True)
@@ -614,12 +765,20 @@ def main():
 def run(server, options):
     where = ["--host", "127.0.0.1", "--port", str(server.port), "--user", "postgres", "--dbname", "postgres",
              "--publication", "live"]
+    if options.mirror_figures:
+        return run_figures(server, options, where)
+    tables = read_catalog(server, options, where)
+    right = run_beside_work(server, options, where, tables)
+    right = run_beside_kills(server, options, where, tables) and right
+    return run_mirror(server, options, where, tables) and right
+
+
+def read_catalog(server, options, where):
+    """The publication's catalog, which then lies beside the server."""
     catalog = subprocess.run([options.publisher, "catalog", "--text", *where], capture_output=True, check=True)
     with open(os.path.join(server.folder, "catalog.toml"), "wb") as file:
         file.write(catalog.stdout)
-    tables = tomllib.loads(catalog.stdout.decode())
-    right = run_beside_work(server, options, where, tables)
-    return run_beside_kills(server, options, where, tables) and right
+    return tomllib.loads(catalog.stdout.decode())
 
 
 def run_beside_work(server, options, where, tables):
@@ -667,7 +826,7 @@ def run_beside_kills(server, options, where, tables):
     writers = Writers(server, options, [first, first + 1], options.seed)
     killed = Killed(server, options, where, "killed", place("killed.stream"), options.seed)
     keeping = Keeping(server, options, where, options.seed)
-    killing = [threading.Thread(target=killed.kill_captures), threading.Thread(target=keeping.kill)]
+    killing = [threading.Thread(target=kill, daemon=True) for kill in (killed.kill_captures, keeping.kill)]
     for thread in killing:
         thread.start()
     right = kill_followers(server, options, where, place("catalog.toml"), options.seed)
@@ -696,6 +855,77 @@ def run_beside_kills(server, options, where, tables):
     print(f"server: killed {downed.kills} times")
     downed.finish(server.log_end())
     return compare_files(server, options, ["downed"], expected(server, tables)) and right
+
+
+def run_mirror(server, options, where, tables):
+    """Sessions write while `mirror` is killed. It reads all rows at each start, so most are deleted before."""
+    server.sql("DELETE FROM large WHERE id % 10 <> 0;")
+    first = 2 * options.sessions + 5
+    writers = Writers(server, options, [first, first + 1], options.seed, pause=1)
+    mirror = Mirror(server, options, where, options.seed)
+    right = mirror.kill()
+    writers.stop()
+    right = mirror.finish(server.log_end()) and right
+    wanted = expected(server, tables)
+    right = compare_tables("mirror", rows_of_file(mirror.file, tables), wanted) and right
+    return compare_tables("mirror's copy", rows_of_file(mirror.copy, tables), wanted) and right
+
+
+def figures(share):
+    """What `mirror` is measured on: statements, the transactions that these are, and the changes."""
+    rows, single, updates = int(1_000_000 * share), int(100_000 * share), int(10_000 * share)
+    loop = "DO $$ BEGIN FOR i IN 1..{} LOOP {} COMMIT; END LOOP; END $$;".format
+    insert = "INSERT INTO counted SELECT k, 0, md5(k::text) FROM generate_series({}) k;".format
+    thousand = "FOR j IN 1..10 LOOP UPDATE counted SET n = n + 1; END LOOP;"
+    return [
+        ("one large transaction", insert(f"1, {rows}"), 1, rows),
+        ("transactions of one row", loop(single, insert("i, i")), single, single),
+        ("a hundred rows updated", insert("1, 100") + loop(updates, thousand), updates + 1, 1000 * updates + 100),
+    ]
+
+
+def run_figures(server, options, where):
+    """How fast `mirror` takes what a slot has, and the memory that it has meanwhile."""
+    server.sql("CREATE TABLE counted (id int PRIMARY KEY, n bigint, body text);")
+    catalog = read_catalog(server, options, where)
+    counted = {"table": [table for table in catalog["table"] if table["name"] == "counted"]}
+    return all([measure(server, options, where, counted, *figure) for figure in figures(options.mirror_figures)])
+
+
+def measure(server, options, where, tables, name, statements, commits, changes):
+    file = os.path.join(server.folder, f"{name}.sqlite")
+    server.sql("TRUNCATE counted; SELECT pg_create_logical_replication_slot('figures', 'pgoutput');")
+    _, errors = server.sql(statements)
+    if errors:
+        sys.exit(errors)
+    # At the end the service waits until the follower has read all.
+    service = Service(options, where, "figures", 6, ["--once", "--until", server.log_end(), "--timeout", "3600"])
+    began = time.monotonic()
+    mirror = start_mirror(server, options, service, file, "--once")
+    most, each = watch_memory(mirror)
+    seconds = time.monotonic() - began
+    service.wait()
+    print(f"{name}: {commits} commits with {changes} changes in {seconds:.1f} s: {commits / seconds:.0f} commits and "
+          f"{changes / seconds:.0f} changes a second; a file of {os.path.getsize(file)} bytes; memory of {most} kB at "
+          f"most, each ten seconds {each}")
+    print(f"{name}: {service.last()}; {mirror.last()}, status {mirror.wait()}")
+    server.drop_slot("figures")
+    return compare_tables(name, rows_of_file(file, tables), expected(server, tables)) and mirror.wait() == 0
+
+
+def watch_memory(program):
+    """The memory of a program until it ends, in kilobytes: the most, and what it has each ten seconds."""
+    most, each, began = 0, [], time.monotonic()
+    while program.runs():
+        with open(f"/proc/{program.process.pid}/status") as file:
+            fields = dict(line.split(":", 1) for line in file)
+        # A program that has ended has no memory.
+        if "VmRSS" in fields:
+            now, most = [int(fields[name].split()[0]) for name in ("VmRSS", "VmHWM")]
+            if time.monotonic() - began >= 10 * len(each):
+                each.append(now)
+        time.sleep(0.1)
+    return most, each
 
 
 if __name__ == "__main__":

@@ -39,7 +39,7 @@ const TICK: u64 = 100;
 pub struct Told {
     /// The beginning of a frame that isn't whole.
     part: Vec<u8>,
-    /// The place up to which the server was told that the log is flushed; 0 before the first update.
+    /// The place up to which the log is flushed, as the server is told it; 0 before the first update.
     flushed: u64,
     /// The place that the follower had before the stream began.
     began: u64,
@@ -213,23 +213,33 @@ impl<'a> Follower<'a> {
         Err(Fault::Follower("it did not say how far it has the log within the time limit"))
     }
 
-    /// Ends the stream: nothing more is written, and what the follower still says is read until it closes,
-    /// at most for so many milliseconds. A socket that is closed with something unread in it drops what
-    /// the follower hasn't read.
-    pub fn part<H: Clock>(&mut self, host: &H, limit: u64) {
+    /// Ends the stream, of which this was put: nothing more is written, and what the follower still says is
+    /// heard until it closes, at most for so many milliseconds. A socket that is closed with something unread
+    /// in it drops what the follower hasn't read.
+    pub fn part<H: Clock>(&mut self, host: &H, limit: u64, put: &Relayed) {
         if self.is_gone || self.stream.shutdown(Shutdown::Write).is_err() {
             return;
         }
         let Ok(began) = Instant::now(host) else {
             return;
         };
+        let mut tells = true;
         for _ in 0..u64::MAX {
             let mut buf = [0u8; CHUNK];
-            match self.read_within(&mut buf, TICK) {
-                Ok(Some(_)) if !has_passed(host, &began, limit) => self.turn_away(),
+            let count = match self.read_within(&mut buf, TICK) {
+                Ok(Some(count)) if !has_passed(host, &began, limit) => count,
                 _ => return,
-            }
+            };
+            let heard = buf.as_slice().get(..count).unwrap_or(&[]);
+            tells = tells && self.hears_on(heard, put);
+            self.turn_away();
         }
+    }
+
+    /// Hears what can't be told to the server any more. It answers whether more of it can be heard.
+    fn hears_on(&mut self, bytes: &[u8], put: &Relayed) -> bool {
+        let mut updates = Vec::new(self.alloc);
+        matches!(self.told.hear(bytes, put, &mut updates), Ok(true))
     }
 
     /// Tells the follower of a fault as of an error of the server.

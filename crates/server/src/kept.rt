@@ -8,8 +8,8 @@ use crate::wire::{HEADER, declared_length};
 use std::alloc::Global;
 use std::io::{BufReader, ErrorKind, Read};
 
-/// The first frame of a captured file, a notice, which readers skip: what the file is of, and whether it
-/// begins with a copy of the rows.
+/// The first frame of a captured file, and of what a follower is given: a notice, which readers skip. It says
+/// what the stream is of, and whether it begins with a copy of the rows.
 pub fn label(
     alloc: Global,
     asked: &Subscription<'_>,

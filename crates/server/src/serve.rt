@@ -5,11 +5,12 @@ use crate::copy::copy_rows;
 use crate::events::{Event, relay_and_say, say, say_end};
 use crate::fault::Fault;
 use crate::follower::Follower;
+use crate::kept::label;
 use crate::line::SocketLine;
 use crate::place::Place;
 use crate::relay::{Bounds, COPY_DONE, End, Output, Relayed, whole_frames};
 use crate::slots::{drop_made, make_if_asked};
-use crate::stream::{Subscription, identify, start};
+use crate::stream::{Subscription, System, identify, start};
 use std::alloc::Global;
 use std::io;
 use std::io::ErrorKind;
@@ -41,9 +42,14 @@ pub fn serve<H: Net<Stream = TcpStream, Listener = TcpListener> + Clock + Random
 ) -> Result<(), Fault> {
     let mut connection = asked.server.connect(alloc, host, true)?;
     check_stream(&mut connection, asked.publication, asked.slot)?;
+    let system = identify(&mut connection)?;
     let made = make_if_asked(&mut connection, host, asked.slot)?;
     let snapshot = match made {
-        Some(place) if asked.slot.copy => Some(Snapshot { connection, place }),
+        Some(point) if asked.slot.copy => Some(Snapshot {
+            connection,
+            system,
+            point,
+        }),
         _ => {
             drop(connection);
             None
@@ -65,7 +71,10 @@ pub fn serve<H: Net<Stream = TcpStream, Listener = TcpListener> + Clock + Random
 #[derive(Drop)]
 struct Snapshot<'a, H: Clock> {
     connection: Connection<SocketLine<'a, H>>,
-    place: u64,
+    /// What the server said of itself before the slot was made.
+    system: System,
+    /// The slot's consistent point.
+    point: u64,
 }
 
 /// Listens, and says where.
@@ -101,7 +110,8 @@ pub fn listen<H: Net<Stream = TcpStream, Listener = TcpListener>>(
     Err(Fault::CannotListen(last))
 }
 
-/// A copy of the rows is for the first follower. Where it isn't whole, the slot is of no use.
+/// A copy of the rows is for the first follower. Where that one did not say that it has them, the slot is of no
+/// use: what was put may lie in a socket that nobody reads.
 fn serve_all<'a, H: Net<Stream = TcpStream> + Clock + RandomSource + Eprint>(
     alloc: Global,
     host: &'a H,
@@ -118,16 +128,20 @@ fn serve_all<'a, H: Net<Stream = TcpStream> + Clock + RandomSource + Eprint>(
             Err(error) if error.kind() == ErrorKind::ConnectionAborted => continue,
             Err(error) => return Err(Fault::CannotListen(error)),
         };
-        let copies = snapshot.is_some();
+        let point = match &snapshot {
+            Some(snapshot) => snapshot.point,
+            None => 0,
+        };
         let source = Source {
             bounds: service.bounds,
             snapshot: snapshot.take(),
         };
-        let mut relayed = Relayed::NOTHING;
-        let served = serve_alone(alloc, host, asked, source, listener, stream, &mut relayed);
-        if copies && relayed.committed == 0 {
+        let mut confirmed = 0;
+        let served = serve_alone(alloc, host, asked, source, listener, stream, &mut confirmed);
+        if confirmed < point {
             drop_made(alloc, host, asked);
-            return served;
+            served?;
+            return Err(Fault::Follower("it did not say that it has the rows of the copy"));
         }
         if service.once {
             return served;
@@ -139,7 +153,7 @@ fn serve_all<'a, H: Net<Stream = TcpStream> + Clock + RandomSource + Eprint>(
     Ok(())
 }
 
-/// Serves one who came. Others who come meanwhile are turned away.
+/// Serves one who came, and notes what it confirmed. Others who come meanwhile are turned away.
 fn serve_alone<'a, H: Net<Stream = TcpStream> + Clock + RandomSource + Eprint>(
     alloc: Global,
     host: &'a H,
@@ -147,14 +161,14 @@ fn serve_alone<'a, H: Net<Stream = TcpStream> + Clock + RandomSource + Eprint>(
     source: Source<'a, H>,
     listener: &TcpListener,
     stream: TcpStream,
-    relayed: &mut Relayed,
+    confirmed: &mut u64,
 ) -> Result<(), Fault> {
     if let Ok(address) = stream.peer_addr() {
         say(host, Event::Came(address));
     }
     listener.set_nonblocking(true).map_err(Fault::CannotListen)?;
     let follower = Follower::new(alloc, stream, Some(listener));
-    let served = serve_one(alloc, host, asked, source, follower, relayed);
+    let served = serve_one(alloc, host, asked, source, follower, confirmed);
     listener
         .set_nonblocking(false)
         .map_err(Fault::CannotListen)?;
@@ -169,19 +183,21 @@ struct Source<'a, H: Clock> {
     snapshot: Option<Snapshot<'a, H>>,
 }
 
-/// Hands the stream to one follower. It hears of a fault as of an error of the server.
+/// Hands the stream to one follower, and notes what it confirmed. It hears of a fault as of an error of the
+/// server.
 fn serve_one<'a, H: Net<Stream = TcpStream> + Clock + RandomSource + Eprint>(
     alloc: Global,
     host: &'a H,
     asked: &Subscription<'_>,
     source: Source<'a, H>,
     follower: Follower<'_>,
-    relayed: &mut Relayed,
+    confirmed: &mut u64,
 ) -> Result<(), Fault> {
     let mut follower = follower;
     let limit = asked.server.limit;
     follower.set_limit(limit)?;
-    let ended = hand_over(alloc, host, asked, source, &mut follower, relayed);
+    let mut relayed = Relayed::NOTHING;
+    let ended = hand_over(alloc, host, asked, source, &mut follower, &mut relayed);
     match &ended {
         Err(fault) => follower.tell_fault(fault)?,
         // Of a stream that the server didn't end the follower hears here that it is over.
@@ -190,9 +206,11 @@ fn serve_one<'a, H: Net<Stream = TcpStream> + Clock + RandomSource + Eprint>(
         }
         Ok(_) => {}
     }
-    follower.part(host, limit);
-    let confirmed = follower.confirmed();
-    say_end(alloc, host, asked.server, relayed, confirmed, &ended);
+    let told = follower.confirmed();
+    follower.part(host, limit, &relayed);
+    // What came behind the stream's end was told to nobody.
+    *confirmed = follower.confirmed();
+    say_end(alloc, host, asked.server, &relayed, told, &ended);
     ended?;
     Ok(())
 }
@@ -207,21 +225,19 @@ fn hand_over<'a, H: Net<Stream = TcpStream> + Clock + RandomSource + Eprint>(
     relayed: &mut Relayed,
 ) -> Result<End, Fault> {
     let Source { bounds, snapshot } = source;
-    let place = follower.ask_place(host, asked.server.limit)?;
-    let mut connection = match snapshot {
-        Some(_) if place > 0 => {
-            return Err(Fault::Follower("it has rows, and the copy is for one that has none"));
-        }
+    let ready = match snapshot {
         Some(snapshot) => copy_to(host, asked, snapshot, follower, relayed)?,
-        None => asked.server.connect(alloc, host, true)?,
+        None => connect_for(alloc, host, asked, follower)?,
     };
-    let end = identify(&mut connection)?.log_end;
-    if place > end {
-        return Err(Fault::Ahead(Place(place), Place(end)));
-    }
+    let Ready {
+        connection,
+        place,
+        log_end,
+    } = ready;
+    let mut connection = connection;
     say(
         host,
-        Event::Begins(Place(place.max(relayed.committed)), Place(end)),
+        Event::Begins(Place(place.max(relayed.committed)), Place(log_end)),
     );
     start(&mut connection, asked.publication, asked.slot.name, place)?;
     relay_and_say(
@@ -234,17 +250,77 @@ fn hand_over<'a, H: Net<Stream = TcpStream> + Clock + RandomSource + Eprint>(
     )
 }
 
-/// Hands over the rows that the snapshot sees. Its connection is free for the stream then.
+/// A connection that is free for the stream, the place up to which the follower has it, and where the
+/// server's log ends.
+#[derive(Drop)]
+struct Ready<'a, H: Clock> {
+    connection: Connection<SocketLine<'a, H>>,
+    place: u64,
+    log_end: u64,
+}
+
+/// Hands over the rows that the snapshot sees, which are for a follower that has none. Its connection is free
+/// for the stream then.
 fn copy_to<'a, H: Clock + Eprint>(
     host: &H,
     asked: &Subscription<'_>,
     snapshot: Snapshot<'a, H>,
     follower: &mut Follower<'_>,
     relayed: &mut Relayed,
-) -> Result<Connection<SocketLine<'a, H>>, Fault> {
-    let Snapshot { connection, place } = snapshot;
+) -> Result<Ready<'a, H>, Fault> {
+    let Snapshot {
+        connection,
+        system,
+        point,
+    } = snapshot;
     let mut connection = connection;
-    copy_rows(&mut connection, asked.publication, place, follower, relayed)?;
+    let place = meet(connection.alloc(), host, asked, &system, true, follower)?;
+    if place > 0 {
+        return Err(Fault::Follower("it has rows, and the copy is for one that has none"));
+    }
+    copy_rows(&mut connection, asked.publication, point, follower, relayed)?;
     say(host, Event::Copied(relayed));
-    Ok(connection)
+    let log_end = identify(&mut connection)?.log_end;
+    Ok(Ready {
+        connection,
+        place,
+        log_end,
+    })
+}
+
+/// Connects to the server for a follower whose stream has no copy of the rows, and which can't be ahead of the
+/// server's log.
+fn connect_for<'a, H: Net<Stream = TcpStream> + Clock + RandomSource>(
+    alloc: Global,
+    host: &'a H,
+    asked: &Subscription<'_>,
+    follower: &mut Follower<'_>,
+) -> Result<Ready<'a, H>, Fault> {
+    let mut connection = asked.server.connect(alloc, host, true)?;
+    let system = identify(&mut connection)?;
+    let place = meet(alloc, host, asked, &system, false, follower)?;
+    let log_end = system.log_end;
+    if place > log_end {
+        return Err(Fault::Ahead(Place(place), Place(log_end)));
+    }
+    Ok(Ready {
+        connection,
+        place,
+        log_end,
+    })
+}
+
+/// Tells a follower whose stream it is, as a captured file begins, so that it can refuse the stream before it
+/// takes any of it. Then it asks the follower how far it has the log.
+fn meet<H: Clock>(
+    alloc: Global,
+    host: &H,
+    asked: &Subscription<'_>,
+    system: &System,
+    is_copied: bool,
+    follower: &mut Follower<'_>,
+) -> Result<u64, Fault> {
+    let title = label(alloc, asked, system.identifier.as_str(), is_copied)?;
+    follower.put(&title[..whole_frames(title.as_slice())])?;
+    follower.ask_place(host, asked.server.limit)
 }

@@ -265,7 +265,7 @@ fn lagging<R: Threads + Clock + Sync>(
     let (_, heard) = thread::join(
         rt,
         move || {
-            near.part(rt, 30000);
+            near.part(rt, 30000, &Relayed::NOTHING);
             drop(near);
         },
         move || read_all(alloc, &mut far),

@@ -1,7 +1,7 @@
 // Whole services: a scripted server at a Unix socket, a follower that lags, and a stranger who comes beside it.
 use super::loopback::free_address;
 use super::script::{Message, name_of, spell};
-use super::slots::{DROPPED, ENDED, MADE, Place, SYSTEM, Words, spell_words, tell};
+use super::slots::{DROPPED, ENDED, MADE, Place, SYSTEM, Words, spell_title, spell_words, tell};
 use server::fault::Fault;
 use server::follower::farewell;
 use server::relay::Bounds;
@@ -17,8 +17,9 @@ use std::time::Duration;
 use std::{fs, thread};
 use testing::asserts::{assert_holds, assert_same};
 
-/// A service, what a server says on one connection after another, what the follower says and hears behind the
-/// first keepalive, the fault that ends the service, and what the server was asked in the last connection.
+/// A service, what a server says on one connection after another, what the follower says first, what it says
+/// twice behind that, and hears behind the stream's title and the first keepalive, the fault that ends the
+/// service, and what the server was asked in the last connection.
 #[derive(Clone, Copy)]
 struct Case {
     copies: bool,
@@ -26,6 +27,7 @@ struct Case {
     until: Option<u64>,
     words: &'static [Words],
     said: &'static [u8],
+    told: &'static [u8],
     heard: &'static [Message<'static>],
     fault: &'static str,
     asked: &'static str,
@@ -37,17 +39,21 @@ const SERVICE: Case = Case {
     until: None,
     words: &[],
     said: AT_0,
+    told: AT_0,
     heard: &[],
     fault: "none",
     asked: "",
 };
 
-/// Status updates at 0, at 9 and at 33.
+/// Status updates at 0, at 9, at 16 and at 33.
 const AT_0: &[u8] =
     b"d\0\0\0\x26r\0\0\0\0\0\0\0\0\0\0\0\0\0\0\0\0\0\0\0\0\0\0\0\0\0\0\0\0\0\0\0\0\0";
 
 const AT_9: &[u8] =
     b"d\0\0\0\x26r\0\0\0\0\0\0\0\x09\0\0\0\0\0\0\0\x09\0\0\0\0\0\0\0\x09\0\0\0\0\0\0\0\0\0";
+
+const AT_16: &[u8] =
+    b"d\0\0\0\x26r\0\0\0\0\0\0\0\x10\0\0\0\0\0\0\0\x10\0\0\0\0\0\0\0\x10\0\0\0\0\0\0\0\0\0";
 
 const AT_33: &[u8] =
     b"d\0\0\0\x26r\0\0\0\0\0\0\0\x21\0\0\0\0\0\0\0\x21\0\0\0\0\0\0\0\x21\0\0\0\0\0\0\0\0\0";
@@ -66,16 +72,29 @@ const COMMIT: Message<'static> = (
 /// A keepalive at 64 that wants no answer.
 const KEEPALIVE: Message<'static> = (b'd', b"k\0\0\0\0\0\0\0\x40\0\0\0\0\0\0\0\0\0");
 
+/// A copy of no rows, at 16: what the server says meanwhile, and its transaction.
+const COPYING: Words = (&["160000", "1", SYSTEM, "", MADE, "", "", SYSTEM], &ENDED);
+
+const FIRST_BEGIN: Message<'static> = (
+    b'd',
+    b"w\0\0\0\0\0\0\0\x10\0\0\0\0\0\0\0\x10\0\0\0\0\0\0\0\0B\0\0\0\0\0\0\0\x10\0\0\0\0\0\0\0\0\0\0\0\x02",
+);
+
+const FIRST_COMMIT: Message<'static> = (
+    b'd',
+    b"w\0\0\0\0\0\0\0\x10\0\0\0\0\0\0\0\x10\0\0\0\0\0\0\0\0C\0\0\0\0\0\0\0\0\x10\0\0\0\0\0\0\0\x10\0\0\0\0\0\0\0\0",
+);
+
 const BEGUN: Message<'static> = (b'W', b"\0\0\0");
 
 const DONE: Message<'static> = (b'c', b"");
 
-static CASES: [Case; 9] = [
+static CASES: [Case; 10] = [
     // The server shuts down.
     Case {
         creates: true,
         words: &[
-            (&["160000", "1", MADE], &[]),
+            (&["160000", "1", SYSTEM, MADE], &[]),
             (&[SYSTEM], &[BEGUN, BEGIN, COMMIT, (b'C', b"COPY 0\0")]),
         ],
         heard: &[BEGIN, COMMIT, DONE],
@@ -85,7 +104,7 @@ static CASES: [Case; 9] = [
     // The stream begins where the follower is.
     Case {
         words: &[
-            (&["160000", "1", "1"], &[]),
+            (&["160000", "1", "1", SYSTEM], &[]),
             (&[SYSTEM], &[BEGUN, BEGIN, COMMIT, (b'C', b"COPY 0\0")]),
         ],
         said: AT_9,
@@ -95,7 +114,7 @@ static CASES: [Case; 9] = [
     },
     // Which can't be beyond the server's log.
     Case {
-        words: &[(&["160000", "1", "1"], &[]), (&[SYSTEM], &[])],
+        words: &[(&["160000", "1", "1", SYSTEM], &[]), (&[SYSTEM], &[])],
         said: AT_33,
         heard: &[(
             b'E',
@@ -108,7 +127,7 @@ static CASES: [Case; 9] = [
     // A fault of the server is heard behind the frames before it.
     Case {
         words: &[
-            (&["160000", "1", "1"], &[]),
+            (&["160000", "1", "1", SYSTEM], &[]),
             (&[SYSTEM], &[BEGUN, BEGIN, (b'Z', b"I")]),
         ],
         heard: &[
@@ -124,21 +143,21 @@ static CASES: [Case; 9] = [
     },
     // Whoever comes first and is no follower is told so, and the server is not asked for a stream.
     Case {
-        words: &[(&["160000", "1", "1"], &[])],
+        words: &[(&["160000", "1", "1", SYSTEM], &[]), (&[SYSTEM], &[])],
         said: b"GET / HTTP/1.0\r\n\r\n",
         heard: &[(
             b'E',
             b"SFATAL\0C08006\0MFollower: it sent what is no frame\0\0",
         )],
         fault: "Follower",
-        asked: "pg_replication_slots",
+        asked: "IDENTIFY_SYSTEM",
         ..SERVICE
     },
     // A place ends the stream; then the server is asked where its log ends.
     Case {
         until: Some(64),
         words: &[
-            (&["160000", "1", "1"], &[]),
+            (&["160000", "1", "1", SYSTEM], &[]),
             (
                 &[SYSTEM],
                 &[BEGUN, BEGIN, COMMIT, KEEPALIVE, DONE, (b'C', b"\0")],
@@ -153,26 +172,27 @@ static CASES: [Case; 9] = [
     Case {
         copies: true,
         creates: true,
-        words: &[(&["160000", "1", "", MADE, "", "", SYSTEM], &ENDED)],
-        heard: &[
-            (
-                b'd',
-                b"w\0\0\0\0\0\0\0\x10\0\0\0\0\0\0\0\x10\0\0\0\0\0\0\0\0B\0\0\0\0\0\0\0\x10\0\0\0\0\0\0\0\0\0\0\0\x02",
-            ),
-            (
-                b'd',
-                b"w\0\0\0\0\0\0\0\x10\0\0\0\0\0\0\0\x10\0\0\0\0\0\0\0\0C\0\0\0\0\0\0\0\0\x10\0\0\0\0\0\0\0\x10\0\0\0\0\0\0\0\0",
-            ),
-            DONE,
-        ],
+        words: &[COPYING],
+        told: AT_16,
+        heard: &[FIRST_BEGIN, FIRST_COMMIT, DONE],
         asked: "LOGICAL 0/0",
         ..SERVICE
     },
-    // They are for a follower that has none. Else the slot is dropped again.
+    // Where the follower does not say that it has them, the slot is dropped again.
     Case {
         copies: true,
         creates: true,
-        words: &[(&["160000", "1", "", MADE], &[]), DROPPED],
+        words: &[COPYING, DROPPED],
+        heard: &[FIRST_BEGIN, FIRST_COMMIT, DONE],
+        fault: "Follower",
+        asked: "DROP_REPLICATION_SLOT",
+        ..SERVICE
+    },
+    // So it is where the follower has rows.
+    Case {
+        copies: true,
+        creates: true,
+        words: &[(&["160000", "1", SYSTEM, "", MADE], &[]), DROPPED],
         said: AT_9,
         heard: &[(
             b'E',
@@ -182,13 +202,13 @@ static CASES: [Case; 9] = [
         asked: "DROP_REPLICATION_SLOT",
         ..SERVICE
     },
-    // So it is where the copy breaks off.
+    // And where the copy breaks off.
     Case {
         copies: true,
         creates: true,
         words: &[
             (
-                &["160000", "1", "", MADE],
+                &["160000", "1", SYSTEM, "", MADE],
                 &[(b'E', b"SERROR\0C42501\0Mno\0\0")],
             ),
             DROPPED,
@@ -209,9 +229,6 @@ const LAG: u64 = 50;
 /// The first keepalive, which asks how far the follower is.
 const FIRST: [Message<'static>; 1] = [(b'd', b"k\0\0\0\0\0\0\0\0\0\0\0\0\0\0\0\0\x01")];
 
-/// How many bytes it has.
-const ASKING: usize = 23;
-
 fn come<R: Net<Stream = TcpStream> + Clock>(rt: &R, address: &str) -> Result<TcpStream, Fail> {
     for _ in 0..TRIES {
         match TcpStream::connect(rt, address) {
@@ -227,16 +244,16 @@ fn follow<R: Net<Stream = TcpStream> + Clock>(
     alloc: Global,
     rt: &R,
     address: &str,
-    said: &[u8],
+    said: [&[u8]; 3],
 ) -> Result<(Vec<u8>, Vec<u8>), Fail> {
     let mut follower = come(rt, address)?;
-    let mut heard = vec![in alloc; 0; ASKING]?;
+    let mut heard = vec![in alloc; 0; 1]?;
     follower.read_exact(heard.as_mut_slice())?;
     let mut stranger = come(rt, address)?;
     let mut refused = Vec::new(alloc);
     stranger.read_to_end(&mut refused)?;
     // The second and the third are not read before the end.
-    for part in [said, AT_0, AT_0] {
+    for part in said {
         let _ = follower.write_all(part);
     }
     thread::sleep(rt, Duration::from_millis(LAG));
@@ -293,7 +310,7 @@ where
                 move || serve(alloc, rt, &asked, &service),
             )
         },
-        move || follow(alloc, rt, address, case.said),
+        move || follow(alloc, rt, address, [case.said, case.told, case.told]),
     );
     let (heard, refused) = followed?;
     Ok(Came {
@@ -323,7 +340,8 @@ fn services_for_a_follower_that_lags(rt: HostRuntime) -> Result<(), Fail> {
             address.as_str(),
         )?;
         assert_same(came.fault.as_str(), case.fault, number)?;
-        let want = spell(rt.alloc(), &[&FIRST, case.heard])?;
+        let mut want = spell_title(rt.alloc(), case.copies)?;
+        want.extend_from_slice(spell(rt.alloc(), &[&FIRST, case.heard])?.as_slice())?;
         assert_same(came.heard.as_slice(), want.as_slice(), number)?;
         assert_same(came.refused.as_slice(), busy.as_slice(), number)?;
         let asked = String::from_utf8_lossy(rt.alloc(), came.asked.as_slice())?;

@@ -130,7 +130,7 @@ static CASES: [Case; 19] = [
     },
     Case {
         serves: true,
-        words: &[(&["160000", "1", MADE], &[]), DROPPED],
+        words: &[(&["160000", "1", SYSTEM, MADE], &[]), DROPPED],
         fault: "NotLoopback",
         asked: "DROP_REPLICATION_SLOT",
         ..CAPTURE
@@ -340,18 +340,24 @@ where
     Ok((name_of(alloc, answer)?, heard?))
 }
 
-/// The title of a captured file, and what stands in it of one that begins with a copy.
+/// The title of a stream, and what stands in it of one that begins with a copy.
 const TITLE: &str = "publication \"p\" through slot \"s\\\"1\" of system 74";
 
 const COPIED: &str = ", with a copy of its rows";
 
+/// The notice with the title, which a captured file and what a follower hears begin with.
+pub fn spell_title(alloc: Global, is_copied: bool) -> Result<Vec<u8>, Fail> {
+    let copied = if is_copied { COPIED } else { "" };
+    let title = format!(in alloc; "SNOTICE\0C00000\0M{TITLE}{copied}\0\0")?;
+    let mut notice = Vec::new(alloc);
+    say(&mut notice, b'N', title.as_bytes())?;
+    Ok(notice)
+}
+
 /// A captured file.
 fn spell_file(alloc: Global, captured: &Captured) -> Result<Vec<u8>, Fail> {
     let (is_copied, behind) = captured;
-    let copied = if *is_copied { COPIED } else { "" };
-    let title = format!(in alloc; "SNOTICE\0C00000\0M{TITLE}{copied}\0\0")?;
-    let mut file = Vec::new(alloc);
-    say(&mut file, b'N', title.as_bytes())?;
+    let mut file = spell_title(alloc, *is_copied)?;
     file.extend_from_slice(*behind)?;
     Ok(file)
 }
