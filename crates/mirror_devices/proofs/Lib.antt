@@ -1,2 +1,1 @@
-mod Hands
 pub mod Updates

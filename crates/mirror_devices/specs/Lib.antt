@@ -1,4 +1,3 @@
-pub mod Cut
 pub mod Reached
 pub mod Statements
 pub mod Updates

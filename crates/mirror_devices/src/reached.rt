@@ -1,24 +1,19 @@
-// How far a file has come, which others wait for.
+// How far a file has come.
 ghost use Rattle.std.specs.Prelude.{◌≡◌, ◌≤◌, ◌++◌, [], ◌∷◌, length, IfOk, IsTrue};
 ghost use Rattle.model.specs.Beginning.{Begins, last_end};
 ghost use Rattle.origin.specs.Commits.{commits_of, loaded_of};
 ghost use Rattle.mirror_devices.specs.Reached.{HasReached};
 
-use crossbeam_utils::sync::EventCount;
 use model::{Lsn, OutOfMemory};
 use origin::{Loader, Origin, Position, Publisher};
 use std::alloc::Global;
 use std::marker::Model;
 use std::sync::Wait;
-use std::sync::atomic::{AtomicBool, Ordering};
 
-/// How far a file has come in the publisher's log, and whether it goes on. An `Arrival` tells it, and
-/// a sink waits for it.
+/// How far a file has come in the publisher's log, and whether it goes on. An `Arrival` tells it.
 #[derive(Drop)]
 pub struct Reached {
     origin: Origin,
-    has_ended: AtomicBool,
-    moved: EventCount,
 }
 
 impl Model for Reached {
@@ -36,38 +31,38 @@ impl Reached {
         ensures loader { IfOk result (λ made. made.2 ≡ loaded_of made.0 0 []) }
     {
         let (origin, publisher, loader) = Origin::new(alloc, 0)?;
-        let reached = Reached {
-            origin,
-            has_ended: AtomicBool::new(false),
-            moved: EventCount::new(),
-        };
-        Ok((reached, publisher, loader))
+        Ok((Reached { origin }, publisher, loader))
     }
 
-    /// Waits until it has come so far. False where it goes no further before.
-    pub(crate) fn wait_for<R: Wait>(&self, rt: &R, loader: &mut Loader, lsn: Lsn) -> bool
+    /// How far it has come.
+    pub(crate) fn load<R: Wait>(&self, rt: &R, loader: &mut Loader) -> Lsn
         requires own { loader.old.origin ≡ self.now }
         ensures same { loader.new.origin ≡ loader.old.origin }
         ensures later { Begins loader.old.ends loader.new.ends }
-        ensures reached { IsTrue result → lsn ≤ last_end loader.new.ends }
+        ensures reached { result ≡ last_end loader.new.ends }
     {
-        for _ in rt.forever() {
-            let key = self.moved.prepare_wait();
-            if lsn <= self.origin.load(rt, loader).end_lsn {
-                return true;
-            }
-            if self.has_ended.load(Ordering::SeqCst) {
-                return false;
-            }
-            key.wait(rt);
-        }
-        unreachable!()
+        self.origin.load(rt, loader).end_lsn
     }
 
-    // It goes no further.
-    fn end(&self) {
-        self.has_ended.store(true, Ordering::SeqCst);
-        self.moved.notify_all();
+    /// How far it has come, once it has come so far; or where it goes no further before.
+    pub(crate) fn wait_for<R: Wait>(&self, rt: &R, loader: &mut Loader, lsn: Lsn) -> Lsn
+        requires own { loader.old.origin ≡ self.now }
+        ensures same { loader.new.origin ≡ loader.old.origin }
+        ensures later { Begins loader.old.ends loader.new.ends }
+        ensures reached { result ≡ last_end loader.new.ends }
+    {
+        let mut position = self.origin.load(rt, loader);
+        for _ in rt.forever() {
+            if lsn <= position.end_lsn {
+                break;
+            }
+            let next = self.origin.wait_past(rt, loader, position.commits);
+            if next.commits <= position.commits {
+                return next.end_lsn;
+            }
+            position = next;
+        }
+        position.end_lsn
     }
 }
 
@@ -109,7 +104,6 @@ impl<'a> Arrival<'a> {
         let reached = self.reached;
         reached.origin.publish(rt, &mut self.publisher, position);
         self.count = commits;
-        reached.moved.notify_all();
     }
 }
 
@@ -121,6 +115,6 @@ impl Drop for Arrival<'_> {
             count: _,
         } = self;
         drop(publisher);
-        reached.end();
+        reached.origin.close();
     }
 }

@@ -30,6 +30,19 @@ fn int64(bytes: &[u8]) -> u64
     ])
 }
 
+/// The status update in a frame, which says that no more than a position was flushed and applied.
+pub fn lower(frame: &[u8], to: u64) -> Status
+    requires { length frame.now ≡ 39 }
+    ensures { (result.flushed ≤ to) × (result.applied ≤ to) }
+{
+    Status {
+        written: int64(&frame[6..14]),
+        flushed: int64(&frame[14..22]).min(to),
+        applied: int64(&frame[22..30]).min(to),
+        clock: int64(&frame[30..38]).cast_signed(),
+    }
+}
+
 /// The status update in a frame, where it says less than a position with that position in its place.
 pub fn raise(frame: &[u8], from: u64) -> Status
     requires { length frame.now ≡ 39 }

@@ -1,9 +1,15 @@
 // Frames of a stream, each read whole, and the message in one.
-use frames::{Failed, Source};
+use frames::{Failed, MAX_LENGTH, Source};
 use std::alloc::{AllocError, Global};
 
 /// How many bytes stand before the message of an XLogData frame: its header, the positions and the time.
 const BEFORE_MESSAGE: usize = 30;
+
+/// How many bytes the tag and the length of a frame have.
+const HEADER: usize = 5;
+
+/// The tags of frames: CopyData, CopyDone, ErrorResponse, NoticeResponse, ParameterStatus.
+const TAGS: &[u8] = b"dcENS";
 
 /// How many bytes are read at once.
 const CHUNK: usize = 64 * 1024;
@@ -36,9 +42,9 @@ impl<R: Source + Drop> FrameReader<R> {
     /// Reads the next frame. At the end of the input there is what is left of one, and then nothing.
     pub fn advance(&mut self) -> Result<(), Failed> {
         self.frame.clear();
-        self.fill(5)?;
+        self.fill(HEADER)?;
         let size = match self.frame.as_slice() {
-            [_, a, b, c, d] => (u32::from_be_bytes([*a, *b, *c, *d]) as usize).saturating_add(1),
+            [tag, a, b, c, d] => size_of(*tag, u32::from_be_bytes([*a, *b, *c, *d])),
             _ => 0,
         };
         self.fill(size)
@@ -47,6 +53,11 @@ impl<R: Source + Drop> FrameReader<R> {
     /// The frame that was read.
     pub fn frame(&self) -> &[u8] {
         self.frame.as_slice()
+    }
+
+    /// Whether more was read than the frames so far.
+    pub fn has_more(&self) -> bool {
+        self.at < self.end
     }
 
     // Reads until the frame has so many bytes, or the input ends.
@@ -71,6 +82,16 @@ impl<R: Source + Drop> FrameReader<R> {
             }
         }
         Ok(())
+    }
+}
+
+// How many bytes a frame of this tag and length has. Of what is no frame the header alone is handed on:
+// whoever applies the stream refuses it by that.
+fn size_of(tag: u8, length: u32) -> usize {
+    if TAGS.contains(&tag) && length <= MAX_LENGTH {
+        (length as usize).saturating_add(1)
+    } else {
+        HEADER
     }
 }
 

@@ -1,5 +1,5 @@
 use Rattle.std.proofs.Common.{◌≡◌}
-use Rattle.mirror_source.proofs.behind.Behind.fill.Given as goal
+use Rattle.mirror_source.proofs.epochs.Epochs.fill.Given as goal
 
 abbrev pub invariant-loop : goal.invariant-loop
 invariant-loop g l = record {
