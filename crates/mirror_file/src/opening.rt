@@ -21,19 +21,30 @@ pub struct Opened {
     pub tables: Tables,
     /// The end of the last commit that it has, or 0.
     pub position: Lsn,
+    /// The identifier of the system whose stream it follows, once it is known.
+    pub system: Option<String>,
+}
+
+/// How far a file has come, and in the stream of which system.
+#[derive(Debug, Drop)]
+struct Standing {
+    position: Lsn,
+    system: Option<String>,
 }
 
 const IS_THERE: &str =
     "SELECT count(*) FROM sqlite_schema WHERE type = 'table' AND name = 'pgapply_position'";
 
 const CREATE: &str =
-    "CREATE TABLE pgapply_position (one INTEGER PRIMARY KEY, lsn INTEGER NOT NULL, catalog TEXT NOT NULL) STRICT";
+    "CREATE TABLE pgapply_position (one INTEGER PRIMARY KEY, lsn INTEGER NOT NULL, catalog TEXT NOT NULL, system TEXT) STRICT";
 
-const BEGIN: &str = "INSERT INTO pgapply_position VALUES (1, 0, ?)";
+const BEGIN: &str = "INSERT INTO pgapply_position VALUES (1, 0, ?, NULL)";
 
-const FIND: &str = "SELECT lsn, catalog FROM pgapply_position WHERE one = 1";
+const FIND: &str = "SELECT lsn, catalog, system FROM pgapply_position WHERE one = 1";
 
 const SET: &str = "UPDATE pgapply_position SET lsn = ? WHERE one = 1";
+
+const SET_SYSTEM: &str = "UPDATE pgapply_position SET system = ? WHERE one = 1";
 
 /// Opens a file for a catalog, of which it is lent tables that are empty. A file without a position gets
 /// the catalog's tables; else they must be those that this catalog makes, and their rows are read.
@@ -49,21 +60,32 @@ pub fn open<S: Alter>(
     let definitions = catalog.tables();
     let texts = make_texts(alloc, definitions)?;
     let made = join_creates(alloc, texts.as_slice())?;
-    let position = match find_position(conn, made.as_str())? {
-        Some(position) => position,
+    let standing = match find_standing(conn, made.as_str())? {
+        Some(standing) => standing,
         None => {
             make_tables(conn, texts.as_slice(), made.as_str())?;
-            0
+            Standing {
+                position: 0,
+                system: None,
+            }
         }
     };
     let statements = prepare(alloc, conn, texts.as_slice())?;
     let mut tables = empty;
     read_tables(alloc, conn, definitions, texts.as_slice(), &mut tables)?;
+    let Standing { position, system } = standing;
     Ok(Opened {
         statements,
         tables,
         position,
+        system,
     })
+}
+
+/// Notes whose stream the file follows from now on: the identifier of its system.
+pub fn note_system<S: Alter>(conn: &mut Connection<S>, system: &str) -> Result<(), FileFault> {
+    conn.execute(SET_SYSTEM, &[ValueRef::Text(system.as_bytes())])?;
+    Ok(())
 }
 
 // The texts for all tables.
@@ -86,7 +108,10 @@ fn join_creates(alloc: Global, texts: &[TableTexts]) -> Result<String, FileFault
 }
 
 // How far the file has come; none where it has no position yet. Its tables must have been made so.
-fn find_position<S: Alter>(conn: &mut Connection<S>, made: &str) -> Result<Option<Lsn>, FileFault> {
+fn find_standing<S: Alter>(
+    conn: &mut Connection<S>,
+    made: &str,
+) -> Result<Option<Standing>, FileFault> {
     if !has_position(conn)? {
         return Ok(None);
     }
@@ -94,7 +119,10 @@ fn find_position<S: Alter>(conn: &mut Connection<S>, made: &str) -> Result<Optio
     let lsn: i64 = row.get(0)?;
     let found: String = row.get(1)?;
     if found.as_str() == made {
-        Ok(Some(lsn.cast_unsigned()))
+        Ok(Some(Standing {
+            position: lsn.cast_unsigned(),
+            system: row.get(2)?,
+        }))
     } else {
         Err(FileFault::OtherCatalog)
     }

@@ -1,10 +1,11 @@
 // What is done between two transactions of a file.
 use model::Lsn;
 
-/// What is done between two transactions of a file, again and again while a run goes on.
+/// What is done between two transactions of a file, while a run goes on.
 pub trait Between {
-    /// The file is at this position.
-    fn pass(&mut self, position: Lsn);
+    /// The file is at this position. It answers whether it wants to be asked again soon, though nothing is
+    /// committed.
+    fn pass(&mut self, position: Lsn) -> bool;
 }
 
 /// Nothing is done.
@@ -12,5 +13,7 @@ pub trait Between {
 pub struct Nothing;
 
 impl Between for Nothing {
-    fn pass(&mut self, _position: Lsn) {}
+    fn pass(&mut self, _position: Lsn) -> bool {
+        false
+    }
 }
