@@ -10,8 +10,10 @@
 // and `mirror_command` the command line and what is said.
 #![tactic(auto)]
 
+mod input;
 mod publishing;
 mod rounds;
+mod target;
 
 use catalog::Catalog;
 use leader::CatalogFault;
@@ -23,6 +25,7 @@ use std::process::ExitCode;
 use std::random::RandomSource;
 use std::sync::Wait;
 use std::thread::Threads;
+use target::unfit;
 
 fn main(rt: HostRuntime) -> anyhow::Result<ExitCode> {
     let words: Vec<String> = std::env::args(&rt)?.collect(rt.alloc())?;
@@ -48,18 +51,12 @@ fn run<T: Threads + Wait + RandomSource + Sync>(
     };
     let mut file = match SqliteFile::open(rt, options.into) {
         Ok(file) => file,
-        Err(error) => {
-            say(rt, Event::Unfit(options.into, &error.into()));
-            return 1;
-        }
+        Err(error) => return unfit(rt, options.into, &error.into()),
     };
     let status = follow(rt, threads, options, &catalog, &mut file);
     match file.close() {
         Ok(()) => status,
-        Err(error) => {
-            say(rt, Event::Unfit(options.into, &error.into()));
-            1
-        }
+        Err(error) => unfit(rt, options.into, &error.into()),
     }
 }
 

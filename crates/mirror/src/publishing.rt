@@ -30,12 +30,12 @@ impl<'a> Copies<'a> {
         }
     }
 
-    /// Puts a copy in its place, unless the last one is of this position.
+    /// Puts a copy in its place, unless the last one is of this position, or nothing has come yet.
     pub fn publish(&mut self, position: Lsn) {
         let Some(asked) = self.asked else {
             return;
         };
-        if self.position == Some(position) {
+        if position == 0 || self.position == Some(position) {
             return;
         }
         match copy_file(self.rt, self.from, asked.to) {
@@ -64,11 +64,16 @@ impl<'a> Copies<'a> {
 }
 
 impl Between for Copies<'_> {
-    fn pass(&mut self, position: Lsn) {
-        if let Some(asked) = self.asked {
-            if self.position != Some(position) && self.is_due(asked.every) {
-                self.publish(position);
-            }
+    fn pass(&mut self, position: Lsn) -> bool {
+        let Some(asked) = self.asked else {
+            return false;
+        };
+        if position == 0 || self.position == Some(position) {
+            return false;
         }
+        if self.is_due(asked.every) {
+            self.publish(position);
+        }
+        self.position != Some(position)
     }
 }

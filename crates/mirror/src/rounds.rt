@@ -1,55 +1,61 @@
-// One run after another, each from what the last one left in the file.
-ghost use Rattle.std.specs.Prelude.{◌≡◌, map, IfOk};
+// One run after another, each from what the last one left.
+ghost use Rattle.std.specs.Prelude.{◌≡◌, map};
 ghost use Rattle.model.specs.Rows.{keys_of};
 
+use crate::input;
+use crate::input::Refused;
 use crate::publishing::Copies;
+use crate::target::{check_system, no_memory, read_file};
 use catalog::Catalog;
-use frames::{FrameFault, ReadSource, WriteSink};
-use indexes::{Seed, Tables};
-use leader::{Config, End, Lsn, OutOfMemory, Xid};
+use frames::FrameFault;
+use indexes::Tables;
+use leader::{Config, End, Lsn, OutOfMemory, Outcome};
 use mirror_command::events::{Event, say};
 use mirror_command::options::Options;
-use mirror_devices::Bounded;
-use mirror_file::{Opened, open};
-use mirror_run::{Progress, Round, run_round};
-use mirror_source::{Behind, find_applied};
+use mirror_devices::{LentSink, Pace, Paced};
+use mirror_file::Opened;
+use mirror_run::{FileKeep, Setting, Stop, run_round_on};
+use mirror_source::Cut;
+use mirror_statements::FileStatements;
 use pgapply_command::options::Input;
-use pgapply_command::stream::{Stream, Updates};
 use pgapply_command::system::SystemClock;
 use sqlite_file::SqliteFile;
-use std::alloc::Global;
-use std::fs::File;
 use std::random::RandomSource;
 use std::sync::Wait;
+use std::thread;
 use std::thread::Threads;
 use std::time::Duration;
-use std::{io, thread};
-use tcp::Connection;
 
 /// The most seconds between two tries.
 const LONGEST: u64 = 60;
 
-/// How many bytes of a connection's stream one run has at first: it keeps what their commits change. Behind
-/// them the connection is made again.
-const PORTION: usize = 1 << 28;
-
-/// How a stream is tried.
+/// How a stream ended, and whether that was all.
 #[derive(Clone, Copy)]
-struct Trial {
-    config: Config,
-    /// How many bytes of a connection's stream the run has.
-    bytes: usize,
+struct Ended {
+    end: End,
+    cut: Cut,
+    stop: Option<Stop>,
+    /// The end of the last commit that the file has.
+    position: Lsn,
 }
 
-/// What comes behind a run.
+/// What comes behind a stream that ended.
 #[derive(Clone, Copy)]
 enum Next {
     /// Nothing: this is the exit status.
     Over(u8),
-    /// Another run, without workers: they may have met work that its publisher takes back.
+    /// The same once more, without workers: they may have met work that its publisher takes back.
     Alone,
-    /// Another try; whether the file has moved since the last.
+    /// Another try; whether something was kept since the last.
     Again(bool),
+}
+
+/// How an epoch's run ended.
+#[derive(Clone, Copy)]
+struct Left {
+    end: End,
+    position: Lsn,
+    stop: Option<Stop>,
 }
 
 /// Follows a stream until it ends for good. It answers the exit status.
@@ -61,233 +67,233 @@ pub fn follow<T: Threads + Wait + RandomSource + Sync>(
     file: &mut SqliteFile,
 ) -> u8 {
     let mut copies = Copies::new(rt, options.into, options.publishing);
-    let first = Trial {
-        config: options.config,
-        bytes: PORTION,
-    };
-    let mut trial = first;
+    let mut config = options.config;
     let mut pause = 1;
     for _ in threads.forever() {
-        match follow_once(rt, threads, options, &trial, catalog, file, &mut copies) {
+        match follow_once(rt, threads, options, config, catalog, file, &mut copies) {
             Next::Over(status) => return status,
-            Next::Alone => trial.config.workers = 0,
+            Next::Alone => config.workers = 0,
             Next::Again(true) => {
-                trial = first;
+                config = options.config;
                 pause = rest(rt, 1);
             }
-            Next::Again(false) => {
-                trial.bytes = trial.bytes.saturating_mul(2);
-                pause = rest(rt, pause);
-            }
+            Next::Again(false) => pause = rest(rt, pause),
         }
     }
     unreachable!()
 }
 
-/// Opens the input and follows it to its end.
-fn follow_once<T: Threads + Wait + RandomSource + Sync>(
+/// Opens the file and the stream, and follows that to its end.
+fn follow_once<T: Threads + Wait + Sync>(
     rt: &HostRuntime,
     threads: &T,
     options: &Options<'_>,
-    trial: &Trial,
+    config: Config,
     catalog: &Catalog,
     file: &mut SqliteFile,
     copies: &mut Copies<'_>,
 ) -> Next {
-    let opened = match read_file(rt, options, catalog, file) {
-        Ok(opened) => opened,
-        Err(status) => return Next::Over(status),
-    };
-    let before = opened.position;
-    let applied = match find_streamed(rt, options.input, before) {
-        Ok(applied) => applied,
-        Err(status) => return Next::Over(status),
-    };
-    let (stream, updates) = match connect(rt, options.input) {
-        Ok(ends) => ends,
-        Err(status) if is_over(options) => return Next::Over(status),
-        Err(_) => return Next::Again(false),
-    };
-    let bytes = match options.input {
-        Input::Connection(_) => trial.bytes,
-        Input::File(_) | Input::Stdin => usize::MAX,
-    };
-    let stream = Bounded::new(ReadSource::new(stream), bytes);
-    let Ok(source) = Behind::new(rt.alloc(), stream, before, applied) else {
-        say(rt, Event::OutOfMemory);
-        return Next::Over(4);
-    };
-    let ran = run_once(
-        rt,
-        threads,
-        options,
-        &trial.config,
-        catalog,
-        file,
-        opened,
-        source,
-        updates,
-        copies,
-    );
-    let Ok((end, progress)) = ran else {
-        say(rt, Event::OutOfMemory);
-        return Next::Over(4);
-    };
-    say_end(rt, end, progress);
-    copies.publish(progress.position);
-    next_of(options, &trial.config, end, progress, before)
-}
-
-/// What comes behind a run that ended so.
-fn next_of(
-    options: &Options<'_>,
-    config: &Config,
-    end: End,
-    progress: Progress,
-    before: Lsn,
-) -> Next {
-    if progress.stop.is_some() {
-        return Next::Over(1);
-    }
-    if is_over(options) {
-        return Next::Over(status_of(end));
-    }
-    match end {
-        End::Unique { .. } | End::NullKey { .. } | End::HeldKey { .. } if config.workers > 0 => {
-            Next::Alone
-        }
-        End::Clean
-        | End::Frame(FrameFault::Device | FrameFault::Truncated | FrameFault::ServerError) => {
-            Next::Again(progress.position > before)
-        }
-        _ => Next::Over(status_of(end)),
-    }
-}
-
-/// The tables and the position of the file; or the exit status, where it can't be used.
-fn read_file(
-    rt: &HostRuntime,
-    options: &Options<'_>,
-    catalog: &Catalog,
-    file: &mut SqliteFile,
-) -> Result<Opened, u8>
-    ensures { IfOk result (λ opened. opened.tables.schema ≡ map keys_of catalog.now) }
-{
-    let Ok(empty) = empty_tables(rt, rt.alloc(), catalog) else {
-        say(rt, Event::OutOfMemory);
-        return Err(4);
-    };
-    match open(rt.alloc(), file.connection(), catalog, empty) {
-        Ok(opened) => {
-            say(rt, Event::Opened(options.into, opened.position));
-            Ok(opened)
-        }
-        Err(fault) => {
-            say(rt, Event::Unfit(options.into, &fault));
-            Err(1)
-        }
-    }
-}
-
-/// Empty tables of a catalog. A publisher's users choose the values, so nobody is to foretell the hashes.
-fn empty_tables(
-    rt: &impl RandomSource,
-    alloc: Global,
-    catalog: &Catalog,
-) -> Result<Tables, OutOfMemory>
-    ensures { IfOk result (λ tables. tables.schema ≡ map keys_of catalog.now) }
-{
-    let seed = match Seed::random(rt) {
-        Ok(seed) => seed,
-        Err(_) => Seed::fixed(),
-    };
-    Tables::with_seed(alloc, catalog.tables(), seed)
-}
-
-/// The streamed transactions of the input that the file has, which is at this position; or the exit status.
-/// Whoever sends a stream over a connection begins behind them, and standard input comes once.
-fn find_streamed(rt: &HostRuntime, input: Input<'_>, position: Lsn) -> Result<Vec<Xid>, u8> {
-    let Input::File(path) = input else {
-        return Ok(Vec::new(rt.alloc()));
-    };
-    match File::open(rt, path) {
-        Ok(file) => find_applied(rt.alloc(), ReadSource::new(file), position).map_err(|_| {
-            say(rt, Event::NotRead(path));
-            1
-        }),
-        Err(error) => {
-            say(rt, Event::NotOpened(path, &error));
-            Err(1)
-        }
-    }
-}
-
-/// Where the stream comes from, and where status updates go; or the exit status.
-fn connect(rt: &HostRuntime, input: Input<'_>) -> Result<(Stream, Updates), u8> {
-    match input {
-        Input::Stdin => Ok((Stream::Stdin(rt.stdin()), Updates::Nowhere)),
-        Input::File(path) => match File::open(rt, path) {
-            Ok(file) => Ok((Stream::File(file), Updates::Nowhere)),
-            Err(error) => {
-                say(rt, Event::NotOpened(path, &error));
-                Err(1)
-            }
-        },
-        Input::Connection(address) => match ends_of(rt, address) {
-            Ok((read, written)) => {
-                say(rt, Event::Connected(address));
-                Ok((read, written))
-            }
-            Err(error) => {
-                say(rt, Event::NotConnected(address, &error));
-                Err(1)
-            }
-        },
-    }
-}
-
-fn ends_of(rt: &HostRuntime, address: &str) -> io::Result<(Stream, Updates)> {
-    let (read, written) = Connection::open(rt, address)?.into_ends()?;
-    Ok((Stream::Connection(read), Updates::Connection(written)))
-}
-
-/// One run, with what it left.
-fn run_once<T: Threads + Wait + Sync>(
-    rt: &HostRuntime,
-    threads: &T,
-    options: &Options<'_>,
-    config: &Config,
-    catalog: &Catalog,
-    file: &mut SqliteFile,
-    opened: Opened,
-    source: Behind<Bounded<ReadSource<Stream>>>,
-    updates: Updates,
-    copies: &mut Copies<'_>,
-) -> Result<(End, Progress), OutOfMemory>
-    requires { opened.tables.schema ≡ map keys_of catalog.now }
-{
     let Opened {
         statements,
         tables,
         position,
-    } = opened;
-    let Round { outcome, progress } = run_round(
+        system,
+    } = match read_file(rt, options, catalog, file) {
+        Ok(opened) => opened,
+        Err(status) => return Next::Over(status),
+    };
+    say(rt, Event::Opened(options.into, position));
+    let mut opened = match input::open(rt, options.input, position, options.limits) {
+        Ok(opened) => opened,
+        Err(Refused::NotThere) if is_over(options) => return Next::Over(1),
+        Err(Refused::NotThere) => return Next::Again(false),
+        Err(Refused::Over(status)) => return Next::Over(status),
+    };
+    match opened.epochs.system() {
+        Ok(Some(found)) => {
+            if let Err(status) = check_system(rt, options, file, system, found) {
+                return Next::Over(status);
+            }
+        }
+        Ok(None) => {}
+        Err(_) if is_over(options) => return Next::Over(2),
+        Err(_) => return Next::Again(false),
+    }
+    let followed = follow_epochs(
+        rt,
+        threads,
+        options,
+        config,
+        catalog,
+        file,
+        &statements,
+        tables,
+        position,
+        &mut opened,
+        copies,
+    );
+    let ended = match followed {
+        Ok(ended) => ended,
+        Err(status) => return Next::Over(status),
+    };
+    say_end(rt, &ended);
+    copies.publish(ended.position);
+    next_of(options, &config, &ended, position)
+}
+
+/// Follows the epochs of a stream to its end; or the exit status, where the file or memory was refused.
+fn follow_epochs<T: Threads + Wait + Sync>(
+    rt: &HostRuntime,
+    threads: &T,
+    options: &Options<'_>,
+    config: Config,
+    catalog: &Catalog,
+    file: &mut SqliteFile,
+    statements: &FileStatements,
+    tables: Tables,
+    position: Lsn,
+    opened: &mut input::Opened,
+    copies: &mut Copies<'_>,
+) -> Result<Ended, u8>
+    requires { tables.schema ≡ map keys_of catalog.now }
+{
+    let first = follow_epoch(
+        rt, threads, options, config, catalog, file, statements, tables, position, opened, copies,
+    );
+    let mut left = match first {
+        Ok(left) => left,
+        Err(_) => return Err(no_memory(rt)),
+    };
+    for _ in threads.forever() {
+        let Left {
+            end,
+            position,
+            stop,
+        } = left;
+        let cut = opened.epochs.cut();
+        if end != End::Clean || stop.is_some() || cut != Cut::AtLimit {
+            return Ok(Ended {
+                end,
+                cut,
+                stop,
+                position,
+            });
+        }
+        if opened.epochs.begin_next().is_err() {
+            return Err(no_memory(rt));
+        }
+        left = follow_next(rt, threads, options, config, catalog, file, opened, copies)?;
+    }
+    unreachable!()
+}
+
+/// Follows an epoch of a stream from what the file has; or the exit status, where the file or memory was
+/// refused.
+fn follow_next<T: Threads + Wait + Sync>(
+    rt: &HostRuntime,
+    threads: &T,
+    options: &Options<'_>,
+    config: Config,
+    catalog: &Catalog,
+    file: &mut SqliteFile,
+    opened: &mut input::Opened,
+    copies: &mut Copies<'_>,
+) -> Result<Left, u8> {
+    let Opened {
+        statements,
+        tables,
+        position,
+        ..
+    } = match read_file(rt, options, catalog, file) {
+        Ok(read) => read,
+        Err(status) => return Err(status),
+    };
+    let followed = follow_epoch(
+        rt,
+        threads,
+        options,
+        config,
+        catalog,
+        file,
+        &statements,
+        tables,
+        position,
+        opened,
+        copies,
+    );
+    match followed {
+        Ok(left) => Ok(left),
+        Err(_) => Err(no_memory(rt)),
+    }
+}
+
+/// Follows an epoch of a stream: one run.
+fn follow_epoch<T: Threads + Wait + Sync>(
+    rt: &HostRuntime,
+    threads: &T,
+    options: &Options<'_>,
+    config: Config,
+    catalog: &Catalog,
+    file: &mut SqliteFile,
+    statements: &FileStatements,
+    tables: Tables,
+    position: Lsn,
+    opened: &mut input::Opened,
+    copies: &mut Copies<'_>,
+) -> Result<Left, OutOfMemory>
+    requires { tables.schema ≡ map keys_of catalog.now }
+{
+    let setting = Setting {
+        config,
+        position,
+        batch: options.batch,
+    };
+    let pace = Pace::new();
+    let mut keep = FileKeep::new(rt.alloc(), file.connection(), statements);
+    let (outcome, progress) = run_round_on(
         threads,
         rt,
         rt.alloc(),
         catalog,
         tables,
-        config,
-        source,
-        WriteSink::new(updates),
+        &setting,
+        Paced::new(&mut opened.epochs, &pace),
+        LentSink::new(&mut opened.updates),
         SystemClock::new(rt),
-        file.connection(),
-        &statements,
+        &pace,
+        &mut keep,
         copies,
-        position,
-        options.batch,
     )?;
-    Ok((outcome.end, progress))
+    let Outcome { end, .. } = outcome;
+    Ok(Left {
+        end,
+        position: progress.position,
+        stop: progress.stop,
+    })
+}
+
+/// What comes behind a stream that ended so.
+fn next_of(options: &Options<'_>, config: &Config, ended: &Ended, before: Lsn) -> Next {
+    if ended.stop.is_some() || ended.cut == Cut::Full {
+        return Next::Over(1);
+    }
+    match ended.end {
+        End::Unique { .. } | End::NullKey { .. } | End::HeldKey { .. }
+            if config.workers > 0 && comes_again(options) => { Next::Alone }
+        End::Clean
+        | End::Frame(FrameFault::Device | FrameFault::Truncated | FrameFault::ServerError)
+            if !is_over(options) => { Next::Again(ended.position > before) }
+        end => Next::Over(status_of(end)),
+    }
+}
+
+/// Whether a stream can be had once more from where it was followed to.
+fn comes_again(options: &Options<'_>) -> bool {
+    match options.input {
+        Input::File(_) => true,
+        Input::Stdin => false,
+        Input::Connection(_) => !options.once,
+    }
 }
 
 /// Whether the first end of a stream is the last.
@@ -295,10 +301,14 @@ fn is_over(options: &Options<'_>) -> bool {
     options.once || !matches!(options.input, Input::Connection(_))
 }
 
-fn say_end(rt: &HostRuntime, end: End, progress: Progress) {
-    say(rt, Event::Ended(end, progress.position));
-    if let Some(stop) = progress.stop {
-        say(rt, Event::Stopped(stop, progress.position));
+fn say_end(rt: &HostRuntime, ended: &Ended) {
+    let position = ended.position;
+    say(rt, Event::Ended(ended.end, position));
+    if ended.cut == Cut::Full {
+        say(rt, Event::Full);
+    }
+    if let Some(stop) = ended.stop {
+        say(rt, Event::Stopped(stop, position));
     }
 }
 

@@ -19,6 +19,8 @@ pub enum Event<'a> {
     Unfit(&'a str, &'a FileFault),
     /// The file of this name is at this position.
     Opened(&'a str, Lsn),
+    /// The file of this name follows a stream of another system.
+    OtherSystem(&'a str),
     /// This address is connected.
     Connected(&'a str),
     /// This address can't be connected.
@@ -27,6 +29,8 @@ pub enum Event<'a> {
     Ended(End, Lsn),
     /// The file follows no further, and is at this position.
     Stopped(Stop, Lsn),
+    /// Transactions were open all along while as much came as one run may keep.
+    Full,
     /// The next try is so many seconds away.
     Waits(u64),
     /// A copy was put in this place, at this position.
@@ -48,6 +52,10 @@ impl fmt::Display for Event<'_> {
                 write!(f, "{path} is at ")?;
                 write_lsn(f, *lsn)
             }
+            Event::OtherSystem(path) => write!(
+                f,
+                "{path} follows a stream of another system: take a file of its own for this one"
+            ),
             Event::Connected(address) => write!(f, "connected to {address}"),
             Event::NotConnected(address, error) => write!(f, "cannot connect {address}: {error}"),
             Event::Ended(end, lsn) => {
@@ -60,6 +68,10 @@ impl fmt::Display for Event<'_> {
                 write_lsn(f, *lsn)?;
                 write!(f, ": {stop}")
             }
+            Event::Full => f.write_str(
+                "transactions were open all along while as many bytes came as --journal says: \
+                let it be more, or the publisher's logical_decoding_work_mem",
+            ),
             Event::Waits(seconds) => write!(f, "the next try is in {seconds} s"),
             Event::Published(path, lsn) => {
                 write!(f, "{path} is a copy at ")?;

@@ -3,6 +3,7 @@ use clap::builder::ValueParser;
 use clap::error::ErrorKind;
 use clap::{Arg, ArgAction, ArgMatches, Command, Error};
 use leader::Config;
+use mirror_source::Limits;
 use pgapply_command::options::Input;
 use std::alloc::{AllocError, Global};
 
@@ -17,6 +18,8 @@ pub struct Options<'a> {
     pub publishing: Option<Publishing<'a>>,
     /// How many commits one transaction of the file has at most.
     pub batch: usize,
+    /// How much of the stream one run has.
+    pub limits: Limits,
     /// Whether a connection that ends is not made again.
     pub once: bool,
     pub config: Config,
@@ -42,7 +45,12 @@ Exit statuses:
   4  memory was refused";
 
 /// The options that are numbers.
-const NUMBERS: [&str; 5] = ["every", "batch", "workers", "ring", "spool"];
+const NUMBERS: [&str; 7] = [
+    "every", "batch", "epoch", "journal", "workers", "ring", "spool",
+];
+
+/// Of the bytes that one run may have at most, the part behind which it ends where no transaction is open.
+const SHARE: u64 = 64;
 
 /// The program and its options.
 fn program<'a>(alloc: Global) -> Result<Command<'a>, AllocError> {
@@ -99,6 +107,20 @@ fn with_numbers<'a>(alloc: Global, program: Command<'a>) -> Result<Command<'a>, 
             "Commits that one transaction of the file has at most, 1 to 1000000",
             ValueParser::unsigned(1, 1_000_000),
             "1000",
+        ))?
+        .arg(number(
+            alloc,
+            "epoch",
+            "Commits behind which a run ends and the next begins, 1 to 1000000000",
+            ValueParser::unsigned(1, 1_000_000_000),
+            "100000",
+        ))?
+        .arg(number(
+            alloc,
+            "journal",
+            "Bytes of the stream that one run keeps at most, while transactions are open all along",
+            ValueParser::unsigned(1, u64::MAX),
+            "4294967296",
         ))?
         .arg(number(
             alloc,
@@ -201,6 +223,7 @@ fn options_of<'a>(input: Input<'a>, given: &ArgMatches<'a>) -> Options<'a> {
             None => None,
         },
         batch: number_of(given, "batch").unwrap_or(1) as usize,
+        limits: limits_of(given),
         once: given.get_flag("once"),
         config: Config {
             workers: number_of(given, "workers").unwrap_or(0) as usize,
@@ -208,6 +231,16 @@ fn options_of<'a>(input: Input<'a>, given: &ArgMatches<'a>) -> Options<'a> {
             spool: number_of(given, "spool").unwrap_or(0),
             skip: 0,
         },
+    }
+}
+
+/// How much of the stream one run has.
+fn limits_of(given: &ArgMatches<'_>) -> Limits {
+    let most = number_of(given, "journal").unwrap_or(1);
+    Limits {
+        commits: number_of(given, "epoch").unwrap_or(1),
+        bytes: most / SHARE,
+        most,
     }
 }
 

@@ -1,0 +1,2 @@
+mod OneItem
+mod Keys
