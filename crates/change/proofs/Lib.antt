@@ -7,3 +7,4 @@ pub mod Numbered
 pub mod PatchedColumns
 pub mod Searching
 pub mod KeptRows
+mod LayingUnder

@@ -1,11 +1,13 @@
 -- The laws of edits over edits, and of the rows of an emptied table as edits.
+--     or_none, or_both      the first of several
 --     get_over, back_together      what is edited at a place; edits together put back are the edits put back from the last on
+--     get_together      what edits together have at a place, of two lists one behind the other
 --     get_rows_held_at, back_rows_held      what an emptied table held, place by place; put back
-use Rattle.std.specs.Prelude.{◌≡◌, ℕ, ◌==◌, Bool, true, false, cond, List, [], ◌∷◌, Option, Some, None, map, unwrap_or, refl}
+use Rattle.std.specs.Prelude.{◌≡◌, ℕ, ◌==◌, Bool, true, false, cond, List, [], ◌∷◌, ◌++◌, Option, Some, None, map, unwrap_or, refl}
 use Rattle.std.proofs.Common.{sym, ◌∙◌, ap, subst, true≢false, rules, inl, inr}
 use Rattle.std.specs.Ordering.{eq_by_cmp, ordering_then, is_eq}
 use Rattle.std.specs.Cmp.{nat_cmp_total, tied_itself}
-use Rattle.std.specs.FinMap.{get, entries, find, get-entries, get-from_entries}
+use Rattle.std.specs.FinMap.{get, entries, find, get-empty, get-entries, get-from_entries}
 use Rattle.std.proofs.lemmas.Bool.{cases_Bool}
 use Rattle.model.specs.declared.key.Key.{Key}
 use Rattle.model.specs.declared.row.Row.{Row}
@@ -19,6 +21,14 @@ use Rattle.change.specs.Edits.{or_else, insert_all, laid_over, laid_together}
 use Rattle.change.specs.Inverse.{rows_held, HasNoRows}
 
 -- ---- edits over edits
+
+pub or_none : {X : Type 0} (o : Option X) → or_else o None ≡ o
+or_none None = refl
+or_none (Some x) = refl
+
+pub or_both : {X : Type 0} (a b c : Option X) → or_else (or_else a b) c ≡ or_else a (or_else b c)
+or_both None b c = refl
+or_both (Some x) b c = refl
 
 get_insert_all : (edits : Edits) (p : Place) (es : List (Place × Option Row)) → get (insert_all es edits) p ≡ or_else (find place_cmp p es) (get edits p)
 get_insert_all edits p [] = refl
@@ -45,6 +55,14 @@ back_over rows edits others = same_rows _ _ (λ p.
 pub back_together : (rows : Rows) (es : List Edits) → back rows (laid_together es) ≡ all_back rows es
 back_together rows [] = overlay_empty rows
 back_together rows (edits ∷ es) = back_over rows edits (laid_together es) ∙ ap (λ (r : Rows). back r edits) (back_together rows es)
+
+pub get_together : (es fs : List Edits) (p : Place) → get (laid_together (es ++ fs)) p ≡ or_else (get (laid_together es) p) (get (laid_together fs) p)
+get_together [] fs p = ap (λ o. or_else o (get (laid_together fs) p)) (sym (get-empty place_cmp p))
+get_together (e ∷ es) fs p =
+    get_over e (laid_together (es ++ fs)) p
+    ∙ ap (or_else (get e p)) (get_together es fs p)
+    ∙ sym (or_both (get e p) (get (laid_together es) p) (get (laid_together fs) p))
+    ∙ ap (λ o. or_else o (get (laid_together fs) p)) (sym (get_over e (laid_together es) p))
 
 -- ---- places of one table
 

@@ -9,5 +9,8 @@ pub mod Altered
 pub mod Footprint
 pub mod Reading
 pub mod KeptRow
+pub mod Laid
+pub mod LaidLemmas
+pub mod OwnKeys
 pub mod Between
 pub mod Refusal

@@ -28,9 +28,11 @@
 //   reading      `PatchedRow`: a row as a patch leaves it, read in place
 //   outcome      `apply`, its answers, and the four changes
 //   inverse      `Inverse` and `put_back`
+//   laying       what stood before a change, laid under what is known of a table
 pub mod cell_ref;
 pub mod footprint;
 pub mod inverse;
+mod laying;
 pub mod outcome;
 pub mod reading;
 pub mod search;

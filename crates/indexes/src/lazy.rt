@@ -69,6 +69,23 @@ impl Contents {
     {
         self.table.get(key)
     }
+
+    /// The rows that the table held, in key order. It takes no memory.
+    pub fn walk(&self) -> Walk<'_>
+        ensures rows { result ≡ finite.values self.now.rows }
+        ensures fits { length result < 2 ^ 63 }
+        ensures sound { IsSound self.now }
+    {
+        self.table.recall_invariant();
+        self.table.walk()
+    }
+
+    /// A row's primary key; none if a value of it is null.
+    pub fn key_of(&self, row: &Row) -> Result<Option<Key>, OutOfMemory>
+        ensures { IfOk result (λ key. key ≡ values_in self.now.keys.primary row.now) }
+    {
+        self.table.key_of(row)
+    }
 }
 
 impl LazyTable {

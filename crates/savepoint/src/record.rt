@@ -4,7 +4,9 @@ ghost use Rattle.std.specs.Option.{option_map};
 ghost use Rattle.model.specs.declared.cell.Cell.{Cell};
 ghost use Rattle.model.specs.Effect.{all_back};
 ghost use Rattle.indexes.specs.Content.{KeepsCells};
+ghost use Rattle.change.specs.Edits.{laid_together};
 ghost use Rattle.change.specs.Inverse.{edits_of};
+ghost use Rattle.change.specs.Laid.{IsLaidUnder};
 ghost use Rattle.undo.specs.Undo.{content_undone, CanUndo, AreKnownAll, all_settled, AreSettled};
 ghost use Rattle.model.specs.declared.item.Item.TheVariants.{Change as ChangeItem, Touch, BackTo};
 ghost use Rattle.model.specs.Survivors.{before_savepoint, after_item};
@@ -15,8 +17,9 @@ use crate::mark::Mark;
 use crate::savepoints::Savepoints;
 use change::Inverse;
 use indexes::Tables;
-use model::{Change, Item, OutOfMemory, Xid};
+use model::{Change, Item, Key, OutOfMemory, Row, TableId, Xid};
 use std::alloc::Global;
+use std::collections::BTreeMap;
 use std::marker::Model;
 use undo::UndoLog;
 
@@ -206,6 +209,19 @@ impl TxRecord {
         self.undo.mark()
     }
 
+    /// Adds to what is known of a table's rows, key by key, what stood there before its changes: at a key
+    /// the oldest of them has the say, and nothing where something is known already. Refused for memory,
+    /// a part is added.
+    pub fn lay_under(
+        &self,
+        table: TableId,
+        known: &mut BTreeMap<Key, Option<Row>>,
+    ) -> Result<(), OutOfMemory>
+        ensures { OnOk result (IsLaidUnder known.old table (laid_together (map edits_of self.now.log.inverses)) known.new) }
+    {
+        self.undo.lay_under(table, known)
+    }
+
     /// Undoes all changes, the newest first. It is for an abort, and takes no memory.
     ///
     /// What the caller owes is that each inverse can be put back once those after it are.
@@ -219,18 +235,25 @@ impl TxRecord {
         undo.undo_to(t, 0);
     }
 
-    /// Gives up what its changes can be taken back with, and hands out the items. It is for a
-    /// commit. No row changes, and it takes no memory.
-    pub fn settle(self, t: &mut Tables) -> Vec<Item>
+    /// Gives up the room by which its changes could be taken back, and hands out the items and the log,
+    /// which can be read, but not put back into tables any more. It is for a commit. No row changes, and
+    /// it takes no memory.
+    pub fn settle(self, t: &mut Tables) -> (Vec<Item>, UndoLog)
         requires { AreKnownAll t.old.schema self.log.inverses }
-        ensures items { result.items ≡ self.survivors }
+        ensures items { result.0.items ≡ self.survivors }
+        ensures inverses { result.1.inverses ≡ self.log.inverses }
         ensures rows { t.new.rows ≡ t.old.rows }
         ensures schema { t.new.schema ≡ t.old.schema }
         ensures gone { AreSettled t.old.schema t.old.rows t.new.room self.log.inverses }
         ensures fewer { KeepsCells t.new.room t.old.room }
         ensures others { (c : Cell) → ¬ Contains (all_settled t.old.schema self.log.inverses) c → Contains t.old.room c → Contains t.new.room c }
     {
-        self.undo.settle(t);
-        self.survivors
+        let TxRecord {
+            survivors,
+            undo,
+            ..
+        } = self;
+        undo.settle(t);
+        (survivors, undo)
     }
 }

@@ -5,12 +5,12 @@
 --     needed_settled      what is needed is among what is given up
 --     both_held      a cell that is held by two is shared by them
 --     settled_filled      what one transaction needs and another gives up is filled on the live rows
---     log_undone, log_valid      the rows once a log is undone; they are valid at each step
+--     log_undone, log_back, log_valid      the rows once a log is undone; it takes its changes back; they are valid at each step
 --     log_altered, logs_apart      what a log alters is held by its changes; what two alter is apart
 --     log_more_done, log_more_skipped      one more change
 --     log_rest      the log of the last changes
 --     log_alike, log_past      the log takes its changes back past others too
-use Rattle.std.specs.Prelude.{◌≡◌, ℕ, zero, suc, ◌+◌, ◌⊎◌, ◌==◌, ◌&&◌, ◌||◌, Bool, true, false, cond, List, [], ◌∷◌, ◌++◌, Option, Some, None, refl, slice_get}
+use Rattle.std.specs.Prelude.{◌≡◌, ℕ, zero, suc, ◌+◌, ◌⊎◌, ◌==◌, ◌&&◌, ◌||◌, Bool, true, false, cond, List, [], ◌∷◌, ◌++◌, map, Option, Some, None, refl, slice_get}
 use Rattle.std.proofs.Common.{sym, ◌∙◌, ap, subst, inl, inr, true≢false, arith, zero-add}
 use Rattle.std.specs.List.{Contains, list_any}
 use Rattle.std.specs.Cmp.{eq_by_cmp_equiv}
@@ -29,7 +29,7 @@ use Rattle.model.specs.ExactLemmas.{key_cmp_exact}
 use Rattle.model.specs.Rows.{Place, Rows, Schema, keys_at, key_of, values_in, are_taken, IsValid}
 use Rattle.model.specs.Effect.{Skip, one_edit, outcome, effect, inverse, back, serial, inverses, all_back, edits_of as edits_of_outcome}
 use Rattle.model.specs.EditLemmas.{same_place, was_at, get_rows_under, get_edit, get_one_edit, overlay_empty}
-use Rattle.model.specs.EffectLemmas.{effect_valid, serial_valid, inverse_skipped}
+use Rattle.model.specs.EffectLemmas.{effect_valid, serial_valid, inverse_skipped, all_back_serial}
 use Rattle.model.specs.OverlapLemmas.{neither_first, neither_second, neither}
 use Rattle.model.specs.TakenLemmas.{first_true, second_true, both_true, number_is, same_number, taken_by_row, row_of_taken}
 use Rattle.model.specs.Cells.{table_of, overlaps, same_key, row_cell, unique_cell, unique_cells, cells_of}
@@ -48,6 +48,7 @@ use Rattle.change.specs.Applied.{IsDone}
 use Rattle.undo.specs.Undo.{content_undone, cells_settled, all_settled, cells_needed}
 use Rattle.undo.specs.Others.{all_altered, all_needed, AreValidBack, IsFilled}
 use Rattle.undo.specs.OthersLemmas.{in_cells_of}
+use Rattle.undo.specs.UndoLemmas.{rows_undone}
 use Rattle.undo.specs.LogOf.{IsLogOf, no_change, with_done, with_skipped, IsFilledBy, IsSecured, StandsLive}
 
 -- ---- which cells a row fills
@@ -426,6 +427,13 @@ log_undone schema t _ _ _ (with_skipped rows c cs is skips log) =
     log_undone schema t (effect schema rows c) cs is log
     ∙ sym (overlay_empty (all_back t.rows (inverses schema (effect schema rows c) cs)))
     ∙ ap (back (all_back t.rows (inverses schema (effect schema rows c) cs))) (sym (inverse_skipped schema rows c skips))
+
+-- it takes its changes back
+pub log_back : (schema : Schema) (rows : Rows) (cs : List Change) (is : List Inverse) → IsLogOf schema rows cs is
+    → all_back (serial schema rows cs) (map edits_of is) ≡ rows
+log_back schema rows cs is log =
+    let t : Content = record { schema = schema; rows = serial schema rows cs; room = [] } in
+    sym (rows_undone t is) ∙ log_undone schema t rows cs is log ∙ all_back_serial schema rows cs
 
 -- it is valid at each step, if the rows with the last changes undone are
 pub log_valid : (schema : Schema) (t : Content) → t.schema ≡ schema → (rows : Rows) (cs : List Change) (is : List Inverse) → IsLogOf schema rows cs is

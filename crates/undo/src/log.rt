@@ -6,14 +6,17 @@ ghost use Rattle.model.specs.Effect.{effect, all_back};
 ghost use Rattle.model.specs.Named.{NamesTables};
 ghost use Rattle.model.specs.Accepted.{HasNoClash};
 ghost use Rattle.indexes.specs.Content.{KeepsCells};
+ghost use Rattle.change.specs.Edits.{laid_together};
 ghost use Rattle.change.specs.Inverse.{edits_of, IsKnown};
+ghost use Rattle.change.specs.Laid.{IsLaidUnder};
 ghost use Rattle.change.specs.Refusal.{ClashesAs};
 ghost use Rattle.undo.specs.Undo.{content_undone, CanUndo, AreKnownAll, cells_settled, all_settled, IsSettled, AreSettled};
 
 use change::{Applied, Clash, Inverse, apply, put_back};
 use indexes::Tables;
-use model::{Change, OutOfMemory};
+use model::{Change, Key, OutOfMemory, Row, TableId};
 use std::alloc::Global;
+use std::collections::BTreeMap;
 use std::marker::Model;
 
 /// What takes back a transaction's changes, oldest first. A clause sees the list of them, and how
@@ -120,6 +123,26 @@ impl UndoLog {
         undo_last(&mut self.inverses, t, mark);
     }
 
+    /// Adds to what is known of a table's rows, key by key, what stood there before all of the changes: at
+    /// a key the oldest of them has the say, and none where something is known already. Refused for
+    /// memory, a part is added.
+    pub fn lay_under(
+        &self,
+        table: TableId,
+        known: &mut BTreeMap<Key, Option<Row>>,
+    ) -> Result<(), OutOfMemory>
+        ensures { OnOk result (IsLaidUnder known.old table (laid_together (map edits_of self.now.inverses)) known.new) }
+    {
+        lay_all(self.inverses.as_slice(), table, known)
+    }
+
+    /// Drops the inverses, and the room for more. It takes no memory.
+    pub fn forget(&mut self)
+        ensures { self.new ≡ record { inverses = []; room = 0 } }
+    {
+        self.inverses = Vec::new(*self.inverses.allocator());
+    }
+
     /// Gives up what the changes can be taken back with: the empty slots of their keys, and the
     /// entries of unique values that no row has any more. It is for a commit. No row changes, and it
     /// takes no memory.
@@ -149,6 +172,19 @@ fn undo_last(inverses: &mut Vec<Inverse>, t: &mut Tables, mark: usize)
         let inverse = inverses.pop().unwrap();
         put_back(t, inverse);
     }
+}
+
+fn lay_all(
+    inverses: &[Inverse],
+    table: TableId,
+    known: &mut BTreeMap<Key, Option<Row>>,
+) -> Result<(), OutOfMemory>
+    ensures { OnOk result (IsLaidUnder known.old table (laid_together (map edits_of inverses.now)) known.new) }
+{
+    for inverse in inverses {
+        inverse.lay_under(table, known)?;
+    }
+    Ok(())
 }
 
 fn settle_all(inverses: &[Inverse], t: &mut Tables)
