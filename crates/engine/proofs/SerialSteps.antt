@@ -7,16 +7,14 @@
 --     worked, worked_view, worked_kept      with more changes
 --     item_applied, item_clear, item_refused      items in turn
 use Rattle.std.proofs.Common.{◌≡◌, ℕ, Vec, Global, ◌++◌, ◌∷◌, [], List, None, sym, ap, subst, ◌∙◌, append_assoc}
-use Rattle.std.specs.Prelude.{Result, Ok, Err, IsErrAnd, IfErr, OnErr, All, length, map}
+use Rattle.std.specs.Prelude.{Result, Ok, Err, IsErrAnd, IfErr, OnErr, map}
 use Rattle.std.specs.Iterator.{Yields}
 use Rattle.std.specs.Vec.Iter.{into_iter_items, into_iter_steps}
 use Rattle.std.specs.declared.vec.IntoIter.{IntoIter}
 use Rattle.std.specs.FinMap as finite
-use Rattle.std.proofs.lemmas.List.Elements.{All-nil, All-append}
 use Rattle.model.specs.declared.change.Change.{Change}
 use Rattle.model.specs.declared.item.Item.{Item}
 use Rattle.model.specs.declared.item.Item.TheVariants.{Change as ChangeItem}
-use Rattle.model.specs.Named.{NamesTables}
 use Rattle.model.specs.Rows.{Rows, Schema}
 use Rattle.model.specs.Effect.{all_back, serial}
 use Rattle.model.specs.Survivors.{changes_of}
@@ -74,7 +72,6 @@ serially_idle s idle none runs line undone unchanged = record {
       ap (λ (is : List Inverse). all_back s.live.tables.rows (map edits_of is)) (sym undone) ∙ idle_rows (idle_in s) idle none
       ∙ ap (serial s.live.tables.schema (world_in (idle_in s)).committed) (sym unchanged);
   undoable = subst (CanUndo s.live.tables) (sym undone) tt;
-  named = subst (All (NamesTables (length s.live.tables.schema))) (sym unchanged) (All-nil (NamesTables (length s.live.tables.schema)));
   clear = subst (AreAccepted s.live.tables.schema (base_in s)) (sym unchanged) tt;
 }
 
@@ -100,16 +97,14 @@ module _ (s : Inside) (is : Represents s) where
     pub worked_view : serial_in worked ≡ with_changes (serial_in s) cs
     worked_view = λ i. record { store = engine_in (same_idle i); changes = more i }
 
-    pub worked_kept : CanUndo t u.inverses → All (NamesTables (length s.live.tables.schema)) cs → AreAccepted s.live.tables.schema s.live.tables.rows cs → Represents worked
-    worked_kept can named clear = record {
+    pub worked_kept : CanUndo t u.inverses → AreAccepted s.live.tables.schema s.live.tables.rows cs → Represents worked
+    worked_kept can clear = record {
       idle = subst StoreRepresents (sym same_idle) is.idle;
       none = is.none;
       runs = is.runs;
       line = is.line;
       done = rows ∙ ap (λ (r : Rows). serial s.live.tables.schema r cs) is.done ∙ sym (rows_with (serial_in s) cs) ∙ ap rows_now (sym worked_view);
       undoable = can;
-      named = subst (λ (keys : Schema). All (NamesTables (length keys)) (changes_of items.items)) (sym schema)
-          (subst (All (NamesTables (length s.live.tables.schema))) (sym more) (All-append (NamesTables (length s.live.tables.schema)) (changes_of s.items.items) cs is.named named));
       clear =
           let behind : AreAccepted s.live.tables.schema (serial s.live.tables.schema (base_in s) (changes_of s.items.items)) cs =
           subst (λ (r : Rows). AreAccepted s.live.tables.schema r cs) (is.done ∙ ap (λ (r : Rows). serial s.live.tables.schema r (changes_of s.items.items)) (sym rows_based)) clear in

@@ -3,7 +3,6 @@ pub mod EventLemmas
 pub mod EngineCode
 pub mod Engine
 pub mod Events
-pub mod RowsAfterLemmas
 pub mod Shared
 pub mod SharedLemmas
 pub mod ShutLemmas
@@ -13,3 +12,4 @@ pub mod Serial
 pub mod SerialInside
 pub mod SerialLemmas
 pub mod EntryLemmas
+pub mod KnownLemmas

@@ -1,17 +1,14 @@
 -- What the fields of a store whose transactions come one at a time stand for.
 --     base_in      the rows without the open work: those that are left once all of it is undone
---     told_start      the tables at the start, as they were told
 --     idle_in, serial_in      the store's parts without open work, and what callers see of them
 --     Represents      what its type keeps
-use Rattle.std.specs.Prelude.{◌≡◌, List, [], ◌∷◌, None, All, length, map}
+use Rattle.std.specs.Prelude.{◌≡◌, [], None, map}
 use Rattle.std.specs.FinMap as finite
-use Rattle.model.specs.Named.{NamesTables}
 use Rattle.model.specs.Rows.{Rows}
 use Rattle.model.specs.Effect.{all_back}
 use Rattle.model.specs.Survivors.{changes_of}
 use Rattle.model.specs.Accepted.{AreAccepted}
 use Rattle.change.specs.Inverse.{edits_of}
-use Rattle.indexes.specs.Content.{Content}
 use Rattle.undo.specs.Undo.{CanUndo}
 use Rattle.engine.specs.declared.serial.SerialStore.TheInside.{Inside}
 use Rattle.engine.specs.declared.store.Store.TheInside as store_inside
@@ -23,16 +20,11 @@ use Rattle.live_tables.specs.Answers.{told_stop}
 abbrev pub base_in : Inside → Rows
 base_in s = all_back s.live.tables.rows (map edits_of s.undo.inverses)
 
--- the tables at the start, as they were told
-abbrev pub told_start : List Content → Content
-told_start [] = record { schema = []; rows = finite.empty; room = [] }
-told_start (tables ∷ more) = tables
-
 -- The parts of the store without the open work. What room its tables have does not matter.
 abbrev pub idle_in : Inside → store_inside.Inside
 idle_in s = record {
   live = record s.live { tables = record { schema = s.live.tables.schema; rows = base_in s; room = [] } };
-  start = told_start s.start.list;
+  start = s.start;
   journal = s.journal;
   book = s.book;
   line = s.line;
@@ -51,5 +43,4 @@ pub record Represents (s : Inside) : Type 0 where
   pub line : s.token ≡ s.line
   pub done : s.live.tables.rows ≡ rows_now (serial_in s)
   pub undoable : CanUndo s.live.tables s.undo.inverses
-  pub named : All (NamesTables (length s.live.tables.schema)) (changes_of s.items.items)
   pub clear : AreAccepted s.live.tables.schema (base_in s) (changes_of s.items.items)

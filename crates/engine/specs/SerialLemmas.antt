@@ -6,10 +6,9 @@
 --     fine_reached_from      what calls reach from a fine world is fine
 --     tied_idle      what ties a live part to a world in which none is open, with other committed rows
 --     nobody_open, idle_rows      none is open, and the rows are the committed ones
---     started_alike      a store with other tables at the start, which have the same rows
 --     idle_with, idle_committed      such a store with its rows in other room; with one transaction more that was committed
 use Rattle.std.proofs.Common.{◌≡◌, ℕ, ◌+◌, ◌<◌, ◌≤◌, Vec, Global, Bool, true, false, List, [], ◌∷◌, ◌++◌, Option, Some, None, refl, sym, ap, subst, ◌∙◌, append_assoc, append-nil, arith, inl, inr}
-use Rattle.std.specs.Prelude.{Ok, All, cond, is_some, length, map, vec_len, vec_capacity}
+use Rattle.std.specs.Prelude.{Ok, cond, is_some, map, vec_len, vec_capacity}
 use Rattle.std.specs.Ordering.{nat_cmp}
 use Rattle.std.specs.BTreeMap.{btree_map_len}
 use Rattle.std.specs.FinMap as finite
@@ -21,15 +20,15 @@ use Rattle.model.specs.declared.cell.Cell.{Cell}
 use Rattle.model.specs.declared.item.Item.{Item}
 use Rattle.model.specs.declared.item.Item.TheVariants.{Change as ChangeItem}
 use Rattle.model.specs.declared.item.CommitInfo.{CommitInfo}
-use Rattle.model.specs.Named.{NamesTables}
 use Rattle.model.specs.Rows.{Rows, Schema}
-use Rattle.model.specs.Effect.{Outcome, Done, Skip, Clashes, outcome, serial}
+use Rattle.model.specs.Effect.{Outcome, Done, Skip, Clashes, all_back, outcome, serial}
 use Rattle.model.specs.EffectLemmas.{serial_append}
 use Rattle.model.specs.Survivors.{surviving, changes_of}
 use Rattle.model.specs.ValidLemmas.{not_none}
 use Rattle.model.specs.Accepted.{HasNoClash, AreAccepted}
 use Rattle.model.specs.Beginning.{last_end}
 use Rattle.indexes.specs.Content.{Content}
+use Rattle.change.specs.Inverse.{edits_of}
 use Rattle.savepoint.specs.Record.{Record}
 use Rattle.tokens.specs.Half.{Half}
 use Rattle.tokens.specs.Lists.{ListMap}
@@ -47,12 +46,12 @@ use Rattle.engine.specs.declared.events.LineEvent.{LineEvent}
 use Rattle.engine.specs.declared.events.LineEvent.TheVariants.{Opened as WasOpened, Committed as WasCommitted}
 use Rattle.engine.specs.declared.store.Store.TheInside.{Inside}
 use Rattle.engine.specs.FirstClashLemmas.{serial_last}
-use Rattle.engine.specs.Engine.{entry_in, world_in, Represents}
+use Rattle.engine.specs.Engine.{entry_in, start_in, world_in, AreTakenBack, Represents}
 use Rattle.engine.specs.Events.{opened_by, opened_in, commits_in, ends_in, is_open_in, open_after, world_of}
 use Rattle.engine.specs.EventLemmas.{values_empty, same_commits, more_commits, more_committed, rise_more, ends_same, ends_more}
-use Rattle.engine.specs.EntryLemmas.{entries_named}
+use Rattle.engine.specs.EntryLemmas.{taken_back_more}
 use Rattle.engine.specs.Serial.{Serial, rows_now, with_changes, having_made, with_work, committed_by}
-use Rattle.engine.specs.StoreLemmas.{still_rising}
+use Rattle.engine.specs.StoreLemmas.{still_rising, store_serial}
 use Rattle.live_tables.specs.declared.live_tables.Live.{Live}
 use Rattle.live_tables.specs.Answers.{told_stop}
 use Rattle.live_tables.specs.KeptRecords.{Represents as RecordsRepresent}
@@ -196,16 +195,6 @@ with_tables s t = record s { live = record s.live { tables = t } }
 abbrev pub with_commit : Inside → Content → Vec Entry Global → Half LineEvent → Inside
 with_commit s t j k = record s { live = record s.live { tables = t }; journal = j; line = k }
 
--- its tables at the start are only known by their rows and their keys
-pub started_alike : (s : Inside) → Represents s → (t : Content) → t.schema ≡ s.start.schema → t.rows ≡ s.start.rows
-    → (world_in (record s { start = t }) ≡ world_in s) × Represents (record s { start = t })
-started_alike s is t schema rows =
-    let same : record { schema = t.schema; rows = t.rows; room = s.start.room } ≡ s.start = λ i. record { schema = schema i; rows = rows i; room = s.start.room } in
-    let so = subst (λ (start : Content). Represents (record s { start = start })) (sym same) is in (
-      ap (λ (r : Rows). world_of s.live.tables.schema r s.line.list s.book.lists (told_stop s.live.stopped)) rows,
-      record { tied = so.tied; schema = so.schema; told = so.told; room = so.room; rising = so.rising; named = so.named; opened = so.opened },
-    )
-
 module _ (s : Inside) (is : Represents s) (none : s.book.lists ≡ finite.empty) where
   pub nobody_open : (world_in s).opened ≡ finite.empty
   nobody_open = ap opened_in none ∙ values_empty opened_by
@@ -225,16 +214,15 @@ module _ (s : Inside) (is : Represents s) (none : s.book.lists ≡ finite.empty)
 
     pub idle_with : t.rows ≡ s.live.tables.rows → (world_in (with_tables s t) ≡ world_in s) × Represents (with_tables s t)
     idle_with rows =
-        let alike : world_in (with_tables s t) ≡ world_in s = ap (λ (keys : Schema). world_of keys s.start.rows s.line.list s.book.lists (told_stop s.live.stopped)) schema in (
+        let alike : world_in (with_tables s t) ≡ world_in s = ap (λ (keys : Schema). world_of keys (start_in s) s.line.list s.book.lists (told_stop s.live.stopped)) schema in (
           alike,
           record {
             tied = subst (λ (w : World). LiveRepresents w (record s.live { tables = t })) (sym alike)
                 (tied_idle (world_in s) s.live is.tied nobody_open (world_in s) t refl refl (still_fine (world_in s) at_start) (rows ∙ idle_rows));
-            schema = is.schema ∙ sym schema;
             told = is.told ∙ ap (λ (w : World). map entry_of w.line) (sym alike);
             room = is.room;
             rising = is.rising;
-            named = subst (λ (keys : Schema). All (λ (e : Entry). All (NamesTables (length keys)) e.changes) s.journal.items) (sym schema) is.named;
+            before = subst (λ (keys : Schema). AreTakenBack keys (start_in s) s.journal.items) (sym schema) is.before;
             opened = is.opened;
           },
         )
@@ -246,7 +234,8 @@ module _ (s : Inside) (is : Represents s) (none : s.book.lists ≡ finite.empty)
         (line : k ≡ record s.line { list = (s.line.list ++ WasOpened xid ∷ []) ++ WasCommitted xid (map (ChangeItem xid) cs) info ∷ [] })
         (items : j.items ≡ s.journal.items ++ entry ∷ []) (fits : vec_len j ≤ vec_capacity j)
         (tells : entry_in entry ≡ record { xid = xid; changes = cs; commit = info.commit; end = info.end })
-        (named : All (NamesTables (length s.live.tables.schema)) cs) (above : last_end (ends_in s.line.list) < info.end) where
+        (back : all_back (serial s.live.tables.schema (world_in s).committed cs) (map edits_of entry.inverses.inverses) ≡ (world_in s).committed)
+        (above : last_end (ends_in s.line.list) < info.end) where
       abbrev past : Past
       past = record { xid = xid; items = map (ChangeItem xid) cs; info = info }
 
@@ -264,15 +253,15 @@ module _ (s : Inside) (is : Represents s) (none : s.book.lists ≡ finite.empty)
           ap commits_in listed ∙ more_commits opened_line xid (map (ChangeItem xid) cs) info
           ∙ ap (λ (ps : List Past). ps ++ past ∷ []) (same_commits s.line.list (WasOpened xid) refl)
 
-      told_rows : serial t.schema s.start.rows (told_entry.changes_in (commits_in k.list)) ≡ later.committed
+      told_rows : serial t.schema (start_in s) (told_entry.changes_in (commits_in k.list)) ≡ later.committed
       told_rows =
-          ap (λ (keys : Schema). serial keys s.start.rows (told_entry.changes_in (commits_in k.list))) schema
-          ∙ ap (λ (ps : List Past). serial s.live.tables.schema s.start.rows (told_entry.changes_in ps)) told_commits
-          ∙ more_committed s.live.tables.schema s.start.rows (commits_in s.line.list) past
+          ap (λ (keys : Schema). serial keys (start_in s) (told_entry.changes_in (commits_in k.list))) schema
+          ∙ ap (λ (ps : List Past). serial s.live.tables.schema (start_in s) (told_entry.changes_in ps)) told_commits
+          ∙ more_committed s.live.tables.schema (start_in s) (commits_in s.line.list) past
 
       told_world : world_in (with_commit s t j k) ≡ later
       told_world = λ i. record {
-        start = s.start.rows;
+        start = (start_in s);
         committed = told_rows i;
         line = told_commits i;
         opened = sym (none_after s.live.tables.schema (world_in s) runs nobody_open xid cs info) i;
@@ -313,14 +302,15 @@ module _ (s : Inside) (is : Represents s) (none : s.book.lists ≡ finite.empty)
           tied = subst (λ (w : World). LiveRepresents w (record s.live { tables = t })) (sym told_world)
               (tied_idle (world_in s) s.live is.tied nobody_open later t (none_after s.live.tables.schema (world_in s) runs nobody_open xid cs info) refl
               (still_fine later reaches_commit) (rows ∙ ap (serial s.live.tables.schema (world_in s).committed) (sym (work_made xid cs))));
-          schema = is.schema ∙ sym schema;
           told = ap (map entry_in) items ∙ map-append entry_in s.journal.items (entry ∷ [])
               ∙ (λ i. is.told i ++ work_tells i ∷ []) ∙ sym (map-append entry_of (world_in s).line (past ∷ [])) ∙ ap (λ (w : World). map entry_of w.line) (sym told_world);
           room = room_is (vec_len j) (vec_capacity j) (btree_map_len s.live.transactions) fits none_kept;
           rising = still_rising k.list (ends_in s.line.list ++ info.end ∷ []) told_ends (rise_more (ends_in s.line.list) 0 info.end is.rising above);
-          named = subst (λ (es : List Entry). All (λ (e : Entry). All (NamesTables (length t.schema)) e.changes) es) (sym items)
-              (entries_named s.live.tables.schema t.schema schema s.journal.items entry is.named
-              (subst (All (NamesTables (length s.live.tables.schema))) (sym (ap (λ (e : told_entry.Entry). e.changes) tells)) named));
+          before = subst (AreTakenBack t.schema (start_in s)) (sym items)
+              (subst (λ (keys : Schema). AreTakenBack keys (start_in s) (s.journal.items ++ entry ∷ [])) (sym schema)
+              (taken_back_more s.live.tables.schema (start_in s) s.journal.items entry is.before
+              (subst (λ (r : Rows). all_back (serial s.live.tables.schema r entry.changes) (map edits_of entry.inverses.inverses) ≡ r) (store_serial s is)
+              (ap (λ (e : told_entry.Entry). all_back (serial s.live.tables.schema (world_in s).committed e.changes) (map edits_of entry.inverses.inverses)) tells ∙ back))));
           opened = told_open;
         },
       )

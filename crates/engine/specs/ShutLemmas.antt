@@ -3,9 +3,8 @@
 --     closed_alone      the same of one in which none was open
 --     reaches_on      calls after calls
 --     shared_ended, shared_shut, shared_serial      the same of a store under a lock
-use Rattle.std.proofs.Common.{◌≡◌, ℕ, ◌-◌, ◌<◌, List, sym, ap, subst, ◌∙◌}
+use Rattle.std.proofs.Common.{◌≡◌, List, sym, ap, subst, ◌∙◌}
 use Rattle.std.specs.Prelude.{map}
-use Rattle.std.specs.BTreeMap as tree
 use Rattle.std.specs.FinMap as finite
 use mathlib.Core.Logic.{∥∥₁_map}
 use Rattle.model.specs.Rows.{Rows, Schema}
@@ -13,7 +12,7 @@ use Rattle.tokens.specs.Half.{Name}
 use Rattle.world.specs.World.{Entry, World, starting, entry_of}
 use Rattle.world.specs.Steps.{Closes, Reaches, at_start, by_step}
 use Rattle.engine.specs.declared.store.Store.TheInside.{Inside}
-use Rattle.engine.specs.Engine.{Engine, entry_in, world_in, Represents as StoreRepresents}
+use Rattle.engine.specs.Engine.{Engine, entry_in, start_in, world_in, Represents as StoreRepresents}
 use Rattle.engine.specs.Events.{commits_in}
 use Rattle.engine.specs.Shared.{Represents}
 use Rattle.live_tables.specs.Journal.{rows_after}
@@ -26,10 +25,10 @@ module _ (s : Inside) (is : StoreRepresents s) (v : World) (shut : IsShut s.live
   pub shut_closes : Closes v rows (map entry_in s.journal.items)
   shut_closes = (shut.none, are, is.told ∙ ap (map entry_of) (sym shut.aborted.line))
 
-  pub shut_serial : rows ≡ rows_after s.live.tables.schema s.start.rows (map entry_in s.journal.items)
+  pub shut_serial : rows ≡ rows_after s.live.tables.schema (start_in s) (map entry_in s.journal.items)
   shut_serial =
-      are ∙ shut.aborted.committed ∙ sym (entries_are_serial s.live.tables.schema s.start.rows (commits_in s.line.list))
-      ∙ ap (rows_after s.live.tables.schema s.start.rows) (sym is.told)
+      are ∙ shut.aborted.committed ∙ sym (entries_are_serial s.live.tables.schema (start_in s) (commits_in s.line.list))
+      ∙ ap (rows_after s.live.tables.schema (start_in s)) (sym is.told)
 
 -- with no transaction open none is aborted, and the world itself is closed
 pub closed_alone : (schema : Schema) (w : World) → w.opened ≡ finite.empty → {rows : Rows} {entries : List Entry}

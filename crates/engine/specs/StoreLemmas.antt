@@ -3,17 +3,17 @@
 --     clash_there, stop_there      what a clash stopped stands for a world that it stopped; the caller is told so
 --     absent_there, runs_there      what is not kept is not open there; what runs stands for a world that runs
 --     stands      so is the one of a list
---     still_named, still_rising      what the journal's entries keep where they are the same
+--     still_before, still_rising      what the journal's entries keep where they are the same
 --     store_grown      a transaction's list has more events
 --     store_acted, store_done      those of a call that tried a change; an item
 --     store_unmoved      nothing came of a call
 --     store_started      a store with nothing in its lists and no entries
 --     store_opened, store_ended      a transaction opens; one ends
 --     store_aborted, store_committed      it is aborted; it is committed, and the journal has its entry, for which there is room
---     store_rising, store_serial      the ends of the journal's entries rise, and its changes make the committed rows
---     store_rows_after      the rows of a table after the first entries
+--     store_serial, store_rising      the changes of the journal's entries make the committed rows, and their ends rise
+--     store_rows_after      the rows after the first entries
 use Rattle.std.proofs.Common.{◌≡◌, ℕ, zero, suc, ◌+◌, ◌-◌, ◌<◌, ◌≤◌, Vec, Global, Bool, true, false, List, [], ◌∷◌, ◌++◌, Option, Some, None, refl, sym, ap, subst, ◌∙◌, inl, inr, arith}
-use Rattle.std.specs.Prelude.{Result, Ok, Err, All, cond, if◌then◌else◌, is_some, IsSome, IfSome, length, map, take, option_map, vec_len, vec_capacity}
+use Rattle.std.specs.Prelude.{Result, Ok, Err, cond, if◌then◌else◌, is_some, IsSome, IfSome, map, take, drop, option_map, vec_len, vec_capacity}
 use Rattle.std.specs.List.Sorted.{IsStrictlyIncreasing}
 use Rattle.std.specs.Ordering.{nat_cmp}
 use Rattle.std.specs.Cmp.{nat_cmp_total}
@@ -24,25 +24,22 @@ use Rattle.std.specs.FinMap.{FinMap, get}
 use Rattle.std.proofs.lemmas.Bool.{false≢true}
 use Rattle.std.proofs.lemmas.Grind.{fold-append}
 use Rattle.std.proofs.lemmas.List.{map-append, take-map}
-use Rattle.std.proofs.lemmas.List.Elements.{All-nil}
 use Rattle.std.proofs.lemmas.Simd.{map-map}
 use Rattle.model.specs.declared.change.Change as change_type
 use Rattle.model.specs.declared.item.Item.{Item}
 use Rattle.model.specs.declared.item.CommitInfo.{CommitInfo}
 use Rattle.model.specs.ValidLemmas.{not_none}
-use Rattle.model.specs.Named.{NamesTables}
 use Rattle.model.specs.Rows.{Rows, Schema}
-use Rattle.model.specs.Survivors.{survivors, changes_of}
-use Rattle.model.specs.Effect.{ClashCause, serial}
-use Rattle.model.specs.TableRows.{rows_of_table}
+use Rattle.model.specs.Effect.{ClashCause, all_back, serial}
 use Rattle.model.specs.Beginning.{last_end}
 use Rattle.change.specs.declared.outcome.Clash as clash_type
+use Rattle.change.specs.Inverse.{edits_of}
 use Rattle.savepoint.specs.Record.{Record}
 use Rattle.tokens.specs.Half.{Half}
 use Rattle.tokens.specs.ListLemmas.{grown_by_nothing}
 use Rattle.tokens.specs.Lists.{ListMap, OpenLists, with_list, without_list}
 use Rattle.world.specs.World as told_entry
-use Rattle.world.specs.World.{Opened, Past, ByClash, World, starting, entry_of, journal, changes_in, is_xid}
+use Rattle.world.specs.World.{Opened, Past, ByClash, World, starting, entry_of, journal, work, changes_in, is_xid}
 use Rattle.world.specs.ListingLemmas.{xid_cases, got_same, got_other}
 use Rattle.world.specs.Steps.{Fault, Acted, IsDone, IsSkipped, Held, Clashed, opened_with, done_with, committed_with, aborted_with}
 use Rattle.engine.specs.declared.events.Event.{Event}
@@ -53,16 +50,15 @@ use Rattle.engine.specs.declared.entry.Entry.{Entry}
 use Rattle.engine.specs.declared.store.Store.TheInside.{Inside}
 use Rattle.engine.specs.Events.{opened_by, opened_in, commits_in, ends_in, open_after, is_open_in, world_of, events_of}
 use Rattle.engine.specs.EventLemmas.{get_values, values_empty, opened_stands, rise_more, ends_same, ends_more, world_done, world_acted, world_opened, world_aborted, world_committed}
-use Rattle.engine.specs.Engine.{entry_in, world_in, AreNamed, Represents}
-use Rattle.engine.specs.EntryLemmas.{entries_named}
+use Rattle.engine.specs.Engine.{entry_in, start_in, world_in, AreTakenBack, edits_behind, Represents}
+use Rattle.engine.specs.EntryLemmas.{taken_back_more, rows_taken_back}
 use Rattle.live_tables.specs.declared.live_tables.Live.{Live}
 use Rattle.live_tables.specs.declared.live_tables.Stopped as stopped_type
 use Rattle.live_tables.specs.declared.live_tables.Stopped.TheVariants.{Clash as StoppedByClash, Held as StoppedByHold}
 use Rattle.live_tables.specs.declared.transaction.OpenTransaction.{OpenTransaction}
 use Rattle.live_tables.specs.Answers.{cause_of, stop_for, told_stop, after_act, stop_of, TellsWhatStopped, HasCause}
 use Rattle.live_tables.specs.Journal.{rows_after}
-use Rattle.live_tables.specs.JournalLemmas.{entries_are_serial, rows_after_are_read}
-use Rattle.live_tables.specs.NamedLemmas.{work_named}
+use Rattle.live_tables.specs.JournalLemmas.{entries_are_serial}
 use Rattle.live_tables.specs.Represents.{Represents as LiveRepresents}
 
 -- a record that is there is kept of a transaction
@@ -118,9 +114,11 @@ same_len m k v w is = finite.len-insert nat_cmp_total m k w ∙ ap (λ b. cond b
 fewer_fit : (entries old new capacity : ℕ) → old ≡ new → entries + old ≤ capacity → entries + new ≤ capacity
 fewer_fit entries old new capacity same fits = subst (λ n. entries + n ≤ capacity) same fits
 
--- entries whose changes name tables that are there, under a schema that is the same
-still_named : (schema later : Schema) (entries : List Entry) → later ≡ schema → AreNamed schema entries → AreNamed later entries
-still_named schema later entries same named = subst (λ (s : Schema). AreNamed s entries) (sym same) named
+-- the same entries, whose changes are taken back under a schema that is the same
+still_before : (schema later : Schema) (start : Rows) (entries same_entries : List Entry) → later ≡ schema → same_entries ≡ entries
+    → AreTakenBack schema start entries → AreTakenBack later start same_entries
+still_before schema later start entries same_entries same are before =
+    subst (AreTakenBack later start) (sym are) (subst (λ (keys : Schema). AreTakenBack keys start entries) (sym same) before)
 
 -- ends that rise, of a line that tells the same ones
 pub still_rising : (line : List LineEvent) (ends : List ℕ) → ends_in line ≡ ends → IsStrictlyIncreasing (0 ∷ ends) → IsStrictlyIncreasing (0 ∷ ends_in line)
@@ -147,19 +145,18 @@ module _ (s : Inside) (is : Represents s) (xid : ℕ) (events : List Event) (lis
   -- The transaction's list has more events, and the live part is tied to the world that they tell.
   pub store_grown : (m : Live) (b : OpenLists Event) (more : List Event) (later : World) → m.tables.schema ≡ s.live.tables.schema
       → b ≡ with_list s.book xid (events ++ more) → LiveRepresents later m → finite.len later.opened ≡ finite.len (world_in s).opened
-      → world_of s.live.tables.schema s.start.rows s.line.list (finite.insert s.book.lists xid (events ++ more)) (told_stop m.stopped) ≡ later
+      → world_of s.live.tables.schema (start_in s) s.line.list (finite.insert s.book.lists xid (events ++ more)) (told_stop m.stopped) ≡ later
       → (world_in (with_parts s m b) ≡ later) × Represents (with_parts s m b)
   store_grown m b more later schema book tied count tells =
       let same : world_in (with_parts s m b) ≡ later =
-      (λ i. world_of (schema i) s.start.rows s.line.list (book i).lists (told_stop m.stopped)) ∙ tells in (
+      (λ i. world_of (schema i) (start_in s) s.line.list (book i).lists (told_stop m.stopped)) ∙ tells in (
         same,
         record {
           tied = subst (λ (w : World). LiveRepresents w m) (sym same) tied;
-          schema = is.schema ∙ sym schema;
           told = is.told;
           room = fewer_fit (vec_len s.journal) (btree_map_len s.live.transactions) (btree_map_len m.transactions) (vec_capacity s.journal) (sym is.tied.count ∙ sym count ∙ tied.count) is.room;
           rising = is.rising;
-          named = still_named s.live.tables.schema m.tables.schema s.journal.items schema is.named;
+          before = still_before s.live.tables.schema m.tables.schema (start_in s) s.journal.items s.journal.items schema refl is.before;
           opened = λ other. is.opened other ∙ sym (still_told more other) ∙ ap (λ (bs : OpenLists Event). is_some (get bs.lists other)) (sym book);
         },
       )
@@ -180,7 +177,7 @@ module _ (s : Inside) (is : Represents s) (xid : ℕ) (events : List Event) (lis
       → (world_in (with_parts s m b) ≡ after_act (world_in s) xid (opened_by events) sub c answer) × Represents (with_parts s m b)
   store_acted m b sub c answer schema book tied =
       store_grown m b (events_of sub c answer) (after_act (world_in s) xid (opened_by events) sub c answer) schema book tied (act_count sub c answer)
-      (world_acted s.live.tables.schema s.start.rows s.line.list s.book.lists xid events listed (told_stop s.live.stopped) (told_stop m.stopped) sub c answer tied.stopped)
+      (world_acted s.live.tables.schema (start_in s) s.line.list s.book.lists xid events listed (told_stop s.live.stopped) (told_stop m.stopped) sub c answer tied.stopped)
 
   -- An item is in its transaction's list.
   pub store_done : (m : Live) (b : OpenLists Event) (item : Item)
@@ -189,8 +186,8 @@ module _ (s : Inside) (is : Represents s) (xid : ℕ) (events : List Event) (lis
       → (world_in (with_parts s m b) ≡ done_with (world_in s) xid (opened_by events) item) × Represents (with_parts s m b)
   store_done m b item schema book tied =
       store_grown m b (Done item ∷ []) (done_with (world_in s) xid (opened_by events) item) schema book tied (same_len (world_in s).opened xid (opened_by events) _ stands)
-      (ap (world_of s.live.tables.schema s.start.rows s.line.list (finite.insert s.book.lists xid (events ++ Done item ∷ []))) tied.stopped
-      ∙ world_done s.live.tables.schema s.start.rows s.line.list s.book.lists xid events listed (told_stop s.live.stopped) item)
+      (ap (world_of s.live.tables.schema (start_in s) s.line.list (finite.insert s.book.lists xid (events ++ Done item ∷ []))) tied.stopped
+      ∙ world_done s.live.tables.schema (start_in s) s.line.list s.book.lists xid events listed (told_stop s.live.stopped) item)
 
   -- A call was refused, and the live part is tied to the world that was.
   pub store_unmoved : (m : Live) (b : OpenLists Event) → m.tables.schema ≡ s.live.tables.schema → b ≡ s.book → LiveRepresents (world_in s) m
@@ -198,7 +195,7 @@ module _ (s : Inside) (is : Represents s) (xid : ℕ) (events : List Event) (lis
   store_unmoved m b schema book tied =
       let none : finite.insert s.book.lists xid (events ++ []) ≡ s.book.lists = grown_by_nothing s.book.lists xid events listed in
       store_grown m b [] (world_in s) schema (book ∙ (λ i. record s.book { lists = sym none i })) tied refl
-      (λ i. world_of s.live.tables.schema s.start.rows s.line.list (none i) (tied.stopped i))
+      (λ i. world_of s.live.tables.schema (start_in s) s.line.list (none i) (tied.stopped i))
 
 -- ---- a new store
 
@@ -206,20 +203,19 @@ no_room : (entries opened kept capacity : ℕ) → entries ≡ 0 → opened ≡ 
 no_room entries opened kept capacity none closed same = omega (arith, none, closed, same)
 
 -- A store with nothing in its lists and no entries stands for the starting world.
-pub store_started : (s : Inside) (rows : Rows) → LiveRepresents (starting rows) s.live → s.start.schema ≡ s.live.tables.schema → s.start.rows ≡ rows
+pub store_started : (s : Inside) (rows : Rows) → LiveRepresents (starting rows) s.live → start_in s ≡ rows
     → s.line.list ≡ [] → s.book.lists ≡ finite.empty → s.journal.items ≡ [] → vec_len s.journal ≡ 0
     → (world_in s ≡ starting rows) × Represents s
-store_started s rows tied schema rows_are line lists items len =
+store_started s rows tied rows_are line lists items len =
     let same : world_in s ≡ starting rows =
     (λ i. world_of s.live.tables.schema (rows_are i) (line i) (lists i) (tied.stopped i)) ∙ (λ i. record (starting rows) { opened = values_empty opened_by i }) in (
       same,
       record {
         tied = subst (λ (w : World). LiveRepresents w s.live) (sym same) tied;
-        schema = schema;
         told = ap (map entry_in) items ∙ ap journal (sym same);
         room = no_room (vec_len s.journal) (finite.len (starting rows).opened) (btree_map_len s.live.transactions) (vec_capacity s.journal) len (finite.len-empty nat_cmp Opened) tied.count;
         rising = still_rising s.line.list [] (ap (λ (events : List LineEvent). ends_in events) line) (λ k within. absurd (omega (arith, within)));
-        named = subst (AreNamed s.live.tables.schema) (sym items) (All-nil (λ (e : Entry). All (NamesTables (length s.live.tables.schema)) e.changes));
+        before = subst (AreTakenBack s.live.tables.schema (start_in s)) (sym items) tt;
         opened = λ xid.
             ap (λ (events : List LineEvent). is_open_in events xid) line ∙ sym (ap is_some (finite.get-empty nat_cmp xid))
             ∙ ap (λ (found : ListMap Event). is_some (get found xid)) (sym lists);
@@ -272,23 +268,27 @@ module _ (s : Inside) (is : Represents s) (xid : ℕ) (absent : get (world_in s)
       → let t = record s { live = m; journal = j; book = b; line = k } in (world_in t ≡ opened_with (world_in s) xid) × Represents t
   store_opened m j b k schema book line tied journal_same room =
       let same : world_in (record s { live = m; journal = j; book = b; line = k }) ≡ opened_with (world_in s) xid =
-      (λ i. world_of (schema i) s.start.rows (line i).list (book i).lists (tied.stopped i))
-      ∙ world_opened s.live.tables.schema s.start.rows s.line.list s.book.lists (told_stop s.live.stopped) xid in (
+      (λ i. world_of (schema i) (start_in s) (line i).list (book i).lists (tied.stopped i))
+      ∙ world_opened s.live.tables.schema (start_in s) s.line.list s.book.lists (told_stop s.live.stopped) xid in (
         same,
         record {
           tied = subst (λ (w : World). LiveRepresents w m) (sym same) tied;
-          schema = is.schema ∙ sym schema;
           told = ap (map entry_in) journal_same ∙ is.told ∙ ap journal (sym same);
           room = fewer_fit (vec_len j) (btree_map_len s.live.transactions + 1) (btree_map_len m.transactions) (vec_capacity j)
               (ap (λ n. n + 1) (sym is.tied.count) ∙ sym (one_more (world_in s).opened xid _ absent) ∙ tied.count) room;
           rising = still_rising k.list (ends_in s.line.list) (ap (λ (h : Half LineEvent). ends_in h.list) line ∙ ends_same s.line.list (WasOpened xid) refl) is.rising;
-          named = still_named s.live.tables.schema m.tables.schema j.items schema (subst (AreNamed s.live.tables.schema) (sym journal_same) is.named);
+          before = still_before s.live.tables.schema m.tables.schema (start_in s) s.journal.items j.items schema journal_same is.before;
           opened = λ other.
               ap (λ (h : Half LineEvent). is_open_in h.list other) line ∙ open_more s.line.list (WasOpened xid) other
               ∙ ap (λ b. if is_xid other xid then true else b) (is.opened other) ∙ sym (there_more s.book.lists xid [] other)
               ∙ ap (λ (bs : OpenLists Event). is_some (get bs.lists other)) (sym book);
         },
       )
+
+-- the committed rows are those at the start with the changes of the journal's entries
+pub store_serial : (s : Inside) → Represents s → (world_in s).committed ≡ rows_after s.live.tables.schema (start_in s) (map entry_in s.journal.items)
+store_serial s is =
+    sym (ap (rows_after s.live.tables.schema (start_in s)) is.told ∙ entries_are_serial s.live.tables.schema (start_in s) (commits_in s.line.list))
 
 -- ---- a transaction ends
 
@@ -318,21 +318,20 @@ module _ (s : Inside) (is : Represents s) (xid : ℕ) (events : List Event) (lis
       → m.tables.schema ≡ s.live.tables.schema → b ≡ without_list s.book xid → k ≡ record s.line { list = s.line.list ++ e ∷ [] }
       → ((q : ℕ) (was : Bool) → open_after q was e ≡ (if is_xid q xid then false else was))
       → LiveRepresents later m → later.opened ≡ finite.remove (world_in s).opened xid
-      → world_of s.live.tables.schema s.start.rows (s.line.list ++ e ∷ []) (finite.remove s.book.lists xid) (told_stop m.stopped) ≡ later
+      → world_of s.live.tables.schema (start_in s) (s.line.list ++ e ∷ []) (finite.remove s.book.lists xid) (told_stop m.stopped) ≡ later
       → map entry_in j.items ≡ journal later → vec_len j + btree_map_len m.transactions ≤ vec_capacity j
-      → IsStrictlyIncreasing (0 ∷ ends_in (s.line.list ++ e ∷ [])) → AreNamed m.tables.schema j.items
+      → IsStrictlyIncreasing (0 ∷ ends_in (s.line.list ++ e ∷ [])) → AreTakenBack m.tables.schema (start_in s) j.items
       → let t = record s { live = m; journal = j; book = b; line = k } in (world_in t ≡ later) × Represents t
-  store_ended m j b k e later schema book line ends tied gone tells told room rising named =
+  store_ended m j b k e later schema book line ends tied gone tells told room rising before =
       let same : world_in (record s { live = m; journal = j; book = b; line = k }) ≡ later =
-      (λ i. world_of (schema i) s.start.rows (line i).list (book i).lists (told_stop m.stopped)) ∙ tells in (
+      (λ i. world_of (schema i) (start_in s) (line i).list (book i).lists (told_stop m.stopped)) ∙ tells in (
         same,
         record {
           tied = subst (λ (w : World). LiveRepresents w m) (sym same) tied;
-          schema = is.schema ∙ sym schema;
           told = told ∙ ap journal (sym same);
           room = room;
           rising = still_rising k.list (ends_in (s.line.list ++ e ∷ [])) (ap (λ (h : Half LineEvent). ends_in h.list) line) rising;
-          named = named;
+          before = before;
           opened = λ other.
               ap (λ (h : Half LineEvent). is_open_in h.list other) line ∙ open_more s.line.list e other ∙ ends other (is_open_in s.line.list other)
               ∙ ap (λ b. if is_xid other xid then false else b) (is.opened other) ∙ sym (there_less s.book.lists xid other)
@@ -361,25 +360,13 @@ module _ (s : Inside) (is : Represents s) (xid : ℕ) (events : List Event) (lis
       → let t = record s { live = m; book = b; line = k } in (world_in t ≡ aborted_with (world_in s) xid) × Represents t
   store_aborted m b k schema book line tied =
       store_ended m s.journal b k (WasAborted xid) (aborted_with (world_in s) xid) schema book line (λ q was. refl) tied refl
-      (ap (world_of s.live.tables.schema s.start.rows (s.line.list ++ WasAborted xid ∷ []) (finite.remove s.book.lists xid)) tied.stopped
-      ∙ world_aborted s.live.tables.schema s.start.rows s.line.list s.book.lists (told_stop s.live.stopped) xid)
+      (ap (world_of s.live.tables.schema (start_in s) (s.line.list ++ WasAborted xid ∷ []) (finite.remove s.book.lists xid)) tied.stopped
+      ∙ world_aborted s.live.tables.schema (start_in s) s.line.list s.book.lists (told_stop s.live.stopped) xid)
       is.told
       (less_fit (vec_len s.journal) (btree_map_len m.transactions) (btree_map_len s.live.transactions) (vec_capacity s.journal)
       (one_kept_less m (aborted_with (world_in s) xid) tied refl) is.room)
       (still_rising (s.line.list ++ WasAborted xid ∷ []) (ends_in s.line.list) (ends_same s.line.list (WasAborted xid) refl) is.rising)
-      (still_named s.live.tables.schema m.tables.schema s.journal.items schema is.named)
-
-  -- the changes of its items name tables that are there
-  work_is_named : All (NamesTables (length s.live.tables.schema)) (changes_of (survivors xid (opened_by events).items))
-  work_is_named =
-      let kept = there (tree.get nat_cmp s.live.transactions xid) refl (is_kept (world_in s) s.live is.tied xid (opened_by events) (stands s is xid events listed)) in
-      work_named (length s.live.tables.schema) xid (opened_by events).items
-      (is.tied.beside xid (opened_by events) kept.0 (stands s is xid events listed) kept.1).items_named
-    where
-      there : (found : Option OpenTransaction) → tree.get nat_cmp s.live.transactions xid ≡ found → IsSome found
-          → (kept : OpenTransaction) × (tree.get nat_cmp s.live.transactions xid ≡ Some kept)
-      there None at some = absurd (false≢true some)
-      there (Some kept) at some = (kept, at)
+      (still_before s.live.tables.schema m.tables.schema (start_in s) s.journal.items s.journal.items schema refl is.before)
 
   -- It is committed, and its entry is in the journal.
   pub store_committed : (m : Live) (j : Vec Entry Global) (b : OpenLists Event) (k : Half LineEvent) (info : CommitInfo) (entry : Entry)
@@ -388,23 +375,25 @@ module _ (s : Inside) (is : Represents s) (xid : ℕ) (events : List Event) (lis
       → LiveRepresents (committed_with s.live.tables.schema (world_in s) xid (opened_by events) info) m
       → j.items ≡ s.journal.items ++ entry ∷ [] → vec_len j ≡ vec_len s.journal + 1 → vec_capacity j ≡ vec_capacity s.journal
       → entry_in entry ≡ entry_of (record { xid = xid; items = (opened_by events).items; info = info }) → last_end (ends_in s.line.list) < info.end
+      → all_back (serial s.live.tables.schema (world_in s).committed (work xid (opened_by events))) (map edits_of entry.inverses.inverses) ≡ (world_in s).committed
       → let t = record s { live = m; journal = j; book = b; line = k } in
       (world_in t ≡ committed_with s.live.tables.schema (world_in s) xid (opened_by events) info) × Represents t
-  store_committed m j b k info entry schema book line tied items len capacity entry_is above =
+  store_committed m j b k info entry schema book line tied items len capacity entry_is above back =
       let later : World = committed_with s.live.tables.schema (world_in s) xid (opened_by events) info in
       let past : Past = record { xid = xid; items = (opened_by events).items; info = info } in
       store_ended m j b k (WasCommitted xid (opened_by events).items info) later schema book line (λ q was. refl) tied refl
-      (ap (world_of s.live.tables.schema s.start.rows (s.line.list ++ WasCommitted xid (opened_by events).items info ∷ []) (finite.remove s.book.lists xid)) tied.stopped
-      ∙ world_committed s.live.tables.schema s.start.rows s.line.list s.book.lists (told_stop s.live.stopped) xid events info)
+      (ap (world_of s.live.tables.schema (start_in s) (s.line.list ++ WasCommitted xid (opened_by events).items info ∷ []) (finite.remove s.book.lists xid)) tied.stopped
+      ∙ world_committed s.live.tables.schema (start_in s) s.line.list s.book.lists (told_stop s.live.stopped) xid events info)
       (ap (map entry_in) items ∙ map-append entry_in s.journal.items (entry ∷ []) ∙ (λ i. is.told i ++ entry_is i ∷ [])
       ∙ sym (map-append entry_of (world_in s).line (past ∷ [])))
       (more_less_fit (vec_len s.journal) (vec_len j) (btree_map_len m.transactions) (btree_map_len s.live.transactions) (vec_capacity s.journal) (vec_capacity j)
       len capacity (one_kept_less m later tied refl) is.room)
       (still_rising (s.line.list ++ WasCommitted xid (opened_by events).items info ∷ []) (ends_in s.line.list ++ info.end ∷ [])
       (ends_more s.line.list xid (opened_by events).items info) (rise_more (ends_in s.line.list) 0 info.end is.rising above))
-      (subst (AreNamed m.tables.schema) (sym items)
-      (entries_named s.live.tables.schema m.tables.schema schema s.journal.items entry is.named
-      (subst (All (NamesTables (length s.live.tables.schema))) (sym (ap (λ (e : told_entry.Entry). e.changes) entry_is)) work_is_named)))
+      (still_before s.live.tables.schema m.tables.schema (start_in s) (s.journal.items ++ entry ∷ []) j.items schema items
+      (taken_back_more s.live.tables.schema (start_in s) s.journal.items entry is.before
+      (subst (λ (r : Rows). all_back (serial s.live.tables.schema r entry.changes) (map edits_of entry.inverses.inverses) ≡ r) (store_serial s is)
+      (ap (λ (e : told_entry.Entry). all_back (serial s.live.tables.schema (world_in s).committed e.changes) (map edits_of entry.inverses.inverses)) entry_is ∙ back))))
 
 -- ---- what a store tells of its journal
 
@@ -417,17 +406,11 @@ module _ (s : Inside) (is : Represents s) where
       ∙ map-map (λ (e : told_entry.Entry). e.end) entry_of (commits_in s.line.list) in
       subst (λ (ns : List ℕ). IsStrictlyIncreasing (0 ∷ ns)) (sym ends) is.rising
 
-  -- the committed rows are those at the start with the changes of its entries
-  pub store_serial : (world_in s).committed ≡ rows_after s.live.tables.schema s.start.rows (map entry_in s.journal.items)
-  store_serial =
-      sym (ap (rows_after s.live.tables.schema s.start.rows) is.told ∙ entries_are_serial s.live.tables.schema s.start.rows (commits_in s.line.list))
-
-  module _ (table count : ℕ) where
-    -- the rows of a table after them
-    pub store_rows_after : rows_of_table (rows_after s.start.schema s.start.rows (map entry_in (take count s.journal.items))) table
-        ≡ rows_of_table (serial s.live.tables.schema s.start.rows (changes_in (take count (commits_in s.line.list)))) table
-    store_rows_after =
-        ap (λ (schema : Schema). rows_of_table (rows_after schema s.start.rows (map entry_in (take count s.journal.items))) table) is.schema
-        ∙ ap (λ (entries : List told_entry.Entry). rows_of_table (rows_after s.live.tables.schema s.start.rows entries) table)
-        (sym (take-map entry_in count s.journal.items) ∙ ap (take count) is.told)
-        ∙ rows_after_are_read s.live.tables.schema (world_in s) table count
+  -- the rows after the first of them: those that are committed, with what the others keep put back
+  pub store_rows_after : (count : ℕ)
+      → serial s.live.tables.schema (start_in s) (changes_in (take count (commits_in s.line.list))) ≡ all_back (world_in s).committed (edits_behind (drop count s.journal.items))
+  store_rows_after count =
+      sym (entries_are_serial s.live.tables.schema (start_in s) (take count (commits_in s.line.list)))
+      ∙ ap (rows_after s.live.tables.schema (start_in s)) (sym (take-map entry_of count (commits_in s.line.list)) ∙ ap (take count) (sym is.told) ∙ take-map entry_in count s.journal.items)
+      ∙ rows_taken_back s.live.tables.schema (start_in s) s.journal.items count is.before
+      ∙ ap (λ (r : Rows). all_back r (edits_behind (drop count s.journal.items))) (sym (store_serial s is))

@@ -9,6 +9,7 @@ ghost use Rattle.model.specs.Survivors.{changes_of};
 use model::{Change, Item, Lsn, Xid};
 use std::iter::FusedIterator;
 use std::marker::Model;
+use undo::UndoLog;
 
 /// The changes of a committed transaction that survived its rollbacks, in order, skipped ones too.
 /// They lie in the transaction's own list of items: nothing is copied at a commit.
@@ -122,4 +123,6 @@ pub struct Entry {
     pub commit: Lsn,
     /// Where the log goes on behind it.
     pub end: Lsn,
+    /// What stood before its changes. It can be read alone: the room to put it back is given up.
+    pub(crate) inverses: UndoLog,
 }

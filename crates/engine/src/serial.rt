@@ -20,7 +20,8 @@ ghost use Rattle.live_tables.specs.Journal.{rows_after};
 
 use crate::entry::{Changes, Entry};
 use crate::events::{Event, LineEvent};
-use crate::store::{Store, new_tokens};
+use crate::shut::forget_each;
+use crate::store::{Store, new_tokens, record_start};
 use crate::tickets::Line;
 use change::Clash;
 use indexes::Tables;
@@ -34,7 +35,7 @@ use undo::UndoLog;
 
 /// A store whose transactions come one at a time, by one hand that has the store and its line: so no
 /// transaction needs a ticket, and none holds a cell. Where no work is open it is a `Store` in which no
-/// transaction is, but for a copy of its tables at the start, which it does without.
+/// transaction is.
 ///
 /// A clause sees the store without the open work, and the changes that are open. A commit is what the
 /// calls of a `Store` come to: one transaction opens, makes these changes and is committed.
@@ -66,8 +67,7 @@ impl Model for SerialStore {
 }
 
 impl SerialStore {
-    /// A store over these tables, with no work open. No copy of them is made. Refused for memory, the
-    /// tables are handed back.
+    /// A store over these tables, with no work open. Refused for memory, the tables are handed back.
     pub fn new(alloc: Global, start: Tables) -> Result<SerialStore, Tables>
         ensures world { IfOk result (λ made. made.store.world ≡ starting start.rows) }
         ensures schema { IfOk result (λ made. made.store.schema ≡ start.schema) }
@@ -93,18 +93,15 @@ impl SerialStore {
         })
     }
 
-    /// The store for several open transactions, with its line, once no work is open, given its tables
-    /// at the start. It takes no memory.
-    pub fn into_store(self, start: Tables) -> (Store, Line)
-        requires none { self.changes ≡ [] }
-        requires rows { start.rows ≡ self.store.world.start }
-        requires schema { start.schema ≡ self.store.schema }
+    /// The store for several open transactions, with its line, once no work is open. It takes no memory.
+    pub fn into_store(self) -> (Store, Line)
+        requires { self.changes ≡ [] }
         ensures store { result.0 ≡ self.store }
         ensures line { result.1 ≡ self.store.line }
     {
         let SerialStore {
             live,
-            start: _,
+            start,
             journal,
             book,
             line,
@@ -203,13 +200,14 @@ impl SerialStore {
         grow(&mut self.line, &mut self.token, &LineEvent::Opened(xid));
         record_changes(&mut self.line, &mut self.token, xid, &self.items, info);
         self.undo.settle(&mut self.live.tables);
-        self.undo = UndoLog::new(alloc);
+        let inverses = mem::replace(&mut self.undo, UndoLog::new(alloc));
         let items = mem::replace(&mut self.items, Vec::new(alloc));
         self.journal.push_reserved(Entry {
             xid,
             changes: Changes::of_items(items),
             commit: info.commit,
             end: info.end,
+            inverses,
         });
         Ok(())
     }
@@ -223,7 +221,7 @@ impl SerialStore {
         let SerialStore {
             live,
             start: _,
-            journal,
+            mut journal,
             book: _,
             line: _,
             token: _,
@@ -232,17 +230,9 @@ impl SerialStore {
         } = self;
         let Live { mut tables, .. } = live;
         undo.undo_to(&mut tables, 0);
+        forget_each(&mut journal);
         (tables, journal)
     }
-}
-
-// The tables as they are now, for proofs alone.
-fn record_start(alloc: Global, tables: &Tables) -> Result<Kept<Tables>, OutOfMemory>
-    ensures { IfOk result (λ told. told.list ≡ tables.now ∷ []) }
-{
-    let (mut kept, mut token) = pair(alloc)?;
-    grow(&mut kept, &mut token, tables);
-    Ok(kept)
 }
 
 // Appends a commit to the line, of a transaction that has made the changes among items and nothing else.

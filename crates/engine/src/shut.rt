@@ -1,5 +1,5 @@
 // The end of a store in which transactions are still open, without their tickets.
-ghost use Rattle.std.specs.Prelude.{◌≡◌, map};
+ghost use Rattle.std.specs.Prelude.{◌≡◌, length, map};
 ghost use Rattle.world.specs.World.{World};
 ghost use Rattle.world.specs.Steps.{Closes};
 ghost use Rattle.engine.specs.Engine.{entry_in};
@@ -25,7 +25,7 @@ impl Store {
         let Store {
             mut live,
             start: _,
-            journal,
+            mut journal,
             book,
             line: mut kept,
         } = self;
@@ -33,6 +33,23 @@ impl Store {
         meet(&mut kept, &mut token);
         drop(book);
         live.abort_all();
+        forget_each(&mut journal);
         (live.into_tables(), journal)
+    }
+}
+
+// Drops what stood before the changes of entries: nobody walks back behind a run. It takes no memory.
+pub(crate) fn forget_each(entries: &mut Vec<Entry>)
+    ensures { map entry_in entries.new.items ≡ map entry_in entries.old.items }
+{
+    forget_all(entries.as_mut_slice());
+}
+
+fn forget_all(entries: &mut [Entry])
+    ensures told { map entry_in entries.new ≡ map entry_in entries.old }
+    ensures long { length entries.new ≡ length entries.old }
+{
+    for entry in entries.iter_mut() {
+        entry.inverses.forget();
     }
 }

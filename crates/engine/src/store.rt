@@ -25,12 +25,13 @@ ghost use Rattle.engine.specs.Engine.{entry_in, IsOtherwiseSame};
 
 use crate::entry::{Changes, Entry};
 use crate::events::{Event, LineEvent};
-use crate::rows_after::rows_after;
+use crate::rows_after::lay_entries;
 use crate::tickets::{Line, Seen, Ticket};
 use indexes::Tables;
 use live_tables::{Acted, EngineFault, Live, NotSettled, Stop, Stopped};
 use model::{Change, CommitInfo, Item, Key, MOST_OPEN, OutOfMemory, Row, TableId, Xid};
 use std::alloc::Global;
+use std::collections::BTreeMap;
 use std::marker::{Brand, Model};
 use tokens::{Book, Items, Kept, Slip, Token, grow, grow_by, look, meet, pair, watch};
 
@@ -42,7 +43,8 @@ use tokens::{Book, Items, Kept, Slip, Token, grow, grow_by, look, meet, pair, wa
 #[derive(Debug, Drop)]
 pub struct Store {
     pub(crate) live: Live,
-    pub(crate) start: Tables,
+    /// One list of the tables at the start, which proofs alone know.
+    pub(crate) start: Kept<Tables>,
     pub(crate) journal: Vec<Entry>,
     pub(crate) book: Book<Event>,
     pub(crate) line: Kept<LineEvent>,
@@ -71,7 +73,7 @@ impl Store {
         ensures line { IfOk result (λ made. (made.1 ≡ made.0.line) × (made.1.list ≡ [])) }
         ensures err { IfErr result (λ tables. tables ≡ start) }
     {
-        let Ok(first) = start.copy() else {
+        let Ok(told) = record_start(alloc, &start) else {
             return Err(start);
         };
         let Ok((book, line, token)) = new_tokens(alloc) else {
@@ -79,7 +81,7 @@ impl Store {
         };
         let store = Store {
             live: Live::new(alloc, start),
-            start: first,
+            start: told,
             journal: Vec::new(alloc),
             book,
             line,
@@ -207,12 +209,13 @@ impl Store {
         record_commit(&mut self.line, &mut line.token, &t, info);
         let Ticket { slip } = t;
         self.book.close(slip);
-        let items = self.live.commit(xid);
+        let (items, inverses) = self.live.commit(xid);
         self.journal.push_reserved(Entry {
             xid,
             changes: Changes::of_items(items),
             commit: info.commit,
             end: info.end,
+            inverses,
         });
     }
 
@@ -299,22 +302,20 @@ impl Store {
         }
     }
 
-    /// The committed rows of a table, in key order, as copies. It costs one walk of the table and what
-    /// open transactions hold; only where one of these emptied the table are the rows made anew of those
-    /// at the start, by all commits.
+    /// The committed rows of a table, in key order, as copies. It costs one walk of the table, and what
+    /// open transactions did there.
     pub fn committed_rows(&self, alloc: Global, table: TableId) -> Result<Vec<Row>, EngineFault>
         requires { table < length self.now.schema }
         ensures reads { IfOk result (λ rows. rows.items ≡ rows_of_table self.now.world.committed table) }
         ensures fault { IfErr result (λ fault. fault ≡ NoMemory) }
     {
-        match self.live.committed_rows(alloc, table)? {
-            Some(rows) => Ok(rows),
-            None => Ok(rows_after(alloc, &self.start, self.journal.as_slice(), table)?),
-        }
+        let known = BTreeMap::new(alloc);
+        Ok(self.live.committed_rows(alloc, table, known)?)
     }
 
-    /// The rows of a table after the first so many commits, in key order, as copies. They are made anew
-    /// of the rows at the start.
+    /// The rows of a table after the first so many commits, in key order, as copies: the committed ones,
+    /// but where a later commit changed them what stood before it. It costs what `committed_rows` costs,
+    /// and the changes of the later commits.
     pub fn rows_after(
         &self,
         alloc: Global,
@@ -326,8 +327,9 @@ impl Store {
         ensures reads { IfOk result (λ rows. ReadsAfter {E = Fault} self.now.schema self.now.world table entries (Ok rows.items)) }
         ensures fault { IfErr result (λ fault. fault ≡ NoMemory) }
     {
-        let first = &self.journal[..entries];
-        Ok(rows_after(alloc, &self.start, first, table)?)
+        let mut known = BTreeMap::new(alloc);
+        lay_entries(&self.journal[entries..], table, &mut known)?;
+        Ok(self.live.committed_rows(alloc, table, known)?)
     }
 
     /// Stops the store by a transaction that the waiter waits for, where no more can come that would let
@@ -405,6 +407,15 @@ pub(crate) fn new_tokens(
     let book = Book::new(alloc)?;
     let (line, token) = pair(alloc)?;
     Ok((book, line, token))
+}
+
+// The tables as they are now, for proofs alone.
+pub(crate) fn record_start(alloc: Global, tables: &Tables) -> Result<Kept<Tables>, OutOfMemory>
+    ensures { IfOk result (λ told. told.list ≡ tables.now ∷ []) }
+{
+    let (mut kept, mut token) = pair(alloc)?;
+    grow(&mut kept, &mut token, tables);
+    Ok(kept)
 }
 
 // What stopped the live part, as a caller is told it.

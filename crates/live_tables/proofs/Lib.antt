@@ -3,5 +3,6 @@ mod TableRows
 mod MergedLemmas
 mod MergeSteps
 mod BeforeImageSteps
+mod LogSteps
 mod Refusals
 pub mod LettingGo

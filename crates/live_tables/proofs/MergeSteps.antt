@@ -1,28 +1,25 @@
 -- The steps of a merge of a table's rows with what stands at some keys.
 --     GoesOn      what stands at the keys so far is behind the rows
---     OwnKeys, IsMerging      rows stand at their own keys; the rows that a walk has left are to be merged
-use Rattle.std.specs.Prelude.{◌≡◌, ℕ, Bool, true, false, cond, if◌then◌else◌, List, [], ◌∷◌, ◌++◌, Option, Some, None, refl, T, length, ◌<◌, slice_get}
+--     own_table, IsMerging      rows stand at their own keys; the rows that a walk has left are to be merged
+use Rattle.std.specs.Prelude.{◌≡◌, ℕ, Bool, true, false, if◌then◌else◌, List, [], ◌∷◌, ◌++◌, Option, Some, None, refl, length, ◌<◌, slice_get}
 use Rattle.std.proofs.Common.{sym, ◌∙◌, ap, subst, arith, true≢false, is_gt}
-use Rattle.std.specs.Ordering.{eq_by_cmp, is_eq}
-use Rattle.std.specs.Cmp.{tied_itself}
+use Rattle.std.specs.Ordering.{is_eq}
 use Rattle.std.specs.declared.cmp.Ordering.{Ordering}
 use Rattle.std.specs.declared.cmp.Ordering.TheVariants.{Less, Equal, Greater}
 use Rattle.std.specs.Map.{values_of}
 use Rattle.std.specs.BTreeMap as tree
 use Rattle.std.specs.BTreeMap.{BTreeMap}
-use Rattle.std.specs.FinMap.{find, get, entries, is_sorted}
+use Rattle.std.specs.FinMap.{find, get, entries}
 use Rattle.std.specs.FinMap.Entries.{by_order}
 use Rattle.std.proofs.lemmas.List.{append_assoc}
-use Rattle.std.proofs.lemmas.Map.Views.{tells_apart}
 use Rattle.model.specs.declared.key.Key.{Key}
 use Rattle.model.specs.declared.row.Row.{Row}
-use Rattle.model.specs.Key.{key_cmp, key_cmp_total}
-use Rattle.model.specs.ExactLemmas.{key_cmp_exact}
+use Rattle.model.specs.Key.{key_cmp}
 use Rattle.model.specs.Rows.{Rows, Schema, IsValid, key_of}
 use Rattle.model.specs.TableRows.{rows_of_table}
 use Rattle.live_tables.specs.Merged.{or_row, row_list, kept, kept_each, around, merged, PutsUpTo, PutsRest}
-use Rattle.live_tables.proofs.MergedLemmas.{merged_sorted, find_merged, find_below}
-use Rattle.model.specs.TakenLemmas.{first_T, second_T}
+use Rattle.live_tables.proofs.MergedLemmas.{merged_sorted, find_merged}
+use Rattle.change.specs.OwnKeys.{OwnKeys, own_by_find}
 use Rattle.live_tables.proofs.TableRows.{keyed, get_keyed, table_sorted, values_keyed, found, ordered, rows_by_keys}
 
 pub values_kept : (key : Key) (o : Option Row) (es : List (Key × Row)) → values_of (kept key o es) ≡ row_list o ++ values_of es
@@ -118,36 +115,16 @@ rest_next rows stands now left was h later split new put =
 
 -- ---- a table
 
--- rows stand at their own keys
-abbrev pub OwnKeys : Schema → ℕ → List (Key × Row) → Type 0
-OwnKeys schema table [] = Unit {0}
-OwnKeys schema table (e ∷ es) = (key_of schema table e.1 ≡ Some e.0) × OwnKeys schema table es
-
-own_by_find : (schema : Schema) (table : ℕ) (es : List (Key × Row)) → T (is_sorted key_cmp es)
-    → ((key : Key) (row : Row) → find key_cmp key es ≡ Some row → key_of schema table row ≡ Some key) → OwnKeys schema table es
-own_by_find schema table [] sorted own = tt
-own_by_find schema table (e ∷ es) sorted own = (
-  own e.0 e.1 (ap (λ (r : Ordering). cond (is_eq r) (Some e.1) (find key_cmp e.0 es)) (tied_itself key_cmp_total e.0)),
-  own_by_find schema table es (second_T _ _ sorted) (λ key row at. own key row (
-      elim (eq_by_cmp key_cmp key e.0) as (λ b. eq_by_cmp key_cmp key e.0 ≡ b → cond b (Some e.1) (find key_cmp key es) ≡ Some row) [
-        | true ↦ λ same.
-            let under = subst (λ (k : Key). find key_cmp k es ≡ None) (sym (tells_apart key_cmp_exact key e.0 same)) (find_below e.0 es (first_T _ _ sorted)) in
-            absurd (let clash : None ≡ Some row = sym under ∙ at in cc)
-        | false ↦ λ differs. at
-      ] refl
-      )),
-)
-
 -- the rows of a table that is valid stand at their own keys
-pub own_table : (schema : Schema) (rows : Rows) → IsValid schema rows → (table : ℕ) → OwnKeys schema table (keyed table (entries rows))
+pub own_table : (schema : Schema) (rows : Rows) → IsValid schema rows → (table : ℕ) → OwnKeys (key_of schema table) (keyed table (entries rows))
 own_table schema rows valid table =
-    own_by_find schema table (keyed table (entries rows)) (table_sorted rows table) (λ key row at. valid.own_key table key row (sym (get_keyed rows table key) ∙ at))
+    own_by_find (key_of schema table) (keyed table (entries rows)) (table_sorted rows table) (λ key row at. valid.own_key table key row (sym (get_keyed rows table key) ∙ at))
 
 -- What is to come are these rows and then those that a walk has left, merged with what stands at the keys that are left.
 pub record IsMerging (schema : Schema) (table : ℕ) (all rows : List Row) (left : List (Key × Option Row)) (walk : List Row) : Type 0 where
   pub rest : List (Key × Row)
   pub its : values_of rest ≡ walk
-  pub own : OwnKeys schema table rest
+  pub own : OwnKeys (key_of schema table) rest
   pub same : all ≡ rows ++ values_of (merged rest left)
 
 -- at first
@@ -182,7 +159,7 @@ module _ (schema : Schema) (table : ℕ) (all rows : List Row) (left : List (Key
             ap (λ (r : Row). now ++ r ∷ values_of es) row_is
             ∙ sym (append_assoc now (row ∷ []) (values_of es)) ∙ ap (λ (l : List Row). l ++ values_of es) (sym is)
 
-        by : (rest : List (Key × Row)) → values_of rest ≡ row ∷ next → OwnKeys schema table rest → all ≡ rows ++ values_of (merged rest left)
+        by : (rest : List (Key × Row)) → values_of rest ≡ row ∷ next → OwnKeys (key_of schema table) rest → all ≡ rows ++ values_of (merged rest left)
             → IsMerging schema table all new later next
         by [] its own same = absurd cc
         by (e ∷ es) its own same =

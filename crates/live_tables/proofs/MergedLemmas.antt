@@ -1,7 +1,7 @@
 -- Two lists in the order of their keys, merged, are in this order, and have at each key what stands there.
 use Rattle.std.specs.Prelude.{◌≡◌, Bool, true, false, cond, List, [], ◌∷◌, Option, Some, None, refl, T}
 use Rattle.std.proofs.Common.{sym, ◌∙◌, ap, subst}
-use Rattle.std.specs.Ordering.{eq_by_cmp, is_eq, is_lt, ordering_reverse}
+use Rattle.std.specs.Ordering.{eq_by_cmp, is_lt, ordering_reverse}
 use Rattle.std.specs.declared.cmp.Ordering.{Ordering}
 use Rattle.std.specs.declared.cmp.Ordering.TheVariants.{Less, Equal, Greater}
 use Rattle.std.specs.FinMap.{find, is_sorted}
@@ -11,14 +11,10 @@ use Rattle.model.specs.declared.key.Key.{Key}
 use Rattle.model.specs.declared.row.Row.{Row}
 use Rattle.model.specs.Key.{key_cmp, key_cmp_total}
 use Rattle.model.specs.ExactLemmas.{key_cmp_exact}
+use Rattle.change.specs.OwnKeys.{less, find_below}
 use Rattle.live_tables.specs.Merged.{or_row, kept, kept_each, around, merged}
 use Rattle.model.specs.TakenLemmas.{first_T, second_T}
 use Rattle.live_tables.proofs.TableRows.{both}
-
-less : (r : Ordering) → T (is_lt r) → r ≡ Less
-less Less p = refl
-less Equal p = absurd p
-less Greater p = absurd p
 
 is_less : (r : Ordering) → r ≡ Less → T (is_lt r)
 is_less r e = subst (λ (o : Ordering). T (is_lt o)) (sym e) tt
@@ -31,10 +27,6 @@ module _ {X : Type 0} where
   below_more k l [] lt below = tt
   below_more k l (e ∷ es) lt below =
       both _ _ (is_less _ (key_cmp_total.trans k l e.0 lt (less _ (first_T _ _ below)))) (below_more k l es lt (second_T _ _ below))
-
-  pub find_below : (q : Key) (es : List (Key × X)) → T (below_all key_cmp q es) → find key_cmp q es ≡ None
-  find_below q [] below = refl
-  find_below q (e ∷ es) below = ap (λ (r : Ordering). cond (is_eq r) (Some e.1) (find key_cmp q es)) (less _ (first_T _ _ below)) ∙ find_below q es (second_T _ _ below)
 
 -- ---- in order
 

@@ -12,7 +12,6 @@ use Rattle.std.specs.FinMap as finite
 use Rattle.std.specs.FinMap.{FinMap, get}
 use Rattle.std.specs.Ordering.{nat_cmp}
 use Rattle.std.proofs.lemmas.List.{length-take}
-use Rattle.std.proofs.lemmas.List.Elements.{All-nil, All-cons}
 use Rattle.std.proofs.lemmas.Map.Entries.{length-keys_of}
 use Rattle.model.specs.declared.cell.Cell.{Cell}
 use Rattle.model.specs.declared.change.Change as change_type
@@ -48,7 +47,6 @@ use Rattle.live_tables.specs.Statements.{IsFreeLive}
 use Rattle.live_tables.specs.CallLemmas.{done_is_kept, skip_is_kept, held_is_kept, clash_is_kept, refusal_is_kept}
 use Rattle.live_tables.specs.HoldsLemmas.{holds_tell_the_world, taken_is_held, same_is_held}
 use Rattle.live_tables.specs.MarkedHoldsLemmas.{item_keeps_marks}
-use Rattle.live_tables.specs.NamedLemmas.{changes_item}
 use Rattle.live_tables.specs.MarksLemmas.{marks_same}
 use Rattle.live_tables.specs.Transactions.{WaitsNoMore, IsAsBefore, HasApplied, WritesTransaction, WantsChange, HasHeldItem, HasTaken}
 use Rattle.live_tables.specs.BeforeImages.{HasBeforeImages, AreToStand, TakesBeforeImages, cells_of_each}
@@ -152,9 +150,6 @@ module _ (w : World) (l : Live) (tied : Represents w l) (xid : ℕ) (o : Opened)
       → IsBeside (length l.tables.schema) (record { items = o.items ++ Change sub c ∷ []; wants = None }) kept
   beside_item sub c names more = record {
     wants = more.wants;
-    items_named =
-        let P : change_type.Change → Type 0 = NamesTables (length l.tables.schema) in
-        changes_item P o.items (Change sub c ∷ []) (its_beside w l tied xid o is old writes.at).items_named (All-cons P c [] names (All-nil P));
     named = subst (λ (wanted : Option (ℕ × change_type.Change)). IfSome wanted (λ (v : ℕ × change_type.Change). NamesTables (length l.tables.schema) v.1)) (sym more.wants) tt;
     done = let was = (its_beside w l tied xid o is old writes.at).done in let now = more.done in omega (arith, was, now, length-append o.items (Change sub c ∷ []));
   }
@@ -251,7 +246,6 @@ module _ (w : World) (l : Live) (tied : Represents w l) (xid : ℕ) (o : Opened)
       beside_wanting : IsBeside (length l.tables.schema) (record o { wants = Some (sub, c) }) kept
       beside_wanting = record {
         wants = wants.wants;
-        items_named = (its_beside w l tied xid o is old writes.at).items_named;
         named = subst (λ (wanted : Option (ℕ × change_type.Change)). IfSome wanted (λ (v : ℕ × change_type.Change). NamesTables (length l.tables.schema) v.1)) (sym wants.wants) names;
         done = wants.done ∙ (its_beside w l tied xid o is old writes.at).done;
       }
@@ -332,7 +326,6 @@ module _ (w : World) (l : Live) (tied : Represents w l) (xid : ℕ) (o : Opened)
       (λ other differs. ap (λ (held : ℕ → List (Cell × BeforeImage)). cells_of_each held other) holds)
       (record {
         wants = before.wants ∙ (its_beside w l tied xid o is old writes.at).wants;
-        items_named = (its_beside w l tied xid o is old writes.at).items_named;
         named = subst (λ (wanted : Option (ℕ × change_type.Change)). IfSome wanted (λ (v : ℕ × change_type.Change). NamesTables (length l.tables.schema) v.1)) (sym before.wants)
             (its_beside w l tied xid o is old writes.at).named;
         done = before.done ∙ (its_beside w l tied xid o is old writes.at).done;

@@ -7,7 +7,7 @@
 --     tied_back      one is rolled back to a savepoint
 --     tied_aborted, tied_committed      one ends
 use Rattle.std.proofs.Common.{◌≡◌, ◌≢◌, ℕ, ◌+◌, ◌-◌, ◌^◌, ◌++◌, ◌∷◌, [], cond, List, length, take, min, Option, Some, None, refl, sym, ap, subst, ◌∙◌, inl, inr, arith, is_some, true≢false, length-append, append-nil}
-use Rattle.std.specs.Prelude.{All, option_map, IfSome}
+use Rattle.std.specs.Prelude.{option_map, IfSome}
 use Rattle.std.specs.Ordering.{nat_cmp}
 use Rattle.std.specs.Cmp.{nat_cmp_total}
 use Rattle.std.specs.Map.{keys_of, lookup}
@@ -16,7 +16,6 @@ use Rattle.std.specs.BTreeMap.{BTreeMap, btree_map_len}
 use Rattle.std.specs.FinMap as finite
 use Rattle.std.specs.FinMap.{FinMap, get, get-empty, len-empty, len-insert, len-remove}
 use Rattle.std.proofs.lemmas.List.{take_all}
-use Rattle.std.proofs.lemmas.List.Elements.{All-nil}
 use Rattle.std.proofs.lemmas.Map.Entries.{length-keys_of}
 use Rattle.std.proofs.Math.Path.{fun_ext}
 use Rattle.model.specs.declared.change.Change as change_type
@@ -52,7 +51,6 @@ use Rattle.live_tables.specs.HoldsLemmas.{holds_opened, holds_touched, abort_is_
 use Rattle.live_tables.specs.KeptRecords.{IsRecordOf, Represents as RecordsRepresent, IsPutAt}
 use Rattle.live_tables.specs.KeptLemmas.{kept_opened, kept_touched}
 use Rattle.live_tables.specs.CallLemmas.{start_is_kept, rollback_is_kept, abort_is_kept, commit_is_kept}
-use Rattle.live_tables.specs.NamedLemmas.{changes_item}
 use Rattle.live_tables.specs.MarkedHoldsLemmas.{item_keeps_marks, rollback_keeps_marks, rollback_is_held, commit_keeps_marks}
 use Rattle.live_tables.specs.BeforeImages.{HasBeforeImages, IsStoodAt, up_to_before_image}
 use Rattle.live_tables.specs.BeforeImageCallLemmas.{start_keeps_before_images, open_keeps_before_images, touch_keeps_before_images, rollback_keeps_before_images, abort_keeps_before_images, commit_keeps_before_images}
@@ -74,7 +72,6 @@ beside_more : (tables : ℕ) (o : Opened) (item : Item) (old kept : OpenTransact
     → IsBeside tables (record { items = o.items ++ item ∷ []; wants = None }) kept
 beside_more tables o item old kept was none more = record {
   wants = more.wants;
-  items_named = changes_item (NamesTables tables) o.items (item ∷ []) was.items_named (subst (All (NamesTables tables)) (sym none) (All-nil (NamesTables tables)));
   named = wants_none tables kept.wants more.wants;
   done = counted old.done kept.done (length o.items) (length (o.items ++ item ∷ [])) (2 ^ 64 - 1) was.done more.done (length-append o.items (item ∷ []));
 }
@@ -240,7 +237,6 @@ module _ (w : World) (l : Live) (tied : Represents w l) (xid : ℕ) (absent : tr
       (beside_put w l tied xid fresh n kept puts (record {
         wants = wants;
         named = wants_none (length l.tables.schema) kept.wants wants;
-        items_named = All-nil (NamesTables (length l.tables.schema));
         done = done;
       }))
       (len-insert nat_cmp_total w.opened xid fresh ∙ ap (λ b. cond b (finite.len w.opened) (finite.len w.opened + 1)) (ap is_some not_open)

@@ -4,7 +4,7 @@
 --     around, merged      a row, and what stands at keys, before rows; all of them
 --     row_list      a row, or none, as a list
 --     PutsUpTo, PutsRest      what stands at the keys up to one, and at all that are left, comes behind rows
---     AreCommittedAt      at these keys stands what is committed there
+--     AreLaid      what is committed at some keys goes beneath what is known
 use Rattle.std.specs.Prelude.{◌≡◌, ◌⊎◌, ℕ, List, [], ◌∷◌, ◌++◌, Option, Some, None, Bool, if◌then◌else◌}
 use Rattle.std.specs.List.{Contains}
 use Rattle.std.specs.Map.{values_of}
@@ -17,6 +17,8 @@ use Rattle.model.specs.declared.row.Row.{Row}
 use Rattle.model.specs.Key.{key_cmp}
 use Rattle.model.specs.Rows.{Rows}
 use Rattle.model.specs.TableRows.{rows_of_table}
+use Rattle.change.specs.Edits.{or_else}
+use Rattle.change.specs.Laid.{known_at}
 
 -- what stands at a key, if that is known, and else the row there
 abbrev pub or_row : Option (Option Row) → Option Row → Option Row
@@ -64,7 +66,7 @@ PutsUpTo key rows stands found new left =
 abbrev pub PutsRest : List Row → List (Key × Option Row) → List Row → Type 0
 PutsRest rows stands new = new ≡ rows ++ values_of (kept_each stands)
 
--- at each of these keys stands what is committed there, and at no other anything
-abbrev pub AreCommittedAt : Rows → ℕ → List Key → BTreeMap Key (Option Row) → Type 0
-AreCommittedAt committed table keys stands =
-    (key : Key) → (tree.get key_cmp stands key ≡ Some (get committed (table, key))) ⊎ ((tree.get key_cmp stands key ≡ None) × ¬ Contains keys key)
+-- What was known stays; of these keys it is known now what is committed there, and of no others anything.
+abbrev pub AreLaid : Rows → ℕ → List Key → BTreeMap Key (Option Row) → BTreeMap Key (Option Row) → Type 0
+AreLaid committed table keys old new =
+    (key : Key) → (known_at new key ≡ or_else (known_at old key) (Some (get committed (table, key)))) ⊎ ((known_at new key ≡ known_at old key) × ¬ Contains keys key)

@@ -89,7 +89,7 @@ module _ (committed : Rows) (inverses : List Inverse) (marks : List (ℕ × Mark
 module _ (schema : Schema) (t : Content) (w : World) (records : ℕ → Option Record) (kept : Represents schema t w records)
     (held : ℕ → List (Cell × BeforeImage)) (are : AreHolds schema w (cells_of_each held)) (had : HasBeforeImages w records held) where
   -- whoever holds a cell is open
-  holder_open : (xid : ℕ) (cell : Cell) → Contains (keys_of (held xid)) cell → (o : Opened) × (get w.opened xid ≡ Some o)
+  pub holder_open : (xid : ℕ) (cell : Cell) → Contains (keys_of (held xid)) cell → (o : Opened) × (get w.opened xid ≡ Some o)
   holder_open xid cell has = by (get w.opened xid) refl
     where
       by : (found : Option Opened) → get w.opened xid ≡ found → (o : Opened) × (get w.opened xid ≡ Some o)
@@ -112,7 +112,7 @@ module _ (schema : Schema) (t : Content) (w : World) (records : ℕ → Option R
       (its.0, its.1, its.2, at.0, at.1, its.2.beside at.0 cell before_image at.1)
 
   -- nobody else holds a cell that overlaps
-  same_holder : (xid other : ℕ) (c d : Cell) → Contains (keys_of (held xid)) c → Contains (keys_of (held other)) d → overlaps c d ≡ true → xid ≡ other
+  pub same_holder : (xid other : ℕ) (c d : Cell) → Contains (keys_of (held xid)) c → Contains (keys_of (held other)) d → overlaps c d ≡ true → xid ≡ other
   same_holder xid other c d has too meets =
       elim (xid_cases xid other) [
         | inl same ↦ same

@@ -1,6 +1,6 @@
 -- What a store reads, and what its reads rest on, each as one statement. `src/read_laws.rt` names them, so that the check
 -- proves them.
-use Rattle.std.specs.Prelude.{◌≡◌, ◌⊎◌, ◌↔◌, ◌<◌, ◌≤◌, All, ℕ, List, [], ◌∷◌, Option, Some, None, Ok, length, take, map, slice_get, ◌+◌, true, false, ◌≢◌}
+use Rattle.std.specs.Prelude.{◌≡◌, ◌⊎◌, ◌↔◌, ◌<◌, ◌≤◌, All, ℕ, List, [], ◌∷◌, Option, Some, None, Ok, length, take, map, slice_get, true, false, ◌≢◌}
 use Rattle.std.specs.List.{Contains}
 use Rattle.std.specs.Map.{keys_of}
 use Rattle.std.specs.FinMap.{get}
@@ -12,8 +12,7 @@ use Rattle.model.specs.declared.change.Change as change_type
 use Rattle.model.specs.declared.item.Item.TheVariants.{Change, Touch, BackTo}
 use Rattle.model.specs.declared.item.CommitInfo.{CommitInfo}
 use Rattle.model.specs.Rows.{Rows, Schema}
-use Rattle.model.specs.Effect.{ClashCause, Skip, Clashes, outcome, effect, serial}
-use Rattle.model.specs.TableRows.{rows_of_table}
+use Rattle.model.specs.Effect.{Skip, outcome, serial}
 use Rattle.model.specs.Footprint.{footprint, shares_cell}
 use Rattle.model.specs.Named.{NamesTables}
 use Rattle.model.specs.Cells.{table_of}
@@ -23,9 +22,9 @@ use Rattle.savepoint.specs.Record.{Record}
 use Rattle.indexes.specs.Content.{Content}
 use Rattle.change.specs.declared.inverse.Inverse.{Inverse}
 use Rattle.change.specs.Inverse.{row_by_inverse}
-use Rattle.world.specs.World.{Opened, Past, Entry, Stop, ByHold, World, starting, entry_of, changes_in, journal}
+use Rattle.world.specs.World.{Opened, Past, Stop, ByHold, World, starting, entry_of, changes_in}
 use Rattle.world.specs.Settled.{WaitsFor}
-use Rattle.world.specs.Steps.{Fault, ReadsCommitted, ReadsAfter, StopsHeld, opened_with, done_with, wanting, committed_with, aborted_with}
+use Rattle.world.specs.Steps.{Fault, ReadsCommitted, StopsHeld, opened_with, done_with, wanting, committed_with, aborted_with}
 use Rattle.live_tables.specs.KeptRecords.{Represents, IsPutAt}
 use Rattle.live_tables.specs.Held.{AreHolds, HasHeldMarks, IsHeldAt, up_to_held}
 use Rattle.live_tables.specs.CallResults.{IsApplied, IsRolledBack, HasItem, HasTheSame}
@@ -195,33 +194,9 @@ StopIsRefused =
 
 -- ---- the rows after entries of the journal
 
--- The rows of a table after the first entries are those after their changes, entry by entry.
-abbrev pub RowsAfterAreRead : Type 0
-RowsAfterAreRead =
-    (schema : Schema) (w : World) (table count : ℕ)
-    → ReadsAfter {E = Fault} schema w table count (Ok (rows_of_table (rows_after schema w.start (take count (journal w))) table))
-
--- They are those after all their changes, one after another.
+-- The rows after entries are those after all their changes, one after another.
 abbrev pub EntriesAreSerial : Type 0
 EntriesAreSerial = (schema : Schema) (rows : Rows) (line : List Past) → rows_after schema rows (map entry_of line) ≡ serial schema rows (changes_in line)
-
--- after one entry more
-abbrev pub EntryComesNext : Type 0
-EntryComesNext =
-    (schema : Schema) (rows : Rows) (entries : List Entry) (index : ℕ) (entry : Entry) → slice_get entries index ≡ Some entry
-    → rows_after schema rows (take (index + 1) entries) ≡ serial schema (rows_after schema rows (take index entries)) entry.changes
-
--- after one change more of an entry
-abbrev pub ChangeComesNext : Type 0
-ChangeComesNext =
-    (schema : Schema) (rows : Rows) (changes : List change_type.Change) (index : ℕ) (c : change_type.Change) → slice_get changes index ≡ Some c
-    → serial schema rows (take (index + 1) changes) ≡ effect schema (serial schema rows (take index changes)) c
-
--- a change that clashes leaves the rows, as one that is skipped does
-abbrev pub RefusedChangeHasNoEffect : Type 0
-RefusedChangeHasNoEffect =
-    (schema : Schema) (rows : Rows) (c : change_type.Change) → (outcome schema rows c ≡ Skip) ⊎ ((cause : ClashCause) × (outcome schema rows c ≡ Clashes cause))
-    → effect schema rows c ≡ rows
 
 -- ---- holds with what lies beside them, as cells alone
 

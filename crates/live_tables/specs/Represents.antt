@@ -2,7 +2,7 @@
 --     records_in      the record of each open transaction
 --     IsBeside      what is kept of an open transaction beside its record
 --     Represents      tables, records, holds, counts and stop are those of the world, and what lies beside the cells held
-use Rattle.std.specs.Prelude.{◌≡◌, ℕ, ◌-◌, ◌^◌, Option, Some, IfSome, All, option_map, length, min}
+use Rattle.std.specs.Prelude.{◌≡◌, ℕ, ◌-◌, ◌^◌, Option, Some, IfSome, option_map, length, min}
 use Rattle.std.specs.Ordering.{nat_cmp}
 use Rattle.std.specs.BTreeMap as tree
 use Rattle.std.specs.BTreeMap.{BTreeMap, btree_map_len}
@@ -10,7 +10,6 @@ use Rattle.std.specs.FinMap as finite
 use Rattle.std.specs.FinMap.{get}
 use Rattle.model.specs.declared.change.Change.{Change}
 use Rattle.model.specs.Named.{NamesTables}
-use Rattle.model.specs.Survivors.{changes_of}
 use Rattle.keyholds.specs.Holds.{holds_of, cells_held}
 use Rattle.savepoint.specs.Record.{Record}
 use Rattle.world.specs.World.{Opened, World}
@@ -25,12 +24,11 @@ use Rattle.live_tables.specs.BeforeImages.{HasBeforeImages}
 abbrev pub records_in : BTreeMap ℕ OpenTransaction → ℕ → Option Record
 records_in transactions xid = option_map (λ (kept : OpenTransaction). kept.record) (tree.get nat_cmp transactions xid)
 
--- What is kept of an open transaction beside its record: the change that it waits with, and how many items it has done,
--- as far as a u64 counts. The tables of that change and of all that it has done are there.
+-- What is kept of an open transaction beside its record: the change that it waits with, whose tables are there, and how many
+-- items it has done, as far as a u64 counts.
 pub record IsBeside (tables : ℕ) (o : Opened) (kept : OpenTransaction) : Type 0 where
   pub wants : kept.wants ≡ o.wants
   pub named : IfSome kept.wants (λ (w : ℕ × Change). NamesTables tables w.1)
-  pub items_named : All (NamesTables tables) (changes_of o.items)
   pub done : kept.done ≡ min (length o.items) (2 ^ 64 - 1)
 
 -- Tables, records, holds, counts and stop are those of the world, and beside the cells held lies what stood there.

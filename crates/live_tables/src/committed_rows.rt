@@ -1,57 +1,115 @@
-// The committed rows of a table, while transactions are open: the live ones, but at the places that are
-// held what is committed there.
-ghost use Rattle.std.specs.Prelude.{◌≡◌, ◌<◌, IfOk, IfSome, length};
-ghost use Rattle.model.specs.TableRows.{rows_of_table};
+// The committed rows of a table, while transactions are open: the live ones, but where open work changed
+// them what stood there before.
+ghost use Rattle.std.specs.Prelude.{◌≡◌, ◌<◌, ℕ, [], ◌∷◌, IfOk, OnOk, length};
+ghost use Rattle.std.specs.List.{Contains};
+ghost use Rattle.std.specs.FinMap.{get};
+ghost use Rattle.model.specs.declared.cell.Cell.TheVariants.{Whole};
+ghost use Rattle.model.specs.declared.key.Key.{Key as AnyKey};
+ghost use Rattle.change.specs.Laid.{known_at};
+ghost use Rattle.keyholds.specs.Holds.{cells_held};
 ghost use Rattle.world.specs.World.{World};
-ghost use Rattle.live_tables.specs.Merged.{AreCommittedAt};
+ghost use Rattle.live_tables.specs.Merged.{AreMerged, AreLaid, or_row};
 ghost use Rattle.live_tables.specs.Represents.{Represents};
 
 use crate::live_tables::Live;
 use crate::merging::merge_rows;
-use model::{Cell, Key, OutOfMemory, Row, TableId};
+use model::{Cell, Key, OutOfMemory, Row, TableId, Xid};
 use std::alloc::Global;
 use std::collections::BTreeMap;
 
 impl Live {
-    /// The committed rows of a table in key order, as copies: one walk of the live rows, and of the
-    /// places that are held, where what is committed lies beside them. None where a transaction holds
-    /// the table as a whole: then they lie in an inverse of its own, which answers by key alone.
+    /// The committed rows of a table in key order, as copies, but at these keys what is known of them
+    /// already: a row, or none. It costs one walk of the live rows, and what open transactions did in the
+    /// table: where one of them emptied it, the rows that lie in its inverses.
     pub fn committed_rows(
         &self,
         alloc: Global,
         table: TableId,
-    ) -> Result<Option<Vec<Row>>, OutOfMemory>
+        known: BTreeMap<Key, Option<Row>>,
+    ) -> Result<Vec<Row>, OutOfMemory>
         requires tied { (w : World) × Represents w self.now }
         requires known { table < length self.now.tables.schema }
-        ensures { IfOk result (λ found. IfSome found (λ rows. (w : World) → Represents w self.now → rows.items ≡ rows_of_table w.committed table)) }
+        ensures { IfOk result (λ rows. (w : World) → Represents w self.now → AreMerged w.committed table known rows.items) }
     {
-        if self.holds.held_at(&Cell::Whole(table)).is_some() {
-            return Ok(None);
+        let mut known = known;
+        match self.holds.held_at(&Cell::Whole(table)) {
+            Some((xid, _)) => self.lay_log(xid, table, &mut known)?,
+            None => self.lay_held(table, &mut known)?,
         }
-        let keys = self.holds.keys_held(table)?;
-        let stands = self.committed_at(alloc, table, keys.as_slice())?;
-        Ok(Some(merge_rows(alloc, &self.tables, table, stands)?))
+        merge_rows(alloc, &self.tables, table, known)
     }
 
-    // What is committed at these keys: a row, or none.
-    fn committed_at(
+    // Adds what stood in a table before the work of a transaction that holds it as a whole: so nobody else
+    // holds anything there.
+    fn lay_log(
         &self,
-        alloc: Global,
+        xid: Xid,
         table: TableId,
-        keys: &[Key],
-    ) -> Result<BTreeMap<Key, Option<Row>>, OutOfMemory>
+        known: &mut BTreeMap<Key, Option<Row>>,
+    ) -> Result<(), OutOfMemory>
+        requires tied { (w : World) × Represents w self.now }
+        requires whole { Contains (cells_held self.now.holds xid) (Whole table) }
+        ensures { OnOk result ((w : World) → Represents w self.now → (key : AnyKey)
+            → or_row (known_at known.new key) (get self.now.tables.rows (table, key)) ≡ or_row (known_at known.old key) (get w.committed (table, key))) }
+    {
+        let Some(transaction) = self.transactions.get(&xid) else {
+            unreachable!()
+        };
+        transaction.record.lay_under(table, known)
+    }
+
+    // Adds what is committed at the places of a table that are held.
+    fn lay_held(
+        &self,
+        table: TableId,
+        known: &mut BTreeMap<Key, Option<Row>>,
+    ) -> Result<(), OutOfMemory>
         requires tied { (w : World) × Represents w self.now }
         requires known { table < length self.now.tables.schema }
-        ensures { IfOk result (λ stands. (w : World) → Represents w self.now → AreCommittedAt w.committed table keys.now stands) }
+        requires free { (xid : ℕ) → ¬ Contains (cells_held self.now.holds xid) (Whole table) }
+        ensures { OnOk result ((w : World) → Represents w self.now → (key : AnyKey)
+            → or_row (known_at known.new key) (get self.now.tables.rows (table, key)) ≡ or_row (known_at known.old key) (get w.committed (table, key))) }
     {
-        let mut stands = BTreeMap::new(alloc);
+        let keys = self.holds.keys_held(table)?;
+        self.lay_committed(table, keys.as_slice(), known)
+    }
+
+    // Adds what is committed at these keys of a table: a row, or none.
+    fn lay_committed(
+        &self,
+        table: TableId,
+        keys: &[Key],
+        known: &mut BTreeMap<Key, Option<Row>>,
+    ) -> Result<(), OutOfMemory>
+        requires tied { (w : World) × Represents w self.now }
+        requires known { table < length self.now.tables.schema }
+        ensures { OnOk result ((w : World) → Represents w self.now → AreLaid w.committed table keys.now known.old known.new) }
+    {
         for key in keys {
-            let row = match self.committed(table, key) {
-                Some(row) => Some(row.to_row()?),
-                None => None,
-            };
-            stands.insert(key.copy()?, row)?;
+            self.lay_committed_at(table, key, known)?;
         }
-        Ok(stands)
+        Ok(())
+    }
+
+    // Adds what is committed at one key.
+    fn lay_committed_at(
+        &self,
+        table: TableId,
+        key: &Key,
+        known: &mut BTreeMap<Key, Option<Row>>,
+    ) -> Result<(), OutOfMemory>
+        requires tied { (w : World) × Represents w self.now }
+        requires known { table < length self.now.tables.schema }
+        ensures { OnOk result ((w : World) → Represents w self.now → AreLaid w.committed table (key.now ∷ []) known.old known.new) }
+    {
+        if known.contains_key(key) {
+            return Ok(());
+        }
+        let row = match self.committed(table, key) {
+            Some(row) => Some(row.to_row()?),
+            None => None,
+        };
+        known.insert(key.copy()?, row)?;
+        Ok(())
     }
 }

@@ -1,5 +1,5 @@
 // The live tables, with what all open transactions did in them.
-ghost use Rattle.std.specs.Prelude.{◌≡◌, ◌<◌, ℕ, List, Some, None, Ok, Err, IsSome, OnOk, OnErr, length, slice_get};
+ghost use Rattle.std.specs.Prelude.{◌≡◌, ◌<◌, ℕ, List, Some, None, Ok, Err, IsSome, OnOk, OnErr, length, map, slice_get};
 ghost use Rattle.std.specs.Ordering.{nat_cmp};
 ghost use Rattle.std.specs.Result.{result_ok};
 ghost use Rattle.std.specs.BTreeMap as tree;
@@ -8,14 +8,14 @@ ghost use Rattle.model.specs.declared.item.CommitInfo.{CommitInfo};
 ghost use Rattle.model.specs.declared.item.Item.TheVariants.{Touch, BackTo};
 ghost use Rattle.model.specs.Named.{NamesTables};
 ghost use Rattle.model.specs.Survivors.{survivors};
-ghost use Rattle.model.specs.Effect.{outcome};
+ghost use Rattle.model.specs.Effect.{all_back, outcome, serial};
 ghost use Rattle.model.specs.Footprint.{footprint};
-ghost use Rattle.world.specs.World.{Opened, World, starting};
+ghost use Rattle.world.specs.World.{Opened, World, starting, work};
 ghost use Rattle.world.specs.Live.{IsListing, live_rows};
 ghost use Rattle.world.specs.Steps.{Acts, StopsHeld, Held as WasHeld, opened_with, done_with, wanting, committed_with, aborted_with};
 ghost use Rattle.change.specs.Applied.{AnswersOutcome};
 ghost use Rattle.change.specs.declared.inverse.Inverse.{Inverse};
-ghost use Rattle.change.specs.Inverse.{row_by_inverse};
+ghost use Rattle.change.specs.Inverse.{edits_of, row_by_inverse};
 ghost use Rattle.keyholds.specs.Holds.{cells_held};
 ghost use Rattle.savepoint.specs.declared.mark.Mark.{Mark};
 ghost use Rattle.savepoint.specs.Savepoints.{mark_at};
@@ -41,6 +41,7 @@ use rows::RowView;
 use savepoint::TxRecord;
 use std::alloc::Global;
 use std::collections::BTreeMap;
+use undo::UndoLog;
 
 /// What stopped a store, with the change that clashed.
 #[derive(Debug, Drop)]
@@ -268,11 +269,13 @@ impl Live {
     }
 
     /// An open transaction is gone, its changes are committed and its cells let go. The answer is
-    /// what survived of its items. It takes no memory.
-    pub fn commit(&mut self, xid: Xid) -> Vec<Item>
+    /// what survived of its items, and the log that tells what stood before them. It takes no memory.
+    pub fn commit(&mut self, xid: Xid) -> (Vec<Item>, UndoLog)
         requires { (w : World) × (o : Opened) × Represents w self.old × (finite.get w.opened xid ≡ Some o) }
         ensures items { (w : World) (o : Opened) → Represents w self.old → finite.get w.opened xid ≡ Some o
-            → result.items ≡ survivors xid o.items }
+            → result.0.items ≡ survivors xid o.items }
+        ensures before { (w : World) (o : Opened) → Represents w self.old → finite.get w.opened xid ≡ Some o
+            → all_back (serial self.old.tables.schema w.committed (work xid o)) (map edits_of result.1.inverses) ≡ w.committed }
         ensures tied { (w : World) (o : Opened) (info : CommitInfo) → Represents w self.old → finite.get w.opened xid ≡ Some o
             → Represents (committed_with self.old.tables.schema w xid o info) self.new }
         // The slots and entries by which its changes could be undone go, where nothing fills them.
@@ -283,10 +286,10 @@ impl Live {
         let Some(transaction) = self.transactions.remove(&xid) else {
             unreachable!()
         };
-        let items = transaction.record.settle(&mut self.tables);
+        let settled = transaction.record.settle(&mut self.tables);
         self.tables.recall_invariant();
         self.holds.release_all(xid);
-        items
+        settled
     }
 
     /// Stops the store by a transaction that the waiter waits for, where no more can come of what was

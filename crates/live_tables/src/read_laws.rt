@@ -1,6 +1,6 @@
 // What a store reads, by its tables, its holds and its journal. Each function does nothing: its
 // contract is a law, and the check of this crate proves it.
-ghost use Rattle.live_tables.specs.ReadStatements.{FreeRowIsCommitted, HeldRowIsCommitted, WipedRowIsCommitted, EachFits, SharedIsHeld, StartKeepsBeforeImages, OpenKeepsBeforeImages, DoneKeepsBeforeImages, SkipKeepsBeforeImages, TouchKeepsBeforeImages, SameKeepsBeforeImages, RollbackKeepsBeforeImages, AbortKeepsBeforeImages, CommitKeepsBeforeImages, StopKeepsBeforeImages, WaitsLiveTells, PassesLiveTells, WaitingIsLive, StopIsFound, StopIsRefused, RowsAfterAreRead, EntriesAreSerial, EntryComesNext, ChangeComesNext, RefusedChangeHasNoEffect, BeforeImageIsHeld, CellsAreKnown};
+ghost use Rattle.live_tables.specs.ReadStatements.{FreeRowIsCommitted, HeldRowIsCommitted, WipedRowIsCommitted, EachFits, SharedIsHeld, StartKeepsBeforeImages, OpenKeepsBeforeImages, DoneKeepsBeforeImages, SkipKeepsBeforeImages, TouchKeepsBeforeImages, SameKeepsBeforeImages, RollbackKeepsBeforeImages, AbortKeepsBeforeImages, CommitKeepsBeforeImages, StopKeepsBeforeImages, WaitsLiveTells, PassesLiveTells, WaitingIsLive, StopIsFound, StopIsRefused, EntriesAreSerial, BeforeImageIsHeld, CellsAreKnown};
 
 /// The live row at a place that nobody holds is the committed one.
 pub fn free_row_is_committed()
@@ -100,30 +100,9 @@ pub fn stop_is_refused()
     ensures { StopIsRefused }
 {}
 
-/// The rows of a table after the first entries of the journal are those after their changes, entry by
-/// entry.
-pub fn rows_after_are_read()
-    ensures { RowsAfterAreRead }
-{}
-
 /// The rows after entries are those after all their changes, one after another.
 pub fn entries_are_serial()
     ensures { EntriesAreSerial }
-{}
-
-/// After one entry more.
-pub fn entry_comes_next()
-    ensures { EntryComesNext }
-{}
-
-/// After one change more of an entry.
-pub fn change_comes_next()
-    ensures { ChangeComesNext }
-{}
-
-/// A change that clashes leaves the rows, as one that is skipped does.
-pub fn refused_change_has_no_effect()
-    ensures { RefusedChangeHasNoEffect }
 {}
 
 /// The cells alone of what is held are those that the laws of holds ask for.

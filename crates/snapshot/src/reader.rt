@@ -98,9 +98,8 @@ impl<'a, N: StoreNames> Reader<'a, N> {
         Ok(row)
     }
 
-    /// The committed rows of a table in key order, as copies. It costs one walk of the table and what
-    /// open transactions hold, under the store's lock; only while one of these has emptied the table, all
-    /// commits are made anew, as by `rows_at`.
+    /// The committed rows of a table in key order, as copies. It costs one walk of the table, and what
+    /// open transactions did there, under the store's lock.
     pub fn rows<R: Wait>(
         &mut self,
         rt: &R,
@@ -124,9 +123,8 @@ impl<'a, N: StoreNames> Reader<'a, N> {
     }
 
     /// The rows of a table after the commits up to the one that ends at this position, in key order, as
-    /// copies; at position 0 those before the first commit. The changes of these commits are made anew on
-    /// a copy of the start tables, under the store's lock: it costs what they did, and the memory of all
-    /// tables.
+    /// copies; at position 0 those before the first commit. What stood before the later commits takes the
+    /// place of what they changed: beside what `rows` costs it is their changes, under the store's lock.
     pub fn rows_at<R: Wait>(
         &mut self,
         rt: &R,

@@ -1,6 +1,4 @@
-use Rattle.std.proofs.Common.{◌≡◌, ◌++◌, ◌∷◌, [], length, sym, ap, subst, ◌∙◌}
-use Rattle.std.proofs.lemmas.List.Elements.{All-cons, All-nil}
-use Rattle.model.specs.Named.{NamesTables}
+use Rattle.std.proofs.Common.{◌≡◌, ◌++◌, ◌∷◌, [], ap, ◌∙◌}
 use Rattle.model.specs.Survivors.{changes_of}
 use Rattle.engine.specs.Serial.{Serial, with_changes}
 use Rattle.engine.proofs.SerialSteps.{change_kept, worked_view, worked_kept}
@@ -12,10 +10,9 @@ more c = change_kept c.self.inside.items.items c.reserve.new.self.items c.push_r
 
 pub invariant_of-self-2 : goal.invariant_of-self-2
 invariant_of-self-2 c =
-    let named = NamesTables (length c.self.inside.live.tables.schema) in
     worked_kept c.self.inside c.self.invariant c.apply.new.t c.apply.new.self c.push_reserved.new.self (c.args.change ∷ []) c.apply.ensures.schema c.apply.ensures.base
     (more (goal.at.invariant_of-self-2 c).After-push_reserved) c.in_ok-apply.ensures.ok c.apply.ensures.can
-    (All-cons named c.args.change [] (subst (λ (s : Serial). NamesTables (length s.store.schema) c.args.change) (sym c.self.view_is) c.requires) (All-nil named)) (c.in_ok-apply.ensures.passes, tt)
+    (c.in_ok-apply.ensures.passes, tt)
 
 pub returns-clause-ok : goal.returns-clause-ok
 returns-clause-ok c =

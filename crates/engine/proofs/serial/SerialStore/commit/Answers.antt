@@ -38,13 +38,13 @@ module _ (c : After-push_reserved) where
   changes = changes_of c.self.inside.items.items
 
   abbrev tables : Content
-  tables = record { schema = c.settle.new.t.schema; rows = all_back c.settle.new.t.rows (map edits_of c.new.result.inverses); room = [] }
+  tables = record { schema = c.settle.new.t.schema; rows = all_back c.settle.new.t.rows (map edits_of c.replace-inverses.new.dest.inverses); room = [] }
 
   abbrev entry : Entry
-  entry = record { xid = c.args.xid; changes = c.of_items.result; commit = c.args.info.commit; end = c.args.info.end }
+  entry = record { xid = c.args.xid; changes = c.of_items.result; commit = c.args.info.commit; end = c.args.info.end; inverses = c.replace-inverses.result }
 
-  undone : c.new.result.inverses ≡ []
-  undone = ap (λ (log : Log). log.inverses) c.new.ensures
+  undone : c.replace-inverses.new.dest.inverses ≡ []
+  undone = ap (λ (log : Log). log.inverses) (c.replace-inverses.ensures.after ∙ c.new.ensures)
 
   abbrev before : Inside
   before = idle_in c.self.inside
@@ -54,6 +54,11 @@ module _ (c : After-push_reserved) where
 
   rows : tables.rows ≡ serial before.live.tables.schema (world_in before).committed changes
   rows = ap (λ (is : List Inverse). all_back c.settle.new.t.rows (map edits_of is)) undone ∙ c.settle.ensures.rows ∙ c.self.invariant.done
+
+  -- what the entry keeps is what the open work could be taken back with
+  back : all_back (serial before.live.tables.schema (world_in before).committed changes) (map edits_of entry.inverses.inverses) ≡ (world_in before).committed
+  back =
+      (λ i. all_back ((sym c.self.invariant.done) i) (map edits_of (c.replace-inverses.ensures.value i).inverses)) ∙ rows_based c.self.inside c.self.invariant
 
   line : c.record_changes.new.kept ≡ record before.line { list = (before.line.list ++ WasOpened c.args.xid ∷ []) ++ WasCommitted c.args.xid (map (ChangeItem c.args.xid) changes) c.args.info ∷ [] }
   line = c.record_changes.ensures.kept ∙ (λ i. let half : Half LineEvent = c.grow.ensures.kept i in
@@ -75,13 +80,13 @@ module _ (c : After-push_reserved) where
       × Represents (with_commit before tables c.push_reserved.new.self c.record_changes.new.kept)
   committed =
       idle_committed before c.self.invariant.idle c.self.invariant.none tables c.settle.ensures.schema c.self.invariant.runs c.args.xid changes c.args.info c.push_reserved.new.self c.record_changes.new.kept
-      entry clear rows line items fits tells c.self.invariant.named above
+      entry clear rows line items fits tells back above
 
   reached : Reaches before.live.tables.schema (world_in before) (world_in (with_commit before tables c.push_reserved.new.self c.record_changes.new.kept))
   reached =
       subst (Reaches before.live.tables.schema (world_in before)) (sym committed.0)
       (reaches_commit before c.self.invariant.idle c.self.invariant.none tables c.settle.ensures.schema c.self.invariant.runs c.args.xid changes c.args.info c.push_reserved.new.self c.record_changes.new.kept
-      entry clear rows line items fits tells c.self.invariant.named above)
+      entry clear rows line items fits tells back above)
 
   -- both halves of the line are told the same
   opened_alike : c.grow.new.token ≡ c.grow.new.kept

@@ -8,8 +8,7 @@ use Rattle.indexes.specs.Content.{Content}
 use Rattle.undo.specs.Undo.{Log}
 use Rattle.world.specs.World.{starting}
 use Rattle.engine.specs.declared.store.Store.TheInside.{Inside}
-use Rattle.engine.specs.Engine.{world_in, Represents}
-use Rattle.engine.specs.SerialInside.{told_start}
+use Rattle.engine.specs.Engine.{told_start, world_in, Represents}
 use Rattle.engine.specs.SerialLemmas.{idle_with, with_tables}
 use Rattle.engine.specs.StoreLemmas.{store_started}
 use Rattle.engine.proofs.SerialSteps.{serially_idle}
@@ -18,14 +17,14 @@ use Rattle.engine.proofs.serial.SerialStore.new.Goals as goal
 module _ (c : goal.After-new-4) where
   -- the new store's parts, and without open work
   abbrev parts : Inside
-  parts = record { live = c.new.result; start = told_start c.in-Ok.told.list; journal = c.new-2.result; book = c.in-Ok-new_tokens.book; line = c.in-Ok-new_tokens.line }
+  parts = record { live = c.new.result; start = c.in-Ok.told; journal = c.new-2.result; book = c.in-Ok-new_tokens.book; line = c.in-Ok-new_tokens.line }
 
   told : told_start c.in-Ok.told.list ≡ c.args.start
   told = ap told_start c.in-Ok.ensures
 
   started : (world_in parts ≡ starting c.args.start.rows) × Represents parts
   started =
-      store_started parts c.args.start.rows c.new.ensures.tied (ap (λ (t : Content). t.schema) (told ∙ sym c.new.ensures.tables)) (ap (λ (t : Content). t.rows) told)
+      store_started parts c.args.start.rows c.new.ensures.tied (ap (λ (t : Content). t.rows) told)
       c.in-Ok-new_tokens.ensures.line.1 c.in-Ok-new_tokens.ensures.book c.new-2.ensures.items c.new-2.ensures.len
 
   undone : c.new-3.result.inverses ≡ []

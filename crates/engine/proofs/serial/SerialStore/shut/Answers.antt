@@ -1,6 +1,7 @@
-use Rattle.std.proofs.Common.{◌≡◌, subst, ◌∙◌}
+use Rattle.std.proofs.Common.{◌≡◌, List, sym, subst, ◌∙◌}
 use Rattle.std.specs.Prelude.{map}
 use Rattle.world.specs.Steps.{Closes}
+use Rattle.world.specs.World.{Entry}
 use Rattle.engine.specs.Engine.{entry_in, world_in}
 use Rattle.live_tables.specs.Journal.{rows_after}
 use Rattle.engine.specs.Serial.{Serial}
@@ -17,10 +18,12 @@ left c = c.undo_to.ensures.rows ∙ rows_based c.self.inside c.self.invariant
 
 pub returns-clause-closes : goal.returns-clause-closes
 returns-clause-closes c =
-    subst (λ (s : Serial). Closes s.store.world c.undo_to.new.t.rows (map entry_in c.self.inside.journal.items)) c.self.view_is
-    (nobody_open (idle_in c.self.inside) c.self.invariant.idle c.self.invariant.none, left (goal.at.returns-clause-closes c).After-undo_to, c.self.invariant.idle.told)
+    subst (λ (entries : List Entry). Closes c.args.self.store.world c.undo_to.new.t.rows entries) (sym c.forget_each.ensures)
+    (subst (λ (s : Serial). Closes s.store.world c.undo_to.new.t.rows (map entry_in c.self.inside.journal.items)) c.self.view_is
+    (nobody_open (idle_in c.self.inside) c.self.invariant.idle c.self.invariant.none, left (goal.at.returns-clause-closes c).After-undo_to, c.self.invariant.idle.told))
 
 pub returns-clause-serial : goal.returns-clause-serial
 returns-clause-serial c =
-    subst (λ (s : Serial). c.undo_to.new.t.rows ≡ rows_after s.store.schema s.store.world.start (map entry_in c.self.inside.journal.items)) c.self.view_is
-    (left (goal.at.returns-clause-serial c).After-undo_to ∙ store_serial (idle_in c.self.inside) c.self.invariant.idle)
+    subst (λ (entries : List Entry). c.undo_to.new.t.rows ≡ rows_after c.args.self.store.schema c.args.self.store.world.start entries) (sym c.forget_each.ensures)
+    (subst (λ (s : Serial). c.undo_to.new.t.rows ≡ rows_after s.store.schema s.store.world.start (map entry_in c.self.inside.journal.items)) c.self.view_is
+    (left (goal.at.returns-clause-serial c).After-undo_to ∙ store_serial (idle_in c.self.inside) c.self.invariant.idle))

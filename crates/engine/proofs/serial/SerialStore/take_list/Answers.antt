@@ -1,10 +1,8 @@
-use Rattle.std.proofs.Common.{◌≡◌, ◌++◌, [], List, length, sym, ap, subst, ◌∙◌, append-nil}
-use Rattle.std.specs.Prelude.{All, map}
-use Rattle.std.proofs.lemmas.List.Elements.{All-nil}
+use Rattle.std.proofs.Common.{◌≡◌, ◌++◌, [], List, sym, ap, subst, ◌∙◌, append-nil}
+use Rattle.std.specs.Prelude.{map}
 use Rattle.model.specs.declared.change.Change.{Change}
 use Rattle.model.specs.declared.item.Item.{Item}
 use Rattle.model.specs.Effect.{all_back, serial}
-use Rattle.model.specs.Named.{NamesTables}
 use Rattle.model.specs.Rows.{Rows, Schema}
 use Rattle.model.specs.Survivors.{changes_of}
 use Rattle.model.specs.Accepted.{AreAccepted}
@@ -45,7 +43,7 @@ invariant_of-self c =
     let undone : c.undo_to.new.t.rows ≡ base_in c.self.inside = c.undo_to.ensures.rows ∙ base at in
     worked_kept c.self.inside c.self.invariant c.undo_to.new.t c.undo_to.new.self c.self.inside.items [] (c.undo_to.ensures.schema ∙ schema at)
     (ap (λ (is : List Inverse). all_back c.undo_to.new.t.rows (map edits_of is)) c.undo_to.ensures.left ∙ undone) (sym (append-nil (changes_of c.self.inside.items.items))) (undone ∙ base_rows at)
-    (subst (CanUndo c.undo_to.new.t) (sym c.undo_to.ensures.left) tt) (All-nil (NamesTables (length c.self.inside.live.tables.schema))) tt
+    (subst (CanUndo c.undo_to.new.t) (sym c.undo_to.ensures.left) tt) tt
 
 pub invariant_of-self-2 : goal.invariant_of-self-2
 invariant_of-self-2 c =
@@ -53,7 +51,6 @@ invariant_of-self-2 c =
     worked_kept c.self.inside c.self.invariant c.apply_each.new.tables c.apply_each.new.undo c.args.items (changes_of c.args.items.items) (schema at) (base at)
     (ap (λ (cs : List Change). cs ++ changes_of c.args.items.items) (sym (unchanged at)))
     (c.in_default.ensures.ok ∙ (λ i. serial (c.make_room.ensures.schema i) (c.make_room.ensures.rows i) (changes_of (c.deref-2.ensures.value i)))) c.apply_each.ensures.can_undo
-    (subst (λ (s : Serial). All (NamesTables (length s.store.schema)) (changes_of c.args.items.items)) (sym c.self.view_is) c.requires.named)
     (subst (λ (keys : Schema). AreAccepted keys c.self.inside.live.tables.rows (changes_of c.args.items.items)) c.make_room.ensures.schema
     (subst (λ (r : Rows). AreAccepted c.make_room.new.tables.schema r (changes_of c.args.items.items)) c.make_room.ensures.rows
     (subst (λ (items : List Item). AreAccepted c.make_room.new.tables.schema c.make_room.new.tables.rows (changes_of items)) c.deref-2.ensures.value c.in_default.ensures.clear)))

@@ -1,11 +1,14 @@
 use Rattle.std.proofs.Common.{◌≡◌, ◌<◌, List, sym, ap, subst, ◌∙◌, ℕ, Some}
 use Rattle.std.specs.FinMap.{get}
+use Rattle.std.specs.Prelude.{map}
 use Rattle.model.specs.declared.item.Item.{Item}
 use Rattle.model.specs.Survivors.{survivors, changes_of}
 use Rattle.model.specs.Beginning.{last_end}
+use Rattle.model.specs.Effect.{all_back, serial}
+use Rattle.change.specs.Inverse.{edits_of}
 use Rattle.tokens.specs.Half.{Half}
 use Rattle.tokens.specs.Lists.{OpenList, without_list}
-use Rattle.world.specs.World.{Past, entry_of}
+use Rattle.world.specs.World.{Past, entry_of, work}
 use Rattle.world.specs.Steps.{Commits, committed_with}
 use Rattle.engine.specs.declared.entry.Entry.{Entry}
 use Rattle.engine.specs.declared.events.Event.{Event}
@@ -32,12 +35,12 @@ module _ (c : goal.After-push_reserved) where
 
   -- the entry of the journal, which tells the commit
   abbrev entry : Entry
-  entry = record { xid = c.number-xid.result; changes = c.of_items.result; commit = c.args.info.commit; end = c.args.info.end }
+  entry = record { xid = c.number-xid.result; changes = c.of_items.result; commit = c.args.info.commit; end = c.args.info.end; inverses = c.commit-items.result.1 }
 
   abbrev past : Past
   past = record { xid = c.args.t.number; items = (opened_by c.args.t.list).items; info = c.args.info }
 
-  survived : c.commit-items.result.items ≡ survivors c.args.t.number (opened_by c.args.t.list).items
+  survived : c.commit-items.result.0.items ≡ survivors c.args.t.number (opened_by c.args.t.list).items
   survived =
       c.commit-items.ensures.items (world_in c.self.inside) (opened_by c.args.t.list) c.self.invariant.tied (open_under c.self.invariant its)
       ∙ ap (λ (n : ℕ). survivors n (opened_by c.args.t.list).items) its.number
@@ -63,6 +66,8 @@ module _ (c : goal.After-push_reserved) where
       (tied_after c.self.invariant its (λ w n o. committed_with c.self.inside.live.tables.schema w n o c.args.info) c.commit-items.new.self (λ w o. c.commit-items.ensures.tied w o c.args.info))
       c.push_reserved.ensures.items c.push_reserved.ensures.len c.push_reserved.ensures.capacity entry_tells
       (subst (λ (l : Half LineEvent). last_end (ends_in l.list) < c.args.info.end) (sym c.line.view_is ∙ c.record_commit.ensures.met) c.requires.rising)
+      (ap (λ (n : ℕ). all_back (serial c.self.inside.live.tables.schema (world_in c.self.inside).committed (work n (opened_by c.args.t.list))) (map edits_of c.commit-items.result.1.inverses)) (sym its.number)
+      ∙ c.commit-items.ensures.before (world_in c.self.inside) (opened_by c.args.t.list) c.self.invariant.tied (open_under c.self.invariant its))
 
 pub invariant_of-self : goal.invariant_of-self
 invariant_of-self c = (moved c).1

@@ -1,34 +1,40 @@
-use Rattle.std.proofs.Common.{◌≡◌, ℕ, Some, refl, sym, ap, subst, ◌∙◌}
-use Rattle.std.specs.Prelude.{option_map}
+use Rattle.std.proofs.Common.{◌≡◌, List, Some, refl, sym, ap, subst, ◌∙◌}
+use Rattle.std.specs.Prelude.{map, option_map}
+use Rattle.model.specs.Effect.{all_back, serial}
 use Rattle.model.specs.Rows.{Rows}
+use Rattle.change.specs.declared.inverse.Inverse.{Inverse}
+use Rattle.change.specs.Inverse.{edits_of}
 use Rattle.savepoint.specs.Record.{Record}
+use Rattle.undo.specs.LogLemmas.{log_back}
 use Rattle.undo.specs.Undo.{AreSettled}
+use Rattle.world.specs.World.{work}
 use Rattle.live_tables.specs.declared.transaction.OpenTransaction.{OpenTransaction}
 use Rattle.live_tables.specs.BasicLemmas.{never_missing, puts_by_update, its_can, its_tells}
 use Rattle.live_tables.specs.EndedLemmas.{tied_committed}
 use Rattle.live_tables.specs.CallLemmas.{known_all}
+use Rattle.live_tables.specs.KeptLemmas.{log_of_work}
 use Rattle.live_tables.proofs.live_tables.Live.commit.Goals as goal
 
 pub unreachable-requires : goal.unreachable-requires
 unreachable-requires c = never_missing c.args.self.now c.args.xid c.requires c.in_default.ensures.value
 
-pub settle-items-requires : goal.settle-items-requires
-settle-items-requires c =
+pub settle-settled-requires : goal.settle-settled-requires
+settle-settled-requires c =
     let (w, o, tied, is) = c.requires in
     let store = c.args.self.now in
     known_all store.tables c.in-Some.transaction.record.log.inverses (its_can w store tied c.args.xid o is c.in-Some.transaction (sym c.in-Some.ensures.value))
 
 pub returns-clause-items : goal.returns-clause-items
 returns-clause-items c = λ w o tied is.
-    c.settle-items.ensures.items ∙ (its_tells w c.args.self.now tied c.args.xid o is c.in-Some.transaction (sym c.in-Some.ensures.value)).survives
+    c.settle-settled.ensures.items ∙ (its_tells w c.args.self.now tied c.args.xid o is c.in-Some.transaction (sym c.in-Some.ensures.value)).survives
 
 pub returns-clause-tied : goal.returns-clause-tied
 returns-clause-tied c =
     let store = c.args.self.now in
-    let given = c.settle-items.ensures in
+    let given = c.settle-settled.ensures in
     λ w o info tied is.
     tied_committed w store tied c.args.xid o is c.in-Some.transaction (sym c.in-Some.ensures.value)
-    (record { tables = c.settle-items.new.t; holds = c.release_all.new.self; transactions = c.remove.new.self; stopped = store.stopped })
+    (record { tables = c.settle-settled.new.t; holds = c.release_all.new.self; transactions = c.remove.new.self; stopped = store.stopped })
     (puts_by_update c.args.xid _ store.transactions c.remove.new.self c.in-Some.ensures.updates) c.in-Some.ensures.len
     (record { here = c.release_all.ensures.own; beside = c.release_all.ensures.others }) refl
     info (record { schema_is = given.schema; rows = given.rows; has_room = c.recall_invariant.ensures.room; others = given.others })
@@ -37,9 +43,16 @@ pub returns-clause-settled : goal.returns-clause-settled
 returns-clause-settled c = λ r at.
     let store = c.args.self.now in
     let own : OpenTransaction = c.in-Some.transaction in
-    let given = c.settle-items.ensures in
-    let after = c.settle-items.new.t in
+    let given = c.settle-settled.ensures in
+    let after = c.settle-settled.new.t in
     let its : Some own.record ≡ Some r = ap (option_map (λ (kept : OpenTransaction). kept.record)) c.in-Some.ensures.value ∙ at in
     let same : own.record ≡ r = cc in
     subst (λ (s : Record). AreSettled store.tables.schema after.rows after.room s.log.inverses) same
     (subst (λ (rows : Rows). AreSettled store.tables.schema rows after.room own.record.log.inverses) (sym given.rows) given.gone)
+
+pub returns-clause-before : goal.returns-clause-before
+returns-clause-before c = λ w o tied is.
+    let store = c.args.self.now in
+    let record_is = its_tells w store tied c.args.xid o is c.in-Some.transaction (sym c.in-Some.ensures.value) in
+    ap (λ (log : List Inverse). all_back (serial store.tables.schema w.committed (work c.args.xid o)) (map edits_of log)) c.settle-settled.ensures.inverses
+    ∙ log_back store.tables.schema w.committed (work c.args.xid o) c.in-Some.transaction.record.log.inverses (log_of_work store.tables.schema w c.args.xid o c.in-Some.transaction.record record_is)

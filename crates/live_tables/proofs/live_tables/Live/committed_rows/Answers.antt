@@ -1,13 +1,27 @@
-use Rattle.std.proofs.Common.{List, sym, subst, ◌∙◌}
+use Rattle.std.proofs.Common.{◌≡◌, ap, ◌∙◌}
+use Rattle.std.specs.FinMap.{get}
+use Rattle.std.specs.BTreeMap.{BTreeMap}
+use Rattle.std.specs.Prelude.{Option}
 use Rattle.model.specs.declared.key.Key.{Key}
-use Rattle.live_tables.specs.Merged.{AreCommittedAt}
-use Rattle.live_tables.proofs.Stands.{none_is}
-use Rattle.live_tables.proofs.BeforeImageSteps.{stands_beside}
+use Rattle.model.specs.declared.row.Row.{Row}
+use Rattle.change.specs.Laid.{known_at}
+use Rattle.world.specs.World.{World}
+use Rattle.live_tables.specs.Merged.{or_row}
+use Rattle.live_tables.specs.Represents.{Represents}
+use Rattle.live_tables.proofs.Stands.{if_ok}
 use Rattle.live_tables.proofs.live_tables.Live.committed_rows.Goals as goal
+use Rattle.live_tables.proofs.live_tables.Live.committed_rows.Goals.{in-Some+in_ok-lay_log-in-Some, in-None+in_ok-lay_held-in-None}
 
 pub returns : goal.returns
-returns c = λ w tied.
-    c.in_ok-merge_rows.ensures w.committed
-    (stands_beside w c.args.self.now tied c.args.table (none_is c.held_at.result _ c.held_at.ensures.free (sym c.is_some.ensures ∙ c.if-is_some.false))
-    c.in_ok-keys.keys.items c.in_ok-keys.ensures.all c.in_ok-stands.stands
-    (subst (λ (ks : List Key). AreCommittedAt w.committed c.args.table ks c.in_ok-stands.stands) c.as_slice.ensures.value (c.in_ok-stands.ensures w tied)))
+returns c =
+    if_ok c.merge_rows.result _ _ c.merge_rows.ensures (λ rows merged w tied all tells.
+    merged all (λ key. laid w tied key ∙ tells key))
+  where
+    laid : (w : World) → Represents w c.args.self.now → (key : Key)
+        → or_row (known_at c.match-held_at.known key) (get c.args.self.now.tables.rows (c.args.table, key)) ≡ or_row (known_at c.args.known key) (get w.committed (c.args.table, key))
+    laid w tied key = elim c.match-held_at.branch [
+      | in-Some+in_ok-lay_log-in-Some v ↦
+          ap (λ (known : BTreeMap Key (Option Row)). or_row (known_at known key) (get c.args.self.now.tables.rows (c.args.table, key))) v.known-is ∙ v.in_ok-lay_log-in-Some.ensures w tied key
+      | in-None+in_ok-lay_held-in-None v ↦
+          ap (λ (known : BTreeMap Key (Option Row)). or_row (known_at known key) (get c.args.self.now.tables.rows (c.args.table, key))) v.known-is ∙ v.in_ok-lay_held-in-None.ensures w tied key
+    ]

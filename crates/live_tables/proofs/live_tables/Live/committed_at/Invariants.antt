@@ -1,9 +1,0 @@
-use Rattle.std.proofs.Common.{take}
-use Rattle.world.specs.World.{World}
-use Rattle.live_tables.specs.Merged.{AreCommittedAt}
-use Rattle.live_tables.specs.Represents.{Represents}
-use Rattle.live_tables.proofs.live_tables.Live.committed_at.Given as goal
-
--- what is committed at the keys so far
-abbrev pub invariant-loop-key : goal.invariant-loop-key
-invariant-loop-key l = (w : World) → Represents w l.self → AreCommittedAt w.committed l.table (take l.key-index l.keys) l.stands
