@@ -14,7 +14,7 @@ use std::process::Abort;
 use std::rt::Clock as Host;
 use std::sync::{Mutex, Wait};
 use std::thread::Threads;
-use streams::{Column, Message, Stream};
+use streams::{Column, Message, Stream, WHOLE};
 use testing::accounts::RELATION;
 
 // 700 changes the first row, and is still open.
@@ -28,6 +28,22 @@ const OPEN: &[Message] = &[
 ];
 
 const COMMIT: &[Message] = &[Message::StreamCommit(700, 0x200, 0x220)];
+
+// Three commits, of which the second empties the table, and work of 700 that is still open.
+const LATER: &[Message] = &[
+    Message::Begin(600, 0x200),
+    Message::Update(0, (Column::Number(1), Column::Text("a"), Column::Text("v"))),
+    Message::Commit(0x200, 0x220),
+    Message::Begin(601, 0x300),
+    Message::Other(b'T', 0, WHOLE),
+    Message::Commit(0x300, 0x320),
+    Message::Begin(602, 0x400),
+    Message::Insert(0, (Column::Number(1), Column::Text("z"), NOTE)),
+    Message::Commit(0x400, 0x420),
+    Message::Start(700, true),
+    Message::Insert(700, (Column::Number(5), Column::Text("e"), NOTE)),
+    Message::Stop,
+];
 
 // Appends a row as `1|a|n`.
 fn push_row(out: &mut String, row: &Row) -> Result<(), OutOfMemory> {
@@ -335,9 +351,11 @@ fn history<N: StoreNames, R: Wait>(
 {
     let mut note = String::new(alloc);
     push_at(&mut note, rt, alloc, reader, 0)?;
-    push_at(&mut note, rt, alloc, reader, 320)?;
-    push_at(&mut note, rt, alloc, reader, 544)?;
-    push_at(&mut note, rt, alloc, reader, 321)?;
+    push_at(&mut note, rt, alloc, reader, 0x140)?;
+    push_at(&mut note, rt, alloc, reader, 0x220)?;
+    push_at(&mut note, rt, alloc, reader, 0x320)?;
+    push_at(&mut note, rt, alloc, reader, 0x420)?;
+    push_at(&mut note, rt, alloc, reader, 0x150)?;
     Ok(note)
 }
 
@@ -378,16 +396,20 @@ fn noted<R: Threads + Wait + Sync + Host>(
     Ok(notes.into_inner())
 }
 
+// The rows behind each of three commits, before them, and at a position behind which none ends.
+const BEHIND_EACH: &str = ";1|a|n 2|b|n ;1|a|v 2|b|n ;;1|z|n ;unknown position;";
+
 // Streams, and what a historian notes last: of work that is still open at the end it sees nothing.
-static HISTORIES: [(&[&[Message]], &str); 2] = [
+static HISTORIES: [(&[&[Message]], &str); 3] = [
     (
         &[P, OPEN, COMMIT],
-        ";1|a|n 2|b|n ;1|a|v 2|b|n ;unknown position;",
+        ";1|a|n 2|b|n ;1|a|v 2|b|n ;unknown position;unknown position;unknown position;",
     ),
     (
         &[P, OPEN],
-        ";1|a|n 2|b|n ;unknown position;unknown position;",
+        ";1|a|n 2|b|n ;unknown position;unknown position;unknown position;unknown position;",
     ),
+    (&[P, LATER], BEHIND_EACH),
 ];
 
 #[test]
@@ -400,6 +422,77 @@ fn a_last_turn_sees_the_rows_at_each_position(rt: HostRuntime) -> Result<(), Out
                 assert_eq!(rt; notes.as_str(), *want);
             }
         }
+    }
+    Ok(())
+}
+
+// Notes the rows at some positions once 700 has made its change, and again in its last turn.
+#[derive(Drop)]
+struct Chronicler<'a> {
+    alloc: Global,
+    changed: &'a Sign,
+    read: &'a Sign,
+    first: &'a Mutex<String>,
+    last: &'a Mutex<String>,
+}
+
+impl Watch for Chronicler<'_> {
+    ghost knows = { λ _ _. Unit {0} };
+
+    fn turn<N: StoreNames, R: Wait>(&mut self, rt: &R, reader: &mut Reader<'_, N>) -> bool {
+        if !self.changed.is_passed() {
+            return true;
+        }
+        if let Ok(note) = history(rt, self.alloc, reader) {
+            let place = if self.read.is_passed() {
+                self.last
+            } else {
+                self.first
+            };
+            let mut notes = place.lock(rt);
+            *notes = note;
+        }
+        self.read.pass();
+        true
+    }
+}
+
+// What a chronicler notes while 700 is open, the end of the stream withheld until then, and last.
+fn chronicled<R: Threads + Wait + Sync + Host>(
+    rt: &R,
+    alloc: Global,
+) -> Result<(String, String), OutOfMemory> {
+    let front = Stream::of(alloc, &[P, LATER])?;
+    let back = Stream::new(alloc);
+    let signs = [Sign::new(Place(700, Point::After(1)))];
+    let read = Sign::new(NOWHERE);
+    let (first, last) = (
+        Mutex::new(String::new(alloc)),
+        Mutex::new(String::new(alloc)),
+    );
+    let gates = doors(rt, alloc, &signs, &[], 1)?;
+    let chronicler = Chronicler {
+        alloc,
+        changed: &signs[0],
+        read: &read,
+        first: &first,
+        last: &last,
+    };
+    let watchers = one(alloc, chronicler)?;
+    let due = Due::Passed(&read);
+    let source = Withheld::new(rt, (front.bytes(), back.bytes()), due);
+    let config = config_of(1, 1);
+    let _ran = run_on(rt, alloc, source, TAKES_ALL, &config, gates, watchers)?;
+    Ok((first.into_inner(), last.into_inner()))
+}
+
+// Older positions have their rows while a transaction is open, and behind the run.
+#[test]
+fn older_positions_have_their_rows_beside_open_work(rt: HostRuntime) -> Result<(), OutOfMemory> {
+    for _ in 0..20 {
+        let (first, last) = chronicled(&rt, rt.alloc())?;
+        assert_eq!(rt; first.as_str(), BEHIND_EACH);
+        assert_eq!(rt; last.as_str(), BEHIND_EACH);
     }
     Ok(())
 }

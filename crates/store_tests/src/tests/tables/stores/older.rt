@@ -22,7 +22,9 @@ const COMMITS: u32 = 200;
 
 /// The next drawn number.
 fn draw(seed: &mut u64) -> usize {
-    *seed = seed.wrapping_mul(0x5851_F42D_4C95_7F2D).wrapping_add(0x1405_7B7E_F767_814F);
+    *seed = seed
+        .wrapping_mul(0x5851_F42D_4C95_7F2D)
+        .wrapping_add(0x1405_7B7E_F767_814F);
     (*seed >> 33) as usize
 }
 

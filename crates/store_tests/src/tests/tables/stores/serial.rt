@@ -73,10 +73,9 @@ fn a_store_for_several_goes_on_from_it(rt: HostRuntime) -> Result<(), Fail> {
     let alloc = rt.alloc();
     let start = empty_tables(alloc, &[&[1]])?;
     assert!(rt; start.len() == 1);
-    let kept = start.copy()?;
     let mut serial = SerialStore::new(alloc, start).map_err(|_| OutOfMemory)?;
     commit_two(&rt, alloc, &mut serial)?;
-    let (store, line) = serial.into_store(kept);
+    let (store, line) = serial.into_store();
     assert_same(&rt, store.journal().len(), 1, "entries");
     let (tables, _) = store.shut(line);
     shows_two(&rt, alloc, &tables)?;
