@@ -6,8 +6,7 @@
 COMMAND is what runs the gate; left out, it is .ci/run. What it prints goes to standard error. Once a second each check
 that runs is looked at; what it had used then counts, so the last second of each is missing. A line for each crate has
 the processor seconds of its proof, of its tests, of the check that its edits begin with (one of all of it from nothing,
-and one over what that kept), and of its edits with their number; then its memory at the most, in GB. What was kept from
-an earlier run is not done again, and so not counted: `gate.py rt ci --anew` does all of it.
+and one over what that kept), and of its edits with their number; then its memory at the most, in GB.
 """
 import os, re, subprocess, sys, time
 from collections import defaultdict
