@@ -33,7 +33,8 @@ pub enum Cut {
 }
 
 /// A stream without what a file has already, in epochs: a run over one of them keeps no more than that.
-/// Each epoch begins with the relations that the publisher told in those before it.
+/// Each epoch begins with the relations that the publisher told in those before it. Once a read has failed,
+/// each one fails.
 #[derive(Drop)]
 pub struct Epochs<R: Source + Drop> {
     alloc: Global,
@@ -53,6 +54,8 @@ pub struct Epochs<R: Source + Drop> {
     left: u64,
     failures: u64,
     failed_last: bool,
+    /// Whether a part of the stream may be lost: then nothing more is handed on.
+    is_broken: bool,
 }
 
 impl<R: Source + Drop> Epochs<R> {
@@ -78,13 +81,17 @@ impl<R: Source + Drop> Epochs<R> {
             left: u64::MAX,
             failures: 0,
             failed_last: false,
+            is_broken: false,
         })
     }
 
     /// The identifier of the system whose stream it is, where a notice at its front says it. It reads the
     /// first frame, and is called before anything else is read.
     pub fn system(&mut self) -> Result<Option<String>, Failed> {
-        self.frames.advance()?;
+        if self.frames.advance().is_err() {
+            self.is_broken = true;
+            return Err(Failed);
+        }
         self.is_ahead = true;
         system_in(self.alloc, self.frames.frame()).map_err(|_| Failed)
     }
@@ -202,10 +209,11 @@ impl<R: Source + Drop> Source for Epochs<R> {
     ghost failed_last = { λ s. s.failed_last };
 
     fn read_some(&mut self, buf: &mut [u8]) -> Result<usize, Failed> {
-        if self.left == 0 {
+        if self.left == 0 || self.is_broken {
             return Err(self.fail());
         }
         if self.at >= self.ready.len() && self.fill().is_err() {
+            self.is_broken = true;
             return Err(self.fail());
         }
         self.failed_last = false;
