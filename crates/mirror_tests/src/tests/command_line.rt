@@ -185,7 +185,7 @@ static REFUSED: [Refused; 5] = [
     Refused {
         words: &["mirror", "--config", "c", "--stream", "s"],
         is_fault: true,
-        text: "error: the following required arguments were not provided:\n  --into <F>\n\nUsage: mirror --config <F> --stream <F> --into <F>\n\nFor more information, try '--help'.\n",
+        text: "error: the following required arguments were not provided:\n  --into <F>\n\nUsage: mirror --config <F> --into <F> --stream <F>\n\nFor more information, try '--help'.\n",
     },
     Refused {
         words: &[

@@ -16,6 +16,9 @@ pub fn open_new(alloc: Global, calls: u64) -> Option<Connection<Store>> {
         log: Fuse::new(Memory::new(alloc), calls),
         db: Fuse::new(Memory::new(alloc), u64::MAX),
     };
+    if !files.may_be_used() {
+        return None;
+    }
     match Connection::open_files(alloc, files, Options::new(7)) {
         Ok(conn) => Some(conn),
         Err(_) => None,
