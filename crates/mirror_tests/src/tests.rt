@@ -7,7 +7,7 @@
 //   applied        what of a stream is left out, and whose stream it is
 //   following      files behind streams that are cut, and in epochs of each size
 //   failing        logs that fail: files that are opened again, and what was confirmed
-//   lines          lines of JSON, alone and before a file
+//   lines          lines of JSON, and writes of them that fail
 //   command_line   options, their limits, and faults of usage
 mod applied;
 mod command_line;

@@ -10,19 +10,28 @@ use std::test::Fail;
 /// Where a file in memory stands.
 pub type Store = FileStore<Fuse<Memory>>;
 
+/// Opens these files, if they can be used.
+fn open_files<D: Disk + Drop>(
+    alloc: Global,
+    files: Files<D>,
+    seed: u64,
+) -> Option<Connection<FileStore<D>>> {
+    if !files.may_be_used() {
+        return None;
+    }
+    match Connection::open_files(alloc, files, Options::new(seed)) {
+        Ok(conn) => Some(conn),
+        Err(_) => None,
+    }
+}
+
 /// A new file, whose log fails behind so many calls. None where it fails before the file is open.
 pub fn open_new(alloc: Global, calls: u64) -> Option<Connection<Store>> {
     let files = Files {
         log: Fuse::new(Memory::new(alloc), calls),
         db: Fuse::new(Memory::new(alloc), u64::MAX),
     };
-    if !files.may_be_used() {
-        return None;
-    }
-    match Connection::open_files(alloc, files, Options::new(7)) {
-        Ok(conn) => Some(conn),
-        Err(_) => None,
-    }
+    open_files(alloc, files, 7)
 }
 
 /// The file as it was left, opened again; nothing of it fails.
@@ -32,13 +41,7 @@ pub fn open_again(alloc: Global, conn: Connection<Store>) -> Result<Connection<S
         log: copy_of(alloc, left.log.inner())?,
         db: copy_of(alloc, left.db.inner())?,
     };
-    if !files.may_be_used() {
-        return Err("a file in memory that fails".into());
-    }
-    match Connection::open_files(alloc, files, Options::new(8)) {
-        Ok(again) => Ok(again),
-        Err((error, _)) => Err(error.into()),
-    }
+    Ok(open_files(alloc, files, 8).ok_or("a file in memory that can't be opened again")?)
 }
 
 /// A disk of the same bytes.

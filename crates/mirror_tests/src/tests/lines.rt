@@ -1,13 +1,9 @@
-// Lines of JSON, alone and before a file.
+// Lines of JSON.
 use super::failing::most_flushed;
-use super::files::{Store, open_again, open_new, position_of};
-use super::following::{assert_file, new_file};
 use super::rounds::{Ended, Plan, catalog, epochs_of, run_epoch};
 use super::story::{LEFT, Left, stream_of};
-use leader::{Catalog, Lsn, OutOfMemory, Tables};
-use mirror_file::{FileFault, Opened, open};
-use mirror_run::{FileKeep, Keeping, LineKeep};
-use sqlite::Connection;
+use leader::{Catalog, OutOfMemory, Tables};
+use mirror_run::LineKeep;
 use std::alloc::Global;
 use std::io;
 use std::io::{ErrorKind, Write};
@@ -102,95 +98,6 @@ fn assert_lines<R: Threads + Wait + Sync + Clock>(
 fn lines_of_each_commit_and_whole_ones_alone(rt: HostRuntime) -> Result<(), Fail> {
     for (commits, left) in LEFT.iter().enumerate() {
         assert_lines(&rt, rt.alloc(), commits, left)?;
-    }
-    Ok(())
-}
-
-/// A run whose commits are kept as lines, and then in a file.
-fn run_both<R: Threads + Wait + Sync + Clock>(
-    rt: &R,
-    alloc: Global,
-    conn: &mut Connection<Store>,
-    writes: u64,
-    text: &mut Vec<u8>,
-    sent: &mut Vec<u8>,
-) -> Result<Ended, FileFault> {
-    let catalog = catalog(alloc)?;
-    let stream = stream_of(alloc, 7)?;
-    let plan = Plan {
-        stream: stream.bytes(),
-        epoch: 100,
-        batch: 1,
-    };
-    let Opened {
-        statements,
-        tables,
-        ..
-    } = open(alloc, conn, &catalog, Tables::empty(alloc, &catalog)?)?;
-    let mut epochs = epochs_of(alloc, &plan, 0)?;
-    let paper = Paper { text, writes };
-    let lines = LineKeep::new(alloc, Tables::empty(alloc, &catalog)?, &catalog, paper);
-    let file = FileKeep::new(alloc, conn, &statements);
-    let mut keep = Keeping::new(Some(lines), Some(file));
-    let ended = run_epoch(
-        rt,
-        alloc,
-        &catalog,
-        tables,
-        0,
-        1,
-        &mut epochs,
-        &mut keep,
-        sent,
-    )?;
-    Ok(ended)
-}
-
-/// What of the stream is there as lines, where each fails behind so many calls: the lines of as
-/// many commits as the file has, or of one more.
-fn assert_both<R: Threads + Wait + Sync + Clock>(
-    rt: &R,
-    alloc: Global,
-    mut conn: Connection<Store>,
-    writes: u64,
-) -> Result<usize, Fail> {
-    let mut text = Vec::new(alloc);
-    let mut sent = Vec::new(alloc);
-    let _ended = run_both(rt, alloc, &mut conn, writes, &mut text, &mut sent);
-    let mut conn = open_again(alloc, conn)?;
-    let Ok(position) = position_of(&mut conn) else {
-        return Ok(0);
-    };
-    let commits = commits_at(position)?;
-    assert_file(alloc, &mut conn, &LEFT[commits.min(7)], writes)?;
-    assert_holds(most_flushed(sent.as_slice()) <= position, writes)?;
-    let same = lines_of(alloc, commits)?;
-    let more = lines_of(alloc, commits.saturating_add(1))?;
-    let is_same = text.as_slice() == same.as_str().as_bytes();
-    assert_holds(
-        is_same || text.as_slice() == more.as_str().as_bytes(),
-        writes,
-    )?;
-    Ok(commits)
-}
-
-/// How many commits end up to a position.
-fn commits_at(position: Lsn) -> Result<usize, Fail> {
-    let found = LEFT.iter().position(|left| left.position == position);
-    Ok(found.ok_or("a position of no commit")?)
-}
-
-#[test]
-fn lines_come_before_the_file(rt: HostRuntime) -> Result<(), Fail> {
-    for writes in 0..8 {
-        let conn = new_file(rt.alloc())?;
-        let commits = assert_both(&rt, rt.alloc(), conn, writes)?;
-        assert_same(commits as u64, writes, writes)?;
-    }
-    for calls in [25, 35, 45, 55] {
-        if let Some(conn) = open_new(rt.alloc(), calls) {
-            let _commits = assert_both(&rt, rt.alloc(), conn, u64::MAX)?;
-        }
     }
     Ok(())
 }
