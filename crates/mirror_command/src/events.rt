@@ -25,9 +25,9 @@ pub enum Event<'a> {
     Connected(&'a str),
     /// This address can't be connected.
     NotConnected(&'a str, &'a io::Error),
-    /// A run has ended, and the file is at this position.
+    /// A run has ended, and what it kept is at this position.
     Ended(End, Lsn),
-    /// The file follows no further, and is at this position.
+    /// Nothing more is kept, and what was is at this position.
     Stopped(Stop, Lsn),
     /// Transactions were open all along while as much came as one run may keep.
     Full,
@@ -64,7 +64,7 @@ impl fmt::Display for Event<'_> {
                 write!(f, ": {end}")
             }
             Event::Stopped(stop, lsn) => {
-                f.write_str("the file follows no further than ")?;
+                f.write_str("nothing is kept behind ")?;
                 write_lsn(f, *lsn)?;
                 write!(f, ": {stop}")
             }

@@ -13,8 +13,10 @@ pub struct Options<'a> {
     /// The catalog file, as given.
     pub catalog: &'a str,
     pub input: Input<'a>,
-    /// The SQLite file that follows.
-    pub into: &'a str,
+    /// The SQLite file that follows, if one does.
+    pub into: Option<&'a str>,
+    /// Where lines of JSON go, if they are asked for; `-` is standard output.
+    pub json: Option<&'a str>,
     pub publishing: Option<Publishing<'a>>,
     /// How many commits one transaction of the file has at most.
     pub batch: usize,
@@ -34,12 +36,16 @@ pub struct Publishing<'a> {
 }
 
 const EXAMPLE: &str = "\
-Example:
+Examples:
   mirror --config accounts.toml --connect localhost:5500 --into state.sqlite --publish copy.sqlite
+  mirror --config accounts.toml --connect localhost:5500 --into state.sqlite --json changes.jsonl
+
+One of --into and --json is wanted. With --json alone nothing is taken up again: each start begins with
+empty tables, and a change of a row from before that has no line.
 
 Exit statuses:
   0  the stream was applied to its end
-  1  usage, a bad catalog, or a file or connection that can't be opened or written
+  1  usage, a bad catalog, or a file, lines or a connection that can't be opened or written
   2  the stream is broken
   3  a conflict: a row breaks a key
   4  memory was refused";
@@ -76,8 +82,12 @@ fn program<'a>(alloc: Global) -> Result<Command<'a>, AllocError> {
             alloc,
             "into",
             "The SQLite file that has the tables; while mirror runs nobody else can read it",
-        )
-        .required(true))?
+        ))?
+        .arg(file(
+            alloc,
+            "json",
+            "Where a line of JSON is appended for each change of a commit, before the file has it; - is standard output",
+        ))?
         .arg(file(
             alloc,
             "publish",
@@ -187,6 +197,9 @@ pub fn parse<'a>(alloc: Global, words: &'a [String]) -> Result<Options<'a>, Erro
         )?;
         return Err(program.error(ErrorKind::ValueValidation, message.as_str())?);
     }
+    if let Some(lacking) = lacking_in(&given) {
+        return Err(program.error(ErrorKind::MissingRequiredArgument, lacking)?);
+    }
     match (given.get_str("stream"), given.get_str("connect")) {
         (Some("-"), None) => Ok(options_of(Input::Stdin, &given)),
         (Some(path), None) => Ok(options_of(Input::File(path), &given)),
@@ -195,6 +208,21 @@ pub fn parse<'a>(alloc: Global, words: &'a [String]) -> Result<Options<'a>, Erro
             ErrorKind::MissingRequiredArgument,
             "one of --stream and --connect is wanted",
         )?),
+    }
+}
+
+/// What is wanted of where commits are kept, and isn't given.
+fn lacking_in(given: &ArgMatches<'_>) -> Option<&'static str> {
+    match (
+        given.get_str("into"),
+        given.get_str("json"),
+        given.get_str("publish"),
+    ) {
+        (None, None, _) => Some("one of --into and --json is wanted"),
+        (None, Some(_), Some(_)) => Some(
+            "--publish copies the file of --into, which is wanted too",
+        ),
+        _ => None,
     }
 }
 
@@ -214,7 +242,8 @@ fn options_of<'a>(input: Input<'a>, given: &ArgMatches<'a>) -> Options<'a> {
     Options {
         catalog: given.get_str("config").unwrap_or(""),
         input,
-        into: given.get_str("into").unwrap_or(""),
+        into: given.get_str("into"),
+        json: given.get_str("json"),
         publishing: match given.get_str("publish") {
             Some(to) => Some(Publishing {
                 to,

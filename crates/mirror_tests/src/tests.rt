@@ -8,7 +8,7 @@
 //   following      files behind streams that are cut, and in epochs of each size
 //   failing        logs that fail: files that are opened again, and what was confirmed
 //   lines          lines of JSON, and writes of them that fail
-//   command_line   options, their limits, and faults of usage
+//   command_line   options, their limits, faults of usage, and help
 mod applied;
 mod command_line;
 mod epochs;

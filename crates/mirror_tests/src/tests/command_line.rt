@@ -83,7 +83,8 @@ fn numbers_within_their_limits(rt: HostRuntime) -> Result<(), Fail> {
 /// What is asked for with no number has the defaults of the program.
 fn assert_defaults(asked: &Options<'_>) -> Result<(), Fail> {
     assert_same(asked.catalog, "c", "catalog")?;
-    assert_same(asked.into, "f", "file")?;
+    assert_same(asked.into, Some("f"), "file")?;
+    assert_same(asked.json, None, "lines")?;
     assert_same(asked.batch, 1000, "batch")?;
     assert_holds(asked.publishing.is_none() && !asked.once, "flags")?;
     let limits = Limits {
@@ -149,6 +150,24 @@ fn copies_are_put_each_so_many_seconds(rt: HostRuntime) -> Result<(), Fail> {
     }
 }
 
+#[test]
+fn lines_beside_a_file_and_alone(rt: HostRuntime) -> Result<(), Fail> {
+    for (front, into) in [("--into=f", Some("f")), ("--once", None)] {
+        let given = [
+            "mirror", "--config", "c", "--stream", "s", "--json", "-", front,
+        ];
+        let words = owned(rt.alloc(), &given)?;
+        match options::parse(rt.alloc(), words.as_slice()) {
+            Ok(asked) => {
+                assert_same(asked.into, into, front)?;
+                assert_same(asked.json, Some("-"), front)?;
+            }
+            Err(_) => return Err("a command line that is refused".into()),
+        }
+    }
+    Ok(())
+}
+
 /// A command line that is no run, whether its text is for standard error, and the text.
 struct Refused {
     words: &'static [&'static str],
@@ -156,7 +175,7 @@ struct Refused {
     text: &'static str,
 }
 
-static REFUSED: [Refused; 5] = [
+static REFUSED: [Refused; 8] = [
     Refused {
         words: &["mirror", "--version"],
         is_fault: false,
@@ -165,7 +184,7 @@ static REFUSED: [Refused; 5] = [
     Refused {
         words: &["mirror", "--config", "c", "--into", "f"],
         is_fault: true,
-        text: "error: one of --stream and --connect is wanted\n\nUsage: mirror [OPTIONS] --config <F> --into <F>\n\nFor more information, try '--help'.\n",
+        text: "error: one of --stream and --connect is wanted\n\nUsage: mirror [OPTIONS] --config <F>\n\nFor more information, try '--help'.\n",
     },
     Refused {
         words: &[
@@ -180,21 +199,84 @@ static REFUSED: [Refused; 5] = [
             "h:1",
         ],
         is_fault: true,
-        text: "error: one of --stream and --connect is wanted\n\nUsage: mirror [OPTIONS] --config <F> --into <F>\n\nFor more information, try '--help'.\n",
+        text: "error: one of --stream and --connect is wanted\n\nUsage: mirror [OPTIONS] --config <F>\n\nFor more information, try '--help'.\n",
     },
     Refused {
         words: &["mirror", "--config", "c", "--stream", "s"],
         is_fault: true,
-        text: "error: the following required arguments were not provided:\n  --into <F>\n\nUsage: mirror --config <F> --into <F> --stream <F>\n\nFor more information, try '--help'.\n",
+        text: "error: one of --into and --json is wanted\n\nUsage: mirror [OPTIONS] --config <F>\n\nFor more information, try '--help'.\n",
+    },
+    Refused {
+        words: &[
+            "mirror",
+            "--config",
+            "c",
+            "--stream",
+            "s",
+            "--json",
+            "-",
+            "--publish",
+            "p",
+        ],
+        is_fault: true,
+        text: "error: --publish copies the file of --into, which is wanted too\n\nUsage: mirror [OPTIONS] --config <F>\n\nFor more information, try '--help'.\n",
+    },
+    Refused {
+        words: &["mirror", "--into", "f", "--stream", "s"],
+        is_fault: true,
+        text: "error: the following required arguments were not provided:\n  --config <F>\n\nUsage: mirror --config <F> --into <F> --stream <F>\n\nFor more information, try '--help'.\n",
     },
     Refused {
         words: &[
             "mirror", "--config", "c", "--into", "f", "--stream", "s", "--batch", "+1",
         ],
         is_fault: true,
-        text: "error: invalid value '+1' for '--batch <N>': only digits are allowed\n\nUsage: mirror [OPTIONS] --config <F> --into <F>\n\nFor more information, try '--help'.\n",
+        text: "error: invalid value '+1' for '--batch <N>': only digits are allowed\n\nUsage: mirror [OPTIONS] --config <F>\n\nFor more information, try '--help'.\n",
+    },
+    Refused {
+        words: &["mirror", "--help"],
+        is_fault: false,
+        text: HELP,
     },
 ];
+
+const HELP: &str = "\
+Keeps the tables of a PostgreSQL logical replication stream in a SQLite file, exact at each commit
+
+Usage: mirror [OPTIONS] --config <F>
+
+Options:
+      --config <F>   The catalog: a TOML file that defines the tables
+      --stream <F>   The stream: the CopyData bytes of a replication connection; - is standard input
+      --connect <A>  HOST:PORT of whoever sends these bytes, as publisher serve
+      --into <F>     The SQLite file that has the tables; while mirror runs nobody else can read it
+      --json <F>     Where a line of JSON is appended for each change of a commit, before the file has it; - is standard output
+      --publish <F>  Where copies of the file are put for readers, each whole, and one at the end
+      --every <N>    Seconds between two copies, 1 to 1000000 [default: 10]
+      --batch <N>    Commits that one transaction of the file has at most, 1 to 1000000 [default: 1000]
+      --epoch <N>    Commits behind which a run ends and the next begins, 1 to 1000000000 [default: 100000]
+      --journal <N>  Bytes of the stream that one run keeps at most, while transactions are open all along [default: 4294967296]
+      --workers <N>  Threads that apply streamed transactions, 0 to 16 [default: 2]
+      --ring <N>     Items that wait for one of these threads, 1 to 1024 [default: 64]
+      --spool <N>    Bytes of messages of streamed transactions that wait for their commits [default: 1073741824]
+      --once         End with the connection, in place of making it again
+  -h, --help         Print help
+  -V, --version      Print version
+
+Examples:
+  mirror --config accounts.toml --connect localhost:5500 --into state.sqlite --publish copy.sqlite
+  mirror --config accounts.toml --connect localhost:5500 --into state.sqlite --json changes.jsonl
+
+One of --into and --json is wanted. With --json alone nothing is taken up again: each start begins with
+empty tables, and a change of a row from before that has no line.
+
+Exit statuses:
+  0  the stream was applied to its end
+  1  usage, a bad catalog, or a file, lines or a connection that can't be opened or written
+  2  the stream is broken
+  3  a conflict: a row breaks a key
+  4  memory was refused
+";
 
 /// What is said in place of a run, and whether it is for standard error.
 fn said(alloc: Global, words: &[&str]) -> Result<(String, bool), Fail> {
@@ -206,7 +288,7 @@ fn said(alloc: Global, words: &[&str]) -> Result<(String, bool), Fail> {
 }
 
 #[test]
-fn faults_of_usage_and_the_version(rt: HostRuntime) -> Result<(), Fail> {
+fn faults_of_usage_help_and_version(rt: HostRuntime) -> Result<(), Fail> {
     for case in &REFUSED {
         let (text, is_fault) = said(rt.alloc(), case.words)?;
         assert_same(text.as_str(), case.text, "text")?;
