@@ -43,8 +43,8 @@ pub fn open(
     }
 }
 
-/// The streamed transactions of the input that committed before a position. Whoever sends a stream over a
-/// connection begins behind them, and standard input comes once.
+/// The streamed transactions of the input that committed before a position. Whoever sends a stream
+/// over a connection begins behind them, and standard input comes once.
 fn find_streamed(rt: &HostRuntime, input: Input<'_>, position: Lsn) -> Result<Vec<Xid>, Refused> {
     let Input::File(path) = input else {
         return Ok(Vec::new(rt.alloc()));

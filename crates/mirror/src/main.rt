@@ -1,16 +1,20 @@
-// Keeps the tables of a PostgreSQL logical replication stream in a SQLite file, exact at each commit.
+// Keeps the tables of a PostgreSQL logical replication stream in a SQLite file, exact at each
+// commit.
 //
-//     mirror --config F (--connect A | --stream F) --into F [--publish F [--every S]] [--batch N] [--once]
+//     mirror --config F (--connect A | --stream F) --into F [--json F] [--publish F] [OPTIONS]
+//     mirror --config F (--connect A | --stream F) --json F [OPTIONS]
 //
-// A run of the stream begins with the tables of the file, and each commit is written to the file with its
-// position, in one transaction of SQLite (several commits in one where they come fast). A status update goes
-// back to the sender only for what lies in the file. Where a connection ends it is made again.
+// The first run of the stream begins with the tables of the file, and each commit is written to the
+// file with its position, in one transaction of SQLite (several commits in one where they come
+// fast); where lines of JSON are asked for, they are written before. A status update goes back to
+// the sender only for what lies there. Where a connection ends it is made again.
 //
-// This crate opens files and connections; `mirror_run` has the run, `mirror_file` what stands in the file,
-// and `mirror_command` the command line and what is said.
+// This crate opens files and connections; `mirror_run` has the run, `mirror_file` what stands in
+// the file, and `mirror_command` the command line and what is said.
 #![tactic(auto)]
 
 mod input;
+mod lines;
 mod publishing;
 mod rounds;
 mod target;
@@ -20,12 +24,11 @@ use leader::CatalogFault;
 use mirror_command::events::{Event, say};
 use mirror_command::options::{Options, parse};
 use rounds::follow;
-use sqlite_file::SqliteFile;
 use std::process::ExitCode;
 use std::random::RandomSource;
 use std::sync::Wait;
 use std::thread::Threads;
-use target::unfit;
+use target::Target;
 
 fn main(rt: HostRuntime) -> anyhow::Result<ExitCode> {
     let words: Vec<String> = std::env::args(&rt)?.collect(rt.alloc())?;
@@ -38,8 +41,8 @@ fn main(rt: HostRuntime) -> anyhow::Result<ExitCode> {
     }
 }
 
-/// Runs what the options ask for. It answers the exit status. Workers are started by `threads`, which is the
-/// runtime too.
+/// Runs what the options ask for. It answers the exit status. Workers are started by `threads`,
+/// which is the runtime too.
 fn run<T: Threads + Wait + RandomSource + Sync>(
     rt: &HostRuntime,
     threads: &T,
@@ -49,15 +52,12 @@ fn run<T: Threads + Wait + RandomSource + Sync>(
         Ok(catalog) => catalog,
         Err(status) => return status,
     };
-    let mut file = match SqliteFile::open(rt, options.into) {
-        Ok(file) => file,
-        Err(error) => return unfit(rt, options.into, &error.into()),
+    let (mut target, start) = match Target::open(rt, options, &catalog) {
+        Ok(opened) => opened,
+        Err(status) => return status,
     };
-    let status = follow(rt, threads, options, &catalog, &mut file);
-    match file.close() {
-        Ok(()) => status,
-        Err(error) => unfit(rt, options.into, &error.into()),
-    }
+    let status = follow(rt, threads, options, &mut target, start);
+    target.close(rt, status)
 }
 
 /// The catalog in a file; or the exit status, where it was refused.

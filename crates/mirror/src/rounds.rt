@@ -1,25 +1,18 @@
 // One run after another, each from what the last one left.
-ghost use Rattle.std.specs.Prelude.{◌≡◌, map};
-ghost use Rattle.model.specs.Rows.{keys_of};
-
 use crate::input;
 use crate::input::Refused;
+use crate::lines::LentLines;
 use crate::publishing::Copies;
-use crate::target::{check_system, no_memory, read_file};
-use catalog::Catalog;
+use crate::target::{Start, Target, no_memory};
 use frames::FrameFault;
-use indexes::Tables;
 use leader::{Config, End, Lsn, OutOfMemory, Outcome};
 use mirror_command::events::{Event, say};
 use mirror_command::options::Options;
 use mirror_devices::{LentSink, Pace, Paced};
-use mirror_file::Opened;
-use mirror_run::{FileKeep, Setting, Stop, run_round_on};
+use mirror_run::{FileKeep, Keep, Keeping, Progress, Setting, Stop, run_round_on};
 use mirror_source::Cut;
-use mirror_statements::FileStatements;
 use pgapply_command::options::Input;
 use pgapply_command::system::SystemClock;
-use sqlite_file::SqliteFile;
 use std::random::RandomSource;
 use std::sync::Wait;
 use std::thread;
@@ -35,7 +28,7 @@ struct Ended {
     end: End,
     cut: Cut,
     stop: Option<Stop>,
-    /// The end of the last commit that the file has.
+    /// The end of the last commit that was kept.
     position: Lsn,
 }
 
@@ -59,18 +52,32 @@ struct Left {
 }
 
 /// Follows a stream until it ends for good. It answers the exit status.
-pub fn follow<T: Threads + Wait + RandomSource + Sync>(
+pub fn follow<'a, T: Threads + Wait + RandomSource + Sync>(
     rt: &HostRuntime,
     threads: &T,
     options: &Options<'_>,
-    catalog: &Catalog,
-    file: &mut SqliteFile,
+    target: &mut Target<'a>,
+    start: Start<'a>,
 ) -> u8 {
-    let mut copies = Copies::new(rt, options.into, options.publishing);
+    let mut copies = Copies::new(rt, options.into.unwrap_or(""), options.publishing);
     let mut config = options.config;
     let mut pause = 1;
+    let mut start = start;
     for _ in threads.forever() {
-        match follow_once(rt, threads, options, config, catalog, file, &mut copies) {
+        let (next, left) = match follow_once(
+            rt,
+            threads,
+            options,
+            config,
+            target,
+            start,
+            &mut copies,
+        ) {
+            Ok(followed) => followed,
+            Err(status) => return status,
+        };
+        start = left;
+        match next {
             Next::Over(status) => return status,
             Next::Alone => config.workers = 0,
             Next::Again(true) => {
@@ -83,88 +90,108 @@ pub fn follow<T: Threads + Wait + RandomSource + Sync>(
     unreachable!()
 }
 
-/// Opens the file and the stream, and follows that to its end.
-fn follow_once<T: Threads + Wait + Sync>(
+/// Opens the stream, and follows it to its end: what comes then, and where that begins; or the exit
+/// status, where what it began with is gone.
+fn follow_once<'a, T: Threads + Wait + Sync>(
     rt: &HostRuntime,
     threads: &T,
     options: &Options<'_>,
     config: Config,
-    catalog: &Catalog,
-    file: &mut SqliteFile,
+    target: &mut Target<'a>,
+    start: Start<'a>,
     copies: &mut Copies<'_>,
-) -> Next {
-    let Opened {
-        statements,
-        tables,
-        position,
-        system,
-    } = match read_file(rt, options, catalog, file) {
+) -> Result<(Next, Start<'a>), u8> {
+    let position = start.position;
+    say(rt, Event::Opened(target.name, position));
+    let mut opened = match open_stream(rt, options, target, position) {
         Ok(opened) => opened,
-        Err(status) => return Next::Over(status),
+        Err(next) => return Ok((next, start)),
     };
-    say(rt, Event::Opened(options.into, position));
-    let mut opened = match input::open(rt, options.input, position, options.limits) {
-        Ok(opened) => opened,
-        Err(Refused::NotThere) if is_over(options) => return Next::Over(1),
-        Err(Refused::NotThere) => return Next::Again(false),
-        Err(Refused::Over(status)) => return Next::Over(status),
-    };
-    match opened.epochs.system() {
-        Ok(Some(found)) => {
-            if let Err(status) = check_system(rt, options, file, system, found) {
-                return Next::Over(status);
-            }
-        }
-        Ok(None) => {}
-        Err(_) if is_over(options) => return Next::Over(2),
-        Err(_) => return Next::Again(false),
-    }
-    let followed = follow_epochs(
+    let (ended, left) = follow_into(
         rt,
         threads,
-        options,
         config,
-        catalog,
-        file,
-        &statements,
-        tables,
-        position,
+        options,
+        target,
+        start,
         &mut opened,
         copies,
-    );
-    let ended = match followed {
-        Ok(ended) => ended,
-        Err(status) => return Next::Over(status),
-    };
+    )?;
     say_end(rt, &ended);
     copies.publish(ended.position);
-    next_of(options, &config, &ended, position)
+    Ok((next_of(options, &config, &ended, position), left))
 }
 
-/// Follows the epochs of a stream to its end; or the exit status, where the file or memory was refused.
-fn follow_epochs<T: Threads + Wait + Sync>(
+/// Opens the stream behind a position; or what comes in place of that.
+fn open_stream(
+    rt: &HostRuntime,
+    options: &Options<'_>,
+    target: &mut Target<'_>,
+    position: Lsn,
+) -> Result<input::Opened, Next> {
+    let mut opened = match input::open(rt, options.input, position, options.limits) {
+        Ok(opened) => opened,
+        Err(Refused::NotThere) if is_over(options) => return Err(Next::Over(1)),
+        Err(Refused::NotThere) => return Err(Next::Again(false)),
+        Err(Refused::Over(status)) => return Err(Next::Over(status)),
+    };
+    match opened.epochs.system() {
+        Ok(None) => Ok(opened),
+        Ok(Some(found)) => match target.check_system(rt, found) {
+            Ok(()) => Ok(opened),
+            Err(status) => Err(Next::Over(status)),
+        },
+        Err(_) if is_over(options) => Err(Next::Over(2)),
+        Err(_) => Err(Next::Again(false)),
+    }
+}
+
+/// Follows a stream to its end, into the file, as lines, or both; or the exit status, where memory
+/// was refused.
+fn follow_into<'a, T: Threads + Wait + Sync>(
     rt: &HostRuntime,
     threads: &T,
-    options: &Options<'_>,
     config: Config,
-    catalog: &Catalog,
-    file: &mut SqliteFile,
-    statements: &FileStatements,
-    tables: Tables,
-    position: Lsn,
+    options: &Options<'_>,
+    target: &mut Target<'a>,
+    start: Start<'a>,
     opened: &mut input::Opened,
     copies: &mut Copies<'_>,
-) -> Result<Ended, u8>
-    requires { tables.schema ≡ map keys_of catalog.now }
-{
-    let first = follow_epoch(
-        rt, threads, options, config, catalog, file, statements, tables, position, opened, copies,
-    );
-    let mut left = match first {
-        Ok(left) => left,
-        Err(_) => return Err(no_memory(rt)),
+) -> Result<(Ended, Start<'a>), u8> {
+    let batch = options.batch;
+    let lines = match &mut target.lines {
+        None => None,
+        Some(keep) => Some(LentLines { keep }),
     };
+    let file = match &mut target.file {
+        None => None,
+        Some(target) => Some(FileKeep::new(
+            rt.alloc(),
+            target.file.connection(),
+            &target.statements,
+        )),
+    };
+    let mut keep = Keeping::new(lines, file);
+    follow_epochs(rt, threads, config, batch, start, opened, &mut keep, copies)
+}
+
+/// Follows the epochs of a stream to its end; or the exit status, where memory was refused.
+fn follow_epochs<'a, T: Threads + Wait + Sync, K: Keep + Send>(
+    rt: &HostRuntime,
+    threads: &T,
+    config: Config,
+    batch: usize,
+    start: Start<'a>,
+    opened: &mut input::Opened,
+    keep: &mut K,
+    copies: &mut Copies<'_>,
+) -> Result<(Ended, Start<'a>), u8> {
+    let mut start = start;
     for _ in threads.forever() {
+        let followed = follow_epoch(rt, threads, config, batch, start, opened, keep, copies);
+        let Ok((left, next)) = followed else {
+            return Err(no_memory(rt));
+        };
         let Left {
             end,
             position,
@@ -172,84 +199,44 @@ fn follow_epochs<T: Threads + Wait + Sync>(
         } = left;
         let cut = opened.epochs.cut();
         if end != End::Clean || stop.is_some() || cut != Cut::AtLimit {
-            return Ok(Ended {
+            let ended = Ended {
                 end,
                 cut,
                 stop,
                 position,
-            });
+            };
+            return Ok((ended, next));
         }
         if opened.epochs.begin_next().is_err() {
             return Err(no_memory(rt));
         }
-        left = follow_next(rt, threads, options, config, catalog, file, opened, copies)?;
+        start = next;
     }
     unreachable!()
 }
 
-/// Follows an epoch of a stream from what the file has; or the exit status, where the file or memory was
-/// refused.
-fn follow_next<T: Threads + Wait + Sync>(
+/// Follows an epoch of a stream: one run. It answers where the next begins too.
+fn follow_epoch<'a, T: Threads + Wait + Sync, K: Keep + Send>(
     rt: &HostRuntime,
     threads: &T,
-    options: &Options<'_>,
     config: Config,
-    catalog: &Catalog,
-    file: &mut SqliteFile,
+    batch: usize,
+    start: Start<'a>,
     opened: &mut input::Opened,
+    keep: &mut K,
     copies: &mut Copies<'_>,
-) -> Result<Left, u8> {
-    let Opened {
-        statements,
-        tables,
-        position,
-        ..
-    } = match read_file(rt, options, catalog, file) {
-        Ok(read) => read,
-        Err(status) => return Err(status),
-    };
-    let followed = follow_epoch(
-        rt,
-        threads,
-        options,
-        config,
+) -> Result<(Left, Start<'a>), OutOfMemory> {
+    let Start {
         catalog,
-        file,
-        &statements,
         tables,
         position,
-        opened,
-        copies,
-    );
-    match followed {
-        Ok(left) => Ok(left),
-        Err(_) => Err(no_memory(rt)),
-    }
-}
-
-/// Follows an epoch of a stream: one run.
-fn follow_epoch<T: Threads + Wait + Sync>(
-    rt: &HostRuntime,
-    threads: &T,
-    options: &Options<'_>,
-    config: Config,
-    catalog: &Catalog,
-    file: &mut SqliteFile,
-    statements: &FileStatements,
-    tables: Tables,
-    position: Lsn,
-    opened: &mut input::Opened,
-    copies: &mut Copies<'_>,
-) -> Result<Left, OutOfMemory>
-    requires { tables.schema ≡ map keys_of catalog.now }
-{
+    } = start;
     let setting = Setting {
         config,
         position,
-        batch: options.batch,
+        batch,
     };
     let pace = Pace::new();
-    let mut keep = FileKeep::new(rt.alloc(), file.connection(), statements);
     let (outcome, progress) = run_round_on(
         threads,
         rt,
@@ -261,15 +248,22 @@ fn follow_epoch<T: Threads + Wait + Sync>(
         LentSink::new(&mut opened.updates),
         SystemClock::new(rt),
         &pace,
-        &mut keep,
+        keep,
         copies,
     )?;
-    let Outcome { end, .. } = outcome;
-    Ok(Left {
+    let Outcome { end, tables, .. } = outcome;
+    let Progress { position, stop } = progress;
+    let left = Left {
         end,
-        position: progress.position,
-        stop: progress.stop,
-    })
+        position,
+        stop,
+    };
+    let next = Start {
+        catalog,
+        tables,
+        position,
+    };
+    Ok((left, next))
 }
 
 /// What comes behind a stream that ended so.
