@@ -2,6 +2,7 @@
 """Draws streams, and compares what pgapply makes of them with rows that this script keeps.
 
     drawn.py [--program P] [--first N] [--streams N] [--turns N] [--unlocked]
+    drawn.py --mirror P [--kills N] [--first N] [--streams N] [--turns N]
 
 A stream is that of a publisher whose transactions keep the rows and unique values that they touch
 locked until they end. Up to six are open at once, most of them streamed in blocks, with savepoints,
@@ -9,16 +10,22 @@ rollbacks to them, and aborts. `replay` has to print the rows that the script ke
 by each of seven settings of workers and rings. With --unlocked nothing is locked, so transactions meet: then
 each run has to end, and one of `apply` that ends Clean has to print what `replay` prints.
 
+With --mirror it is `mirror` that follows each stream, into a file and as lines, by each of four settings; it is
+killed at drawn moments and begun again. The file, and the rows that the lines make, have to be those that the
+script kept, and no line may come twice. The same is asked of lines alone, without kills.
+
 A stream is drawn from its number: --first N --streams 1 draws one again, and leaves it in the folder.
 The last line counts; the status is 1 if anything differed. Needs python3 (3.11) and the built program.
 """
-import argparse, collections, os, random, struct, subprocess, sys, tempfile
+import argparse, collections, json, os, random, sqlite3, struct, subprocess, sys, tempfile, time
 from dataclasses import dataclass, field
 from figures import HERE, Table, begin, commit, stream_abort, stream_commit, stream_start, sub_of, tuple_of, write_stream
 
 MAIL = Table("mail", "itt", [0], [[1]])
 SETTINGS = [(0, 64), (1, 1), (1, 64), (2, 2), (3, 64), (4, 1), (6, 8)]
 LAWFUL = {"Clean", "Unique", "HeldKey"}
+# Of mirror: commits of an epoch, commits of a transaction of the file, workers.
+FOLLOWING = [(1, 1, 2), (3, 1000, 0), (2, 2, 4), (100000, 1000, 2)]
 
 
 def insert(row, sub):
@@ -235,6 +242,59 @@ def differences(program, folder, publisher, ends):
             yield f"apply --workers {workers} --ring {ring}: end {end}"
 
 
+def rows_of_file(path):
+    """The rows of a file of mirror."""
+    file = sqlite3.connect(path)
+    rows = {row[0]: list(row) for row in file.execute('SELECT c0, c1, c2 FROM "mail"')}
+    file.close()
+    return rows
+
+
+def rows_of_lines(path):
+    """The rows that lines of mirror make, or None where one is broken, comes twice or meets another row."""
+    rows, ends = {}, []
+    with open(path, encoding="utf-8", newline="") as file:
+        text = file.read()
+    for line in filter(None, text.split("\n")):
+        change = json.loads(line)
+        high, low = change["lsn"].split("/")
+        end, kind, key = int(high, 16) << 32 | int(low, 16), change["kind"], change["key"]["c0"]
+        if ends and end < ends[-1] or (kind == "insert") == (key in rows):
+            return None
+        ends.append(end)
+        rows.pop(key, None)
+        if "row" in change:
+            rows[change["row"]["c0"]] = list(change["row"].values())
+    return rows if text.endswith("\n") or not text else None
+
+
+def follow(program, folder, words, kills, draws):
+    """Follows the stream in the folder, killed so often meanwhile; whether it ended well."""
+    words = [program, "--config", f"{folder}/drawn.toml", "--stream", f"{folder}/drawn.stream", *words]
+    for _ in range(kills):
+        begun = subprocess.Popen(words, stderr=subprocess.DEVNULL)
+        time.sleep(draws.random() * 0.12)
+        begun.kill()
+        begun.wait()
+    return subprocess.run(words, capture_output=True, timeout=60).returncode == 0
+
+
+def mirror_differences(program, folder, publisher, kills):
+    """By which settings mirror leaves what it may not."""
+    file, lines = f"{folder}/drawn.sqlite", f"{folder}/drawn.jsonl"
+    for epoch, batch, workers in FOLLOWING:
+        setting = ["--epoch", str(epoch), "--batch", str(batch), "--workers", str(workers)]
+        for path in (file, f"{file}-wal", lines):
+            if os.path.exists(path):
+                os.remove(path)
+        ended = follow(program, folder, ["--into", file, "--json", lines, *setting], kills, publisher.draws)
+        if not (ended and rows_of_file(file) == rows_of_lines(lines) == publisher.rows):
+            yield f"mirror {' '.join(setting)}"
+        os.remove(lines)
+        if not (follow(program, folder, ["--json", lines, *setting], 0, publisher.draws) and rows_of_lines(lines) == publisher.rows):
+            yield f"mirror {' '.join(setting)}, lines alone"
+
+
 def main():
     words = argparse.ArgumentParser(description=__doc__, formatter_class=argparse.RawDescriptionHelpFormatter)
     words.add_argument("--program", default=f"{HERE}/../crates/pgapply/out/pgapply")
@@ -242,6 +302,8 @@ def main():
     words.add_argument("--streams", type=int, default=100, help="how many streams")
     words.add_argument("--turns", type=int, default=400, help="how many turns of a publisher a stream has")
     words.add_argument("--unlocked", action="store_true", help="transactions lock nothing")
+    words.add_argument("--mirror", help="the program mirror, which follows the streams in place of pgapply")
+    words.add_argument("--kills", type=int, default=4, help="how often mirror is killed")
     said = words.parse_args()
     ends, messages, differing = collections.Counter(), 0, 0
     with tempfile.TemporaryDirectory() as temporary:
@@ -253,10 +315,12 @@ def main():
             drawn = publisher.run(said.turns)
             write_stream(f"{folder}/drawn.stream", drawn)
             messages += len(drawn)
-            for difference in differences(said.program, folder, publisher, ends):
+            differing_runs = (mirror_differences(said.mirror, folder, publisher, said.kills) if said.mirror
+                              else differences(said.program, folder, publisher, ends))
+            for difference in differing_runs:
                 differing += 1
                 print(f"stream {number}: {difference}", flush=True)
-    told = ", ".join(f"{count} {end}" for end, count in sorted(ends.items()))
+    told = ", ".join(f"{count} {end}" for end, count in sorted(ends.items())) or "none"
     print(f"{said.streams} streams of {messages} messages; ends of apply: {told}; {differing} differ")
     return differing > 0
 
