@@ -57,7 +57,7 @@ fn run<T: Threads + Wait + RandomSource + Sync>(
         Err(status) => return status,
     };
     let status = follow(rt, threads, options, &mut target, start);
-    target.close(rt, status)
+    target.close(rt, options, status)
 }
 
 /// The catalog in a file; or the exit status, where it was refused.

@@ -1,15 +1,15 @@
 // One run after another, each from what the last one left.
 use crate::input;
 use crate::input::Refused;
-use crate::lines::LentLines;
+use crate::lines::{LentLines, Lines};
 use crate::publishing::Copies;
-use crate::target::{Start, Target, no_memory};
+use crate::target::{FileTarget, Start, Target, name_of, no_memory};
 use frames::FrameFault;
 use leader::{Config, End, Lsn, OutOfMemory, Outcome};
 use mirror_command::events::{Event, say};
 use mirror_command::options::Options;
 use mirror_devices::{LentSink, Pace, Paced};
-use mirror_run::{FileKeep, Keep, Keeping, Progress, Setting, Stop, run_round_on};
+use mirror_run::{FileKeep, Keep, Keeping, LineKeep, Progress, Setting, Stop, run_round_on};
 use mirror_source::Cut;
 use pgapply_command::options::Input;
 use pgapply_command::system::SystemClock;
@@ -102,7 +102,7 @@ fn follow_once<'a, T: Threads + Wait + Sync>(
     copies: &mut Copies<'_>,
 ) -> Result<(Next, Start<'a>), u8> {
     let position = start.position;
-    say(rt, Event::Opened(target.name, position));
+    say(rt, Event::Opened(name_of(options), position));
     let mut opened = match open_stream(rt, options, target, position) {
         Ok(opened) => opened,
         Err(next) => return Ok((next, start)),
@@ -137,7 +137,7 @@ fn open_stream(
     };
     match opened.epochs.system() {
         Ok(None) => Ok(opened),
-        Ok(Some(found)) => match target.check_system(rt, found) {
+        Ok(Some(found)) => match target.check_system(rt, name_of(options), found) {
             Ok(()) => Ok(opened),
             Err(status) => Err(Next::Over(status)),
         },
@@ -159,19 +159,52 @@ fn follow_into<'a, T: Threads + Wait + Sync>(
     copies: &mut Copies<'_>,
 ) -> Result<(Ended, Start<'a>), u8> {
     let batch = options.batch;
-    let lines = match &mut target.lines {
-        None => None,
-        Some(keep) => Some(LentLines { keep }),
-    };
-    let file = match &mut target.file {
-        None => None,
-        Some(target) => Some(FileKeep::new(
-            rt.alloc(),
-            target.file.connection(),
-            &target.statements,
-        )),
-    };
-    let mut keep = Keeping::new(lines, file);
+    match &mut target.lines {
+        None => match &mut target.file {
+            None => Err(1),
+            Some(file) => into_file(rt, threads, config, batch, start, opened, file, copies),
+        },
+        Some(lines) => match &mut target.file {
+            None => follow_epochs(rt, threads, config, batch, start, opened, lines, copies),
+            Some(file) => into_both(
+                rt, threads, config, batch, start, opened, lines, file, copies,
+            ),
+        },
+    }
+}
+
+/// Follows a stream into the file alone.
+fn into_file<'a, T: Threads + Wait + Sync>(
+    rt: &HostRuntime,
+    threads: &T,
+    config: Config,
+    batch: usize,
+    start: Start<'a>,
+    opened: &mut input::Opened,
+    target: &mut FileTarget,
+    copies: &mut Copies<'_>,
+) -> Result<(Ended, Start<'a>), u8> {
+    let FileTarget { file, statements } = target;
+    let mut keep = FileKeep::new(rt.alloc(), file.connection(), statements);
+    follow_epochs(rt, threads, config, batch, start, opened, &mut keep, copies)
+}
+
+/// Follows a stream as lines, and then into the file.
+fn into_both<'a, T: Threads + Wait + Sync>(
+    rt: &HostRuntime,
+    threads: &T,
+    config: Config,
+    batch: usize,
+    start: Start<'a>,
+    opened: &mut input::Opened,
+    lines: &mut LineKeep<'_, Lines>,
+    target: &mut FileTarget,
+    copies: &mut Copies<'_>,
+) -> Result<(Ended, Start<'a>), u8> {
+    let FileTarget { file, statements } = target;
+    let kept_file = FileKeep::new(rt.alloc(), file.connection(), statements);
+    let kept_lines = LentLines { keep: lines };
+    let mut keep = Keeping::new(Some(kept_lines), Some(kept_file));
     follow_epochs(rt, threads, config, batch, start, opened, &mut keep, copies)
 }
 

@@ -33,8 +33,6 @@ pub struct FileTarget {
 /// Where commits are kept.
 #[derive(Drop)]
 pub struct Target<'a> {
-    /// What it is called.
-    pub name: &'a str,
     pub file: Option<FileTarget>,
     pub lines: Option<LineKeep<'a, Lines>>,
     /// The identifier of the system whose stream it follows, once it is known.
@@ -46,7 +44,7 @@ impl<'a> Target<'a> {
     /// where that can't be.
     pub fn open(
         rt: &HostRuntime,
-        options: &Options<'a>,
+        options: &Options<'_>,
         catalog: &'a Catalog,
     ) -> Result<(Target<'a>, Start<'a>), u8> {
         match options.into {
@@ -56,30 +54,30 @@ impl<'a> Target<'a> {
     }
 
     /// Closes the file. It answers the exit status of what went before, unless that can't be.
-    pub fn close(self, rt: &HostRuntime, status: u8) -> u8 {
-        let Target { name, file, .. } = self;
+    pub fn close(self, rt: &HostRuntime, options: &Options<'_>, status: u8) -> u8 {
+        let Target { file, .. } = self;
         let Some(FileTarget { file, .. }) = file else {
             return status;
         };
         match file.close() {
             Ok(()) => status,
-            Err(error) => unfit(rt, name, &error.into()),
+            Err(error) => unfit(rt, name_of(options), &error.into()),
         }
     }
 
     /// Sees that it follows a stream of this system, and notes that where it is the first; or the
     /// exit status.
-    pub fn check_system(&mut self, rt: &HostRuntime, found: String) -> Result<(), u8> {
+    pub fn check_system(&mut self, rt: &HostRuntime, name: &str, found: String) -> Result<(), u8> {
         if let Some(known) = &self.system {
             if known.as_str() == found.as_str() {
                 return Ok(());
             }
-            say(rt, Event::OtherSystem(self.name));
+            say(rt, Event::OtherSystem(name));
             return Err(1);
         }
         if let Some(target) = &mut self.file {
             if let Err(fault) = note_system(target.file.connection(), found.as_str()) {
-                return Err(unfit(rt, self.name, &fault));
+                return Err(unfit(rt, name, &fault));
             }
         }
         self.system = Some(found);
@@ -87,10 +85,19 @@ impl<'a> Target<'a> {
     }
 }
 
+/// What is said of where commits are kept.
+pub fn name_of<'a>(options: &Options<'a>) -> &'a str {
+    match (options.into, options.json) {
+        (Some(path), _) => path,
+        (None, Some("-")) | (None, None) => "standard output",
+        (None, Some(path)) => path,
+    }
+}
+
 /// A file, and lines beside it where these go somewhere.
 fn open_file<'a>(
     rt: &HostRuntime,
-    path: &'a str,
+    path: &str,
     options: &Options<'_>,
     catalog: &'a Catalog,
 ) -> Result<(Target<'a>, Start<'a>), u8> {
@@ -116,7 +123,6 @@ fn open_file<'a>(
         system,
     } = read_file(rt, path, catalog, &mut file)?;
     let target = Target {
-        name: path,
         file: Some(FileTarget { file, statements }),
         lines,
         system,
@@ -132,12 +138,11 @@ fn open_file<'a>(
 /// Lines alone, from empty tables on.
 fn open_alone<'a>(
     rt: &HostRuntime,
-    to: &'a str,
+    to: &str,
     catalog: &'a Catalog,
 ) -> Result<(Target<'a>, Start<'a>), u8> {
     let lines = open_lines(rt, to, catalog, no_rows(rt, catalog)?, Lsn::MAX, 0)?;
     let target = Target {
-        name: if to == "-" { "standard output" } else { to },
         file: None,
         lines: Some(lines),
         system: None,
