@@ -1,0 +1,73 @@
+-- What a call of a part's store is in every world of which it is a part.
+--     opened_lifts, tried_lifts      a transaction opens; a change was tried
+--     back_lifts, commit_lifts, abort_lifts      a rollback; the two ends
+--     read_lifts      a committed row
+use Rattle.std.proofs.Common.{◌≡◌, ℕ, sym, ap, subst, ◌∙◌}
+use Rattle.std.specs.Prelude.{Option, Some, Result, Ok, Err}
+use Rattle.std.specs.FinMap.{get}
+use Rattle.model.specs.declared.change.Change as change_type
+use Rattle.model.specs.declared.key.Key.{Key}
+use Rattle.model.specs.declared.row.Row.{Row}
+use Rattle.model.specs.declared.item.CommitInfo.{CommitInfo}
+use Rattle.model.specs.Rows.{Rows, Schema}
+use Rattle.world.specs.World.{Opened, World}
+use Rattle.world.specs.Steps as steps
+use Rattle.world.specs.Steps.{Fault, AlreadyOpen, TooManyOpen, Stopped, OutOfMemory, Acted, IsDone, IsSkipped, Held, Clashed, Acts}
+use Rattle.world_parts.specs.ByTable.{IsIn}
+use Rattle.world_parts.specs.ByTableLemmas.{get_rows_here}
+use Rattle.world_parts.specs.Parts.{after_tried}
+use Rattle.world_parts.specs.Marks.{HasPart}
+use Rattle.world_parts.specs.PartLemmas.{acts_lifts}
+use Rattle.world_parts.specs.ToldLemmas.{tried_here, back_told, ends_here, opens_here, aborts_here}
+use Rattle.table_parts.specs.Part.{Tries, Opens, GoesBack, Commits, Aborts}
+
+-- what was altered into the same is the same part
+same_part : (table : ℕ) (w part new : World) → new ≡ part → HasPart table w part → HasPart table w new
+same_part table w part new same has = subst (HasPart table w) (sym same) has
+
+pub opened_lifts : (table : ℕ) (part new : World) (xid : ℕ) (answer : Result (Unit {0}) Fault) → steps.Opens part xid answer new → Opens table part new
+opened_lifts table part new xid (Ok u) opens w has = subst (HasPart table w) (sym opens.3) (opens_here table w part has xid opens.1)
+opened_lifts table part new xid (Err AlreadyOpen) opens w has = same_part table w part new opens.2 has
+opened_lifts table part new xid (Err TooManyOpen) opens w has = same_part table w part new opens.3 has
+opened_lifts table part new xid (Err Stopped) opens w has = same_part table w part new opens.1 has
+opened_lifts table part new xid (Err OutOfMemory) opens w has = same_part table w part new opens.3 has
+
+module _ (schema : Schema) (table : ℕ) (part new : World) (xid : ℕ) (p : Opened) (here : get part.opened xid ≡ Some p) where
+  -- what a change that was not refused leaves
+  left_by : (mark : ℕ) (c : change_type.Change) (answer : Acted) → Acts schema part xid p mark c (Ok answer) new → new ≡ after_tried part xid p mark c answer
+  left_by mark c IsDone acts = acts.3
+  left_by mark c IsSkipped acts = acts.3
+  left_by mark c (Held holder) acts = acts.2
+  left_by mark c (Clashed cause) acts = acts.3
+
+  -- one that was refused leaves all
+  refused_same : (fault : Fault) → steps.IsRefused part fault new → new ≡ part
+  refused_same AlreadyOpen refused = absurd refused
+  refused_same TooManyOpen refused = absurd refused
+  refused_same Stopped refused = refused.1
+  refused_same OutOfMemory refused = refused.1
+
+  pub tried_lifts : (mark : ℕ) (c : change_type.Change) → IsIn table c → (answer : Result Acted Fault) → Acts schema part xid p mark c answer new
+      → Tries schema table part xid mark c answer new
+  tried_lifts mark c inside (Ok answer) acts = λ w o sub has at runs is. (
+    acts_lifts schema table w part has.0 xid o p at here c inside runs sub mark answer new acts,
+    subst (HasPart table (after_tried w xid o sub c answer))
+        (sym (left_by mark c answer acts ∙ ap (λ (m : ℕ). after_tried part xid p m c answer) is))
+        (tried_here table w part has xid o p at here sub c c answer inside),
+  )
+  tried_lifts mark c inside (Err fault) acts = λ w has. same_part table w part new (refused_same fault acts) has
+
+  pub back_lifts : (mark : ℕ) → steps.GoesBack part xid p mark new → GoesBack table part xid mark new
+  back_lifts mark goes w o sub has at cuts = subst (HasPart table _) (sym goes) (back_told table w part has xid o p at here sub mark cuts)
+
+  pub commit_lifts : (info : CommitInfo) → steps.Commits schema part xid p info new → Commits schema table part xid info new
+  commit_lifts info commits w o has at = subst (HasPart table _) (sym commits) (ends_here table w part has xid o p at here schema info)
+
+pub abort_lifts : (table : ℕ) (part new : World) (xid : ℕ) → steps.Aborts part xid new → Aborts table part xid new
+abort_lifts table part new xid aborts w has = subst (HasPart table _) (sym aborts) (aborts_here table w part has xid)
+
+pub read_lifts : {E : Type 0} → (table : ℕ) (part : World) (key : Key) (result : Result (Option Row) E) → steps.ReadsCommitted part (table, key) result
+    → (w : World) → HasPart table w part → steps.ReadsCommitted w (table, key) result
+read_lifts table part key (Ok row) reads w has =
+    reads ∙ ap (λ (rows : Rows). get rows (table, key)) has.0.committed ∙ get_rows_here table w.committed key
+read_lifts table part key (Err fault) reads w has = reads

@@ -1,0 +1,134 @@
+// The part of a table, and its calls.
+ghost use Rattle.std.specs.Prelude.{◌≡◌, ◌<◌, ℕ, ◌++◌, ◌∷◌, [], Some, IfOk, IfErr, OnOk, OnErr, length};
+ghost use Rattle.std.specs.FinMap as finite;
+ghost use Rattle.model.specs.declared.item.Item.TheVariants.{BackTo};
+ghost use Rattle.model.specs.Beginning.{last_end};
+ghost use Rattle.model.specs.Named.{NamesTables};
+ghost use Rattle.tokens.specs.Lists.{open_list};
+ghost use Rattle.world.specs.World.{World, starting};
+ghost use Rattle.world.specs.Steps.{ReadsCommitted};
+ghost use Rattle.live_tables.specs.declared.answers.EngineFault.TheVariants.{OutOfMemory as NoMemory};
+ghost use Rattle.live_tables.specs.Answers.{told};
+ghost use Rattle.engine.specs.declared.events.Event.TheVariants.{Done};
+ghost use Rattle.engine.specs.Engine.{IsOtherwiseSame};
+ghost use Rattle.engine.specs.Events.{opened_by, ends_in, events_of};
+ghost use Rattle.world_parts.specs.ByTable.{IsIn};
+ghost use Rattle.world_parts.specs.Marks.{HasPart};
+ghost use Rattle.table_parts.specs.Part.{Tries, Opens, GoesBack, Commits, Aborts};
+
+use engine::{Acted, EngineFault, Line, Store, Ticket};
+use indexes::Tables;
+use model::{Change, CommitInfo, Key, Row, TableId, Xid};
+use std::alloc::Global;
+use std::marker::Model;
+
+/// The part of a table: its committed rows, and what open transactions did in it. A clause sees the
+/// number of the table, and the part as a store.
+#[derive(Debug, Drop)]
+pub struct Part {
+    number: TableId,
+    store: Store,
+    line: Line,
+}
+
+impl Model for Part {
+    ghost use Rattle.std.specs.Prelude.{◌≡◌};
+    ghost use Rattle.table_parts.specs.Part.{Part as AnyPart};
+    ghost use Rattle.table_parts.specs.PartCode.{part_code};
+
+    ghost Value = { AnyPart };
+
+    ghost coded = { part_code };
+
+    ghost view = { λ p. record { number = p.number; store = p.store } };
+
+    ghost invariant = { λ p. p.line ≡ p.store.line };
+}
+
+impl Part {
+    /// The part of a table, over tables of which the others have no rows. Refused for memory, the tables
+    /// are handed back.
+    pub fn new(alloc: Global, number: TableId, start: Tables) -> Result<Part, Tables>
+        ensures number { IfOk result (λ part. part.number ≡ number) }
+        ensures world { IfOk result (λ part. part.store.world ≡ starting start.rows) }
+        ensures schema { IfOk result (λ part. part.store.schema ≡ start.schema) }
+        ensures err { IfErr result (λ tables. tables ≡ start) }
+    {
+        let (store, line) = Store::new(alloc, start)?;
+        Ok(Part {
+            number,
+            store,
+            line,
+        })
+    }
+
+    /// A transaction comes to the table for the first time. A refusal changes nothing.
+    pub fn open(&mut self, alloc: Global, xid: Xid) -> Result<Ticket, EngineFault>
+        ensures ticket { IfOk result (λ ticket. ticket ≡ open_list self.old.store.tickets xid []) }
+        ensures opens { Opens self.old.number self.old.store.world self.new.store.world }
+        ensures same { IsOtherwiseSame self.old.store self.new.store }
+        ensures number { self.new.number ≡ self.old.number }
+    {
+        self.store.open(alloc, &mut self.line, xid)
+    }
+
+    /// A transaction tries a change of this table alone, under its latest mark.
+    pub fn act(
+        &mut self,
+        alloc: Global,
+        t: &mut Ticket,
+        mark: Xid,
+        c: &Change,
+    ) -> Result<Acted, EngineFault>
+        requires belongs { t.old.name ≡ self.old.store.tickets }
+        requires names { NamesTables (length self.old.store.schema) c.now }
+        requires its { IsIn self.old.number c.now }
+        ensures tries { Tries self.old.store.schema self.old.number self.old.store.world t.old.number mark c.now (told result) self.new.store.world }
+        ensures ticket { t.new ≡ record t.old { list = t.old.list ++ events_of mark c.now (told result) } }
+        ensures same { IsOtherwiseSame self.old.store self.new.store }
+        ensures number { self.new.number ≡ self.old.number }
+    {
+        self.store.act(alloc, t, mark, c)
+    }
+
+    /// A subtransaction is rolled back, to the first mark of the table that it drops. It takes no memory.
+    pub fn back_to(&mut self, t: &mut Ticket, mark: Xid)
+        requires { t.old.name ≡ self.old.store.tickets }
+        ensures goes_back { GoesBack self.old.number self.old.store.world t.old.number mark self.new.store.world }
+        ensures ticket { t.new ≡ record t.old { list = t.old.list ++ Done (BackTo mark) ∷ [] } }
+        ensures same { IsOtherwiseSame self.old.store self.new.store }
+        ensures number { self.new.number ≡ self.old.number }
+    {
+        self.store.back_to(t, mark);
+    }
+
+    /// A transaction commits. It takes no memory.
+    pub fn commit(&mut self, t: Ticket, info: CommitInfo)
+        requires belongs { t.name ≡ self.old.store.tickets }
+        requires rising { last_end (ends_in self.old.store.line.list) < info.end }
+        ensures commits { Commits self.old.store.schema self.old.number self.old.store.world t.number info self.new.store.world }
+        ensures same { IsOtherwiseSame self.old.store self.new.store }
+        ensures number { self.new.number ≡ self.old.number }
+    {
+        self.store.commit(&mut self.line, t, info);
+    }
+
+    /// A transaction aborts. It takes no memory.
+    pub fn abort(&mut self, t: Ticket)
+        requires { t.name ≡ self.old.store.tickets }
+        ensures aborts { Aborts self.old.number self.old.store.world t.number self.new.store.world }
+        ensures same { IsOtherwiseSame self.old.store self.new.store }
+        ensures number { self.new.number ≡ self.old.number }
+    {
+        self.store.abort(&mut self.line, t);
+    }
+
+    /// The committed row at a key, as a copy.
+    pub fn committed(&self, key: &Key) -> Result<Option<Row>, EngineFault>
+        requires { self.now.number < length self.now.store.schema }
+        ensures reads { (w : World) → HasPart self.now.number w self.now.store.world → ReadsCommitted w (self.now.number, key.now) result }
+        ensures fault { IfErr result (λ fault. fault ≡ NoMemory) }
+    {
+        self.store.committed(self.number, key)
+    }
+}
