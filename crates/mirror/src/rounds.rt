@@ -79,7 +79,10 @@ pub fn follow<'a, T: Threads + Wait + RandomSource + Sync>(
         start = left;
         match next {
             Next::Over(status) => return status,
-            Next::Alone => config.workers = 0,
+            Next::Alone => {
+                say(rt, Event::Alone);
+                config.workers = 0;
+            }
             Next::Again(true) => {
                 config = options.config;
                 pause = rest(rt, 1);

@@ -27,6 +27,8 @@ pub enum Event<'a> {
     NotConnected(&'a str, &'a io::Error),
     /// A run has ended, and what it kept is at this position.
     Ended(End, Lsn),
+    /// Behind a conflict the stream is followed once more, without workers.
+    Alone,
     /// Nothing more is kept, and what was is at this position.
     Stopped(Stop, Lsn),
     /// Transactions were open all along while as much came as one run may keep.
@@ -63,6 +65,9 @@ impl fmt::Display for Event<'_> {
                 write_lsn(f, *lsn)?;
                 write!(f, ": {end}")
             }
+            Event::Alone => f.write_str(
+                "once more from there without workers: a publisher logs rows before it checks their keys",
+            ),
             Event::Stopped(stop, lsn) => {
                 f.write_str("nothing is kept behind ")?;
                 write_lsn(f, *lsn)?;
