@@ -7,6 +7,7 @@
 //   applied        what of a stream is left out, and whose stream it is
 //   following      files behind streams that are cut, and in epochs of each size
 //   failing        logs that fail: files that are opened again, and what was confirmed
+//   folder         what is left of a file, as files of the system
 //   lines          lines of JSON, and writes of them that fail
 //   command_line   options, their limits, faults of usage, and help
 mod applied;
@@ -14,6 +15,7 @@ mod command_line;
 mod epochs;
 mod failing;
 mod files;
+mod folder;
 mod following;
 mod lines;
 mod rounds;
