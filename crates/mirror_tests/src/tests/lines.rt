@@ -15,12 +15,12 @@ use testing::asserts::{assert_holds, assert_same};
 
 /// Takes lines, and fails behind so many writes.
 #[derive(Drop)]
-struct Paper<'a> {
+struct FailingWriter<'a> {
     text: &'a mut Vec<u8>,
     writes: u64,
 }
 
-impl Write for Paper<'_> {
+impl Write for FailingWriter<'_> {
     fn write(&mut self, buf: &[u8]) -> io::Result<usize> {
         if self.writes == 0 || self.text.extend_from_slice(buf).is_err() {
             return Err(io::Error::from(ErrorKind::Other));
@@ -59,8 +59,8 @@ fn run_lines<R: Threads + Wait + Sync + Clock>(
         batch: 1,
     };
     let mut epochs = epochs_of(alloc, &plan, 0)?;
-    let paper = Paper { text, writes };
-    let mut keep = LineKeep::new(alloc, Tables::empty(alloc, catalog)?, catalog, paper);
+    let writer = FailingWriter { text, writes };
+    let mut keep = LineKeep::new(alloc, Tables::empty(alloc, catalog)?, catalog, writer);
     let start = Tables::empty(alloc, catalog)?;
     let ended = run_epoch(
         rt,
