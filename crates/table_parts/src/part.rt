@@ -6,9 +6,10 @@ ghost use Rattle.model.specs.Beginning.{last_end};
 ghost use Rattle.model.specs.Named.{NamesTables};
 ghost use Rattle.tokens.specs.Lists.{open_list};
 ghost use Rattle.world.specs.World.{World, starting};
+ghost use Rattle.world.specs.Steps as steps;
 ghost use Rattle.world.specs.Steps.{ReadsCommitted};
 ghost use Rattle.live_tables.specs.declared.answers.EngineFault.TheVariants.{OutOfMemory as NoMemory};
-ghost use Rattle.live_tables.specs.Answers.{told};
+ghost use Rattle.live_tables.specs.Answers.{told, told_call};
 ghost use Rattle.engine.specs.declared.events.Event.TheVariants.{Done};
 ghost use Rattle.engine.specs.Engine.{IsOtherwiseSame};
 ghost use Rattle.engine.specs.Events.{opened_by, ends_in, events_of};
@@ -65,6 +66,7 @@ impl Part {
     /// A transaction comes to the table for the first time. A refusal changes nothing.
     pub fn open(&mut self, alloc: Global, xid: Xid) -> Result<Ticket, EngineFault>
         ensures ticket { IfOk result (λ ticket. ticket ≡ open_list self.old.store.tickets xid []) }
+        ensures in_part { steps.Opens self.old.store.world xid (told_call result) self.new.store.world }
         ensures opens { Opens self.old.number self.old.store.world self.new.store.world }
         ensures same { IsOtherwiseSame self.old.store self.new.store }
         ensures number { self.new.number ≡ self.old.number }
@@ -83,6 +85,7 @@ impl Part {
         requires belongs { t.old.name ≡ self.old.store.tickets }
         requires names { NamesTables (length self.old.store.schema) c.now }
         requires its { IsIn self.old.number c.now }
+        ensures in_part { steps.Acts self.old.store.schema self.old.store.world t.old.number (opened_by t.old.list) mark c.now (told result) self.new.store.world }
         ensures tries { Tries self.old.store.schema self.old.number self.old.store.world t.old.number mark c.now (told result) self.new.store.world }
         ensures ticket { t.new ≡ record t.old { list = t.old.list ++ events_of mark c.now (told result) } }
         ensures same { IsOtherwiseSame self.old.store self.new.store }
