@@ -1,5 +1,5 @@
 // The type text. Each text spells itself.
-ghost use Rattle.std.specs.Prelude.{◌≡◌, ◌++◌, IfOk, OnOk};
+ghost use Rattle.std.specs.Prelude.{◌≡◌, ◌≢◌, ◌≤◌, ◌<◌, ◌↔◌, ◌∷◌, ◌++◌, [], IfOk, IsTrue, OnOk, length, slice_index, take};
 ghost use Rattle.model.specs.Types.Text.{escape, escaped_text};
 
 use crate::memory::OutOfMemory;
@@ -54,14 +54,40 @@ impl Clone for KeptText {
     }
 }
 
-/// Appends a text as the report prints it: with escapes.
+/// Appends a text as the report prints it: with escapes. The bytes between two escapes go at once.
 pub fn push(out: &mut Vec<u8>, text: &str) -> Result<(), AllocError>
     ensures { OnOk result (out.new.items ≡ out.old.items ++ escaped_text text.now) }
 {
-    for byte in text.as_bytes() {
+    let mut rest = text.as_bytes();
+    loop {
+        let (plain, behind) = rest.split_at(plain_len(rest));
+        out.extend_from_slice(plain)?;
+        let Some((byte, others)) = behind.split_first() else {
+            return Ok(());
+        };
         push_escaped(out, *byte)?;
+        rest = others;
     }
-    Ok(())
+}
+
+// How many bytes at the front are printed as they are, up to the first that is escaped.
+fn plain_len(bytes: &[u8]) -> usize
+    ensures within { result ≤ length bytes.now }
+    ensures plain { escaped_text (take result bytes.now) ≡ take result bytes.now }
+    ensures next { result < length bytes.now → escape (slice_index bytes.now result) ≢ slice_index bytes.now result ∷ [] }
+{
+    for (at, byte) in bytes.iter().enumerate() {
+        if is_escaped(*byte) {
+            return at;
+        }
+    }
+    bytes.len()
+}
+
+fn is_escaped(byte: u8) -> bool
+    ensures { IsTrue result ↔ (escape byte ≢ byte ∷ []) }
+{
+    matches!(byte, b'\\' | b'|' | b'\n' | b'\r')
 }
 
 fn push_escaped(out: &mut Vec<u8>, byte: u8) -> Result<(), AllocError>
