@@ -9,7 +9,7 @@ use crate::fault::RelFault;
 use crate::mapping::{ColumnSource, Field, Mapping};
 use crate::values::{sent_patch, sent_value};
 use messages::{Column, Tuple};
-use model::{ColumnPatch, Key, Patch, Row, RowBuilder, ValueRef};
+use model::{ColumnPatch, ColumnType, Key, Patch, Row, RowBuilder, Value, ValueRef};
 use std::alloc::Global;
 
 /// The value of a field; `None` is null.
@@ -71,15 +71,33 @@ pub(crate) fn row_of(alloc: Global, m: &Mapping, tuple: &Tuple) -> Result<Row, R
     Ok(row.finish()?)
 }
 
-/// How many bytes the texts of an inserted row have, or the greatest number where they are more.
+/// How many bytes the texts of an inserted row have, or the greatest number where they are more. No
+/// value is read for it.
 fn text_len(sources: &[ColumnSource], tuple: &[Column]) -> usize {
     let mut len: usize = 0;
     for source in sources {
-        if let Ok(Some(ValueRef::Text(text))) = column_value(tuple, source) {
-            len = len.saturating_add(text.len());
-        }
+        len = len.saturating_add(source_text_len(source, tuple));
     }
     len
+}
+
+/// How many bytes a column's text has; zero where the column isn't a text.
+fn source_text_len(source: &ColumnSource, tuple: &[Column]) -> usize {
+    match source {
+        ColumnSource::Sent(field) if field.kind == ColumnType::Text => sent_len(tuple.get(
+            field.place,
+        )),
+        ColumnSource::Default(Some(Value::Text(text))) => text.as_str().len(),
+        _ => 0,
+    }
+}
+
+/// How many bytes were sent for a column.
+fn sent_len(column: Option<&Column>) -> usize {
+    match column {
+        Some(Column::Text(text)) => text.as_str().len(),
+        _ => 0,
+    }
 }
 
 /// The patch of an update.
