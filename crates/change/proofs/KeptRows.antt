@@ -12,7 +12,7 @@ use Rattle.model.specs.Effect.{one_edit}
 use Rattle.model.specs.EditLemmas.{get_edit, get_one_edit}
 use Rattle.change.specs.declared.inverse.Wiped.{Wiped}
 use Rattle.change.specs.declared.inverse.Inverse.{Inverse}
-use Rattle.change.specs.declared.inverse.Inverse.TheVariants.{Take, Put, Replace, Unwipe}
+use Rattle.change.specs.declared.inverse.Inverse.TheVariants.{Take, Put, Replace, Move, Unwipe}
 use Rattle.change.specs.Inverse.{rows_held, row_by_inverse}
 use Rattle.change.specs.Edits.{laid_together, or_else}
 use Rattle.change.specs.KeptRow.{first_emptied, row_kept}
@@ -84,8 +84,10 @@ row_is_kept (Take other values) table key =
     ap (λ e. unwrap_or e None) (get_one_edit (other, values) None (table, key)) ∙ no_row_at (is_place (table, key) (other, values))
 row_is_kept (Put other values row) table key =
     ap (λ e. unwrap_or e None) (get_one_edit (other, values) (Some row) (table, key)) ∙ edit_at (is_place (table, key) (other, values)) (Some row) None refl
-row_is_kept (Replace other new_values values row) table key =
-    ap (λ e. unwrap_or e None) (get_edit (one_edit (other, new_values) None) (other, values) (Some row) (table, key))
-    ∙ edit_at (is_place (table, key) (other, values)) (Some row) (get (one_edit (other, new_values) None) (table, key))
-    (ap (λ e. unwrap_or e None) (get_one_edit (other, new_values) None (table, key)) ∙ no_row_at (is_place (table, key) (other, new_values)))
+row_is_kept (Replace other values row) table key =
+    ap (λ e. unwrap_or e None) (get_one_edit (other, values) (Some row) (table, key)) ∙ edit_at (is_place (table, key) (other, values)) (Some row) None refl
+row_is_kept (Move other keys row) table key =
+    ap (λ e. unwrap_or e None) (get_edit (one_edit (other, keys.value.new_key) None) (other, keys.value.key) (Some row) (table, key))
+    ∙ edit_at (is_place (table, key) (other, keys.value.key)) (Some row) (get (one_edit (other, keys.value.new_key) None) (table, key))
+    (ap (λ e. unwrap_or e None) (get_one_edit (other, keys.value.new_key) None (table, key)) ∙ no_row_at (is_place (table, key) (other, keys.value.new_key)))
 row_is_kept (Unwipe wiped) table key = emptied wiped.items table key

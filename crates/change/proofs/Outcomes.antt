@@ -1,10 +1,12 @@
 -- What a change that is done leaves, and that its inverse can be put back.
-use Rattle.std.specs.Prelude.{◌≡◌, ℕ, ◌<◌, Bool, true, false, cond, if◌then◌else◌, List, Option, Some, None, length, IsSome, is_some, not, refl, Ok, Err}
-use Rattle.std.proofs.Common.{sym, ◌∙◌, ap, subst, true≢false, inl, inr}
+use Rattle.std.specs.Prelude.{◌≡◌, ℕ, ◌<◌, Bool, true, false, cond, if◌then◌else◌, List, [], ◌∷◌, Option, Some, None, length, IsSome, is_some, not, refl, Ok, Err}
+use Rattle.std.proofs.Common.{Box, Global, sym, ◌∙◌, ap, subst, true≢false, inl, inr}
+use Rattle.std.proofs.lemmas.List.Elements.{Contains-append_left}
 use Rattle.std.specs.FinMap as map_of
 use Rattle.std.specs.FinMap.{get, insert, remove}
 use Rattle.model.specs.declared.key.Key.{Key}
 use Rattle.model.specs.declared.row.Row.{Row}
+use Rattle.model.specs.declared.cell.Cell.TheVariants.{Row as RowCell}
 use Rattle.model.specs.declared.change.Change.{Change}
 use Rattle.model.specs.declared.change.Change.TheVariants.{Put as PutRow, Set, Remove}
 use Rattle.model.specs.declared.change.ColumnPatch.{ColumnPatch}
@@ -19,10 +21,12 @@ use Rattle.change.specs.Leaving.{Leaves}
 use Rattle.change.specs.declared.outcome.Applied.TheVariants.{Done as DoneWith, Skipped}
 use Rattle.change.specs.declared.outcome.Clash.{Clash}
 use Rattle.change.specs.Altered.{cells_altered}
+use Rattle.change.specs.declared.inverse.MovedKeys.{MovedKeys}
 use Rattle.change.specs.declared.inverse.Inverse.{Inverse}
-use Rattle.change.specs.declared.inverse.Inverse.TheVariants.{Take, Put, Replace}
-use Rattle.change.specs.Inverse.{edits_of, room_back, IsKnown, AsLeft, HasItsRoom}
+use Rattle.change.specs.declared.inverse.Inverse.TheVariants.{Take, Put, Replace, Move}
+use Rattle.change.specs.Inverse.{edits_of, room_back, HasRow, HasNoRow, IsKnown, AsLeft, HasItsRoom}
 use Rattle.change.proofs.Altering.{put_alters, set_alters, remove_alters}
+use Rattle.change.proofs.Restoring.{written_over}
 
 -- once it is put back the rows are as before, so they are valid
 pub back_is_old : (old new : Content) (c : Change) (i : Inverse)
@@ -141,18 +145,6 @@ module _ (old new : Content) (table : ℕ) (row : Row) (key copy : Key) (same : 
 
 -- ---- a row is replaced
 
-first_again : {X : Type 0} (b : Bool) (x y z : X) → cond b x (cond b y z) ≡ cond b x z
-first_again true x y z = refl
-first_again false x y z = refl
-
--- a later edit at a place has the say
-pub written_over : (p : Place) (edit other : Option Row) → insert (one_edit p edit) p other ≡ one_edit p other
-written_over p edit other = same_edits _ _ (λ q.
-    get_edit (one_edit p edit) p other q
-    ∙ ap (cond (is_place q p) (Some other)) (get_one_edit p edit q)
-    ∙ first_again (is_place q p) (Some other) (Some edit) None
-    ∙ sym (get_one_edit p other q))
-
 either_first : {X : Type 0} (a b : Bool) (x y z : X) → ¬ ((a ≡ true) × (b ≡ true)) → cond a x (cond b y z) ≡ cond b y (cond a x z)
 either_first true true x y z apart = absurd (apart (refl, refl))
 either_first true false x y z apart = refl
@@ -234,7 +226,7 @@ module _ (old new : Content) (table : ℕ) (key stood_at : Key) (new_key stands_
   edits_found : insert (one_edit new_place None) old_place (Some was) ≡ insert (one_edit old_place (get old.rows old_place)) new_place (get old.rows new_place)
   edits_found = elim (place_cases new_place old_place) [ inl is ↦ at_old_place is | inr other ↦ at_other_place other ]
 
-  set_inverse : edits_of (Replace table stands_at stood_at was) ≡ inverse old.schema old.rows asked_set
+  set_inverse : insert (one_edit (table, stands_at) None) (table, stood_at) (Some was) ≡ inverse old.schema old.rows asked_set
   set_inverse =
       ap (λ (k : Key). insert (one_edit (table, k) None) (table, stood_at) (Some was)) same_new
       ∙ ap (λ (k : Key). insert (one_edit new_place None) (table, k) (Some was)) same_key
@@ -259,13 +251,31 @@ module _ (old new : Content) (table : ℕ) (key stood_at : Key) (new_key stands_
             ∙ get_remove_same old.rows old_place
       ]
 
-  pub set_leaves : Leaves old new asked_set (Ok (DoneWith (Replace table stands_at stood_at was)))
-  set_leaves =
-      leaves old new asked_set (Replace table stands_at stood_at was) sound.valid (subst IsDone (sym set_done) tt) schema set_ok set_inverse
-      (set_alters old.schema old.rows table key stood_at new_key stands_at patch was same_key same_new there
-      (ap (λ (r : Row). key_of old.schema table r) (sym row_is) ∙ own))
+  altered : KeepsCells (RowCell table stood_at ∷ RowCell table stands_at ∷ []) (footprint old.schema old.rows asked_set)
+  altered =
+      set_alters old.schema old.rows table key stood_at new_key stands_at patch was same_key same_new there
+      (ap (λ (r : Row). key_of old.schema table r) (sym row_is) ∙ own)
+
+  -- it has another key
+  pub move_leaves : (keys : Box MovedKeys Global) → keys.value ≡ record { key = stood_at; new_key = stands_at }
+      → Leaves old new asked_set (Ok (DoneWith (Move table keys was)))
+  move_leaves keys is =
+      leaves old new asked_set (Move table keys was) sound.valid (subst IsDone (sym set_done) tt) schema set_ok
+      (ap (λ (k : MovedKeys). insert (one_edit (table, k.new_key) None) (table, k.key) (Some was)) is ∙ set_inverse)
+      (subst (λ (k : MovedKeys). KeepsCells (RowCell table k.key ∷ RowCell table k.new_key ∷ []) (footprint old.schema old.rows asked_set)) (sym is) altered)
       known
-      (set_stands, ap (λ (k : Key). get (remove new.rows (table, k)) (table, stood_at)) same_new ∙ ap (λ (k : Key). get (remove new.rows new_place) (table, k)) same_key ∙ old_is_free)
+      (subst (λ (k : MovedKeys). HasRow new.rows table k.new_key × HasNoRow (remove new.rows (table, k.new_key)) table k.key) (sym is)
+      (set_stands, ap (λ (k : Key). get (remove new.rows (table, k)) (table, stood_at)) same_new ∙ ap (λ (k : Key). get (remove new.rows new_place) (table, k)) same_key ∙ old_is_free))
+      (λ cell is. kept cell (sound.room table key was there cell is)) kept
+
+  -- it keeps its key
+  pub replace_leaves : stands_at ≡ stood_at → Leaves old new asked_set (Ok (DoneWith (Replace table stood_at was)))
+  replace_leaves is =
+      leaves old new asked_set (Replace table stood_at was) sound.valid (subst IsDone (sym set_done) tt) schema set_ok
+      (sym (written_over (table, stood_at) None (Some was))
+      ∙ ap (λ (k : Key). insert (one_edit (table, k) None) (table, stood_at) (Some was)) (sym is) ∙ set_inverse)
+      (λ cell in_one. altered cell (Contains-append_left (RowCell table stood_at ∷ []) (RowCell table stands_at ∷ []) cell in_one))
+      known (subst (HasRow new.rows table) is set_stands)
       (λ cell is. kept cell (sound.room table key was there cell is)) kept
 
 -- ---- nothing is there

@@ -17,7 +17,7 @@ use Rattle.indexes.specs.Content.{Content, HasRoom}
 use Rattle.indexes.specs.Table.{cells_in}
 use Rattle.change.specs.declared.inverse.Wiped.{Wiped}
 use Rattle.change.specs.declared.inverse.Inverse.{Inverse}
-use Rattle.change.specs.declared.inverse.Inverse.TheVariants.{Take, Put, Replace, Unwipe}
+use Rattle.change.specs.declared.inverse.Inverse.TheVariants.{Take, Put, Replace, Move, Unwipe}
 use Rattle.change.specs.Edits.{laid_together}
 
 -- the rows that an emptied table held, each at its place
@@ -28,7 +28,8 @@ rows_held w = map_of.from_entries (map (λ (e : Key × Row). ((w.table, e.0), So
 abbrev pub edits_of : Inverse → Edits
 edits_of (Take table key) = one_edit (table, key) None
 edits_of (Put table key row) = one_edit (table, key) (Some row)
-edits_of (Replace table new_key key row) = map_of.insert (one_edit (table, new_key) None) (table, key) (Some row)
+edits_of (Replace table key row) = one_edit (table, key) (Some row)
+edits_of (Move table keys row) = map_of.insert (one_edit (table, keys.value.new_key) None) (table, keys.value.key) (Some row)
 edits_of (Unwipe wiped) = laid_together (map rows_held wiped.items)
 
 -- the row that an inverse puts back at a place, or none
@@ -52,7 +53,8 @@ room_unwiped room (w ∷ ws) = room_with (room_unwiped room ws) w
 abbrev pub room_back : List Cell → Inverse → List Cell
 room_back room (Take table key) = room
 room_back room (Put table key row) = room
-room_back room (Replace table new_key key row) = room
+room_back room (Replace table key row) = room
+room_back room (Move table keys row) = room
 room_back room (Unwipe wiped) = room_unwiped room wiped.items
 
 -- a row of the table stands at the key, or none does
@@ -90,21 +92,24 @@ pub record CanUnwipe (t : Content) (wiped : List Wiped) : Type 0 where
 abbrev pub IsKnown : Schema → Inverse → Type 0
 IsKnown schema (Take table key) = table < length schema
 IsKnown schema (Put table key row) = table < length schema
-IsKnown schema (Replace table new_key key row) = table < length schema
+IsKnown schema (Replace table key row) = table < length schema
+IsKnown schema (Move table keys row) = table < length schema
 IsKnown schema (Unwipe wiped) = AreKnown schema wiped.items
 
 -- where the change altered the tables, they are as it left them: with a row, with none, or empty
 abbrev pub AsLeft : Rows → Inverse → Type 0
 AsLeft rows (Take table key) = HasRow rows table key
 AsLeft rows (Put table key row) = HasNoRow rows table key
-AsLeft rows (Replace table new_key key row) = HasRow rows table new_key × HasNoRow (remove rows (table, new_key)) table key
+AsLeft rows (Replace table key row) = HasRow rows table key
+AsLeft rows (Move table keys row) = HasRow rows table keys.value.new_key × HasNoRow (remove rows (table, keys.value.new_key)) table keys.value.key
 AsLeft rows (Unwipe wiped) = AreEmpty rows wiped.items
 
 -- the cells of the row that is put back have a slot; emptied tables bring theirs
 abbrev pub HasItsRoom : Schema → List Cell → Inverse → Type 0
 HasItsRoom schema room (Take table key) = Unit {0}
 HasItsRoom schema room (Put table key row) = HasRoom room schema table row
-HasItsRoom schema room (Replace table new_key key row) = HasRoom room schema table row
+HasItsRoom schema room (Replace table key row) = HasRoom room schema table row
+HasItsRoom schema room (Move table keys row) = HasRoom room schema table row
 HasItsRoom schema room (Unwipe wiped) = Unit {0}
 
 -- the change can be taken back: the tables are as it left them where it altered them, they are valid once what stood is back, and its room is there

@@ -14,7 +14,7 @@ use Rattle.indexes.specs.Content.{Content, KeepsCells}
 use Rattle.indexes.specs.Table.{cells_in}
 use Rattle.change.specs.declared.inverse.Wiped.{Wiped}
 use Rattle.change.specs.declared.inverse.Inverse.{Inverse}
-use Rattle.change.specs.declared.inverse.Inverse.TheVariants.{Take, Put, Replace, Unwipe}
+use Rattle.change.specs.declared.inverse.Inverse.TheVariants.{Take, Put, Replace, Move, Unwipe}
 use Rattle.change.specs.Inverse.{rows_held, HasNoRows, BelongsTo, is_elsewhere, room_with, room_unwiped, room_back, AreEmpty, AreKnown, IsKnown, AsLeft, HasItsRoom, edits_of, CanPutBack}
 use Rattle.change.specs.Edits.{laid_together}
 use Rattle.change.specs.EditsLemmas.{back_together}
@@ -127,13 +127,15 @@ room_unwiped_keeps old new (w ∷ ws) keeps = room_with_keeps (room_unwiped old 
 pub room_back_keeps : (old new : List Cell) (inverse : Inverse) → KeepsCells old new → KeepsCells (room_back old inverse) (room_back new inverse)
 room_back_keeps old new (Take table key) keeps = keeps
 room_back_keeps old new (Put table key row) keeps = keeps
-room_back_keeps old new (Replace table new_key key row) keeps = keeps
+room_back_keeps old new (Replace table key row) keeps = keeps
+room_back_keeps old new (Move table keys row) keeps = keeps
 room_back_keeps old new (Unwipe wiped) keeps = room_unwiped_keeps old new wiped.items keeps
 
 pub HasItsRoom_keeps : (schema : Schema) (old new : List Cell) (inverse : Inverse) → KeepsCells old new → HasItsRoom schema old inverse → HasItsRoom schema new inverse
 HasItsRoom_keeps schema old new (Take table key) keeps has = has
 HasItsRoom_keeps schema old new (Put table key row) keeps has = λ cell is. keeps cell (has cell is)
-HasItsRoom_keeps schema old new (Replace table new_key key row) keeps has = λ cell is. keeps cell (has cell is)
+HasItsRoom_keeps schema old new (Replace table key row) keeps has = λ cell is. keeps cell (has cell is)
+HasItsRoom_keeps schema old new (Move table keys row) keeps has = λ cell is. keeps cell (has cell is)
 HasItsRoom_keeps schema old new (Unwipe wiped) keeps has = has
 
 -- an inverse that can be put back can be so with more room

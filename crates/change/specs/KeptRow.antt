@@ -7,7 +7,7 @@ use Rattle.model.specs.declared.key.Key.{Key}
 use Rattle.model.specs.declared.row.Row.{Row}
 use Rattle.model.specs.Rows.{is_place}
 use Rattle.change.specs.declared.inverse.Inverse.{Inverse}
-use Rattle.change.specs.declared.inverse.Inverse.TheVariants.{Take, Put, Replace, Unwipe}
+use Rattle.change.specs.declared.inverse.Inverse.TheVariants.{Take, Put, Replace, Move, Unwipe}
 use Rattle.change.specs.declared.inverse.Wiped.{Wiped}
 use Rattle.change.specs.Edits.{or_else}
 
@@ -21,5 +21,6 @@ first_emptied (w ∷ wiped) table key =
 abbrev pub row_kept : Inverse → ℕ → Key → Option Row
 row_kept (Take other values) table key = None
 row_kept (Put other values row) table key = if is_place (table, key) (other, values) then Some row else None
-row_kept (Replace other new_values values row) table key = if is_place (table, key) (other, values) then Some row else None
+row_kept (Replace other values row) table key = if is_place (table, key) (other, values) then Some row else None
+row_kept (Move other keys row) table key = if is_place (table, key) (other, keys.value.key) then Some row else None
 row_kept (Unwipe wiped) table key = first_emptied wiped.items table key

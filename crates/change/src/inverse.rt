@@ -25,17 +25,31 @@ pub enum Inverse {
         key: Key,
         row: Row,
     },
-    /// The row that stands at `new_key` came in place of this one at `key`.
+    /// Another row came in place of this one, at the same key.
     Replace {
         table: TableId,
-        new_key: Key,
         key: Key,
+        row: Row,
+    },
+    /// This row was changed and has another key since then.
+    Move {
+        table: TableId,
+        keys: Box<MovedKeys>,
         row: Row,
     },
     /// These tables were emptied, one after another.
     Unwipe {
         wiped: Vec<Wiped>,
     },
+}
+
+/// The keys of a row that moved.
+#[derive(Debug, Drop)]
+pub struct MovedKeys {
+    /// The one that it had.
+    pub key: Key,
+    /// The one that it has now.
+    pub new_key: Key,
 }
 
 /// A table that was emptied, and what it held.
@@ -69,8 +83,12 @@ impl Inverse {
                 table: other,
                 key: values,
                 row,
-                ..
             } => row_if(is_at(table, key, *other, values), row),
+            Inverse::Move {
+                table: other,
+                keys,
+                row,
+            } => row_if(is_at(table, key, *other, &keys.key), row),
             Inverse::Unwipe { wiped } => row_emptied(wiped.as_slice(), table, key),
         }
     }
@@ -117,12 +135,14 @@ pub fn put_back(t: &mut Tables, inverse: Inverse)
     match inverse {
         Inverse::Take { table, key } => t.take_back(table, &key),
         Inverse::Put { table, key, row } => t.put_back(table, key, row),
-        Inverse::Replace {
-            table,
-            new_key,
-            key,
-            row,
-        } => t.replace_back(table, &new_key, key, row),
+        Inverse::Replace { table, key, row } => {
+            t.take_back(table, &key);
+            t.put_back(table, key, row);
+        }
+        Inverse::Move { table, keys, row } => {
+            let MovedKeys { key, new_key } = Box::into_inner(keys);
+            t.replace_back(table, &new_key, key, row);
+        }
         Inverse::Unwipe { wiped } => unwipe_all(t, wiped),
     }
 }

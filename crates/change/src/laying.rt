@@ -28,12 +28,16 @@ impl Inverse {
             } => lay_one(*other, key, Some(row), table, known),
             Inverse::Replace {
                 table: other,
-                new_key,
                 key,
                 row,
+            } => lay_one(*other, key, Some(row), table, known),
+            Inverse::Move {
+                table: other,
+                keys,
+                row,
             } => {
-                lay_one(*other, key, Some(row), table, known)?;
-                lay_one(*other, new_key, None, table, known)
+                lay_one(*other, &keys.key, Some(row), table, known)?;
+                lay_one(*other, &keys.new_key, None, table, known)
             }
             Inverse::Unwipe { wiped } => lay_each(wiped.as_slice(), table, known),
         }

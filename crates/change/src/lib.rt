@@ -38,7 +38,7 @@ pub mod reading;
 pub mod search;
 
 pub use cell_ref::{CellRef, KeyRef};
-pub use inverse::{Inverse, Wiped, put_back};
+pub use inverse::{Inverse, MovedKeys, Wiped, put_back};
 pub use model::{Change, ColumnPatch, Patch, TableIds};
 pub use outcome::{Applied, Clash, apply};
 pub use reading::PatchedRow;

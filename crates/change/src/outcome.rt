@@ -1,5 +1,5 @@
 // What a change does to the tables.
-ghost use Rattle.std.specs.Prelude.{◌≡◌, ◌+◌, ◌-◌, ◌<◌, ◌≤◌, length, true, IfOk, IfSome, IsSome, is_some, OnOk, OnErr, Some, None};
+ghost use Rattle.std.specs.Prelude.{◌≡◌, ◌+◌, ◌-◌, ◌<◌, ◌≤◌, length, true, IfOk, MatchOption, IfSome, IsSome, is_some, OnOk, OnErr, Some, None};
 ghost use Rattle.std.specs.FinMap.{get, remove};
 ghost use Rattle.model.specs.declared.change.Change.TheVariants.{Put, Set, Remove, Wipe};
 ghost use Rattle.model.specs.Rows.{IsValid, keys_at, values_in};
@@ -13,7 +13,7 @@ ghost use Rattle.change.specs.Applied.{AnswersOutcome, IsSound, IfDone, room_aft
 ghost use Rattle.change.specs.Leaving.{Leaves};
 ghost use Rattle.change.specs.Clashing.{without, KeepsValues};
 
-use crate::inverse::{Inverse, Wiped, unwipe_all};
+use crate::inverse::{Inverse, MovedKeys, Wiped, unwipe_all};
 use crate::reading::{PatchedRow, has_same};
 use indexes::Tables;
 use model::{Change, Key, OutOfMemory, Patch, Row, TableId};
@@ -134,15 +134,35 @@ fn set(
     if let Some(number) = first_clash(t, table, &row, Some(OldRow { key, row: &old })) {
         return Err(Clash::Unique { table, key: number });
     }
-    let stands_at = new_key.copy()?;
     let stood_at = key.copy()?;
-    let old = t.replace(table, key, new_key, row)?;
-    Ok(Applied::Done(Inverse::Replace {
-        table,
-        new_key: stands_at,
-        key: stood_at,
-        row: old,
+    let moved = moved_keys(alloc, key, &new_key)?;
+    let row = t.replace(table, key, new_key, row)?;
+    Ok(Applied::Done(match moved {
+        None => Inverse::Replace {
+            table,
+            key: stood_at,
+            row,
+        },
+        Some(keys) => Inverse::Move { table, keys, row },
     }))
+}
+
+/// The keys of a row that an update gives another one.
+fn moved_keys(
+    alloc: Global,
+    key: &Key,
+    new_key: &Key,
+) -> Result<Option<Box<MovedKeys>>, OutOfMemory>
+    ensures { IfOk result (λ moved. MatchOption moved (new_key.now ≡ key.now) (λ keys. keys.value ≡ record { key = key.now; new_key = new_key.now })) }
+{
+    if new_key == key {
+        return Ok(None);
+    }
+    let keys = MovedKeys {
+        key: key.copy()?,
+        new_key: new_key.copy()?,
+    };
+    Ok(Some(Box::new(alloc, keys)?))
 }
 
 /// The row at a key goes; one that isn't there is skipped.

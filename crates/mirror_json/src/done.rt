@@ -27,12 +27,14 @@ pub(crate) fn push_done<'a>(
 {
     let (table, deed) = match inverse {
         Inverse::Take { table, key } => (*table, Deed::Insert { key }),
-        Inverse::Replace {
-            table,
-            new_key,
-            key,
-            ..
-        } => (*table, Deed::Update { key, new_key }),
+        Inverse::Replace { table, key, .. } => (*table, Deed::Update { key, new_key: key }),
+        Inverse::Move { table, keys, .. } => (
+            *table,
+            Deed::Update {
+                key: &keys.key,
+                new_key: &keys.new_key,
+            },
+        ),
         Inverse::Put { table, key, .. } => (*table, Deed::Delete { key }),
         Inverse::Unwipe { wiped } => return push_truncates(catalog, tables, commit, wiped, lines),
     };

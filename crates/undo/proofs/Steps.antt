@@ -10,7 +10,7 @@ use Rattle.model.specs.Effect.{Edits, back, all_back}
 use Rattle.model.specs.EffectLemmas.{all_back_append}
 use Rattle.indexes.specs.Content.{Content, KeepsCells}
 use Rattle.change.specs.declared.inverse.Inverse.{Inverse}
-use Rattle.change.specs.declared.inverse.Inverse.TheVariants.{Take, Put, Replace, Unwipe}
+use Rattle.change.specs.declared.inverse.Inverse.TheVariants.{Take, Put, Replace, Move, Unwipe}
 use Rattle.change.specs.Inverse.{edits_of, room_back, IsKnown, CanPutBack}
 use Rattle.undo.specs.Undo.{content_back, content_undone, CanUndo, AreKnownAll, cells_settled, all_settled, IsReleased, IsSettled, AreSettled}
 use Rattle.undo.specs.UndoLemmas.{content_undone_last, CanUndo_last, CanUndo_keeps, room_undone_keeps}
@@ -111,7 +111,8 @@ module _ (schema : Schema) (rows : Rows) (room less : List Cell) (fewer : KeepsC
   settled_in_less : (i : Inverse) → IsSettled schema rows room i → IsSettled schema rows less i
   settled_in_less (Take table key) given = tt
   settled_in_less (Put table key row) given = released_in_less table key row given
-  settled_in_less (Replace table new_key key row) given = released_in_less table key row given
+  settled_in_less (Replace table key row) given = released_in_less table key row given
+  settled_in_less (Move table keys row) given = released_in_less table keys.value.key row given
   settled_in_less (Unwipe wiped) given = tt
 
   pub all_settled_in_less : (is : List Inverse) → AreSettled schema rows room is → AreSettled schema rows less is

@@ -40,7 +40,7 @@ use Rattle.model.specs.AlikeLemmas.{same_footprint, same_outcome, same_inverse, 
 use Rattle.model.specs.SerialLemmas.{each_so, leaves_free_cell, same_past}
 use Rattle.indexes.specs.Content.{Content, KeepsCells}
 use Rattle.change.specs.declared.inverse.Inverse.{Inverse}
-use Rattle.change.specs.declared.inverse.Inverse.TheVariants.{Take, Put, Replace, Unwipe}
+use Rattle.change.specs.declared.inverse.Inverse.TheVariants.{Take, Put, Replace, Move, Unwipe}
 use Rattle.change.specs.Inverse.{edits_of}
 use Rattle.change.specs.InverseLemmas.{contains_first, contains_here, contains_later, contains_one}
 use Rattle.change.specs.Altered.{cells_altered}
@@ -266,12 +266,18 @@ module _ (schema : Schema) (rows : Rows) (valid : IsValid schema rows) (c : Chan
       (ap (λ edits. get edits (table, key)) (sym same) ∙ get_one_edit (table, key) (Some row) (table, key)
       ∙ ap (λ b. cond b (Some (Some row)) None) (same_place (table, key))))
       (alters (Row table key) (contains_here (Row table key) [])) cell is
-  of_inverse (Replace table new_key key row) same alters cell is =
+  of_inverse (Replace table key row) same alters cell is =
       of_row table key row
       (stood schema rows c (table, key) row
-      (ap (λ edits. get edits (table, key)) (sym same) ∙ get_edit (one_edit (table, new_key) None) (table, key) (Some row) (table, key)
-      ∙ ap (λ b. cond b (Some (Some row)) (get (one_edit (table, new_key) None) (table, key))) (same_place (table, key))))
-      (alters (Row table key) (contains_here (Row table key) (Row table new_key ∷ []))) cell is
+      (ap (λ edits. get edits (table, key)) (sym same) ∙ get_one_edit (table, key) (Some row) (table, key)
+      ∙ ap (λ b. cond b (Some (Some row)) None) (same_place (table, key))))
+      (alters (Row table key) (contains_here (Row table key) [])) cell is
+  of_inverse (Move table keys row) same alters cell is =
+      of_row table keys.value.key row
+      (stood schema rows c (table, keys.value.key) row
+      (ap (λ edits. get edits (table, keys.value.key)) (sym same) ∙ get_edit (one_edit (table, keys.value.new_key) None) (table, keys.value.key) (Some row) (table, keys.value.key)
+      ∙ ap (λ b. cond b (Some (Some row)) (get (one_edit (table, keys.value.new_key) None) (table, keys.value.key))) (same_place (table, keys.value.key))))
+      (alters (Row table keys.value.key) (contains_here (Row table keys.value.key) (Row table keys.value.new_key ∷ []))) cell is
   of_inverse (Unwipe wiped) same alters cell is = absurd (omega (arith, is.1))
 
 -- what the inverses of changes give up is held by the changes, or filled by a row whose place they hold
@@ -293,7 +299,8 @@ secured schema _ _ _ valid (with_skipped rows c cs rest skips log) cell is =
 needed_of : (schema : Schema) (i : Inverse) (cell : Cell) → Contains (cells_needed schema i) cell → Contains (cells_settled schema i) cell
 needed_of schema (Take table key) cell is = is
 needed_of schema (Put table key row) cell is = contains_later (Row table key) (cells_of schema table row) cell is
-needed_of schema (Replace table new_key key row) cell is = contains_later (Row table key) (cells_of schema table row) cell is
+needed_of schema (Replace table key row) cell is = contains_later (Row table key) (cells_of schema table row) cell is
+needed_of schema (Move table keys row) cell is = contains_later (Row table keys.value.key) (cells_of schema table row) cell is
 needed_of schema (Unwipe wiped) cell is = is
 
 pub needed_settled : (schema : Schema) (is : List Inverse) (cell : Cell) → Contains (all_needed schema is) cell → Contains (all_settled schema is) cell
@@ -385,7 +392,8 @@ settled_narrow schema (i ∷ rest) cell is =
     of : (i : Inverse) → Contains (cells_settled schema i) cell → IsNarrow cell
     of (Take table key) here = absurd (omega (arith, here.1))
     of (Put table key row) here = row_narrow schema table key row cell here
-    of (Replace table new_key key row) here = row_narrow schema table key row cell here
+    of (Replace table key row) here = row_narrow schema table key row cell here
+    of (Move table keys row) here = row_narrow schema table keys.value.key row cell here
     of (Unwipe wiped) here = absurd (omega (arith, here.1))
 
 -- ---- what one needs and another gives up

@@ -36,7 +36,7 @@ use Rattle.indexes.specs.Content.{Content, KeepsCells}
 use Rattle.indexes.specs.Table.{Spot, cell_of_key, cell_at, cells_in}
 use Rattle.change.specs.declared.inverse.Wiped.{Wiped}
 use Rattle.change.specs.declared.inverse.Inverse.{Inverse}
-use Rattle.change.specs.declared.inverse.Inverse.TheVariants.{Take, Put, Replace, Unwipe}
+use Rattle.change.specs.declared.inverse.Inverse.TheVariants.{Take, Put, Replace, Move, Unwipe}
 use Rattle.change.specs.Altered.{cells_altered}
 use Rattle.change.specs.Edits.{laid_together, or_else}
 use Rattle.change.specs.EditsLemmas.{get_over, get_rows_held_other, number_is_not}
@@ -76,11 +76,12 @@ empty_alike schema rows others (w ∷ ws) same empty = (
 left_alike : (schema : Schema) (rows others : Rows) (i : Inverse) → AreSame schema rows others (cells_altered i) → AsLeft rows i → AsLeft others i
 left_alike schema rows others (Take table key) same left = ap is_some (sym same.0) ∙ left
 left_alike schema rows others (Put table key row) same left = sym same.0 ∙ left
-left_alike schema rows others (Replace table new_key key row) same left = (
+left_alike schema rows others (Replace table key row) same left = ap is_some (sym same.0) ∙ left
+left_alike schema rows others (Move table keys row) same left = (
   ap is_some (sym same.1.0) ∙ left.0,
-  get_remove others (table, new_key) (table, key)
-      ∙ ap (cond (is_place (table, key) (table, new_key)) None) (sym same.0)
-      ∙ sym (get_remove rows (table, new_key) (table, key)) ∙ left.1,
+  get_remove others (table, keys.value.new_key) (table, keys.value.key)
+      ∙ ap (cond (is_place (table, keys.value.key) (table, keys.value.new_key)) None) (sym same.0)
+      ∙ sym (get_remove rows (table, keys.value.new_key) (table, keys.value.key)) ∙ left.1,
 )
 left_alike schema rows others (Unwipe wiped) same left = empty_alike schema rows others wiped.items same left
 
@@ -89,8 +90,9 @@ altered_undone : (schema : Schema) (old new : Content) (is : List Inverse) (i : 
     → AreSame schema (content_undone old is).rows (content_undone new is).rows (cells_altered i)
 altered_undone schema old new is (Take table key) same = (same_undone old new (table, key) is same.0, tt)
 altered_undone schema old new is (Put table key row) same = (same_undone old new (table, key) is same.0, tt)
-altered_undone schema old new is (Replace table new_key key row) same =
-    (same_undone old new (table, key) is same.0, (same_undone old new (table, new_key) is same.1.0, tt))
+altered_undone schema old new is (Replace table key row) same = (same_undone old new (table, key) is same.0, tt)
+altered_undone schema old new is (Move table keys row) same =
+    (same_undone old new (table, keys.value.key) is same.0, (same_undone old new (table, keys.value.new_key) is same.1.0, tt))
 altered_undone schema old new is (Unwipe wiped) same = each wiped.items same
   where
     each : (ws : List Wiped) → AreSame schema old.rows new.rows (map (λ (w : Wiped). Whole w.table) ws)
@@ -121,7 +123,8 @@ pub room_back_of : (old new : List Cell) (i : Inverse) (cell : Cell) → (Contai
     → Contains (room_back old i) cell → Contains (room_back new i) cell
 room_back_of old new (Take table key) cell stays = stays
 room_back_of old new (Put table key row) cell stays = stays
-room_back_of old new (Replace table new_key key row) cell stays = stays
+room_back_of old new (Replace table key row) cell stays = stays
+room_back_of old new (Move table keys row) cell stays = stays
 room_back_of old new (Unwipe wiped) cell stays = room_unwiped_of old new wiped.items cell stays
 
 -- a cell that stays in the room is there once inverses are put back
@@ -136,7 +139,8 @@ has_room_of : (schema : Schema) (old new : List Cell) (i : Inverse)
     → HasItsRoom schema old i → HasItsRoom schema new i
 has_room_of schema old new (Take table key) stays has = has
 has_room_of schema old new (Put table key row) stays has = λ cell is. stays cell is (has cell is)
-has_room_of schema old new (Replace table new_key key row) stays has = λ cell is. stays cell is (has cell is)
+has_room_of schema old new (Replace table key row) stays has = λ cell is. stays cell is (has cell is)
+has_room_of schema old new (Move table keys row) stays has = λ cell is. stays cell is (has cell is)
 has_room_of schema old new (Unwipe wiped) stays has = has
 
 -- ---- past others
@@ -203,11 +207,14 @@ edits_elsewhere (Take table key) p free =
 edits_elsewhere (Put table key row) p free =
     get_one_edit (table, key) (Some row) p
     ∙ ap (λ b. cond b (Some (Some row)) None) (places_differ p (table, key) (neither_first _ _ free))
-edits_elsewhere (Replace table new_key key row) p free =
-    get_edit (one_edit (table, new_key) None) (table, key) (Some row) p
-    ∙ ap (λ b. cond b (Some (Some row)) (get (one_edit (table, new_key) None) p)) (places_differ p (table, key) (neither_first _ _ free))
-    ∙ get_one_edit (table, new_key) None p
-    ∙ ap (λ b. cond b (Some None) None) (places_differ p (table, new_key) (neither_first _ _ (neither_second _ _ free)))
+edits_elsewhere (Replace table key row) p free =
+    get_one_edit (table, key) (Some row) p
+    ∙ ap (λ b. cond b (Some (Some row)) None) (places_differ p (table, key) (neither_first _ _ free))
+edits_elsewhere (Move table keys row) p free =
+    get_edit (one_edit (table, keys.value.new_key) None) (table, keys.value.key) (Some row) p
+    ∙ ap (λ b. cond b (Some (Some row)) (get (one_edit (table, keys.value.new_key) None) p)) (places_differ p (table, keys.value.key) (neither_first _ _ free))
+    ∙ get_one_edit (table, keys.value.new_key) None p
+    ∙ ap (λ b. cond b (Some None) None) (places_differ p (table, keys.value.new_key) (neither_first _ _ (neither_second _ _ free)))
 edits_elsewhere (Unwipe wiped) p free = unwiped_elsewhere wiped.items p free
 
 -- the rows are the same but in these cells
@@ -252,8 +259,9 @@ module _ (schema : Schema) (rows others : Rows) (cells : List Cell) (same : IsSa
   altered_same : (i : Inverse) → shares_cell (cells_altered i) cells ≡ false → AreSame schema rows others (cells_altered i)
   altered_same (Take table key) apart = (same (table, key) (neither_first _ _ apart), tt)
   altered_same (Put table key row) apart = (same (table, key) (neither_first _ _ apart), tt)
-  altered_same (Replace table new_key key row) apart =
-      (same (table, key) (neither_first _ _ apart), (same (table, new_key) (neither_first _ _ (neither_second _ _ apart)), tt))
+  altered_same (Replace table key row) apart = (same (table, key) (neither_first _ _ apart), tt)
+  altered_same (Move table keys row) apart =
+      (same (table, keys.value.key) (neither_first _ _ apart), (same (table, keys.value.new_key) (neither_first _ _ (neither_second _ _ apart)), tt))
   altered_same (Unwipe wiped) apart = wholes_same wiped.items apart
 
   pub all_altered_same : (is : List Inverse) → shares_cell (all_altered is) cells ≡ false → AreSame schema rows others (all_altered is)
@@ -306,13 +314,15 @@ in_cells_in table (s ∷ spots) cell is =
 abbrev LeavesTable : ℕ → Inverse → Type 0
 LeavesTable table (Take at key) = Unit {0}
 LeavesTable table (Put at key row) = Unit {0}
-LeavesTable table (Replace at new_key key row) = Unit {0}
+LeavesTable table (Replace at key row) = Unit {0}
+LeavesTable table (Move at keys row) = Unit {0}
 LeavesTable table (Unwipe wiped) = AllByRecursion (λ (w : Wiped). (table == w.table) ≡ false) wiped.items
 
 leaves_table : (table : ℕ) (key : Key) (i : Inverse) → IsFreePlace (table, key) (cells_altered i) → LeavesTable table i
 leaves_table table key (Take at own) free = tt
 leaves_table table key (Put at own row) free = tt
-leaves_table table key (Replace at new_key own row) free = tt
+leaves_table table key (Replace at own row) free = tt
+leaves_table table key (Move at keys row) free = tt
 leaves_table table key (Unwipe wiped) free = each wiped.items free
   where
     each : (ws : List Wiped) → IsFreePlace (table, key) (map (λ (w : Wiped). Whole w.table) ws) → AllByRecursion (λ (w : Wiped). (table == w.table) ≡ false) ws
@@ -339,13 +349,15 @@ unwiped_more room (w ∷ ws) cell all is =
 back_less : (room : List Cell) (i : Inverse) (cell : Cell) → LeavesTable (table_of cell) i → Contains (room_back room i) cell → Contains room cell
 back_less room (Take at key) cell leaves is = is
 back_less room (Put at key row) cell leaves is = is
-back_less room (Replace at new_key key row) cell leaves is = is
+back_less room (Replace at key row) cell leaves is = is
+back_less room (Move at keys row) cell leaves is = is
 back_less room (Unwipe wiped) cell leaves is = unwiped_less room wiped.items cell leaves is
 
 back_more : (room : List Cell) (i : Inverse) (cell : Cell) → LeavesTable (table_of cell) i → Contains room cell → Contains (room_back room i) cell
 back_more room (Take at key) cell leaves is = is
 back_more room (Put at key row) cell leaves is = is
-back_more room (Replace at new_key key row) cell leaves is = is
+back_more room (Replace at key row) cell leaves is = is
+back_more room (Move at keys row) cell leaves is = is
 back_more room (Unwipe wiped) cell leaves is = unwiped_more room wiped.items cell leaves is
 
 -- of a list of them
@@ -368,8 +380,10 @@ module _ (schema : Schema) (cells : List Cell) where
   needed_place (Take table key) apart cell needs = absurd (omega (arith, needs.1))
   needed_place (Put table key row) apart cell needs =
       (key, subst (λ (n : ℕ). IsFreePlace (n, key) cells) (sym (in_cells_of schema table row cell needs)) (neither_first _ _ apart))
-  needed_place (Replace table new_key key row) apart cell needs =
+  needed_place (Replace table key row) apart cell needs =
       (key, subst (λ (n : ℕ). IsFreePlace (n, key) cells) (sym (in_cells_of schema table row cell needs)) (neither_first _ _ apart))
+  needed_place (Move table keys row) apart cell needs =
+      (keys.value.key, subst (λ (n : ℕ). IsFreePlace (n, keys.value.key) cells) (sym (in_cells_of schema table row cell needs)) (neither_first _ _ apart))
   needed_place (Unwipe wiped) apart cell needs = absurd (omega (arith, needs.1))
 
   pub all_needed_place : (is : List Inverse) → shares_cell (all_altered is) cells ≡ false → (cell : Cell) → Contains (all_needed schema is) cell

@@ -15,7 +15,7 @@ use Rattle.model.specs.Cells.{cells_of}
 use Rattle.model.specs.Effect.{back}
 use Rattle.indexes.specs.Content.{Content}
 use Rattle.change.specs.declared.inverse.Inverse.{Inverse}
-use Rattle.change.specs.declared.inverse.Inverse.TheVariants.{Take, Put, Replace, Unwipe}
+use Rattle.change.specs.declared.inverse.Inverse.TheVariants.{Take, Put, Replace, Move, Unwipe}
 use Rattle.change.specs.Inverse.{edits_of, room_back, HasNoRow, IsKnown, CanPutBack}
 
 -- a log as its callers see it
@@ -46,14 +46,16 @@ AreKnownAll schema (inverse ∷ inverses) = IsKnown schema inverse × AreKnownAl
 abbrev pub cells_needed : Schema → Inverse → List Cell
 cells_needed schema (Take table key) = []
 cells_needed schema (Put table key row) = cells_of schema table row
-cells_needed schema (Replace table new_key key row) = cells_of schema table row
+cells_needed schema (Replace table key row) = cells_of schema table row
+cells_needed schema (Move table keys row) = cells_of schema table row
 cells_needed schema (Unwipe wiped) = []
 
 -- of an inverse that puts a row back: its key's, and those that it fills again
 abbrev pub cells_settled : Schema → Inverse → List Cell
 cells_settled schema (Take table key) = []
 cells_settled schema (Put table key row) = Row table key ∷ cells_needed schema (Put table key row)
-cells_settled schema (Replace table new_key key row) = Row table key ∷ cells_needed schema (Replace table new_key key row)
+cells_settled schema (Replace table key row) = Row table key ∷ cells_needed schema (Replace table key row)
+cells_settled schema (Move table keys row) = Row table keys.value.key ∷ cells_needed schema (Move table keys row)
 cells_settled schema (Unwipe wiped) = []
 
 -- the cells that settling a list of inverses may give up
@@ -71,7 +73,8 @@ pub record IsReleased (schema : Schema) (rows : Rows) (room : List Cell) (table 
 abbrev pub IsSettled : Schema → Rows → List Cell → Inverse → Type 0
 IsSettled schema rows room (Take table key) = Unit {0}
 IsSettled schema rows room (Put table key row) = IsReleased schema rows room table key row
-IsSettled schema rows room (Replace table new_key key row) = IsReleased schema rows room table key row
+IsSettled schema rows room (Replace table key row) = IsReleased schema rows room table key row
+IsSettled schema rows room (Move table keys row) = IsReleased schema rows room table keys.value.key row
 IsSettled schema rows room (Unwipe wiped) = Unit {0}
 
 -- each row that one of the inverses puts back has its cells given up, where no row fills them

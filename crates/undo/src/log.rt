@@ -212,11 +212,7 @@ fn settle_one(inverse: &Inverse, t: &mut Tables)
     match inverse {
         Inverse::Take { .. } | Inverse::Unwipe { .. } => {}
         Inverse::Put { table, key, row } => t.settle(*table, key, row),
-        Inverse::Replace {
-            table,
-            key,
-            row,
-            ..
-        } => t.settle(*table, key, row),
+        Inverse::Replace { table, key, row } => t.settle(*table, key, row),
+        Inverse::Move { table, keys, row } => t.settle(*table, &keys.key, row),
     }
 }

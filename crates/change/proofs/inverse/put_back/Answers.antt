@@ -1,9 +1,12 @@
-use Rattle.std.proofs.Common.{Some, None, sym, ◌∙◌, ap, subst}
-use Rattle.model.specs.Effect.{back}
-use Rattle.model.specs.EditLemmas.{overlay_one, overlay_two}
+use Rattle.std.proofs.Common.{◌≡◌, Some, None, sym, ◌∙◌, ap, subst}
+use Rattle.std.specs.FinMap.{get, insert, remove}
+use Rattle.model.specs.Rows.{Rows, Schema, keys_at, key_of}
+use Rattle.model.specs.Effect.{first_taken, back}
+use Rattle.model.specs.EditLemmas.{get_remove_same, overlay_one, overlay_two}
+use Rattle.change.specs.declared.inverse.MovedKeys.{MovedKeys}
 use Rattle.change.specs.Inverse.{CanPutBack, edits_of}
 use Rattle.change.specs.InverseLemmas.{back_unwipe}
-use Rattle.change.proofs.Restoring.{put_own_key, put_unique, replace_own_key, replace_unique}
+use Rattle.change.proofs.Restoring.{put_own_key, put_unique, insert_over, replace_own_key, replace_unique, move_own_key, move_unique}
 use Rattle.change.proofs.inverse.put_back.Goals as goal
 
 pub put_back-requires-clause-own_key : goal.put_back-requires-clause-own_key
@@ -14,13 +17,34 @@ pub put_back-requires-clause-unique : goal.put_back-requires-clause-unique
 put_back-requires-clause-unique c =
     put_unique c.args.t.now c.in-Put.table c.in-Put.key c.in-Put.row (subst (CanPutBack c.args.t.now) c.in-Put.is c.requires)
 
+pub put_back-requires-in-Replace-clause-own_key : goal.put_back-requires-in-Replace-clause-own_key
+put_back-requires-in-Replace-clause-own_key c =
+    subst (λ (s : Schema). key_of s c.in-Replace.table c.in-Replace.row ≡ Some c.in-Replace.key) (sym c.take_back-in-Replace.ensures.schema)
+    (replace_own_key c.args.t.now c.in-Replace.table c.in-Replace.key c.in-Replace.row (subst (CanPutBack c.args.t.now) c.in-Replace.is c.requires))
+
+pub put_back-requires-in-Replace-clause-free : goal.put_back-requires-in-Replace-clause-free
+put_back-requires-in-Replace-clause-free c =
+    ap (λ (rows : Rows). get rows (c.in-Replace.table, c.in-Replace.key)) c.take_back-in-Replace.ensures.rows
+    ∙ get_remove_same c.args.t.now.rows (c.in-Replace.table, c.in-Replace.key)
+
+pub put_back-requires-in-Replace-clause-unique : goal.put_back-requires-in-Replace-clause-unique
+put_back-requires-in-Replace-clause-unique c =
+    ap (λ (rows : Rows). first_taken rows c.in-Replace.table c.in-Replace.row 1 (keys_at c.take_back-in-Replace.new.self.schema c.in-Replace.table).uniques)
+    c.take_back-in-Replace.ensures.rows
+    ∙ ap (λ (s : Schema). first_taken (remove c.args.t.now.rows (c.in-Replace.table, c.in-Replace.key)) c.in-Replace.table c.in-Replace.row 1 (keys_at s c.in-Replace.table).uniques)
+    c.take_back-in-Replace.ensures.schema
+    ∙ replace_unique c.args.t.now c.in-Replace.table c.in-Replace.key c.in-Replace.row (subst (CanPutBack c.args.t.now) c.in-Replace.is c.requires)
+
 pub replace_back-requires-clause-own_key : goal.replace_back-requires-clause-own_key
 replace_back-requires-clause-own_key c =
-    replace_own_key c.args.t.now c.in-Replace.table c.in-Replace.new_key c.in-Replace.key c.in-Replace.row (subst (CanPutBack c.args.t.now) c.in-Replace.is c.requires)
+    subst (λ (k : MovedKeys). key_of c.args.t.now.schema c.in-Move.table c.in-Move.row ≡ Some k.key) (sym c.into_inner-key.ensures)
+    (move_own_key c.args.t.now c.in-Move.table c.in-Move.keys c.in-Move.row (subst (CanPutBack c.args.t.now) c.in-Move.is c.requires))
 
 pub replace_back-requires-clause-unique : goal.replace_back-requires-clause-unique
 replace_back-requires-clause-unique c =
-    replace_unique c.args.t.now c.in-Replace.table c.in-Replace.new_key c.in-Replace.key c.in-Replace.row (subst (CanPutBack c.args.t.now) c.in-Replace.is c.requires)
+    subst (λ (k : MovedKeys). first_taken (remove c.args.t.now.rows (c.in-Move.table, k.new_key)) c.in-Move.table c.in-Move.row 1 (keys_at c.args.t.now.schema c.in-Move.table).uniques ≡ None)
+    (sym c.into_inner-key.ensures)
+    (move_unique c.args.t.now c.in-Move.table c.in-Move.keys c.in-Move.row (subst (CanPutBack c.args.t.now) c.in-Move.is c.requires))
 
 pub returns-in-Take-clause-rows : goal.returns-in-Take-clause-rows
 returns-in-Take-clause-rows c =
@@ -34,9 +58,17 @@ returns-in-Put-clause-rows c =
 
 pub returns-in-Replace-clause-rows : goal.returns-in-Replace-clause-rows
 returns-in-Replace-clause-rows c =
-    c.replace_back.ensures.rows
-    ∙ sym (overlay_two c.args.t.now.rows (c.in-Replace.table, c.in-Replace.new_key) (c.in-Replace.table, c.in-Replace.key) None (Some c.in-Replace.row))
+    c.put_back-in-Replace.ensures.rows
+    ∙ ap (λ (rows : Rows). insert rows (c.in-Replace.table, c.in-Replace.key) c.in-Replace.row) c.take_back-in-Replace.ensures.rows
+    ∙ insert_over c.args.t.now.rows (c.in-Replace.table, c.in-Replace.key) c.in-Replace.row
     ∙ ap (λ i. back c.args.t.now.rows (edits_of i)) (sym c.in-Replace.is)
+
+pub returns-in-Move-clause-rows : goal.returns-in-Move-clause-rows
+returns-in-Move-clause-rows c =
+    c.replace_back.ensures.rows
+    ∙ ap (λ (k : MovedKeys). insert (remove c.args.t.now.rows (c.in-Move.table, k.new_key)) (c.in-Move.table, k.key) c.in-Move.row) c.into_inner-key.ensures
+    ∙ sym (overlay_two c.args.t.now.rows (c.in-Move.table, c.in-Move.keys.value.new_key) (c.in-Move.table, c.in-Move.keys.value.key) None (Some c.in-Move.row))
+    ∙ ap (λ i. back c.args.t.now.rows (edits_of i)) (sym c.in-Move.is)
 
 pub returns-in-Unwipe-clause-rows : goal.returns-in-Unwipe-clause-rows
 returns-in-Unwipe-clause-rows c =

@@ -1,4 +1,7 @@
-use Rattle.std.proofs.Common.{OnOk, Ok, Err, sym, subst}
+use Rattle.std.proofs.Common.{OnOk, Ok, Err, Some, None, sym, subst}
+use Rattle.std.specs.FinMap.{insert}
+use Rattle.model.specs.Effect.{one_edit}
+use Rattle.change.specs.declared.inverse.MovedKeys.{MovedKeys}
 use Rattle.std.specs.Prelude.{Result}
 use Rattle.change.specs.declared.inverse.Inverse.{Inverse}
 use Rattle.change.specs.Inverse.{edits_of}
@@ -12,10 +15,14 @@ on_ok : {T E : Type 0} (result : Result T E) (P Q : Type 0) → OnOk result P �
 on_ok (Ok x) P Q p f = f p
 on_ok (Err e) P Q p f = tt
 
-pub returns-in_ok-lay_one-in-Replace : goal.returns-in_ok-lay_one-in-Replace
-returns-in_ok-lay_one-in-Replace c =
-    on_ok c.lay_one-in-Replace-2.result _ _ c.lay_one-in-Replace-2.ensures (λ second.
-    subst (λ (i : Inverse). IsLaidUnder c.args.known.now c.args.table (edits_of i) c.lay_one-in-Replace-2.new.known) (sym c.in-Replace.is)
-    (under_as c.args.known.now c.lay_one-in-Replace-2.new.known c.args.table _ _
-    (replaced c.args.table c.in-Replace.key c.in-Replace.new_key c.in-Replace.row c.in-Replace.other)
-    (under_both c.args.known.now c.lay_one-in-Replace.new.known c.lay_one-in-Replace-2.new.known c.args.table _ _ c.in_ok-lay_one-in-Replace.ensures second)))
+pub returns-in_ok-lay_one-in-Move : goal.returns-in_ok-lay_one-in-Move
+returns-in_ok-lay_one-in-Move c =
+    on_ok c.lay_one-in-Move-2.result _ _ c.lay_one-in-Move-2.ensures (λ second.
+    subst (λ (i : Inverse). IsLaidUnder c.args.known.now c.args.table (edits_of i) c.lay_one-in-Move-2.new.known) (sym c.in-Move.is)
+    (subst (λ (k : MovedKeys). IsLaidUnder c.args.known.now c.args.table (insert (one_edit (c.in-Move.other, c.in-Move.keys.value.new_key) None) (c.in-Move.other, k.key) (Some c.in-Move.row)) c.lay_one-in-Move-2.new.known)
+    c.deref.ensures
+    (subst (λ (k : MovedKeys). IsLaidUnder c.args.known.now c.args.table (insert (one_edit (c.in-Move.other, k.new_key) None) (c.in-Move.other, c.deref.result.now.key) (Some c.in-Move.row)) c.lay_one-in-Move-2.new.known)
+    c.deref-in-Move.ensures
+    (under_as c.args.known.now c.lay_one-in-Move-2.new.known c.args.table _ _
+    (replaced c.args.table c.deref.result.now.key c.deref-in-Move.result.now.new_key c.in-Move.row c.in-Move.other)
+    (under_both c.args.known.now c.lay_one-in-Move.new.known c.lay_one-in-Move-2.new.known c.args.table _ _ c.in_ok-lay_one-in-Move.ensures second)))))
