@@ -9,7 +9,7 @@ ghost use Rattle.model.specs.Beginning.{last_end};
 ghost use Rattle.change.specs.Inverse.{edits_of};
 ghost use Rattle.change.specs.Refusal.{ClashesAs};
 ghost use Rattle.indexes.specs.Content.{KeepsCells};
-ghost use Rattle.undo.specs.Undo.{CanUndo};
+ghost use Rattle.undo.specs.Undo.{CanUndo, AreKnownAll, AreSettled};
 ghost use Rattle.world.specs.World.{starting, ends_of};
 ghost use Rattle.world.specs.Steps.{Closes, Reaches};
 ghost use Rattle.engine.specs.declared.events.LineEvent.TheVariants.{Opened as WasOpened, Committed as WasCommitted};
@@ -199,8 +199,7 @@ impl SerialStore {
         self.journal.reserve(1)?;
         grow(&mut self.line, &mut self.token, &LineEvent::Opened(xid));
         record_changes(&mut self.line, &mut self.token, xid, &self.items, info);
-        self.undo.settle(&mut self.live.tables);
-        let inverses = mem::replace(&mut self.undo, UndoLog::new(alloc));
+        let inverses = settle_open(alloc, &mut self.live.tables, &mut self.undo);
         let items = mem::replace(&mut self.items, Vec::new(alloc));
         self.journal.push_reserved(Entry {
             xid,
@@ -233,6 +232,20 @@ impl SerialStore {
         forget_each(&mut journal);
         (tables, journal)
     }
+}
+
+// The slots and entries by which open work could be undone go, where nothing fills them. The answer is
+// its log, and a new one begins. It takes no memory.
+fn settle_open(alloc: Global, tables: &mut Tables, undo: &mut UndoLog) -> UndoLog
+    requires { AreKnownAll tables.old.schema undo.old.inverses }
+    ensures settled { AreSettled tables.old.schema tables.new.rows tables.new.room undo.old.inverses }
+    ensures rows { tables.new.rows ≡ tables.old.rows }
+    ensures schema { tables.new.schema ≡ tables.old.schema }
+    ensures log { result ≡ undo.old }
+    ensures none { undo.new.inverses ≡ [] }
+{
+    undo.settle(tables);
+    mem::replace(undo, UndoLog::new(alloc))
 }
 
 // Appends a commit to the line, of a transaction that has made the changes among items and nothing else.

@@ -10,7 +10,6 @@ use Rattle.model.specs.Beginning.{last_end}
 use Rattle.change.specs.declared.inverse.Inverse.{Inverse}
 use Rattle.change.specs.Inverse.{edits_of}
 use Rattle.indexes.specs.Content.{Content}
-use Rattle.undo.specs.Undo.{Log}
 use Rattle.tokens.specs.Half.{Half}
 use Rattle.world.specs.Steps.{Reaches}
 use Rattle.world.specs.World.{ends_of}
@@ -26,8 +25,8 @@ use Rattle.engine.proofs.SerialSteps.{known_all, serially_idle, rows_based}
 use Rattle.engine.proofs.serial.SerialStore.commit.Goals as goal
 use Rattle.engine.proofs.serial.SerialStore.commit.Goals.{After-push_reserved}
 
-pub settle-requires : goal.settle-requires
-settle-requires c = known_all c.self.inside.live.tables c.self.inside.undo.inverses c.self.invariant.undoable
+pub settle_open-inverses-requires : goal.settle_open-inverses-requires
+settle_open-inverses-requires c = known_all c.self.inside.live.tables c.self.inside.undo.inverses c.self.invariant.undoable
 
 one_fits : (old new was is : ℕ) → new ≡ old + 1 → is ≡ was → old + 1 ≤ was → new ≤ is
 one_fits old new was is more same fits = omega (arith, more, same, fits)
@@ -38,13 +37,13 @@ module _ (c : After-push_reserved) where
   changes = changes_of c.self.inside.items.items
 
   abbrev tables : Content
-  tables = record { schema = c.settle.new.t.schema; rows = all_back c.settle.new.t.rows (map edits_of c.replace-inverses.new.dest.inverses); room = [] }
+  tables = record { schema = c.settle_open-inverses.new.tables.schema; rows = all_back c.settle_open-inverses.new.tables.rows (map edits_of c.settle_open-inverses.new.undo.inverses); room = [] }
 
   abbrev entry : Entry
-  entry = record { xid = c.args.xid; changes = c.of_items.result; commit = c.args.info.commit; end = c.args.info.end; inverses = c.replace-inverses.result }
+  entry = record { xid = c.args.xid; changes = c.of_items.result; commit = c.args.info.commit; end = c.args.info.end; inverses = c.settle_open-inverses.result }
 
-  undone : c.replace-inverses.new.dest.inverses ≡ []
-  undone = ap (λ (log : Log). log.inverses) (c.replace-inverses.ensures.after ∙ c.new.ensures)
+  undone : c.settle_open-inverses.new.undo.inverses ≡ []
+  undone = c.settle_open-inverses.ensures.none
 
   abbrev before : Inside
   before = idle_in c.self.inside
@@ -53,12 +52,12 @@ module _ (c : After-push_reserved) where
   clear = subst (λ (r : Rows). AreAccepted before.live.tables.schema r changes) (rows_based c.self.inside c.self.invariant) c.self.invariant.clear
 
   rows : tables.rows ≡ serial before.live.tables.schema (world_in before).committed changes
-  rows = ap (λ (is : List Inverse). all_back c.settle.new.t.rows (map edits_of is)) undone ∙ c.settle.ensures.rows ∙ c.self.invariant.done
+  rows = ap (λ (is : List Inverse). all_back c.settle_open-inverses.new.tables.rows (map edits_of is)) undone ∙ c.settle_open-inverses.ensures.rows ∙ c.self.invariant.done
 
   -- what the entry keeps is what the open work could be taken back with
   back : all_back (serial before.live.tables.schema (world_in before).committed changes) (map edits_of entry.inverses.inverses) ≡ (world_in before).committed
   back =
-      (λ i. all_back ((sym c.self.invariant.done) i) (map edits_of (c.replace-inverses.ensures.value i).inverses)) ∙ rows_based c.self.inside c.self.invariant
+      (λ i. all_back ((sym c.self.invariant.done) i) (map edits_of (c.settle_open-inverses.ensures.log i).inverses)) ∙ rows_based c.self.inside c.self.invariant
 
   line : c.record_changes.new.kept ≡ record before.line { list = (before.line.list ++ WasOpened c.args.xid ∷ []) ++ WasCommitted c.args.xid (map (ChangeItem c.args.xid) changes) c.args.info ∷ [] }
   line = c.record_changes.ensures.kept ∙ (λ i. let half : Half LineEvent = c.grow.ensures.kept i in
@@ -79,13 +78,13 @@ module _ (c : After-push_reserved) where
   committed : (world_in (with_commit before tables c.push_reserved.new.self c.record_changes.new.kept) ≡ committed_by before.live.tables.schema (world_in before) c.args.xid changes c.args.info)
       × Represents (with_commit before tables c.push_reserved.new.self c.record_changes.new.kept)
   committed =
-      idle_committed before c.self.invariant.idle c.self.invariant.none tables c.settle.ensures.schema c.self.invariant.runs c.args.xid changes c.args.info c.push_reserved.new.self c.record_changes.new.kept
+      idle_committed before c.self.invariant.idle c.self.invariant.none tables c.settle_open-inverses.ensures.schema c.self.invariant.runs c.args.xid changes c.args.info c.push_reserved.new.self c.record_changes.new.kept
       entry clear rows line items fits tells back above
 
   reached : Reaches before.live.tables.schema (world_in before) (world_in (with_commit before tables c.push_reserved.new.self c.record_changes.new.kept))
   reached =
       subst (Reaches before.live.tables.schema (world_in before)) (sym committed.0)
-      (reaches_commit before c.self.invariant.idle c.self.invariant.none tables c.settle.ensures.schema c.self.invariant.runs c.args.xid changes c.args.info c.push_reserved.new.self c.record_changes.new.kept
+      (reaches_commit before c.self.invariant.idle c.self.invariant.none tables c.settle_open-inverses.ensures.schema c.self.invariant.runs c.args.xid changes c.args.info c.push_reserved.new.self c.record_changes.new.kept
       entry clear rows line items fits tells back above)
 
   -- both halves of the line are told the same
@@ -102,7 +101,7 @@ pub invariant_of-self-2 : goal.invariant_of-self-2
 invariant_of-self-2 c =
     let at = (goal.at.invariant_of-self-2 c).After-push_reserved in
     serially_idle _ (committed at).1 c.self.invariant.none c.self.invariant.runs (told_alike at) (undone at)
-    (ap (λ v. changes_of v.items) c.replace-items.ensures.after ∙ ap changes_of c.new-2.ensures.items)
+    (ap (λ v. changes_of v.items) c.replace-items.ensures.after ∙ ap changes_of c.new.ensures.items)
 
 pub returns-clause-commits : goal.returns-clause-commits
 returns-clause-commits c =
