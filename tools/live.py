@@ -15,6 +15,8 @@ the rows that are there, and a capture goes on with `--append`. At last `mirror`
 goes on with its file behind the same `serve`. It exits with 0 where all rows are right.
 
 With --mirror-figures it measures `mirror` alone: how fast it takes a slot's stream, and the memory that it has.
+With --mirror-memory it follows while sessions change rows at a pace, ten million times in an hour: the memory that
+it has is to stay.
 
 Needs: python3 (3.11), PostgreSQL's programs (Debian: postgresql-16 or later) in --bin, and the built
 programs `publisher`, `pgapply` and `mirror` (`rt run` or `rt ci` leave them in crates/NAME/out).
@@ -744,6 +746,9 @@ def main():
     parser.add_argument("--mirror-kills", type=int, default=50, help="how often mirror is killed")
     parser.add_argument("--mirror-figures", type=float, nargs="?", const=1.0, default=0.0, metavar="SHARE",
                         help="measure mirror, and nothing else, on this share of the work")
+    parser.add_argument("--mirror-memory", type=int, nargs="?", const=10_000_000, default=0, metavar="CHANGES",
+                        help="measure the memory of mirror, and nothing else, while rows change so often")
+    parser.add_argument("--pace", type=int, default=2800, help="how often they change in a second")
     parser.add_argument("--seed", type=int, default=1)
     options = parser.parse_args()
     server = Server(options)
@@ -767,6 +772,8 @@ def run(server, options):
              "--publication", "live"]
     if options.mirror_figures:
         return run_figures(server, options, where)
+    if options.mirror_memory:
+        return run_memory(server, options, where)
     tables = read_catalog(server, options, where)
     right = run_beside_work(server, options, where, tables)
     right = run_beside_kills(server, options, where, tables) and right
@@ -884,11 +891,16 @@ def figures(share):
     ]
 
 
-def run_figures(server, options, where):
-    """How fast `mirror` takes what a slot has, and the memory that it has meanwhile."""
+def make_counted(server, options, where):
+    """Makes the table that `mirror` is measured on, and answers the catalog of it alone."""
     server.sql("CREATE TABLE counted (id int PRIMARY KEY, n bigint, body text);")
     catalog = read_catalog(server, options, where)
-    counted = {"table": [table for table in catalog["table"] if table["name"] == "counted"]}
+    return {"table": [table for table in catalog["table"] if table["name"] == "counted"]}
+
+
+def run_figures(server, options, where):
+    """How fast `mirror` takes what a slot has, and the memory that it has meanwhile."""
+    counted = make_counted(server, options, where)
     return all([measure(server, options, where, counted, *figure) for figure in figures(options.mirror_figures)])
 
 
@@ -902,30 +914,115 @@ def measure(server, options, where, tables, name, statements, commits, changes):
     service = Service(options, where, "figures", 6, ["--once", "--until", server.log_end(), "--timeout", "3600"])
     began = time.monotonic()
     mirror = start_mirror(server, options, service, file, "--once")
-    most, each = watch_memory(mirror)
+    most, samples = watch_memory(mirror)
     seconds = time.monotonic() - began
     service.wait()
     print(f"{name}: {commits} commits with {changes} changes in {seconds:.1f} s: {commits / seconds:.0f} commits and "
           f"{changes / seconds:.0f} changes a second; a file of {os.path.getsize(file)} bytes; memory of {most} kB at "
-          f"most, each ten seconds {each}")
+          f"most, each ten seconds {samples[::100]}")
     print(f"{name}: {service.last()}; {mirror.last()}, status {mirror.wait()}")
     server.drop_slot("figures")
     return compare_tables(name, rows_of_file(file, tables), expected(server, tables)) and mirror.wait() == 0
 
 
 def watch_memory(program):
-    """The memory of a program until it ends, in kilobytes: the most, and what it has each ten seconds."""
-    most, each, began = 0, [], time.monotonic()
+    """The memory of a program until it ends, in kilobytes: the most, and what it has each tenth of a second."""
+    most, samples, began = 0, [], time.monotonic()
     while program.runs():
         with open(f"/proc/{program.process.pid}/status") as file:
             fields = dict(line.split(":", 1) for line in file)
         # A program that has ended has no memory.
         if "VmRSS" in fields:
             now, most = [int(fields[name].split()[0]) for name in ("VmRSS", "VmHWM")]
-            if time.monotonic() - began >= 10 * len(each):
-                each.append(now)
-        time.sleep(0.1)
-    return most, each
+            samples.append(now)
+        time.sleep(max(0, began + 0.1 * len(samples) - time.monotonic()))
+    return most, samples
+
+
+class Changing:
+    """Sessions that change rows at a pace while a follower is there: some ten thousand rows that come and go."""
+
+    # One of ten of its transactions is streamed.
+    CHANGE = """
+CREATE PROCEDURE change(first int, enough int, INOUT changes int, INOUT commits int) LANGUAGE plpgsql AS $$
+DECLARE place int; wide int; done int;
+BEGIN
+    WHILE changes < enough LOOP
+        wide := CASE WHEN random() < 0.1 THEN 1000 ELSE 20 + random() * 80 END;
+        place := first + random() * 4000;
+        DELETE FROM counted WHERE id BETWEEN place AND place + wide;
+        GET DIAGNOSTICS done = ROW_COUNT;
+        changes := changes + done;
+        place := first + random() * 4000;
+        INSERT INTO counted SELECT k, 0, md5(k::text) FROM generate_series(place, place + wide) k
+            ON CONFLICT DO NOTHING;
+        GET DIAGNOSTICS done = ROW_COUNT;
+        changes := changes + done;
+        UPDATE counted SET n = n + 1, body = md5(body) WHERE id BETWEEN place AND place + 2 * wide;
+        GET DIAGNOSTICS done = ROW_COUNT;
+        changes := changes + done;
+        commits := commits + 1;
+        COMMIT;
+    END LOOP;
+END $$;
+"""
+
+    def __init__(self, server, options, follower):
+        _, errors = server.sql(self.CHANGE)
+        if errors:
+            sys.exit(errors)
+        self.server, self.follower, self.seed = server, follower, options.seed
+        self.enough, self.pace = options.mirror_memory / options.sessions, options.pace / options.sessions
+        self.sessions = {session: (0, 0) for session in range(options.sessions)}
+        self.threads = [threading.Thread(target=self.change, args=(session,), daemon=True)
+                        for session in self.sessions]
+        for thread in self.threads:
+            thread.start()
+
+    def change(self, session):
+        """A session's changes, those of some five seconds at once."""
+        chance, began = random.Random(self.seed * 100 + session), time.monotonic()
+        changes = commits = 0
+        while changes < self.enough and self.follower.runs():
+            output, _ = self.server.sql(f"SELECT setseed({chance.random()}); "
+                                        f"CALL change({session * 10_000}, {int(5 * self.pace)}, 0, 0);")
+            done = output.split()[-1].split("|")
+            changes, commits = changes + int(done[0]), commits + int(done[1])
+            self.sessions[session] = changes, commits
+            time.sleep(max(0, began + changes / self.pace - time.monotonic()))
+
+    def finish(self):
+        """Waits for the sessions, and answers how many changes and commits they made."""
+        for thread in self.threads:
+            thread.join()
+        return [sum(counts) for counts in zip(*self.sessions.values())]
+
+
+def run_memory(server, options, where):
+    """The memory that `mirror` has while it follows a long stream."""
+    counted = make_counted(server, options, where)
+    file = os.path.join(server.folder, "long.sqlite")
+    service = Service(options, where, "long", 7, ["--create", "--once"])
+    mirror = start_mirror(server, options, service, file, "--once")
+    began, changing, made = time.monotonic(), Changing(server, options, mirror), []
+
+    def finish():
+        """A fast shutdown ends the service, and that ends its follower."""
+        made.extend([changing.finish(), expected(server, counted)])
+        server.stop()
+
+    finishing = threading.Thread(target=finish)
+    finishing.start()
+    most, samples = watch_memory(mirror)
+    seconds = time.monotonic() - began
+    finishing.join()
+    (changes, commits), wanted = made
+    tenths = [samples[len(samples) * i // 10:len(samples) * (i + 1) // 10] for i in range(10)]
+    print(f"a long stream: {commits} commits with {changes} changes in {seconds:.0f} s; a file of "
+          f"{os.path.getsize(file)} bytes; memory of {min(samples)} to {max(most, *samples)} kB, the least of each tenth "
+          f"{[min(tenth) for tenth in tenths]}, the most {[max(tenth) for tenth in tenths]}")
+    print(f"a long stream: {service.last()}; {mirror.last()}, status {mirror.wait()}")
+    return compare_tables("a long stream", rows_of_file(file, counted), wanted) and mirror.wait() == 0
 
 
 if __name__ == "__main__":
