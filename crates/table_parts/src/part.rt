@@ -9,7 +9,7 @@ ghost use Rattle.world.specs.World.{World, starting};
 ghost use Rattle.world.specs.Steps as steps;
 ghost use Rattle.world.specs.Steps.{ReadsCommitted};
 ghost use Rattle.live_tables.specs.declared.answers.EngineFault.TheVariants.{OutOfMemory as NoMemory};
-ghost use Rattle.live_tables.specs.Answers.{told, told_call};
+ghost use Rattle.live_tables.specs.Answers.{told, told_call, TellsCause};
 ghost use Rattle.engine.specs.declared.events.Event.TheVariants.{Done};
 ghost use Rattle.engine.specs.Engine.{IsOtherwiseSame};
 ghost use Rattle.engine.specs.Events.{opened_by, ends_in, events_of};
@@ -63,6 +63,13 @@ impl Part {
         })
     }
 
+    /// The number of its table.
+    pub fn number(&self) -> TableId
+        ensures { result ≡ self.now.number }
+    {
+        self.number
+    }
+
     /// A transaction comes to the table for the first time. A refusal changes nothing.
     pub fn open(&mut self, alloc: Global, xid: Xid) -> Result<Ticket, EngineFault>
         ensures ticket { IfOk result (λ ticket. ticket ≡ open_list self.old.store.tickets xid []) }
@@ -85,7 +92,9 @@ impl Part {
         requires belongs { t.old.name ≡ self.old.store.tickets }
         requires names { NamesTables (length self.old.store.schema) c.now }
         requires its { IsIn self.old.number c.now }
+        ensures stood { finite.get self.old.store.world.opened t.old.number ≡ Some (opened_by t.old.list) }
         ensures in_part { steps.Acts self.old.store.schema self.old.store.world t.old.number (opened_by t.old.list) mark c.now (told result) self.new.store.world }
+        ensures cause { TellsCause result }
         ensures tries { Tries self.old.store.schema self.old.number self.old.store.world t.old.number mark c.now (told result) self.new.store.world }
         ensures ticket { t.new ≡ record t.old { list = t.old.list ++ events_of mark c.now (told result) } }
         ensures same { IsOtherwiseSame self.old.store self.new.store }
@@ -97,6 +106,8 @@ impl Part {
     /// A subtransaction is rolled back, to the first mark of the table that it drops. It takes no memory.
     pub fn back_to(&mut self, t: &mut Ticket, mark: Xid)
         requires { t.old.name ≡ self.old.store.tickets }
+        ensures stood { finite.get self.old.store.world.opened t.old.number ≡ Some (opened_by t.old.list) }
+        ensures in_part { steps.GoesBack self.old.store.world t.old.number (opened_by t.old.list) mark self.new.store.world }
         ensures goes_back { GoesBack self.old.number self.old.store.world t.old.number mark self.new.store.world }
         ensures ticket { t.new ≡ record t.old { list = t.old.list ++ Done (BackTo mark) ∷ [] } }
         ensures same { IsOtherwiseSame self.old.store self.new.store }
@@ -109,6 +120,8 @@ impl Part {
     pub fn commit(&mut self, t: Ticket, info: CommitInfo)
         requires belongs { t.name ≡ self.old.store.tickets }
         requires rising { last_end (ends_in self.old.store.line.list) < info.end }
+        ensures stood { finite.get self.old.store.world.opened t.number ≡ Some (opened_by t.list) }
+        ensures in_part { steps.Commits self.old.store.schema self.old.store.world t.number (opened_by t.list) info self.new.store.world }
         ensures commits { Commits self.old.store.schema self.old.number self.old.store.world t.number info self.new.store.world }
         ensures same { IsOtherwiseSame self.old.store self.new.store }
         ensures number { self.new.number ≡ self.old.number }
@@ -119,6 +132,8 @@ impl Part {
     /// A transaction aborts. It takes no memory.
     pub fn abort(&mut self, t: Ticket)
         requires { t.name ≡ self.old.store.tickets }
+        ensures stood { finite.get self.old.store.world.opened t.number ≡ Some (opened_by t.list) }
+        ensures in_part { steps.Aborts self.old.store.world t.number self.new.store.world }
         ensures aborts { Aborts self.old.number self.old.store.world t.number self.new.store.world }
         ensures same { IsOtherwiseSame self.old.store self.new.store }
         ensures number { self.new.number ≡ self.old.number }
