@@ -1,0 +1,169 @@
+-- What the journal's part has of a world behind each call.
+--     journal_opens, journal_refuses      what it says of an open is the step
+--     journal_opened, journal_acted, journal_committed, journal_aborted      it has the world behind it
+--     open_more, open_fewer      who is open, once the line has one more event
+use Rattle.std.specs.Prelude.{◌≡◌, ℕ, ◌+◌, ◌-◌, ◌<◌, ◌≤◌, Bool, true, false, cond, if◌then◌else◌, List, [], ◌∷◌, ◌++◌, Option, Some, None, IsSome, is_some, Result, Ok, Err, refl}
+use Rattle.std.proofs.Common.{sym, ◌∙◌, ap, subst, inl, inr, true≢false, arith}
+use Rattle.std.proofs.lemmas.Grind.{fold-append}
+use Rattle.std.specs.Ordering.{nat_cmp}
+use Rattle.std.specs.Cmp.{nat_cmp_total}
+use Rattle.std.specs.FinMap as finite
+use Rattle.std.specs.FinMap.{FinMap, get}
+use Rattle.model.specs.declared.change.Change as change_type
+use Rattle.model.specs.declared.item.Item.{Item}
+use Rattle.model.specs.declared.item.CommitInfo.{CommitInfo}
+use Rattle.model.specs.Limits.{most_open}
+use Rattle.model.specs.Rows.{Schema}
+use Rattle.tokens.specs.Half.{Half}
+use Rattle.world.specs.World.{is_xid, Opened, Past, World, Stop, ByClash}
+use Rattle.world.specs.Steps.{Fault, Acted, IsDone, IsSkipped, Held, Clashed, Opens, opened_with, committed_with, aborted_with}
+use Rattle.world.specs.ListingLemmas.{xid_cases, got_same, got_other}
+use Rattle.live_tables.specs.declared.answers.EngineFault as fault_type
+use Rattle.live_tables.specs.declared.answers.EngineFault.TheVariants.{AlreadyOpen as AlreadyOpenFault, TooManyOpen as TooManyOpenFault, Clash as ClashFault, Stopped as StoppedFault, OutOfMemory as NoMemory}
+use Rattle.live_tables.specs.Answers.{told_fault, after_act}
+use Rattle.engine.specs.declared.events.LineEvent.{LineEvent}
+use Rattle.engine.specs.declared.events.LineEvent.TheVariants.{Opened as WasOpened, Committed as WasCommitted, Aborted as WasAborted}
+use Rattle.engine.specs.Events.{opened_by, commits_in, open_after, is_open_in}
+use Rattle.engine.specs.EventLemmas.{same_commits, more_commits}
+use Rattle.engine.specs.StoreLemmas.{same_len}
+use Rattle.parted_store.specs.Journal.{JournalPart}
+use Rattle.parted_store.specs.Lent.{HasJournal}
+use Rattle.parted_store.specs.Acting.{stop_after}
+use Rattle.parted_store.specs.Opening.{CanOpen, RefusesOpen}
+
+-- who is open, once the line has one more event
+pub open_more : (line : List LineEvent) (e : LineEvent) (q : ℕ) → is_open_in (line ++ e ∷ []) q ≡ open_after q (is_open_in line q) e
+open_more line e q = fold-append (open_after q) false line (e ∷ [])
+
+there_more : {X : Type 0} (m : FinMap nat_cmp X) (k : ℕ) (x : X) (q : ℕ) → is_some (get (finite.insert m k x) q) ≡ (if is_xid q k then true else is_some (get m q))
+there_more m k x q = ap is_some (finite.get-insert nat_cmp_total m k x q) ∙ by (is_xid q k)
+  where
+    by : (b : Bool) → is_some (cond b (Some x) (get m q)) ≡ (if b then true else is_some (get m q))
+    by true = refl
+    by false = refl
+
+there_less : {X : Type 0} (m : FinMap nat_cmp X) (k q : ℕ) → is_some (get (finite.remove m k) q) ≡ (if is_xid q k then false else is_some (get m q))
+there_less m k q = ap is_some (finite.get-remove nat_cmp_total m k q) ∙ by (is_xid q k)
+  where
+    by : (b : Bool) → is_some (cond b None (get m q)) ≡ (if b then false else is_some (get m q))
+    by true = refl
+    by false = refl
+
+one_fewer : (all less was now : ℕ) → less ≡ all - 1 → all ≡ was → now + 1 ≡ was → less ≡ now
+one_fewer all less was now one same more = omega (arith, one, same, more)
+
+-- a commit of these items
+abbrev past_of : ℕ → CommitInfo → List Item → Past
+past_of xid info items = record { xid = xid; items = items; info = info }
+
+pub none_there : {X : Type 0} (found : Option X) → is_some found ≡ false → found ≡ None
+none_there None none = refl
+none_there (Some x) none = absurd (true≢false none)
+
+some_there : {X : Type 0} (found : Option X) → is_some found ≡ true → IsSome found
+some_there found is = is
+
+module _ (w : World) (j : JournalPart) (has : HasJournal w j) (xid : ℕ) where
+  -- what the journal's part says of an open is the step
+  pub journal_opens : CanOpen j xid
+      → (w.stopped ≡ None) × (get w.opened xid ≡ None) × (finite.len w.opened < most_open)
+  journal_opens can = (
+    has.stopped ∙ can.runs,
+    none_there (get w.opened xid) (has.opened xid ∙ can.absent),
+    subst (λ n. n < most_open) (sym has.count) can.few,
+  )
+
+  pub journal_refuses : (fault : fault_type.EngineFault) → RefusesOpen j xid fault → Opens w xid (Err (told_fault fault)) w
+  journal_refuses AlreadyOpenFault refused =
+      (has.stopped ∙ refused.0, some_there (get w.opened xid) (has.opened xid ∙ refused.1), refl)
+  journal_refuses TooManyOpenFault refused = (
+    has.stopped ∙ refused.0,
+    none_there (get w.opened xid) (has.opened xid ∙ refused.1),
+    subst (λ n. most_open ≤ n) (sym has.count) refused.2,
+    refl,
+  )
+  journal_refuses StoppedFault refused = (subst (λ (stop : Option Stop). IsSome stop) (sym has.stopped) refused, refl)
+  journal_refuses (ClashFault clash) refused = absurd refused
+  journal_refuses NoMemory refused = absurd refused
+
+module _ (w : World) (j : JournalPart) (has : HasJournal w j) (new : JournalPart) (xid : ℕ) where
+  -- a transaction opens
+  pub journal_opened : get w.opened xid ≡ None → new.line.list ≡ j.line.list ++ WasOpened xid ∷ [] → new.stopped ≡ j.stopped
+      → new.open_count ≡ j.open_count + 1 → HasJournal (opened_with w xid) new
+  journal_opened none line stopped count = record {
+    line = has.line ∙ sym (ap commits_in line ∙ same_commits j.line.list (WasOpened xid) refl);
+    stopped = has.stopped ∙ sym stopped;
+    opened = λ q.
+        there_more w.opened xid (record { items = []; wants = None }) q ∙ ap (λ b. if is_xid q xid then true else b) (has.opened q)
+        ∙ sym (ap (λ (events : List LineEvent). is_open_in events q) line ∙ open_more j.line.list (WasOpened xid) q);
+    count =
+        finite.len-insert nat_cmp_total w.opened xid (record { items = []; wants = None })
+        ∙ ap (λ b. cond b (finite.len w.opened) (finite.len w.opened + 1)) (ap is_some none)
+        ∙ ap (λ n. n + 1) has.count ∙ sym count;
+  }
+
+  module _ (o : Opened) (at : get w.opened xid ≡ Some o) where
+    -- as many are open, and the same, where the transaction is open otherwise
+    stays_there : (later : Opened) (q : ℕ) → is_some (get (finite.insert w.opened xid later) q) ≡ is_some (get w.opened q)
+    stays_there later q =
+        elim (xid_cases q xid) [
+          | inl here ↦
+              ap is_some (ap (get (finite.insert w.opened xid later)) here ∙ got_same w.opened xid later)
+              ∙ sym (ap is_some (ap (get w.opened) here ∙ at))
+          | inr apart ↦ ap is_some (got_other w.opened xid later q apart)
+        ]
+
+    journal_moved : (later : Opened) (stop : Option Stop) → new.line ≡ j.line → new.open_count ≡ j.open_count → stop ≡ new.stopped
+        → HasJournal (record w { opened = finite.insert w.opened xid later; stopped = stop }) new
+    journal_moved later stop line count stopped = record {
+      line = has.line ∙ ap (λ (l : Half LineEvent). commits_in l.list) (sym line);
+      stopped = stopped;
+      opened = λ q. stays_there later q ∙ has.opened q ∙ ap (λ (l : Half LineEvent). is_open_in l.list q) (sym line);
+      count = same_len w.opened xid o later at ∙ has.count ∙ sym count;
+    }
+
+    -- it tried a change
+    pub journal_acted : (sub : ℕ) (c : change_type.Change) (answer : Result Acted Fault)
+        → new ≡ record j { stopped = stop_after xid c answer j.stopped } → HasJournal (after_act w xid o sub c answer) new
+    journal_acted sub c answer is = by answer is
+      where
+        by : (a : Result Acted Fault) → new ≡ record j { stopped = stop_after xid c a j.stopped } → HasJournal (after_act w xid o sub c a) new
+        by (Ok IsDone) e = journal_moved _ w.stopped (ap (λ (k : JournalPart). k.line) e) (ap (λ (k : JournalPart). k.open_count) e) (has.stopped ∙ ap (λ (k : JournalPart). k.stopped) (sym e))
+        by (Ok IsSkipped) e = journal_moved _ w.stopped (ap (λ (k : JournalPart). k.line) e) (ap (λ (k : JournalPart). k.open_count) e) (has.stopped ∙ ap (λ (k : JournalPart). k.stopped) (sym e))
+        by (Ok (Held holder)) e = journal_moved _ w.stopped (ap (λ (k : JournalPart). k.line) e) (ap (λ (k : JournalPart). k.open_count) e) (has.stopped ∙ ap (λ (k : JournalPart). k.stopped) (sym e))
+        by (Ok (Clashed cause)) e = journal_moved _ (Some (ByClash xid c cause)) (ap (λ (k : JournalPart). k.line) e) (ap (λ (k : JournalPart). k.open_count) e) (ap (λ (k : JournalPart). k.stopped) (sym e))
+        by (Err fault) e = subst (HasJournal w) (sym e) has
+
+    gone_count : new.open_count + 1 ≡ j.open_count → finite.len (finite.remove w.opened xid) ≡ new.open_count
+    gone_count count =
+        one_fewer (finite.len w.opened) (finite.len (finite.remove w.opened xid)) j.open_count new.open_count
+        (finite.len-remove nat_cmp_total w.opened xid ∙ ap (λ b. cond b (finite.len w.opened - 1) (finite.len w.opened)) (ap is_some at))
+        has.count count
+
+    -- it is committed
+    pub journal_committed : (schema : Schema) (items : List Item) (info : CommitInfo) → items ≡ o.items
+        → new.line.list ≡ j.line.list ++ WasCommitted xid items info ∷ [] → new.stopped ≡ j.stopped → new.open_count + 1 ≡ j.open_count
+        → HasJournal (committed_with schema w xid o info) new
+    journal_committed schema items info same line stopped count = record {
+      line =
+          ap (λ (ps : List Past). ps ++ past_of xid info o.items ∷ []) has.line
+          ∙ ap (λ (is : List Item). commits_in j.line.list ++ past_of xid info is ∷ []) (sym same)
+          ∙ sym (ap commits_in line ∙ more_commits j.line.list xid items info);
+      stopped = has.stopped ∙ sym stopped;
+      opened = λ q.
+          there_less w.opened xid q ∙ ap (λ b. if is_xid q xid then false else b) (has.opened q)
+          ∙ sym (ap (λ (events : List LineEvent). is_open_in events q) line ∙ open_more j.line.list (WasCommitted xid items info) q);
+      count = gone_count count;
+    }
+
+    -- it is aborted
+    pub journal_aborted : new.line.list ≡ j.line.list ++ WasAborted xid ∷ [] → new.stopped ≡ j.stopped → new.open_count + 1 ≡ j.open_count
+        → HasJournal (aborted_with w xid) new
+    journal_aborted line stopped count = record {
+      line = has.line ∙ sym (ap commits_in line ∙ same_commits j.line.list (WasAborted xid) refl);
+      stopped = has.stopped ∙ sym stopped;
+      opened = λ q.
+          there_less w.opened xid q ∙ ap (λ b. if is_xid q xid then false else b) (has.opened q)
+          ∙ sym (ap (λ (events : List LineEvent). is_open_in events q) line ∙ open_more j.line.list (WasAborted xid) q);
+      count = gone_count count;
+    }

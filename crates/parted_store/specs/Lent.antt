@@ -1,0 +1,58 @@
+-- What a call is lent of a world: parts of its tables, the journal's part, and the ticket of an open transaction.
+--     OpenTicket      a ticket as its callers see it
+--     HasTable, HasJournal, HasTicket      the world has this part, this journal's part, this ticket
+--     IsShare      what a ticket knows of a table in which it has a share, and of one in which it has none
+--     Belongs      the share is one of the part
+--     WaitsOnlyIn      a transaction waits with no change of other tables
+use Rattle.std.specs.Prelude.{◌≡◌, ◌≢◌, ℕ, List, [], Option, Some, None, IsSome, is_some}
+use Rattle.std.specs.FinMap as finite
+use Rattle.std.specs.FinMap.{get}
+use Rattle.world.specs.World.{Opened, World, work}
+use Rattle.world_parts.specs.ByTable.{changes_at}
+use Rattle.world_parts.specs.Parts.{wanted_by, IsPartOf}
+use Rattle.table_parts.specs.Part.{Part}
+use Rattle.engine.specs.declared.events.Event.{Event}
+use Rattle.engine.specs.Events.{opened_by, commits_in, is_open_in}
+use Rattle.parted_store.specs.Journal.{JournalPart}
+use Rattle.parted_store.specs.Shares.{Share, Shares, share_of}
+
+-- a ticket as its callers see it
+pub record OpenTicket : Type 0 where
+  pub number : ℕ
+  -- what happened to its transaction
+  pub events : List Event
+  -- its shares of the tables' parts
+  pub shares : Shares
+
+-- The world has this part of a table. A part that is stopped has heard of a stop of the world.
+pub record HasTable (w : World) (p : Part) : Type 0 where
+  pub is : IsPartOf p.number w p.store.world
+  pub heard : IsSome p.store.world.stopped → IsSome w.stopped
+
+-- The world has this journal's part: the commits, what stopped it, and who is open.
+pub record HasJournal (w : World) (j : JournalPart) : Type 0 where
+  pub line : w.line ≡ commits_in j.line.list
+  pub stopped : w.stopped ≡ j.stopped
+  pub opened : (xid : ℕ) → is_some (get w.opened xid) ≡ is_open_in j.line.list xid
+  pub count : finite.len w.opened ≡ j.open_count
+
+-- The ticket's transaction is open in the world, and has done what the ticket says.
+abbrev pub HasTicket : World → OpenTicket → Type 0
+HasTicket w t = get w.opened t.number ≡ Some (opened_by t.events)
+
+-- Where a transaction has no share, it has done nothing and wants nothing; a share is of its number.
+abbrev pub IsShare : ℕ → Opened → ℕ → Option Share → Type 0
+IsShare xid o table None = (changes_at table (work xid o) ≡ []) × (changes_at table (wanted_by o.wants) ≡ [])
+IsShare xid o table (Some share) = share.number ≡ xid
+
+-- what the type of a ticket keeps of each table
+abbrev pub HasShares : OpenTicket → Type 0
+HasShares t = (table : ℕ) → IsShare t.number (opened_by t.events) table (share_of t.shares table)
+
+-- the share of the part's table, if there is one, is a ticket of the part
+abbrev pub Belongs : Part → Shares → Type 0
+Belongs p shares = (share : Share) → share_of shares p.number ≡ Some share → share.name ≡ p.store.tickets
+
+-- it waits with no change of another table
+abbrev pub WaitsOnlyIn : ℕ → Opened → Type 0
+WaitsOnlyIn table o = (other : ℕ) → other ≢ table → changes_at other (wanted_by o.wants) ≡ []

@@ -1,0 +1,13 @@
+pub mod Shares
+pub mod Lent
+pub mod Ticket
+pub mod Journal
+pub mod JournalCode
+pub mod Opening
+pub mod Acting
+pub mod Ends
+pub mod ActLemmas
+pub mod ComeLemmas
+pub mod EndLemmas
+pub mod JournalLemmas
+pub mod KeptLemmas

@@ -1,0 +1,114 @@
+// A change that is tried in the part of its table.
+ghost use Rattle.std.specs.Prelude.{◌≡◌, ◌≢◌, ◌<◌, ◌++◌, ◌∷◌, [], ℕ, IsSome, OnOk, OnErr, length, vec_len, vec_capacity};
+ghost use Rattle.model.specs.Named.{NamesTables};
+ghost use Rattle.world.specs.World.{World};
+ghost use Rattle.world.specs.Steps.{Acts};
+ghost use Rattle.live_tables.specs.Answers.{told, after_act, TellsCause};
+ghost use Rattle.engine.specs.Events.{opened_by, events_of};
+ghost use Rattle.world_parts.specs.ByTable.{IsIn};
+ghost use Rattle.table_parts.specs.Part.{Part as AnyPart};
+ghost use Rattle.parted_store.specs.Acting.{IsLent, items_of, stop_after};
+ghost use Rattle.parted_store.specs.Lent.{HasTable, HasTicket, Belongs, WaitsOnlyIn};
+ghost use Rattle.parted_store.specs.Shares.{share_of};
+
+use crate::journal::Journal;
+use crate::shares::{put_share, take_share};
+use crate::ticket::Ticket;
+use crate::told::Told;
+use engine::{Acted, EngineFault, Event};
+use model::{Change, Item, Xid};
+use std::alloc::Global;
+use std::marker::Brand;
+use table_parts::Part;
+use tokens::Items;
+
+/// A subtransaction of an open transaction tries a change of one table, in whose part the transaction has a
+/// share, and it waits with no change of another table. In every world that has the part, the journal's
+/// part and the ticket the call is the step, the world behind it has them, and the parts of other tables
+/// stay.
+pub fn act_in(
+    alloc: Global,
+    part: &mut Part,
+    journal: &mut Journal,
+    ticket: &mut Ticket,
+    sub: Xid,
+    c: &Change,
+) -> Result<Acted, EngineFault>
+    requires belongs { Belongs part.old ticket.old.shares }
+    requires share { IsSome (share_of ticket.old.shares part.old.number) }
+    requires names { NamesTables (length part.old.store.schema) c.now }
+    requires its { IsIn part.old.number c.now }
+    requires elsewhere { WaitsOnlyIn part.old.number (opened_by ticket.old.events) }
+    ensures acts { (w : World) → IsLent w part.old journal.old ticket.old
+        → Acts part.old.store.schema w ticket.old.number (opened_by ticket.old.events) sub c.now (told result)
+        (after_act w ticket.old.number (opened_by ticket.old.events) sub c.now (told result)) }
+    ensures lent { (w : World) → IsLent w part.old journal.old ticket.old
+        → IsLent (after_act w ticket.old.number (opened_by ticket.old.events) sub c.now (told result)) part.new journal.new ticket.new }
+    ensures beside { (w : World) (p : AnyPart) → HasTicket w ticket.old → HasTable w p → p.number ≢ part.old.number
+        → HasTable (after_act w ticket.old.number (opened_by ticket.old.events) sub c.now (told result)) p }
+    ensures cause { TellsCause result }
+    ensures ticket { ticket.new.events ≡ ticket.old.events ++ events_of sub c.now (told result) }
+    ensures xid { ticket.new.number ≡ ticket.old.number }
+    ensures belongs { Belongs part.new ticket.new.shares }
+    ensures others { (other : ℕ) → other ≢ part.old.number → share_of ticket.new.shares other ≡ share_of ticket.old.shares other }
+    ensures number { part.new.number ≡ part.old.number }
+    ensures line { journal.new.line ≡ journal.old.line }
+{
+    if journal.is_stopped() {
+        return Err(EngineFault::Stopped);
+    }
+    ticket.items.reserve(1)?;
+    let change = c.copy()?;
+    let table = part.number();
+    let Some(mut share) = take_share(&mut ticket.shares, table) else {
+        unreachable!()
+    };
+    let answer = part.act(alloc, &mut share, sub, c);
+    put_share(&mut ticket.shares, table, share);
+    tell(&mut ticket.events, sub, c, &answer);
+    keep(journal, &mut ticket.items, ticket.xid, sub, change, &answer);
+    answer
+}
+
+// Keeps the change as an item that was done, or as what stopped the store.
+fn keep(
+    journal: &mut Journal,
+    items: &mut Vec<Item>,
+    xid: Xid,
+    sub: Xid,
+    change: Change,
+    answer: &Result<Acted, EngineFault>,
+)
+    requires room { vec_len items.old < vec_capacity items.old }
+    requires cause { TellsCause answer.now }
+    ensures items { items.new.items ≡ items.old.items ++ items_of sub change (told answer.now) }
+    ensures journal { journal.new ≡ record journal.old { stopped = stop_after xid change (told answer.now) journal.old.stopped } }
+{
+    match answer {
+        Ok(Acted::Done) | Ok(Acted::Skipped) => items.push_reserved(Item::Change { sub, change }),
+        Err(EngineFault::Clash(clash)) => journal.stop_by_clash(xid, change, *clash),
+        _ => {}
+    }
+}
+
+// Lists what came of a change.
+fn tell(events: &mut Told<Event>, sub: Xid, c: &Change, answer: &Result<Acted, EngineFault>)
+    ensures { events.new ≡ events.old ++ events_of sub c.now (told answer.now) }
+{
+    grow_act::<Brand>(events, sub, c, answer);
+}
+
+fn grow_act<N: Items<Event>>(
+    events: &mut Told<Event>,
+    sub: Xid,
+    c: &Change,
+    answer: &Result<Acted, EngineFault>,
+)
+    requires { N.items ≡ events_of sub c.now (told answer.now) }
+    ensures { events.new ≡ events.old ++ events_of sub c.now (told answer.now) }
+{
+    let _ = sub;
+    let _ = c;
+    let _ = answer;
+    events.grow_by::<N>();
+}

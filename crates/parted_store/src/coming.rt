@@ -1,0 +1,36 @@
+// An open transaction comes to a table.
+ghost use Rattle.std.specs.Prelude.{◌≡◌, ◌≢◌, ℕ, IsSome, OnOk};
+ghost use Rattle.world.specs.World.{World};
+ghost use Rattle.engine.specs.Engine.{IsOtherwiseSame};
+ghost use Rattle.parted_store.specs.Lent.{HasTable, Belongs};
+ghost use Rattle.parted_store.specs.Shares.{share_of};
+
+use crate::shares::{make_room, put_share};
+use crate::ticket::Ticket;
+use engine::EngineFault;
+use std::alloc::Global;
+use table_parts::Part;
+
+/// An open transaction comes to a table, unless it is there: its ticket gets a share of the table's part.
+/// Nothing is new in a world that has the part. A refusal leaves the ticket's shares; the part may refuse
+/// what its own world refuses, as one that is stopped.
+pub fn come_to(alloc: Global, part: &mut Part, ticket: &mut Ticket) -> Result<(), EngineFault>
+    requires { Belongs part.old ticket.old.shares }
+    ensures share { OnOk result (IsSome (share_of ticket.new.shares part.new.number)) }
+    ensures belongs { Belongs part.new ticket.new.shares }
+    ensures part { (w : World) → HasTable w part.old → HasTable w part.new }
+    ensures events { ticket.new.events ≡ ticket.old.events }
+    ensures xid { ticket.new.number ≡ ticket.old.number }
+    ensures others { (other : ℕ) → other ≢ part.old.number → share_of ticket.new.shares other ≡ share_of ticket.old.shares other }
+    ensures number { part.new.number ≡ part.old.number }
+    ensures same { IsOtherwiseSame part.old.store part.new.store }
+{
+    let table = part.number();
+    make_room(&mut ticket.shares, table)?;
+    if ticket.shares[table].is_some() {
+        return Ok(());
+    }
+    let share = part.open(alloc, ticket.xid)?;
+    put_share(&mut ticket.shares, table, share);
+    Ok(())
+}

@@ -1,0 +1,44 @@
+#![tactic(auto)]
+
+// The calls of a store whose tables lie apart, each over the parts that it needs.
+//
+// Such a store has a part for each table (`table_parts`), and a journal's part for what is no table's: the
+// commits, who is open, and what stopped it. Who opens a transaction gets its `Ticket`, with a share in the
+// part of each table that it came to. A call is lent the parts that it needs, as a slice or as guards of
+// locks hand them out, and its contract says: in every world that has these parts it is the step of
+// `world`, the world behind it has what the parts are then, and the parts of other tables stay. So whoever
+// has the parts can make the call, whatever others do meanwhile in other tables.
+//
+// A ticket alone knows what happened to its transaction, and keeps the items that it has done, of which a
+// commit makes the journal's entry. Where a ticket has no share its transaction has nothing, so a commit or
+// an abort needs the parts of the shares and the journal's, known at run time alone.
+//
+//   journal       `Journal`, the part that is no table's, and its `Line`
+//   ticket        `Ticket`; shares: its shares of the tables' parts; told: a list of which one hand has all
+//   coming        an open transaction comes to a table
+//   acting        a change that is tried in the part of its table
+//   ends          a commit and an abort, part by part
+//   entry         a committed transaction as the journal has it
+//
+//   specs/Lent                    what a call is lent of a world
+//   specs/Acting, Ends            what the calls do
+//   specs/Journal, Ticket, Shares    what the types keep
+//   specs/..Lemmas                what follows, from one call to the next
+//
+// It stands on `table_parts` for the part of a table, on `world_parts` for the laws of parts, on `tokens`,
+// and on `engine` for events.
+mod acting;
+mod coming;
+mod ends;
+mod entry;
+mod journal;
+mod shares;
+mod ticket;
+mod told;
+
+pub use acting::act_in;
+pub use coming::come_to;
+pub use ends::{abort_in, commit_in};
+pub use entry::Entry;
+pub use journal::{Journal, Line};
+pub use ticket::Ticket;
