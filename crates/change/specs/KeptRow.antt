@@ -1,7 +1,8 @@
 -- The row that an inverse keeps for a place, kind by kind.
 --     first_emptied      of emptied tables
 --     row_kept      of an inverse
-use Rattle.std.specs.Prelude.{ℕ, List, [], ◌∷◌, Option, Some, None, ◌==◌, if◌then◌else◌}
+--     came_to      its change put a row there, where none stood
+use Rattle.std.specs.Prelude.{ℕ, Bool, false, List, [], ◌∷◌, Option, Some, None, ◌==◌, if◌then◌else◌}
 use Rattle.std.specs.FinMap.{get}
 use Rattle.model.specs.declared.key.Key.{Key}
 use Rattle.model.specs.declared.row.Row.{Row}
@@ -24,3 +25,11 @@ row_kept (Put other values row) table key = if is_place (table, key) (other, val
 row_kept (Replace other values row) table key = if is_place (table, key) (other, values) then Some row else None
 row_kept (Move other keys row) table key = if is_place (table, key) (other, keys.value.key) then Some row else None
 row_kept (Unwipe wiped) table key = first_emptied wiped.items table key
+
+-- the change of an inverse put a row at the place, where none stood
+abbrev pub came_to : Inverse → ℕ → Key → Bool
+came_to (Take other values) table key = is_place (table, key) (other, values)
+came_to (Put other values row) table key = false
+came_to (Replace other values row) table key = false
+came_to (Move other keys row) table key = is_place (table, key) (other, keys.value.new_key)
+came_to (Unwipe wiped) table key = false

@@ -1,5 +1,6 @@
 pub mod Edits
 pub mod Inverse
+pub mod Turned
 pub mod EditsLemmas
 pub mod InverseLemmas
 pub mod Applied

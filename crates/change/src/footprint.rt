@@ -6,13 +6,14 @@ ghost use Rattle.model.specs.Rows.{keys_at, values_in};
 ghost use Rattle.model.specs.Cells.{cells_of, unique_cell, unique_cells};
 ghost use Rattle.model.specs.Footprint.{footprint, looked_up, moved_cell, moved_cells, new_place, removed_cells, replaced_cells};
 ghost use Rattle.model.specs.Named.{NamesTables};
-ghost use Rattle.change.specs.Footprint.{one_or_none};
+ghost use Rattle.change.specs.Footprint.{one_or_none, footprint_at};
 ghost use Rattle.change.specs.Reading.{read_row};
 
 use crate::reading::{PatchedRow, has_key, has_same};
 use indexes::Tables;
 use indexes::columns::{ReadRow, key_of};
 use model::{Cell, Change, Key, OutOfMemory, Patch, Row, TableId};
+use rows::RowView;
 use std::alloc::Global;
 
 /// The cell of the row that a change looks up before all else, if there is one.
@@ -34,8 +35,28 @@ pub fn footprint(alloc: Global, t: &Tables, c: &Change) -> Result<Vec<Cell>, Out
 {
     match c {
         Change::Put { table, row } => put_cells(alloc, t, *table, row),
-        Change::Set { table, key, patch } => set_cells(alloc, t, *table, key, patch),
-        Change::Remove { table, key } => remove_cells(alloc, t, *table, key),
+        Change::Set { table, key, patch } => {
+            set_cells(alloc, t, *table, key, patch, t.get(*table, key))
+        }
+        Change::Remove { table, key } => { remove_cells(alloc, t, *table, key, t.get(*table, key)) }
+        Change::Wipe { tables } => wipe_cells(alloc, tables.ids()),
+    }
+}
+
+/// The same, where this row stood at the place that the change looks up.
+pub fn footprint_at(
+    alloc: Global,
+    t: &Tables,
+    c: &Change,
+    old: Option<RowView<'_>>,
+) -> Result<Vec<Cell>, OutOfMemory>
+    requires { NamesTables (length t.now.schema) c.now }
+    ensures { IfOk result (λ cells. cells.items ≡ footprint_at t.now.schema c.now old.entry) }
+{
+    match c {
+        Change::Put { table, row } => put_cells(alloc, t, *table, row),
+        Change::Set { table, key, patch } => set_cells(alloc, t, *table, key, patch, old),
+        Change::Remove { table, key } => remove_cells(alloc, t, *table, key, old),
         Change::Wipe { tables } => wipe_cells(alloc, tables.ids()),
     }
 }
@@ -60,13 +81,14 @@ fn set_cells(
     table: TableId,
     key: &Key,
     patch: &Patch,
+    old: Option<RowView<'_>>,
 ) -> Result<Vec<Cell>, OutOfMemory>
     requires { table < length t.now.schema }
-    ensures { IfOk result (λ cells. cells.items ≡ RowCell table key.now ∷ replaced_cells t.now.schema table key.now patch.now (get t.now.rows (table, key.now))) }
+    ensures { IfOk result (λ cells. cells.items ≡ RowCell table key.now ∷ replaced_cells t.now.schema table key.now patch.now old.entry) }
 {
     let mut cells = Vec::new(alloc);
     cells.push(Cell::Row(table, key.copy()?))?;
-    add_replaced(alloc, &mut cells, t, table, key, patch)?;
+    add_replaced(alloc, &mut cells, t, table, key, patch, old)?;
     Ok(cells)
 }
 
@@ -76,13 +98,14 @@ fn remove_cells(
     t: &Tables,
     table: TableId,
     key: &Key,
+    old: Option<RowView<'_>>,
 ) -> Result<Vec<Cell>, OutOfMemory>
     requires { table < length t.now.schema }
-    ensures { IfOk result (λ cells. cells.items ≡ RowCell table key.now ∷ removed_cells t.now.schema table (get t.now.rows (table, key.now))) }
+    ensures { IfOk result (λ cells. cells.items ≡ RowCell table key.now ∷ removed_cells t.now.schema table old.entry) }
 {
     let mut cells = Vec::new(alloc);
     cells.push(Cell::Row(table, key.copy()?))?;
-    add_removed(alloc, &mut cells, t, table, key)?;
+    add_removed(alloc, &mut cells, t, table, old)?;
     Ok(cells)
 }
 
@@ -105,11 +128,12 @@ fn add_replaced(
     table: TableId,
     key: &Key,
     patch: &Patch,
+    old: Option<RowView<'_>>,
 ) -> Result<(), OutOfMemory>
     requires { table < length t.now.schema }
-    ensures { OnOk result (cells.new.items ≡ cells.old.items ++ replaced_cells t.now.schema table key.now patch.now (get t.now.rows (table, key.now))) }
+    ensures { OnOk result (cells.new.items ≡ cells.old.items ++ replaced_cells t.now.schema table key.now patch.now old.entry) }
 {
-    let Some(view) = t.get(table, key) else {
+    let Some(view) = old else {
         return Ok(());
     };
     let old = PatchedRow::of_row(&view);
@@ -124,12 +148,12 @@ fn add_removed(
     cells: &mut Vec<Cell>,
     t: &Tables,
     table: TableId,
-    key: &Key,
+    old: Option<RowView<'_>>,
 ) -> Result<(), OutOfMemory>
     requires { table < length t.now.schema }
-    ensures { OnOk result (cells.new.items ≡ cells.old.items ++ removed_cells t.now.schema table (get t.now.rows (table, key.now))) }
+    ensures { OnOk result (cells.new.items ≡ cells.old.items ++ removed_cells t.now.schema table old.entry) }
 {
-    match t.get(table, key) {
+    match old {
         Some(view) => add_unique(alloc, cells, t, table, &PatchedRow::of_row(&view)),
         None => Ok(()),
     }

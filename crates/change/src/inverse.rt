@@ -3,13 +3,16 @@ ghost use Rattle.std.specs.Prelude.{◌≡◌, ◌++◌, [], ◌∷◌, Some, No
 ghost use Rattle.std.specs.FinMap.{get, insert, remove};
 ghost use Rattle.model.specs.Effect.{back, all_back};
 ghost use Rattle.indexes.specs.Content.{KeepsCells};
-ghost use Rattle.model.specs.Rows.{is_place};
-ghost use Rattle.change.specs.KeptRow.{row_kept, first_emptied};
-ghost use Rattle.change.specs.Inverse.{row_by_inverse, edits_of, room_back, CanPutBack, CanUnwipe, rows_held, room_unwiped};
+ghost use Rattle.model.specs.Rows.{Schema, is_place};
+ghost use Rattle.change.specs.KeptRow.{row_kept, first_emptied, came_to};
+ghost use Rattle.change.specs.Inverse.{row_by_inverse, edits_of, room_back, IsKnown, CanPutBack, CanUnwipe, rows_held, room_unwiped};
+ghost use Rattle.change.specs.Turned.{IsTurned};
 
 use indexes::{Contents, Tables};
 use model::{Key, Row, TableId};
 use rows::RowView;
+use std::alloc::Global;
+use std::mem;
 
 /// What takes a change back: what stood where it altered the tables.
 #[derive(Debug, Drop)]
@@ -68,7 +71,45 @@ impl Inverse {
         self.kept_row(table, key)
     }
 
-    // The same, by what each kind of inverse keeps.
+    /// What it puts back at a place, if its change altered that place: a row, or none. It takes no memory.
+    pub fn edit_at(&self, table: TableId, key: &Key) -> Option<Option<RowView<'_>>>
+        ensures { result ≡ get (edits_of self.now) (table, key.now) }
+    {
+        match self.kept_row(table, key) {
+            Some(row) => Some(Some(row)),
+            None => self.no_row_at(table, key),
+        }
+    }
+
+    // That no row stood at a place, if its change put one there.
+    fn no_row_at(&self, table: TableId, key: &Key) -> Option<Option<RowView<'_>>>
+        ensures { result ≡ (if came_to self.now table key.now then Some None else None) }
+    {
+        if self.came_to(table, key) {
+            return Some(None);
+        }
+        None
+    }
+
+    // Whether its change put a row at a place where none stood.
+    fn came_to(&self, table: TableId, key: &Key) -> bool
+        ensures { result ≡ came_to self.now table key.now }
+    {
+        match self {
+            Inverse::Take {
+                table: other,
+                key: values,
+            } => is_at(table, key, *other, values),
+            Inverse::Move {
+                table: other,
+                keys,
+                ..
+            } => is_at(table, key, *other, &keys.new_key),
+            Inverse::Put { .. } | Inverse::Replace { .. } | Inverse::Unwipe { .. } => false,
+        }
+    }
+
+    // The row that it keeps for a place, by what each kind of inverse keeps.
     fn kept_row(&self, table: TableId, key: &Key) -> Option<RowView<'_>>
         ensures { result ≡ row_kept self.now table key.now }
     {
@@ -134,16 +175,84 @@ pub fn put_back(t: &mut Tables, inverse: Inverse)
 {
     match inverse {
         Inverse::Take { table, key } => t.take_back(table, &key),
-        Inverse::Put { table, key, row } => t.put_back(table, key, row),
+        Inverse::Put { table, key, row } => t.put_back(table, &key, row),
         Inverse::Replace { table, key, row } => {
             t.take_back(table, &key);
-            t.put_back(table, key, row);
+            t.put_back(table, &key, row);
         }
         Inverse::Move { table, keys, row } => {
             let MovedKeys { key, new_key } = Box::into_inner(keys);
             t.replace_back(table, &new_key, key, row);
         }
         Inverse::Unwipe { wiped } => unwipe_all(t, wiped),
+    }
+}
+
+/// Puts back what stood before the change, and leaves in the place of the inverse what settles the row
+/// that went. It takes no memory.
+pub fn turn_back(alloc: Global, t: &mut Tables, inverse: &mut Inverse)
+    requires { CanPutBack t.old inverse.old }
+    ensures schema { t.new.schema ≡ t.old.schema }
+    ensures rows { t.new.rows ≡ back t.old.rows (edits_of inverse.old) }
+    ensures room { KeepsCells (room_back t.old.room inverse.old) t.new.room }
+    ensures known { IsKnown t.old.schema inverse.new }
+    ensures turned { IsTurned t.old.rows inverse.old inverse.new }
+{
+    let was = mem::replace(inverse, nothing(alloc));
+    *inverse = put_back_and_keep(alloc, t, was);
+}
+
+// Puts back what stood before the change. The answer settles the row that went: it would put that row
+// there again.
+fn put_back_and_keep(alloc: Global, t: &mut Tables, inverse: Inverse) -> Inverse
+    requires { CanPutBack t.old inverse }
+    ensures schema { t.new.schema ≡ t.old.schema }
+    ensures rows { t.new.rows ≡ back t.old.rows (edits_of inverse) }
+    ensures room { KeepsCells (room_back t.old.room inverse) t.new.room }
+    ensures known { IsKnown t.old.schema result }
+    ensures turned { IsTurned t.old.rows inverse result }
+{
+    match inverse {
+        Inverse::Take { table, key } => {
+            let row = t.remove(table, &key);
+            Inverse::Put { table, key, row }
+        }
+        Inverse::Put { table, key, row } => {
+            t.put_back(table, &key, row);
+            nothing(alloc)
+        }
+        Inverse::Replace { table, key, row } => {
+            let gone = t.remove(table, &key);
+            t.put_back(table, &key, row);
+            Inverse::Put {
+                table,
+                key,
+                row: gone,
+            }
+        }
+        Inverse::Move { table, keys, row } => {
+            let MovedKeys { key, new_key } = Box::into_inner(keys);
+            let gone = t.remove(table, &new_key);
+            t.put_back(table, &key, row);
+            Inverse::Put {
+                table,
+                key: new_key,
+                row: gone,
+            }
+        }
+        Inverse::Unwipe { wiped } => {
+            unwipe_all(t, wiped);
+            nothing(alloc)
+        }
+    }
+}
+
+// An inverse that puts nothing back. It takes no memory.
+fn nothing(alloc: Global) -> Inverse
+    ensures { (schema : Schema) → IsKnown schema result }
+{
+    Inverse::Unwipe {
+        wiped: Vec::new(alloc),
     }
 }
 

@@ -27,7 +27,7 @@
 //   cell_ref     `CellRef`: a cell that is read in place, and its order
 //   reading      `PatchedRow`: a row as a patch leaves it, read in place
 //   outcome      `apply`, its answers, and the four changes
-//   inverse      `Inverse` and `put_back`
+//   inverse      `Inverse`, `put_back` and `turn_back`
 //   laying       what stood before a change, laid under what is known of a table
 pub mod cell_ref;
 pub mod footprint;
@@ -38,7 +38,7 @@ pub mod reading;
 pub mod search;
 
 pub use cell_ref::{CellRef, KeyRef};
-pub use inverse::{Inverse, MovedKeys, Wiped, put_back};
+pub use inverse::{Inverse, MovedKeys, Wiped, put_back, turn_back};
 pub use model::{Change, ColumnPatch, Patch, TableIds};
 pub use outcome::{Applied, Clash, apply};
 pub use reading::PatchedRow;

@@ -294,18 +294,18 @@ impl Tables {
     }
 
     /// Takes a `remove` back, where there is room for the row. It takes no memory.
-    pub fn put_back(&mut self, table: usize, key: Key, row: Row)
+    pub fn put_back(&mut self, table: usize, key: &Key, row: Row)
         requires known { table < length self.old.schema }
-        requires own_key { key_of self.old.schema table row ≡ Some key }
-        requires free { finite.get self.old.rows (table, key) ≡ None }
+        requires own_key { key_of self.old.schema table row ≡ Some key.now }
+        requires free { finite.get self.old.rows (table, key.now) ≡ None }
         requires unique { first_taken self.old.rows table row 1 (keys_at self.old.schema table).uniques ≡ None }
         requires room { HasRoom self.old.room self.old.schema table row }
         ensures schema { self.new.schema ≡ self.old.schema }
-        ensures rows { self.new.rows ≡ finite.insert self.old.rows (table, key) row }
+        ensures rows { self.new.rows ≡ finite.insert self.old.rows (table, key.now) row }
         ensures kept { KeepsCells self.old.room self.new.room }
     {
         let table = &mut self.tables[table];
-        table.put_back(&key, row);
+        table.put_back(key, row);
     }
 
     /// Takes a `replace` back, where there is room for the row: the row at `new_key` goes, and this

@@ -1,5 +1,6 @@
 // What an open transaction has done and can take back.
 ghost use Rattle.std.specs.Prelude.{◌≡◌, ◌≢◌, ℕ, [], ◌∷◌, ◌++◌, ◌<◌, ◌≤◌, length, map, slice_get, None, IfSome, IfNone, OnOk, OnErr, Contains, option_to_list};
+ghost use Rattle.std.specs.FinMap.{get};
 ghost use Rattle.std.specs.Option.{option_map};
 ghost use Rattle.model.specs.declared.cell.Cell.{Cell};
 ghost use Rattle.model.specs.Effect.{all_back};
@@ -8,6 +9,7 @@ ghost use Rattle.change.specs.Edits.{laid_together};
 ghost use Rattle.change.specs.Inverse.{edits_of};
 ghost use Rattle.change.specs.Laid.{IsLaidUnder};
 ghost use Rattle.undo.specs.Undo.{content_undone, CanUndo, AreKnownAll, all_settled, AreSettled};
+ghost use Rattle.undo.specs.Vacated.{AreVacated};
 ghost use Rattle.model.specs.declared.item.Item.TheVariants.{Change as ChangeItem, Touch, BackTo};
 ghost use Rattle.model.specs.Survivors.{before_savepoint, after_item};
 ghost use Rattle.savepoint.specs.Savepoints.{mark_at, before_mark};
@@ -18,6 +20,7 @@ use crate::savepoints::Savepoints;
 use change::Inverse;
 use indexes::Tables;
 use model::{Change, Item, Key, OutOfMemory, Row, TableId, Xid};
+use rows::RowView;
 use std::alloc::Global;
 use std::collections::BTreeMap;
 use std::marker::Model;
@@ -209,6 +212,14 @@ impl TxRecord {
         self.undo.mark()
     }
 
+    /// What stood at a place before its changes, if one of them altered it: a row, or none. The oldest
+    /// that did has the say. It takes no memory.
+    pub fn edit_at(&self, table: TableId, key: &Key) -> Option<Option<RowView<'_>>>
+        ensures { result ≡ get (laid_together (map edits_of self.now.log.inverses)) (table, key.now) }
+    {
+        self.undo.edit_at(table, key)
+    }
+
     /// Adds to what is known of a table's rows, key by key, what stood there before its changes: at a key
     /// the oldest of them has the say, and nothing where something is known already. Refused for memory,
     /// a part is added.
@@ -233,6 +244,18 @@ impl TxRecord {
     {
         let mut undo = self.undo;
         undo.undo_to(t, 0);
+    }
+
+    /// The same, and gives up what that would leave: the empty slot of each row that goes, and the entries
+    /// of its unique values that no row has any more. It is for an abort where no other has open work. It
+    /// takes no memory.
+    pub fn undo_and_settle(self, t: &mut Tables)
+        requires { CanUndo t.old self.log.inverses }
+        ensures rows { t.new.rows ≡ all_back t.old.rows (map edits_of self.log.inverses) }
+        ensures schema { t.new.schema ≡ t.old.schema }
+        ensures vacated { AreVacated t.old.schema t.old.rows t.new.rows t.new.room self.log.inverses }
+    {
+        self.undo.undo_and_settle(t);
     }
 
     /// Gives up the room by which its changes could be taken back, and hands out the items and the log,

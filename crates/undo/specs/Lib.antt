@@ -9,3 +9,7 @@ pub mod OthersLemmas
 pub mod LogOf
 pub mod LogLemmas
 pub mod Statements
+pub mod Turned
+pub mod Vacated
+pub mod Next
+pub mod NextLemmas

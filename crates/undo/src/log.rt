@@ -1,5 +1,6 @@
 // The log of a transaction's inverses.
 ghost use Rattle.std.specs.Prelude.{◌≡◌, ◌+◌, ◌-◌, ◌<◌, ◌≤◌, [], ◌∷◌, ◌++◌, length, take, drop, map, slice_get, OnOk, OnErr, IfErr, vec_len, vec_capacity, Contains};
+ghost use Rattle.std.specs.FinMap.{get};
 ghost use Rattle.std.specs.Option.{option_map};
 ghost use Rattle.model.specs.declared.cell.Cell.{Cell};
 ghost use Rattle.model.specs.Effect.{effect, all_back};
@@ -11,10 +12,13 @@ ghost use Rattle.change.specs.Inverse.{edits_of, IsKnown};
 ghost use Rattle.change.specs.Laid.{IsLaidUnder};
 ghost use Rattle.change.specs.Refusal.{ClashesAs};
 ghost use Rattle.undo.specs.Undo.{content_undone, CanUndo, AreKnownAll, cells_settled, all_settled, IsSettled, AreSettled};
+ghost use Rattle.undo.specs.Turned.{AreTurned};
+ghost use Rattle.undo.specs.Vacated.{AreVacated};
 
-use change::{Applied, Clash, Inverse, apply, put_back};
+use change::{Applied, Clash, Inverse, apply, put_back, turn_back};
 use indexes::Tables;
 use model::{Change, Key, OutOfMemory, Row, TableId};
+use rows::RowView;
 use std::alloc::Global;
 use std::collections::BTreeMap;
 use std::marker::Model;
@@ -107,6 +111,14 @@ impl UndoLog {
         self.inverses.get(number)
     }
 
+    /// What stood at a place before all of the changes, if one of them altered it: a row, or none. The
+    /// oldest that did has the say. It takes no memory.
+    pub fn edit_at(&self, table: TableId, key: &Key) -> Option<Option<RowView<'_>>>
+        ensures { result ≡ get (laid_together (map edits_of self.now.inverses)) (table, key.now) }
+    {
+        first_edit(self.inverses.as_slice(), table, key)
+    }
+
     /// Takes back the changes since a mark, the newest first. It takes no memory.
     ///
     /// The tables need not be as the last of them left them: others may have changed them at other
@@ -121,6 +133,20 @@ impl UndoLog {
         ensures log_room { self.new.room + mark ≡ self.old.room + length self.old.inverses }
     {
         undo_last(&mut self.inverses, t, mark);
+    }
+
+    /// Takes back all changes, the newest first, and gives up what they would leave: the empty slot of
+    /// each row that goes, and the entries of its unique values that no row has any more. It is for an
+    /// abort where no other has open work. It takes no memory.
+    pub fn undo_and_settle(self, t: &mut Tables)
+        requires { CanUndo t.old self.inverses }
+        ensures rows { t.new.rows ≡ all_back t.old.rows (map edits_of self.inverses) }
+        ensures schema { t.new.schema ≡ t.old.schema }
+        ensures vacated { AreVacated t.old.schema t.old.rows t.new.rows t.new.room self.inverses }
+    {
+        let mut inverses = self.inverses;
+        turn_all_back(&mut inverses, t);
+        settle_all(inverses.as_slice(), t);
     }
 
     /// Adds to what is known of a table's rows, key by key, what stood there before all of the changes: at
@@ -172,6 +198,34 @@ fn undo_last(inverses: &mut Vec<Inverse>, t: &mut Tables, mark: usize)
         let inverse = inverses.pop().unwrap();
         put_back(t, inverse);
     }
+}
+
+// Takes all back, the last of them first, and leaves in the place of each what settles the row that went.
+fn turn_all_back(inverses: &mut Vec<Inverse>, t: &mut Tables)
+    requires { CanUndo t.old inverses.old.items }
+    ensures rows { t.new.rows ≡ all_back t.old.rows (map edits_of inverses.old.items) }
+    ensures schema { t.new.schema ≡ t.old.schema }
+    ensures known { AreKnownAll t.old.schema inverses.new.items }
+    ensures turned { AreTurned t.old.rows inverses.old.items inverses.new.items }
+{
+    let alloc = *inverses.allocator();
+    let mut left = inverses.len();
+    while left > 0 {
+        left -= 1;
+        turn_back(alloc, t, &mut inverses[left]);
+    }
+}
+
+// What the first of these that edits a place puts back there.
+fn first_edit<'a>(inverses: &'a [Inverse], table: TableId, key: &Key) -> Option<Option<RowView<'a>>>
+    ensures { result ≡ get (laid_together (map edits_of inverses.now)) (table, key.now) }
+{
+    for inverse in inverses {
+        if let Some(edit) = inverse.edit_at(table, key) {
+            return Some(edit);
+        }
+    }
+    None
 }
 
 fn lay_all(

@@ -9,11 +9,11 @@ returns-in-Put c = rw c.in-Put.is c.put_cells.ensures
 
 pub returns-in-Set : goal.returns-in-Set
 unfolding footprint
-returns-in-Set c = rw c.in-Set.is c.set_cells.ensures
+returns-in-Set c = rw c.in-Set.is (rw c.get.ensures at c.set_cells.ensures)
 
 pub returns-in-Remove : goal.returns-in-Remove
 unfolding footprint
-returns-in-Remove c = rw c.in-Remove.is c.remove_cells.ensures
+returns-in-Remove c = rw c.in-Remove.is (rw c.get-in-Remove.ensures at c.remove_cells.ensures)
 
 pub returns-in-Wipe : goal.returns-in-Wipe
 unfolding footprint
