@@ -55,7 +55,8 @@ use Rattle.engine.specs.StoreLemmas.{still_rising, store_serial}
 use Rattle.live_tables.specs.declared.live_tables.Live.{Live}
 use Rattle.live_tables.specs.Answers.{told_stop}
 use Rattle.live_tables.specs.KeptRecords.{Represents as RecordsRepresent}
-use Rattle.live_tables.specs.Represents.{records_in, Represents as LiveRepresents}
+use Rattle.live_tables.specs.BeforeImages.{LiveHolds}
+use Rattle.live_tables.specs.Represents.{records_in, AreHeld, Represents as LiveRepresents}
 
 -- ---- a transaction that has made changes and nothing else
 
@@ -170,13 +171,21 @@ pub tied_idle : (w : World) (l : Live) → LiveRepresents w l → w.opened ≡ f
     → IsFine t.schema v → t.rows ≡ v.committed → LiveRepresents v (record l { tables = t })
 tied_idle w l tied none v t opened stopped fine rows = record {
   kept = kept_idle v t (records_in l.transactions) fine absent (opened ∙ none) rows (λ xid. tied.kept.closed xid (gone xid));
-  holds = record { its = λ xid o is. absurd (not_none o (sym (absent xid) ∙ is)); none = λ xid is. tied.holds.none xid (gone xid) };
-  marks = λ xid r at. absurd (not_none r (sym (tied.kept.closed xid (gone xid)) ∙ at));
   beside = λ xid o kept is at. absurd (not_none o (sym (absent xid) ∙ is));
   count = ap (λ (m : OpenOnes). finite.len m) opened ∙ tied.count;
   stopped = tied.stopped ∙ sym stopped;
   caused = tied.caused;
-  before_image = λ xid o r is at. absurd (not_none o (sym (absent xid) ∙ is));
+  made = λ is. held_idle l.holds (tied.made is);
+  lone = λ is.
+      let lone = tied.lone is in
+      record {
+        would = lone.would;
+        held = held_idle lone.would lone.held;
+        only = λ xid other o p at too. absurd (not_none o (sym (absent xid) ∙ at));
+        unmarked = lone.unmarked;
+        named = λ xid r at. absurd (not_none r (sym (tied.kept.closed xid (gone xid)) ∙ at));
+        none = lone.none;
+      };
 }
   where
     gone : (xid : ℕ) → get w.opened xid ≡ None
@@ -184,6 +193,13 @@ tied_idle w l tied none v t opened stopped fine rows = record {
 
     absent : (xid : ℕ) → get v.opened xid ≡ None
     absent xid = ap (λ (m : OpenOnes). get m xid) opened ∙ gone xid
+
+    held_idle : (held : LiveHolds) → AreHeld w l held → AreHeld v (record l { tables = t }) held
+    held_idle held are = record {
+      holds = record { its = λ xid o is. absurd (not_none o (sym (absent xid) ∙ is)); none = λ xid is. are.holds.none xid (gone xid) };
+      marks = λ xid r at. absurd (not_none r (sym (tied.kept.closed xid (gone xid)) ∙ at));
+      before_image = λ xid o r is at. absurd (not_none o (sym (absent xid) ∙ is));
+    }
 
 -- ---- a store in which no transaction is open
 

@@ -148,7 +148,7 @@ impl Store {
     {
         let xid = t.slip.number();
         self.book.meet(&mut t.slip);
-        touch_live(&mut self.live, xid, sub)?;
+        touch_live(*self.journal.allocator(), &mut self.live, xid, sub)?;
         self.book.grow(&mut t.slip, &Event::Done(Item::Touch(sub)));
         Ok(())
     }
@@ -436,6 +436,7 @@ fn open_live(
     journal: &mut Vec<Entry>,
     xid: Xid,
 ) -> Result<(), EngineFault>
+    requires { (w : World) × LiveRepresents w live.old }
     ensures opens { (w : World) → LiveRepresents w live.old → Opens w xid (told_call result) (after_open w xid (told_call result)) }
     ensures tied { (w : World) → LiveRepresents w live.old → LiveRepresents (after_open w xid (told_call result)) live.new }
     ensures fault { IfErr result IsNoClash }
@@ -461,7 +462,7 @@ fn open_live(
 }
 
 // A subtransaction of an open transaction is named in the live part, unless that is stopped.
-fn touch_live(live: &mut Live, xid: Xid, sub: Xid) -> Result<(), EngineFault>
+fn touch_live(alloc: Global, live: &mut Live, xid: Xid, sub: Xid) -> Result<(), EngineFault>
     requires { (w : World) × (o : Opened) × LiveRepresents w live.old × (finite.get w.opened xid ≡ Some o) }
     ensures touches { (w : World) (o : Opened) → LiveRepresents w live.old → finite.get w.opened xid ≡ Some o
         → Touches w xid o sub (told_call result) (after_touch w xid o sub (told_call result)) }
@@ -471,7 +472,7 @@ fn touch_live(live: &mut Live, xid: Xid, sub: Xid) -> Result<(), EngineFault>
     ensures schema { live.new.tables.schema ≡ live.old.tables.schema }
 {
     if live.stopped.is_none() {
-        live.touch(xid, sub)?;
+        live.touch(alloc, xid, sub)?;
         return Ok(());
     }
     Err(EngineFault::Stopped)

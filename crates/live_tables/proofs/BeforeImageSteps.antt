@@ -25,7 +25,7 @@ use Rattle.keyholds.specs.Holds.{cells_held}
 use Rattle.world.specs.World.{World}
 use Rattle.live_tables.specs.declared.live_tables.Live.{Live}
 use Rattle.live_tables.specs.Merged.{or_row, AreLaid}
-use Rattle.live_tables.specs.Represents.{Represents}
+use Rattle.live_tables.specs.ByHolds.{RepresentsByHolds}
 use Rattle.live_tables.specs.ReadingLemmas.{committed_live}
 
 abbrev Known : Type 0
@@ -95,7 +95,7 @@ module _ (committed : Rows) (table : ℕ) where
         by false e = inr (step.2 other e, not_this other e)
 
 -- with the live rows beside it, where these are the keys that are held
-pub laid_beside : (w : World) (l : Live) → Represents w l → (table : ℕ) → ((xid : ℕ) → ¬ Contains (cells_held l.holds xid) (Whole table))
+pub laid_beside : (w : World) (l : Live) → RepresentsByHolds w l → (table : ℕ) → ((xid : ℕ) → ¬ Contains (cells_held l.holds xid) (Whole table))
     → (keys : List Key) → ((xid : ℕ) (key : Key) → Contains (cells_held l.holds xid) (Row table key) → Contains keys key)
     → (old new : Known) → AreLaid w.committed table keys old new
     → (key : Key) → or_row (known_at new key) (get l.tables.rows (table, key)) ≡ or_row (known_at old key) (get w.committed (table, key))

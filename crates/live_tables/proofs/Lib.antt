@@ -1,4 +1,5 @@
 mod Stands
+mod Making
 mod TableRows
 mod MergedLemmas
 mod MergeSteps

@@ -1,5 +1,5 @@
 -- What look-ups of a place and of its table tell of what is to lie beside the place, and where its committed row is found.
-use Rattle.std.specs.Prelude.{◌≡◌, ◌&&◌, ℕ, true, false, List, [], ◌∷◌, ◌++◌, Option, Some, None, Result, Ok, Err, IfSome, IfNone, IfOk, OnOk, All, is_some, refl}
+use Rattle.std.specs.Prelude.{◌≡◌, ◌&&◌, ℕ, true, false, List, [], ◌∷◌, ◌++◌, Option, Some, None, Result, Ok, Err, IfSome, IfNone, IfOk, OnOk, OnErr, All, is_some, refl}
 use Rattle.std.proofs.Common.{sym, ◌∙◌, ap, subst, inl, inr, true≢false}
 use Rattle.std.specs.List.{Contains}
 use Rattle.std.specs.Map.{keys_of}
@@ -11,10 +11,11 @@ use Rattle.std.proofs.lemmas.Bool.{eq-eqb}
 use Rattle.std.proofs.lemmas.List.{map-append}
 use Rattle.std.proofs.lemmas.List.Elements.{All-contains, Contains-append_right, Contains-append_cases}
 use Rattle.model.specs.declared.key.Key.{Key}
+use Rattle.model.specs.declared.row.Row.{Row as RecordRow}
 use Rattle.model.specs.declared.cell.Cell.{Cell}
 use Rattle.model.specs.declared.cell.Cell.TheVariants.{Row, Whole}
 use Rattle.model.specs.Key.{key_cmp_total}
-use Rattle.model.specs.Rows.{Rows}
+use Rattle.model.specs.Rows.{Place}
 use Rattle.model.specs.Cells.{same_key, overlaps}
 use Rattle.change.specs.InverseLemmas.{contains_here, contains_one}
 use Rattle.keyholds.specs.Holds.{IsFreeCell}
@@ -40,6 +41,14 @@ if_ok (Err e) P Q h f = tt
 pub on_ok : {T E : Type 0} (r : Result T E) (P Q : Type 0) → OnOk r P → (P → Q) → OnOk r Q
 on_ok (Ok x) P Q h f = f h
 on_ok (Err e) P Q h f = tt
+
+pub on_err : {T E : Type 0} (r : Result T E) (P : Type 0) → P → OnErr r P
+on_err (Ok x) P h = tt
+on_err (Err e) P h = h
+
+pub map_err : {T E : Type 0} (r : Result T E) (P Q : Type 0) → OnErr r P → (P → Q) → OnErr r Q
+map_err (Ok x) P Q h f = tt
+map_err (Err e) P Q h f = f h
 
 -- ---- a place that is free for a transaction
 
@@ -92,21 +101,21 @@ pub cells_more : (more new : List (Cell × BeforeImage)) (cell : Cell) (before_i
 cells_more more new cell before_image before is was =
     ap keys_of is ∙ map-append (λ (h : Cell × BeforeImage). h.0) more ((cell, before_image) ∷ []) ∙ ap (λ cs. cs ++ cell ∷ []) was
 
-module _ (live : Rows) (count : ℕ) (held : ℕ → List Cell) where
+module _ (before : Place → Option RecordRow) (count : ℕ) (held : ℕ → List Cell) where
   -- each cell so far has beside it what is to lie there, for whom they are free
   abbrev pub AreSoFar : List Cell → List (Cell × BeforeImage) → Type 0
-  AreSoFar cells more = (xid : ℕ) → All (IsFreeCell held xid) cells → AreToStand live count (held xid) more
+  AreSoFar cells more = (xid : ℕ) → All (IsFreeCell held xid) cells → AreToStand before count (held xid) more
 
   pub one_more : (cells : List Cell) (more new : List (Cell × BeforeImage)) (cell : Cell) (before_image : BeforeImage) → AreSoFar cells more → Contains cells cell
-      → ((xid : ℕ) → IsFreeCell held xid cell → (Contains (held xid) cell → ⊥) → IsToStand live count (held xid) cell before_image)
+      → ((xid : ℕ) → IsFreeCell held xid cell → (Contains (held xid) cell → ⊥) → IsToStand before count (held xid) cell before_image)
       → new ≡ more ++ (cell, before_image) ∷ [] → AreSoFar cells new
   one_more cells more new cell before_image had its here is xid free c s has fresh =
       elim (Contains-append_cases more ((cell, before_image) ∷ []) (c, s) (subst (λ (hs : List (Cell × BeforeImage)). Contains hs (c, s)) is has)) [
         | inl old ↦ had xid free c s old fresh
         | inr new ↦
             let same = contains_one (cell, before_image) (c, s) new in
-            let to : IsToStand live count (held xid) cell before_image =
+            let to : IsToStand before count (held xid) cell before_image =
             here xid (All-contains (IsFreeCell held xid) cells cell free its)
             (subst (λ (d : Cell). ¬ Contains (held xid) d) (sym (ap (λ (h : Cell × BeforeImage). h.0) same)) fresh) in
-            subst (λ (h : Cell × BeforeImage). IsToStand live count (held xid) h.0 h.1) same to
+            subst (λ (h : Cell × BeforeImage). IsToStand before count (held xid) h.0 h.1) same to
       ]

@@ -51,7 +51,8 @@ use Rattle.live_tables.specs.MarksLemmas.{marks_same}
 use Rattle.live_tables.specs.Transactions.{WaitsNoMore, IsAsBefore, HasApplied, WritesTransaction, WantsChange, HasHeldItem, HasTaken}
 use Rattle.live_tables.specs.BeforeImages.{HasBeforeImages, AreToStand, TakesBeforeImages, cells_of_each}
 use Rattle.live_tables.specs.BeforeImageCallLemmas.{done_keeps_before_images, skip_keeps_before_images, same_keeps_before_images}
-use Rattle.live_tables.specs.Represents.{records_in, IsBeside, Represents}
+use Rattle.live_tables.specs.Represents.{records_in, IsBeside}
+use Rattle.live_tables.specs.ByHolds.{RepresentsByHolds}
 use Rattle.live_tables.specs.BasicLemmas.{still_caused, its_record, its_beside, records_put, taken_cells, tied_put}
 
 -- a list with this front is no shorter
@@ -75,7 +76,7 @@ stops_with (Some (StoppedByClash xid c (NullKeyClash table))) caused is = refl
 stops_with (Some (StoppedByClash xid c NoMemoryClash)) caused is = caused
 stops_with (Some (StoppedByHold waiter holder)) caused is = refl
 
-module _ (w : World) (l : Live) (tied : Represents w l) where
+module _ (w : World) (l : Live) (tied : RepresentsByHolds w l) where
   -- a store that is stopped is a stopped world
   pub has_stopped : IsSome l.stopped → IsSome w.stopped
   has_stopped is = subst (λ (stop : Option Stop). IsSome stop) tied.stopped (stops_with l.stopped tied.caused is)
@@ -106,7 +107,7 @@ module _ (w : World) (l : Live) (tied : Represents w l) where
             )
       ]
 
-module _ (w : World) (l : Live) (tied : Represents w l) (xid : ℕ) (o : Opened) (is : get w.opened xid ≡ Some o) (old kept : OpenTransaction) (n : Live)
+module _ (w : World) (l : Live) (tied : RepresentsByHolds w l) (xid : ℕ) (o : Opened) (is : get w.opened xid ≡ Some o) (old kept : OpenTransaction) (n : Live)
     (writes : WritesTransaction xid old kept l.transactions n.transactions) where
   -- it is stopped as before
   caused_still : n.stopped ≡ l.stopped → IfSome n.stopped HasCause
@@ -171,7 +172,7 @@ module _ (w : World) (l : Live) (tied : Represents w l) (xid : ℕ) (o : Opened)
           → HasHeldItem old.record.top sub (Change sub c) more old.record kept.record (length (cells_held l.holds xid))
           → n.tables.schema ≡ l.tables.schema → n.stopped ≡ l.stopped
           → RecordsRepresent l.tables.schema n.tables (done_with w xid o (Change sub c)) (records_in n.transactions)
-          → HasBeforeImages (done_with w xid o (Change sub c)) (records_in n.transactions) (holds_of n.holds) → Represents (done_with w xid o (Change sub c)) n
+          → HasBeforeImages (done_with w xid o (Change sub c)) (records_in n.transactions) (holds_of n.holds) → RepresentsByHolds (done_with w xid o (Change sub c)) n
       tied_item more waits has schema stops is_kept before_image =
           tied_put w l tied xid o is old writes.at (record { items = o.items ++ Change sub c ∷ []; wants = None }) w.stopped n kept schema writes.puts is_kept holds_item
           (marks_item sub (Change sub c) more (λ other. refl) has taken.front) taken.beside (beside_item sub c names waits) writes.as_many (ap told_stop stops ∙ tied.stopped)
@@ -179,7 +180,7 @@ module _ (w : World) (l : Live) (tied : Represents w l) (xid : ℕ) (o : Opened)
 
       -- it was done
       pub tied_done : HasApplied true sub c (length (cells_held l.holds xid)) l.tables n.tables old kept → n.stopped ≡ l.stopped
-          → Acts l.tables.schema w xid o sub c (Ok IsDone) (done_with w xid o (Change sub c)) × Represents (done_with w xid o (Change sub c)) n
+          → Acts l.tables.schema w xid o sub c (Ok IsDone) (done_with w xid o (Change sub c)) × RepresentsByHolds (done_with w xid o (Change sub c)) n
       tied_done applied stops =
           let i = applied.1.0 in
           let has = item_at sub (Change sub c) (i ∷ []) (length (cells_held l.holds xid)) applied.1.2 in
@@ -195,7 +196,7 @@ module _ (w : World) (l : Live) (tied : Represents w l) (xid : ℕ) (o : Opened)
 
       -- it was skipped
       pub tied_skipped : HasApplied false sub c (length (cells_held l.holds xid)) l.tables n.tables old kept → n.stopped ≡ l.stopped
-          → Acts l.tables.schema w xid o sub c (Ok IsSkipped) (done_with w xid o (Change sub c)) × Represents (done_with w xid o (Change sub c)) n
+          → Acts l.tables.schema w xid o sub c (Ok IsSkipped) (done_with w xid o (Change sub c)) × RepresentsByHolds (done_with w xid o (Change sub c)) n
       tied_skipped applied stops =
           let has = item_at sub (Change sub c) [] (length (cells_held l.holds xid)) applied.3 in
           let came =
@@ -209,22 +210,22 @@ module _ (w : World) (l : Live) (tied : Represents w l) (xid : ℕ) (o : Opened)
           )
 
     takes_before_images : (pairs : List (Cell × BeforeImage)) → keys_of pairs ≡ footprint l.tables.schema l.tables.rows c
-        → AreToStand l.tables.rows (length old.record.log.inverses) (cells_held l.holds xid) pairs → holds_of n.holds xid ≡ with_holds (holds_of l.holds xid) pairs
+        → AreToStand (get l.tables.rows) (length old.record.log.inverses) (cells_held l.holds xid) pairs → holds_of n.holds xid ≡ with_holds (holds_of l.holds xid) pairs
         → ((other : ℕ) → other ≢ xid → holds_of n.holds other ≡ holds_of l.holds other)
         → TakesBeforeImages l.tables.rows (footprint l.tables.schema l.tables.rows c) (length (tied.kept.ready xid o is).its.log.inverses) (holds_of l.holds) xid (holds_of n.holds)
     takes_before_images pairs are stand own others = record {
       more = pairs;
       its = are;
-      stand = subst (λ (r : Record). AreToStand l.tables.rows (length r.log.inverses) (cells_held l.holds xid) pairs) same_record stand;
+      stand = subst (λ (r : Record). AreToStand (get l.tables.rows) (length r.log.inverses) (cells_held l.holds xid) pairs) same_record stand;
       at = record { here = own; beside = others };
     }
 
     -- one or the other, with the cells as the holds tell of them
     pub tied_taken : IsFreeOf l.tables.schema l.tables.rows (cells_held l.holds) xid c → (mark : ℕ) (pairs : List (Cell × BeforeImage)) → mark ≡ length (holds_of l.holds xid)
-        → keys_of pairs ≡ footprint l.tables.schema l.tables.rows c → AreToStand l.tables.rows (length old.record.log.inverses) (cells_held l.holds xid) pairs
+        → keys_of pairs ≡ footprint l.tables.schema l.tables.rows c → AreToStand (get l.tables.rows) (length old.record.log.inverses) (cells_held l.holds xid) pairs
         → holds_of n.holds xid ≡ with_holds (holds_of l.holds xid) pairs
         → ((other : ℕ) → other ≢ xid → holds_of n.holds other ≡ holds_of l.holds other) → (done : Bool) → HasApplied done sub c mark l.tables n.tables old kept → n.stopped ≡ l.stopped
-        → Acts l.tables.schema w xid o sub c (Ok (if done then IsDone else IsSkipped)) (done_with w xid o (Change sub c)) × Represents (done_with w xid o (Change sub c)) n
+        → Acts l.tables.schema w xid o sub c (Ok (if done then IsDone else IsSkipped)) (done_with w xid o (Change sub c)) × RepresentsByHolds (done_with w xid o (Change sub c)) n
     tied_taken free mark pairs count are stand own others true applied stops =
         tied_done free (takes_before_images pairs are stand own others)
         (subst (λ (number : ℕ). HasApplied true sub c number l.tables n.tables old kept) (count ∙ sym (length-keys_of (holds_of l.holds xid))) applied) stops
@@ -257,7 +258,7 @@ module _ (w : World) (l : Live) (tied : Represents w l) (xid : ℕ) (o : Opened)
 
       tied_wanting : (stopped : Option Stop) → told_stop n.stopped ≡ stopped → IfSome n.stopped HasCause
           → RecordsRepresent l.tables.schema n.tables (record (wanting w xid o sub c) { stopped = stopped }) (records_in n.transactions)
-          → Represents (record (wanting w xid o sub c) { stopped = stopped }) n
+          → RepresentsByHolds (record (wanting w xid o sub c) { stopped = stopped }) n
       tied_wanting stopped stops caused is_kept =
           tied_put w l tied xid o is old writes.at (record o { wants = Some (sub, c) }) stopped n kept (ap (λ (t : Content). t.schema) tables) writes.puts is_kept
           (subst (λ (held : ℕ → List (Cell × BeforeImage)). AreHolds l.tables.schema (record (wanting w xid o sub c) { stopped = stopped }) (cells_of_each held)) (sym holds)
@@ -269,7 +270,7 @@ module _ (w : World) (l : Live) (tied : Represents w l) (xid : ℕ) (o : Opened)
 
       -- another transaction holds a cell of it
       pub tied_waiting : (holder : ℕ) → IsHeldIn l.tables.schema l.tables.rows (cells_held l.holds) xid c holder → n.stopped ≡ l.stopped
-          → Acts l.tables.schema w xid o sub c (Ok (Held holder)) (wanting w xid o sub c) × Represents (wanting w xid o sub c) n
+          → Acts l.tables.schema w xid o sub c (Ok (Held holder)) (wanting w xid o sub c) × RepresentsByHolds (wanting w xid o sub c) n
       tied_waiting holder found stops =
           let came =
           held_is_kept l.tables.schema l.tables w (records_in l.transactions) tied.kept xid o is (runs w l tied running) sub c holder (held_live w l tied xid c holder found) n.tables left
@@ -280,7 +281,7 @@ module _ (w : World) (l : Live) (tied : Represents w l) (xid : ℕ) (o : Opened)
       pub tied_clash : (cause : ClashCause) → IsFreeOf l.tables.schema l.tables.rows (cells_held l.holds) xid c
           → outcome l.tables.schema l.tables.rows c ≡ Clashes cause → told_stop n.stopped ≡ Some (ByClash xid c cause) → IfSome n.stopped HasCause
           → Acts l.tables.schema w xid o sub c (Ok (Clashed cause)) (record (wanting w xid o sub c) { stopped = Some (ByClash xid c cause) })
-          × Represents (record (wanting w xid o sub c) { stopped = Some (ByClash xid c cause) }) n
+          × RepresentsByHolds (record (wanting w xid o sub c) { stopped = Some (ByClash xid c cause) }) n
       tied_clash cause free clashes stops caused =
           let came =
           clash_is_kept l.tables.schema l.tables w (records_in l.transactions) tied.kept xid o is (runs w l tied running) sub c cause (free_live w l tied xid c free) clashes n.tables left
@@ -294,7 +295,7 @@ module _ (w : World) (l : Live) (tied : Represents w l) (xid : ℕ) (o : Opened)
       pub tied_clashed : (clash : clash_type.Clash) → clash ≢ NoMemoryClash → AnswersOutcome (outcome l.tables.schema l.tables.rows c) (Err clash)
           → IsFreeOf l.tables.schema l.tables.rows (cells_held l.holds) xid c → n.stopped ≡ Some (StoppedByClash xid c clash)
           → Acts l.tables.schema w xid o sub c (told_clash (cause_of clash)) (after_act w xid o sub c (told_clash (cause_of clash)))
-          × Represents (after_act w xid o sub c (told_clash (cause_of clash))) n
+          × RepresentsByHolds (after_act w xid o sub c (told_clash (cause_of clash))) n
       tied_clashed (UniqueClash table key) clashed clashes free stops = tied_clash (Unique table key) free clashes (ap told_stop stops) (stopped_by (UniqueClash table key) refl stops)
       tied_clashed (NullKeyClash table) clashed clashes free stops = tied_clash (NullKey table) free clashes (ap told_stop stops) (stopped_by (NullKeyClash table) refl stops)
       tied_clashed NoMemoryClash clashed clashes free stops = absurd (clashed refl)
@@ -312,9 +313,9 @@ module _ (w : World) (l : Live) (tied : Represents w l) (xid : ℕ) (o : Opened)
   same_world = ap (λ (m : FinMap nat_cmp Opened). record w { opened = m; stopped = w.stopped }) put_again
 
   -- the tables have their rows, and the transaction has done what it had
-  pub tied_refused : HasSameRows l.tables.schema l.tables n.tables → IsAsBefore old kept → holds_of n.holds ≡ holds_of l.holds → n.stopped ≡ l.stopped → Represents w n
+  pub tied_refused : HasSameRows l.tables.schema l.tables n.tables → IsAsBefore old kept → holds_of n.holds ≡ holds_of l.holds → n.stopped ≡ l.stopped → RepresentsByHolds w n
   tied_refused left before holds stops =
-      subst (λ (v : World). Represents v n) same_world
+      subst (λ (v : World). RepresentsByHolds v n) same_world
       (tied_put w l tied xid o is old writes.at o w.stopped n kept left.schema_is writes.puts
       (subst (λ (v : World). RecordsRepresent l.tables.schema n.tables v (records_in n.transactions)) (sym same_world)
       (refusal_is_kept l.tables.schema l.tables w (records_in l.transactions) tied.kept xid o is n.tables left (records_in n.transactions) kept.record records_at (same_at before.record_same)))

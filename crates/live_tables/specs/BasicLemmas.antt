@@ -35,7 +35,8 @@ use Rattle.live_tables.specs.Held.{AreHolds, HasHeldMarks}
 use Rattle.live_tables.specs.CellLemmas.{before_image_is_held}
 use Rattle.live_tables.specs.KeptRecords.{IsRecordOf, Represents as RecordsRepresent, IsPutAt}
 use Rattle.live_tables.specs.BeforeImages.{HasBeforeImages, TakesBeforeImages, cells_of_each}
-use Rattle.live_tables.specs.Represents.{records_in, IsBeside, Represents}
+use Rattle.live_tables.specs.Represents.{records_in, IsBeside}
+use Rattle.live_tables.specs.ByHolds.{RepresentsByHolds}
 use Rattle.live_tables.specs.Transactions.{PutsTransaction, WritesTransaction, HasTaken}
 
 same_some : {X : Type 0} (x y : X) → Some x ≡ Some y → x ≡ y
@@ -98,11 +99,11 @@ kept_there None r is = absurd cc
 kept_there (Some k) r is = refl
 
 -- an open transaction is in the map
-pub is_there : (w : World) (l : Live) → Represents w l → (xid : ℕ) (o : Opened) → get w.opened xid ≡ Some o → IsSome (tree.get nat_cmp l.transactions xid)
+pub is_there : (w : World) (l : Live) → RepresentsByHolds w l → (xid : ℕ) (o : Opened) → get w.opened xid ≡ Some o → IsSome (tree.get nat_cmp l.transactions xid)
 is_there w l tied xid o is = kept_there (tree.get nat_cmp l.transactions xid) (tied.kept.ready xid o is).its (tied.kept.ready xid o is).found
 
 -- so it is never missing there
-pub never_missing : (l : Live) (xid : ℕ) → ((w : World) × (o : Opened) × Represents w l × (get w.opened xid ≡ Some o)) → None ≡ tree.get nat_cmp l.transactions xid → ⊥
+pub never_missing : (l : Live) (xid : ℕ) → ((w : World) × (o : Opened) × RepresentsByHolds w l × (get w.opened xid ≡ Some o)) → None ≡ tree.get nat_cmp l.transactions xid → ⊥
 never_missing l xid (w, o, tied, is) none = true≢false (sym (is_there w l tied xid o is) ∙ ap is_some (sym none))
 
 -- what stopped it is what had
@@ -115,7 +116,7 @@ pub tied_by : (w : World) (n : Live) (schema : Schema) → n.tables.schema ≡ s
     → ((xid : ℕ) (r : Record) → records_in n.transactions xid ≡ Some r → HasHeldMarks schema w.committed r (cells_held n.holds xid))
     → ((xid : ℕ) (o : Opened) (kept : OpenTransaction) → get w.opened xid ≡ Some o → tree.get nat_cmp n.transactions xid ≡ Some kept → IsBeside (length schema) o kept)
     → finite.len w.opened ≡ btree_map_len n.transactions → told_stop n.stopped ≡ w.stopped → IfSome n.stopped HasCause
-    → HasBeforeImages w (records_in n.transactions) (holds_of n.holds) → Represents w n
+    → HasBeforeImages w (records_in n.transactions) (holds_of n.holds) → RepresentsByHolds w n
 tied_by w n schema same kept holds marks beside count stopped caused before_image = record {
   kept = subst (λ (s : Schema). RecordsRepresent s n.tables w (records_in n.transactions)) (sym same) kept;
   holds = subst (λ (s : Schema). AreHolds s w (cells_held n.holds)) (sym same) holds;
@@ -128,7 +129,7 @@ tied_by w n schema same kept holds marks beside count stopped caused before_imag
   before_image = before_image;
 }
 
-module _ (w : World) (l : Live) (tied : Represents w l) (xid : ℕ) where
+module _ (w : World) (l : Live) (tied : RepresentsByHolds w l) (xid : ℕ) where
   -- ---- the map has another transaction there
 
   module _ (later : Opened) (n : Live) (kept : OpenTransaction) (puts : PutsTransaction xid (Some kept) l.transactions n.transactions) where
@@ -196,7 +197,7 @@ module _ (w : World) (l : Live) (tied : Represents w l) (xid : ℕ) where
             → HasHeldMarks l.tables.schema w.committed kept.record (cells_held n.holds xid)
             → ((other : ℕ) → other ≢ xid → cells_held n.holds other ≡ cells_held l.holds other) → IsBeside (length l.tables.schema) later kept
             → btree_map_len n.transactions ≡ btree_map_len l.transactions → told_stop n.stopped ≡ stopped → IfSome n.stopped HasCause
-            → HasBeforeImages next (records_in n.transactions) (holds_of n.holds) → Represents next n
+            → HasBeforeImages next (records_in n.transactions) (holds_of n.holds) → RepresentsByHolds next n
         tied_put is_kept holds here beside its as_many stops caused before_image =
             tied_by next n l.tables.schema schema is_kept holds (marks_put later n kept puts here beside) (beside_put later n kept puts its)
             (open_as_many later ∙ tied.count ∙ sym as_many) stops caused before_image

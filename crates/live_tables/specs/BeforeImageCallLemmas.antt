@@ -1,5 +1,5 @@
 -- What lies beside the cells that are held, through each call of a store. Each law has the statement of its name.
-use Rattle.std.proofs.Common.{◌≡◌, ◌≢◌, ℕ, ◌≤◌, true, false, List, [], ◌∷◌, ◌++◌, length, take, Option, Some, None, refl, sym, ap, subst, ◌∙◌, arith, inl, inr}
+use Rattle.std.proofs.Common.{◌≡◌, ◌≢◌, ℕ, ◌≤◌, ◌⊎◌, true, false, List, [], ◌∷◌, ◌++◌, length, take, Option, Some, None, refl, sym, ap, subst, ◌∙◌, arith, inl, inr}
 use Rattle.std.specs.Prelude.{slice_get, unwrap_or}
 use Rattle.std.specs.List.{Contains, list_any}
 use Rattle.std.specs.Map.{keys_of}
@@ -15,7 +15,7 @@ use Rattle.model.specs.declared.cell.Cell.{Cell}
 use Rattle.model.specs.declared.cell.Cell.TheVariants.{Row, Uniq, Whole}
 use Rattle.model.specs.declared.item.Item.{Item}
 use Rattle.model.specs.declared.item.Item.TheVariants.{Change, Touch, BackTo}
-use Rattle.model.specs.Rows.{Rows, Schema}
+use Rattle.model.specs.Rows.{Place, Rows, Schema}
 use Rattle.model.specs.Effect.{Done, Skip, wipe_edits, outcome, inverse}
 use Rattle.model.specs.EffectLemmas.{is_named, row_before_wipe, get_inverse_wipe}
 use Rattle.model.specs.Cells.{overlaps}
@@ -49,11 +49,11 @@ start_keeps_before_images rows records held xid o r at found = absurd (not_none 
 
 -- ---- a transaction opens
 
-no_holds : {S : Type 0} (held : List (Cell × S)) → keys_of held ≡ [] → held ≡ []
+pub no_holds : {S : Type 0} (held : List (Cell × S)) → keys_of held ≡ [] → held ≡ []
 no_holds [] none = refl
 no_holds (hold ∷ held) none = absurd cc
 
-no_before_image : (committed : Rows) (log : List Inverse) (marks : List (ℕ × Mark)) (held : List (Cell × BeforeImage)) → held ≡ [] → AreBeforeImages committed log marks held
+pub no_before_image : (committed : Rows) (log : List Inverse) (marks : List (ℕ × Mark)) (held : List (Cell × BeforeImage)) → held ≡ [] → AreBeforeImages committed log marks held
 no_before_image committed log marks held none =
     subst (AreBeforeImages committed log marks) (sym none)
     (record {
@@ -77,7 +77,7 @@ before_wipe None = refl
 before_wipe (Some row) = refl
 
 -- the inverse of a wipe has the rows of each table that it names
-row_of_wipe : (schema : Schema) (rows : Rows) (tables : List ℕ) (i : Inverse) → edits_of i ≡ inverse schema rows (Wipe tables) → (table : ℕ) (key : Key)
+pub row_of_wipe : (schema : Schema) (rows : Rows) (tables : List ℕ) (i : Inverse) → edits_of i ≡ inverse schema rows (Wipe tables) → (table : ℕ) (key : Key)
     → is_named tables table ≡ true → row_by_inverse i (table, key) ≡ get rows (table, key)
 row_of_wipe schema rows tables i is table key named =
     ap (λ e. unwrap_or (get e (table, key)) None) is
@@ -102,50 +102,51 @@ module _ (schema : Schema) (t : Content) (w : World) (records : ℕ → Option R
         | inr differs ↦ apart other p differs at
       ])
 
-  -- so it is at a place of the change
-  row_first_held : (table : ℕ) (key : Key) → Contains (footprint schema t.rows c) (Row table key) → ¬ Contains (keys_of (held xid)) (Row table key)
-      → ¬ Contains (keys_of (held xid)) (Whole table) → get t.rows (table, key) ≡ get w.committed (table, key)
-  row_first_held table key its no_row no_table =
+  -- so it is where the change meets the place, or its table as a whole
+  row_first_held : (table : ℕ) (key : Key) → Contains (footprint schema t.rows c) (Row table key) ⊎ Contains (footprint schema t.rows c) (Whole table)
+      → ¬ Contains (keys_of (held xid)) (Row table key) → ¬ Contains (keys_of (held xid)) (Whole table) → get t.rows (table, key) ≡ get w.committed (table, key)
+  row_first_held table key (inl its) no_row no_table =
       row_unheld table key no_row no_table
       (λ other p differs at. free_by_first (footprint schema t.rows c) (holds schema w other p) (free.1 other p differs at) (Row table key) its)
-
-  -- and at each place of a table that the change meets as a whole
-  row_first_emptied : (table : ℕ) (key : Key) → Contains (footprint schema t.rows c) (Whole table) → ¬ Contains (keys_of (held xid)) (Row table key)
-      → ¬ Contains (keys_of (held xid)) (Whole table) → get t.rows (table, key) ≡ get w.committed (table, key)
-  row_first_emptied table key its no_row no_table =
+  row_first_held table key (inr its) no_row no_table =
       row_unheld table key no_row no_table
       (λ other p differs at.
       free_in_table table key (holds schema w other p) (free_by_first (footprint schema t.rows c) (holds schema w other p) (free.1 other p differs at) (Whole table) its))
 
-  module _ (log inverses : List Inverse)
-      (has : (tables : List ℕ) → c ≡ Wipe tables → (i : Inverse) × (inverses ≡ i ∷ []) × (edits_of i ≡ inverse schema t.rows c))
-      (before : List Cell) (over : (cell : Cell) → Contains (keys_of (held xid)) cell → Contains before cell) where
-    -- the table that a wipe meets first lies in its inverse
-    table_emptied : (table count : ℕ) → Contains (footprint schema t.rows c) (Whole table) → ¬ Contains before (Whole table) → count ≡ length log
-        → HasTable w.committed (log ++ inverses) before table count
-    table_emptied table count its no_table last =
-        let wipe = wipe_of schema t.rows c table its in
-        let inv = has wipe.0 wipe.1 in
-        record {
-          inverse = inv.0;
-          at =
-              subst (λ (n : ℕ). slice_get (log ++ inverses) n ≡ Some inv.0) (sym last)
-              (subst (λ (is : List Inverse). slice_get (log ++ is) (length log) ≡ Some inv.0) (sym inv.1) (slice_next log inv.0));
-          rows = λ key no_row.
-              row_of_wipe schema t.rows wipe.0 inv.0 (inv.2 ∙ ap (inverse schema t.rows) wipe.1) table key wipe.2
-              ∙ row_first_emptied table key its (λ there. no_row (over (Row table key) there)) (λ there. no_table (over (Whole table) there));
-        }
+-- What lies beside the cells of a change, where what is to lie there was read before it: at its places these rows, which are the
+-- committed ones where nothing was held yet.
+module _ (schema : Schema) (committed rows : Rows) (c : change_type.Change) (held : List Cell)
+    (first_held : (table : ℕ) (key : Key) → Contains (footprint schema rows c) (Row table key) ⊎ Contains (footprint schema rows c) (Whole table)
+    → ¬ Contains held (Row table key) → ¬ Contains held (Whole table) → get rows (table, key) ≡ get committed (table, key))
+    (read : Place → Option RecordRow) (is_read : (table : ℕ) (key : Key) → Contains (footprint schema rows c) (Row table key) → read (table, key) ≡ get rows (table, key))
+    (log inverses : List Inverse) (has : (tables : List ℕ) → c ≡ Wipe tables → (i : Inverse) × (inverses ≡ i ∷ []) × (edits_of i ≡ inverse schema rows c))
+    (before : List Cell) (over : (cell : Cell) → Contains held cell → Contains before cell) where
+  -- the table that a wipe meets first lies in its inverse
+  table_emptied : (table count : ℕ) → Contains (footprint schema rows c) (Whole table) → ¬ Contains before (Whole table) → count ≡ length log
+      → HasTable committed (log ++ inverses) before table count
+  table_emptied table count its no_table last =
+      let wipe = wipe_of schema rows c table its in
+      let inv = has wipe.0 wipe.1 in
+      record {
+        inverse = inv.0;
+        at =
+            subst (λ (n : ℕ). slice_get (log ++ inverses) n ≡ Some inv.0) (sym last)
+            (subst (λ (is : List Inverse). slice_get (log ++ is) (length log) ≡ Some inv.0) (sym inv.1) (slice_next log inv.0));
+        rows = λ key no_row.
+            row_of_wipe schema rows wipe.0 inv.0 (inv.2 ∙ ap (inverse schema rows) wipe.1) table key wipe.2
+            ∙ first_held table key (inr its) (λ there. no_row (over (Row table key) there)) (λ there. no_table (over (Whole table) there));
+      }
 
-    stands_beside : (cell : Cell) (before_image : BeforeImage) → Contains (footprint schema t.rows c) cell → ¬ Contains before cell
-        → IsToStand t.rows (length log) (keys_of (held xid)) cell before_image → LiesBeside w.committed (log ++ inverses) before cell before_image
-    stands_beside (Row table key) (BeforeImageRow row) its new stands =
-        stands.0 ∙ row_first_held table key its (λ there. new (over (Row table key) there)) stands.1
-    stands_beside (Row table key) (Wiped count) its new stands = stands
-    stands_beside (Row table key) Other its new stands = over (Whole table) stands
-    stands_beside (Uniq table number values) before_image its new stands = tt
-    stands_beside (Whole table) (BeforeImageRow row) its new stands = stands
-    stands_beside (Whole table) (Wiped count) its new stands = table_emptied table count its new stands
-    stands_beside (Whole table) Other its new stands = stands
+  pub stands_beside : (cell : Cell) (before_image : BeforeImage) → Contains (footprint schema rows c) cell → ¬ Contains before cell
+      → IsToStand read (length log) held cell before_image → LiesBeside committed (log ++ inverses) before cell before_image
+  stands_beside (Row table key) (BeforeImageRow row) its new stands =
+      stands.0 ∙ is_read table key its ∙ first_held table key (inl its) (λ there. new (over (Row table key) there)) stands.1
+  stands_beside (Row table key) (Wiped count) its new stands = stands
+  stands_beside (Row table key) Other its new stands = over (Whole table) stands
+  stands_beside (Uniq table number values) before_image its new stands = tt
+  stands_beside (Whole table) (BeforeImageRow row) its new stands = stands
+  stands_beside (Whole table) (Wiped count) its new stands = table_emptied table count its new stands
+  stands_beside (Whole table) Other its new stands = stands
 
 pub contains_key : {S : Type 0} (holds : List (Cell × S)) (cell : Cell) (before_image : S) → Contains holds (cell, before_image) → Contains (keys_of holds) cell
 contains_key [] cell before_image is = absurd (omega (arith, is.1))
@@ -177,12 +178,13 @@ done_keeps_before_images new i schema t w records kept held are had xid o is mar
     let before = kept.ready xid o is in
     with_item schema w records held had xid o is before.its before.found marks sub (Change sub c) (i ∷ []) after s put has held_is takes.more later takes.at
     (λ front over cell before_image its fresh.
-    stands_beside schema t w records kept held are xid o is c free before.its.log.inverses (i ∷ []) (λ tables wipe. (i, refl, applied.back_is)) front over cell before_image
+    stands_beside schema w.committed t.rows c (keys_of (held xid)) (row_first_held schema t w records kept held are xid o is c free) (get t.rows) (λ table key at. refl)
+    before.its.log.inverses (i ∷ []) (λ tables wipe. (i, refl, applied.back_is)) front over cell before_image
     (subst (λ (cs : List Cell). Contains cs cell) takes.its (contains_key takes.more cell before_image its)) fresh
     (takes.stand cell before_image its (λ there. fresh (over cell there))))
 
 -- a wipe is never skipped
-wipe_is_done : (schema : Schema) (rows : Rows) (c : change_type.Change) (tables : List ℕ) → c ≡ Wipe tables → ¬ (outcome schema rows c ≡ Skip)
+pub wipe_is_done : (schema : Schema) (rows : Rows) (c : change_type.Change) (tables : List ℕ) → c ≡ Wipe tables → ¬ (outcome schema rows c ≡ Skip)
 wipe_is_done schema rows c tables wipe skipped = differ (sym (ap (outcome schema rows) wipe) ∙ skipped)
   where
     differ : ¬ (Done (wipe_edits rows tables) ≡ Skip)
@@ -193,8 +195,8 @@ skip_keeps_before_images schema t w records kept held are had xid o is marks sub
     let before = kept.ready xid o is in
     with_item schema w records held had xid o is before.its before.found marks sub (Change sub c) [] after s put has held_is takes.more later takes.at
     (λ front over cell before_image its fresh.
-    stands_beside schema t w records kept held are xid o is c free before.its.log.inverses []
-    (λ tables wipe. absurd (wipe_is_done schema t.rows c tables wipe skipped)) front over cell before_image
+    stands_beside schema w.committed t.rows c (keys_of (held xid)) (row_first_held schema t w records kept held are xid o is c free) (get t.rows) (λ table key at. refl)
+    before.its.log.inverses [] (λ tables wipe. absurd (wipe_is_done schema t.rows c tables wipe skipped)) front over cell before_image
     (subst (λ (cs : List Cell). Contains cs cell) takes.its (contains_key takes.more cell before_image its)) fresh
     (takes.stand cell before_image its (λ there. fresh (over cell there))))
 

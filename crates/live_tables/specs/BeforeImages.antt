@@ -1,4 +1,5 @@
 -- What lies beside the cells that transactions hold, so that the committed rows are read by the holds.
+--     LiveHolds      what transactions hold, as the code keeps it
 --     HasTable      an inverse has the committed rows of a table
 --     LiesBeside, AreBeforeImages      what lies beside a cell, and beside each that a transaction holds
 --     HasBeforeImages      that is so for each open transaction
@@ -9,12 +10,13 @@
 use Rattle.std.specs.Prelude.{◌≡◌, ◌≢◌, ℕ, ◌<◌, ◌⊎◌, List, Option, Some, None, take, slice_get}
 use Rattle.std.specs.List.{Contains}
 use Rattle.std.specs.Map.{keys_of}
-use Rattle.std.specs.FinMap.{get}
+use Rattle.std.specs.Ordering.{nat_cmp}
+use Rattle.std.specs.FinMap.{FinMap, get}
 use Rattle.model.specs.declared.key.Key.{Key}
 use Rattle.model.specs.declared.row.Row.{Row as RecordRow}
 use Rattle.model.specs.declared.cell.Cell.{Cell}
 use Rattle.model.specs.declared.cell.Cell.TheVariants.{Row, Uniq, Whole}
-use Rattle.model.specs.Rows.{Rows}
+use Rattle.model.specs.Rows.{Place, Rows}
 use Rattle.change.specs.declared.inverse.Inverse.{Inverse}
 use Rattle.change.specs.Inverse.{row_by_inverse}
 use Rattle.savepoint.specs.declared.mark.Mark.{Mark}
@@ -26,6 +28,10 @@ use Rattle.live_tables.specs.declared.before_image.CommittedRow.{CommittedRow}
 use Rattle.live_tables.specs.declared.before_image.CommittedRow.TheVariants.{Beside, Emptied, Live}
 use Rattle.live_tables.specs.declared.before_image.BeforeImage.{BeforeImage}
 use Rattle.live_tables.specs.declared.before_image.BeforeImage.TheVariants.{Row as BeforeImageRow, Wiped, Other}
+
+-- what each transaction holds, with what lies beside each cell, as the code keeps it
+abbrev pub LiveHolds : Type 0
+LiveHolds = FinMap nat_cmp (List (Cell × BeforeImage))
 
 -- The inverse with this number has the committed rows of the table, but at the places that were held before.
 pub record HasTable (committed : Rows) (inverses : List Inverse) (before : List Cell) (table count : ℕ) : Type 0 where
@@ -59,21 +65,21 @@ HasBeforeImages w records held =
     (xid : ℕ) (o : Opened) (r : Record) → get w.opened xid ≡ Some o → records xid ≡ Some r
     → AreBeforeImages w.committed r.log.inverses r.marks (held xid)
 
--- What is to lie beside a cell that a transaction holds from now on, by the live rows, where it holds these cells and has so
--- many inverses.
-abbrev pub IsToStand : Rows → ℕ → List Cell → Cell → BeforeImage → Type 0
-IsToStand live count cells (Row table key) (BeforeImageRow row) = (row ≡ get live (table, key)) × ¬ Contains cells (Whole table)
-IsToStand live count cells (Row table key) (Wiped number) = ⊥
-IsToStand live count cells (Row table key) Other = Contains cells (Whole table)
-IsToStand live count cells (Uniq table number values) before_image = Unit {0}
-IsToStand live count cells (Whole table) (BeforeImageRow row) = ⊥
-IsToStand live count cells (Whole table) (Wiped number) = number ≡ count
-IsToStand live count cells (Whole table) Other = ⊥
+-- What is to lie beside a cell that a transaction holds from now on, by the rows before its change, where it holds these cells
+-- and has so many inverses.
+abbrev pub IsToStand : (Place → Option RecordRow) → ℕ → List Cell → Cell → BeforeImage → Type 0
+IsToStand before count cells (Row table key) (BeforeImageRow row) = (row ≡ before (table, key)) × ¬ Contains cells (Whole table)
+IsToStand before count cells (Row table key) (Wiped number) = ⊥
+IsToStand before count cells (Row table key) Other = Contains cells (Whole table)
+IsToStand before count cells (Uniq table number values) before_image = Unit {0}
+IsToStand before count cells (Whole table) (BeforeImageRow row) = ⊥
+IsToStand before count cells (Whole table) (Wiped number) = number ≡ count
+IsToStand before count cells (Whole table) Other = ⊥
 
 -- so it is beside each of these that it doesn't hold yet
-abbrev pub AreToStand : Rows → ℕ → List Cell → List (Cell × BeforeImage) → Type 0
-AreToStand live count cells more =
-    (cell : Cell) (before_image : BeforeImage) → Contains more (cell, before_image) → ¬ Contains cells cell → IsToStand live count cells cell before_image
+abbrev pub AreToStand : (Place → Option RecordRow) → ℕ → List Cell → List (Cell × BeforeImage) → Type 0
+AreToStand before count cells more =
+    (cell : Cell) (before_image : BeforeImage) → Contains more (cell, before_image) → ¬ Contains cells cell → IsToStand before count cells cell before_image
 
 -- the cells alone that each holds
 abbrev pub cells_of_each : {S : Type 0} → (ℕ → List (Cell × S)) → ℕ → List Cell
@@ -93,7 +99,7 @@ pub record IsStoodAt {S : Type 0} (held : ℕ → List (Cell × S)) (xid : ℕ) 
 pub record TakesBeforeImages (live : Rows) (cells : List Cell) (count : ℕ) (held : ℕ → List (Cell × BeforeImage)) (xid : ℕ) (new : ℕ → List (Cell × BeforeImage)) : Type 0 where
   pub more : List (Cell × BeforeImage)
   pub its : keys_of more ≡ cells
-  pub stand : AreToStand live count (keys_of (held xid)) more
+  pub stand : AreToStand (get live) count (keys_of (held xid)) more
   pub at : IsStoodAt held xid (with_holds (held xid) more) new
 
 -- ---- what a look-up of a place and of its table tells

@@ -3,10 +3,11 @@
 --     fine_touched      a world that is stopped is fine after a touch too
 --     tied_at_start      a store in which no transaction is open
 --     tied_opened, tied_alike      one opens; it is refused
+--     records_alike      the records are the same where the map has the same transactions
 --     tied_touched      one is named by an item
 --     tied_back      one is rolled back to a savepoint
 --     tied_aborted, tied_committed      one ends
-use Rattle.std.proofs.Common.{◌≡◌, ◌≢◌, ℕ, ◌+◌, ◌-◌, ◌^◌, ◌++◌, ◌∷◌, [], cond, List, length, take, min, Option, Some, None, refl, sym, ap, subst, ◌∙◌, inl, inr, arith, is_some, true≢false, length-append, append-nil}
+use Rattle.std.proofs.Common.{◌≡◌, ◌≢◌, ℕ, Bool, ◌+◌, ◌-◌, ◌^◌, ◌++◌, ◌∷◌, [], cond, List, length, take, min, Option, Some, None, refl, sym, ap, subst, ◌∙◌, inl, inr, arith, is_some, true≢false, length-append, append-nil}
 use Rattle.std.specs.Prelude.{option_map, IfSome}
 use Rattle.std.specs.Ordering.{nat_cmp}
 use Rattle.std.specs.Cmp.{nat_cmp_total}
@@ -14,7 +15,7 @@ use Rattle.std.specs.Map.{keys_of, lookup}
 use Rattle.std.specs.BTreeMap as tree
 use Rattle.std.specs.BTreeMap.{BTreeMap, btree_map_len}
 use Rattle.std.specs.FinMap as finite
-use Rattle.std.specs.FinMap.{FinMap, get, get-empty, len-empty, len-insert, len-remove}
+use Rattle.std.specs.FinMap.{get, get-empty, len-empty, len-insert, len-remove}
 use Rattle.std.proofs.lemmas.List.{take_all}
 use Rattle.std.proofs.lemmas.Map.Entries.{length-keys_of}
 use Rattle.std.proofs.Math.Path.{fun_ext}
@@ -42,7 +43,6 @@ use Rattle.world.specs.FineLemmas.{fine_put, noted_put, gone_cases, holds_free, 
 use Rattle.world.specs.Fine.{IsFine}
 use Rattle.world.specs.ListingLemmas.{xid_cases}
 use Rattle.live_tables.specs.declared.live_tables.Live.{Live}
-use Rattle.live_tables.specs.declared.before_image.BeforeImage.{BeforeImage}
 use Rattle.live_tables.specs.declared.transaction.OpenTransaction.{OpenTransaction}
 use Rattle.live_tables.specs.Answers.{told_stop}
 use Rattle.live_tables.specs.CellLemmas.{before_image_is_held}
@@ -52,9 +52,10 @@ use Rattle.live_tables.specs.KeptRecords.{IsRecordOf, Represents as RecordsRepre
 use Rattle.live_tables.specs.KeptLemmas.{kept_opened, kept_touched}
 use Rattle.live_tables.specs.CallLemmas.{start_is_kept, rollback_is_kept, abort_is_kept, commit_is_kept}
 use Rattle.live_tables.specs.MarkedHoldsLemmas.{item_keeps_marks, rollback_keeps_marks, rollback_is_held, commit_keeps_marks}
-use Rattle.live_tables.specs.BeforeImages.{HasBeforeImages, IsStoodAt, up_to_before_image}
+use Rattle.live_tables.specs.BeforeImages.{LiveHolds, HasBeforeImages, IsStoodAt, up_to_before_image}
 use Rattle.live_tables.specs.BeforeImageCallLemmas.{start_keeps_before_images, open_keeps_before_images, touch_keeps_before_images, rollback_keeps_before_images, abort_keeps_before_images, commit_keeps_before_images}
-use Rattle.live_tables.specs.Represents.{records_in, IsBeside, Represents}
+use Rattle.live_tables.specs.Represents.{records_in, IsBeside}
+use Rattle.live_tables.specs.ByHolds.{RepresentsByHolds}
 use Rattle.live_tables.specs.BasicLemmas.{records_put, tied_by, marks_put, beside_put, is_there, still_caused, its_record, its_tells, its_can, its_marks, its_beside, tied_put}
 use Rattle.live_tables.specs.CallResults.{IsFresh, IsRolledBack, IsTakenBack, IsReleased}
 use Rattle.live_tables.specs.Transactions.{PutsTransaction, WritesTransaction, WaitsNoMore, HasHeldItem, HasTouched}
@@ -81,10 +82,6 @@ item_at : (xid top sub : ℕ) (item : Item) (more : List Inverse) (r s : Record)
 item_at xid top sub item more r s held same has = subst (λ (number : ℕ). HasHeldItem number sub item more r s held) same has
 
 -- ---- cells that are let go
-
--- the holds of a store
-abbrev LiveHolds : Type 0
-LiveHolds = FinMap nat_cmp (List (Cell × BeforeImage))
 
 -- those taken since a mark
 pub before_image_since : (old new : LiveHolds) (xid : ℕ) (m : Mark) (found : Option Mark) → Some m ≡ found → holds_of new xid ≡ take m.held (holds_of old xid)
@@ -115,7 +112,7 @@ module _ (schema : Schema) (w : World) (fine : IsFine schema w) (xid : ℕ) (o :
       (λ other p differs at. ap (λ (cells : List Cell). shares_cell cells (holds schema w other p)) same_holds ∙ holds_free schema w fine xid o is other p differs at)
       (noted_put schema w fine xid o touched is refl (λ cells free. ap (shares_cell cells) same_holds ∙ free))
 
-module _ (w : World) (l : Live) (tied : Represents w l) (xid : ℕ) (o : Opened) (is : get w.opened xid ≡ Some o) (old kept : OpenTransaction) (n : Live)
+module _ (w : World) (l : Live) (tied : RepresentsByHolds w l) (xid : ℕ) (o : Opened) (is : get w.opened xid ≡ Some o) (old kept : OpenTransaction) (n : Live)
     (writes : WritesTransaction xid old kept l.transactions n.transactions) where
   abbrev schema : Schema
   schema = l.tables.schema
@@ -139,7 +136,7 @@ module _ (w : World) (l : Live) (tied : Represents w l) (xid : ℕ) (o : Opened)
 
   -- a subtransaction of it is named by an item that changes no row
   pub tied_touched : (sub : ℕ) → HasTouched sub (length (cells_held l.holds xid)) old kept → n.tables ≡ l.tables → n.holds ≡ l.holds → n.stopped ≡ l.stopped
-      → Represents (done_with w xid o (Touch sub)) n
+      → RepresentsByHolds (done_with w xid o (Touch sub)) n
   tied_touched sub was_touched tables holds stops =
       let cells = cells_held l.holds xid in
       let has = item_at xid old.record.top sub (Touch sub) [] old.record kept.record (length cells) tells.top (was_touched.item, was_touched.mark_held) in
@@ -163,7 +160,7 @@ module _ (w : World) (l : Live) (tied : Represents w l) (xid : ℕ) (o : Opened)
   -- the cells taken since the savepoint are let go
   pub tied_back : (sub : ℕ) → WaitsNoMore old kept → IsRolledBack schema l.tables n.tables sub old.record kept.record
       → IsStoodAt (holds_of l.holds) xid (up_to_before_image (mark_at sub old.record.marks) (holds_of l.holds xid)) (holds_of n.holds) → n.stopped ≡ l.stopped
-      → Represents (done_with w xid o (BackTo sub)) n
+      → RepresentsByHolds (done_with w xid o (BackTo sub)) n
   tied_back sub more back at stops =
       let held = before_image_is_held.back (holds_of l.holds) xid (mark_at sub old.record.marks) (holds_of n.holds) at in
       let back_there = subst (λ (r : Record). IsRolledBack schema l.tables n.tables sub r kept.record) (its_record w l tied xid o is old writes.at) back in
@@ -183,10 +180,10 @@ module _ (w : World) (l : Live) (tied : Represents w l) (xid : ℕ) (o : Opened)
 -- ---- a transaction opens
 
 -- no transaction is open at the start
-pub tied_at_start : (t : Content) (holds : LiveHolds) (transactions : BTreeMap ℕ OpenTransaction) → IsValid t.schema t.rows
+pub tied_at_start : (t : Content) (holds : LiveHolds) (made : Bool) (transactions : BTreeMap ℕ OpenTransaction) → IsValid t.schema t.rows
     → ((xid : ℕ) → holds_of holds xid ≡ []) → transactions.entries ≡ []
-    → Represents (starting t.rows) (record { tables = t; holds = holds; transactions = transactions; stopped = None })
-tied_at_start t holds transactions valid nothing none = record {
+    → RepresentsByHolds (starting t.rows) (record { tables = t; holds = holds; made = made; transactions = transactions; stopped = None })
+tied_at_start t holds made transactions valid nothing none = record {
   kept = start_is_kept t (records_in transactions) valid (λ xid. ap (option_map (λ (k : OpenTransaction). k.record)) (no_transaction xid));
   holds = record { its = λ xid o is. absurd (not_none o (sym (get-empty nat_cmp xid) ∙ is)); none = λ xid is. ap keys_of (nothing xid) };
   marks = λ xid r at. absurd (not_none r (sym (ap (option_map (λ (k : OpenTransaction). k.record)) (no_transaction xid)) ∙ at));
@@ -200,7 +197,7 @@ tied_at_start t holds transactions valid nothing none = record {
     no_transaction : (xid : ℕ) → tree.get nat_cmp transactions xid ≡ None
     no_transaction xid = ap (λ (es : List (ℕ × OpenTransaction)). lookup (tree.is_at (nat_cmp xid)) es) none
 
-module _ (w : World) (l : Live) (tied : Represents w l) (xid : ℕ) (absent : tree.get nat_cmp l.transactions xid ≡ None) where
+module _ (w : World) (l : Live) (tied : RepresentsByHolds w l) (xid : ℕ) (absent : tree.get nat_cmp l.transactions xid ≡ None) where
   -- one that the map has not isn't open
   not_open : get w.opened xid ≡ None
   not_open = by_open (get w.opened xid) refl
@@ -225,7 +222,7 @@ module _ (w : World) (l : Live) (tied : Represents w l) (xid : ℕ) (absent : tr
 
   pub tied_opened : (kept : OpenTransaction) (after : BTreeMap ℕ OpenTransaction) → IsFresh xid kept.record → kept.wants ≡ None → kept.done ≡ 0
       → PutsTransaction xid (Some kept) l.transactions after → btree_map_len after ≡ btree_map_len l.transactions + 1 → w.stopped ≡ None
-      → Represents (opened_with w xid) (record l { transactions = after })
+      → RepresentsByHolds (opened_with w xid) (record l { transactions = after })
   tied_opened kept after new wants done puts one_more running =
       let n : Live = record l { transactions = after } in
       tied_by (opened_with w xid) n l.tables.schema refl
@@ -246,27 +243,30 @@ module _ (w : World) (l : Live) (tied : Represents w l) (xid : ℕ) (absent : tr
       (records_put xid (Some kept) l.transactions after puts))
 
 -- the map has the same transactions
-pub tied_alike : (w : World) (l : Live) → Represents w l → (after : BTreeMap ℕ OpenTransaction) → after.entries ≡ l.transactions.entries → Represents w (record l { transactions = after })
+got_alike : (before after : BTreeMap ℕ OpenTransaction) → after.entries ≡ before.entries → (xid : ℕ) → tree.get nat_cmp after xid ≡ tree.get nat_cmp before xid
+got_alike before after same xid = ap (λ (es : List (ℕ × OpenTransaction)). lookup (tree.is_at (nat_cmp xid)) es) same
+
+pub records_alike : (before after : BTreeMap ℕ OpenTransaction) → after.entries ≡ before.entries → records_in after ≡ records_in before
+records_alike before after same = fun_ext (λ xid. ap (option_map (λ (k : OpenTransaction). k.record)) (got_alike before after same xid))
+
+pub tied_alike : (w : World) (l : Live) → RepresentsByHolds w l → (after : BTreeMap ℕ OpenTransaction) → after.entries ≡ l.transactions.entries → RepresentsByHolds w (record l { transactions = after })
 tied_alike w l tied after same = record {
   kept = subst (λ (records : ℕ → Option Record). RecordsRepresent l.tables.schema l.tables w records) (sym same_records) tied.kept;
   holds = tied.holds;
   marks = λ xid r at. tied.marks xid r (ap (λ (records : ℕ → Option Record). records xid) (sym same_records) ∙ at);
-  beside = λ xid o kept is at. tied.beside xid o kept is (sym (at_each xid) ∙ at);
+  beside = λ xid o kept is at. tied.beside xid o kept is (sym (got_alike l.transactions after same xid) ∙ at);
   count = tied.count ∙ ap (λ (es : List (ℕ × OpenTransaction)). length es) (sym same);
   stopped = tied.stopped;
   caused = tied.caused;
   before_image = subst (λ (records : ℕ → Option Record). HasBeforeImages w records (holds_of l.holds)) (sym same_records) tied.before_image;
 }
   where
-    at_each : (xid : ℕ) → tree.get nat_cmp after xid ≡ tree.get nat_cmp l.transactions xid
-    at_each xid = ap (λ (es : List (ℕ × OpenTransaction)). lookup (tree.is_at (nat_cmp xid)) es) same
-
     same_records : records_in after ≡ records_in l.transactions
-    same_records = fun_ext (λ xid. ap (option_map (λ (k : OpenTransaction). k.record)) (at_each xid))
+    same_records = records_alike l.transactions after same
 
 -- ---- a transaction ends
 
-module _ (w : World) (l : Live) (tied : Represents w l) (xid : ℕ) (o : Opened) (is : get w.opened xid ≡ Some o) (old : OpenTransaction)
+module _ (w : World) (l : Live) (tied : RepresentsByHolds w l) (xid : ℕ) (o : Opened) (is : get w.opened xid ≡ Some o) (old : OpenTransaction)
     (was : tree.get nat_cmp l.transactions xid ≡ Some old) (n : Live) (puts : PutsTransaction xid None l.transactions n.transactions)
     (one_less : btree_map_len n.transactions + 1 ≡ btree_map_len l.transactions) (at : IsStoodAt (holds_of l.holds) xid [] (holds_of n.holds)) (stops : n.stopped ≡ l.stopped) where
   held : IsHeldAt (cells_held l.holds) xid [] (cells_held n.holds)
@@ -305,7 +305,7 @@ module _ (w : World) (l : Live) (tied : Represents w l) (xid : ℕ) (o : Opened)
         ]
 
     tied_gone : n.tables.schema ≡ l.tables.schema → RecordsRepresent l.tables.schema n.tables then_gone (records_in n.transactions)
-        → AreHolds l.tables.schema then_gone (cells_held n.holds) → HasBeforeImages then_gone (records_in n.transactions) (holds_of n.holds) → Represents then_gone n
+        → AreHolds l.tables.schema then_gone (cells_held n.holds) → HasBeforeImages then_gone (records_in n.transactions) (holds_of n.holds) → RepresentsByHolds then_gone n
     tied_gone schema_is is_kept holds before_image =
         tied_by then_gone n l.tables.schema schema_is is_kept holds marks_gone
         (λ other p k at_open at.
@@ -314,7 +314,7 @@ module _ (w : World) (l : Live) (tied : Represents w l) (xid : ℕ) (o : Opened)
         open_one_less (ap told_stop stops ∙ tied.stopped) (still_caused l n stops tied.caused) before_image
 
   -- its changes are undone
-  pub tied_aborted : IsTakenBack l.tables.schema l.tables n.tables old.record → Represents (aborted_with w xid) n
+  pub tied_aborted : IsTakenBack l.tables.schema l.tables n.tables old.record → RepresentsByHolds (aborted_with w xid) n
   tied_aborted back =
       tied_gone w.committed w.line (λ other p r differs at theirs had. had) back.schema_is
       (abort_is_kept l.tables.schema l.tables w (records_in l.transactions) tied.kept xid o is (aborted_with w xid) refl n.tables (records_in n.transactions) records_gone
@@ -323,7 +323,7 @@ module _ (w : World) (l : Live) (tied : Represents w l) (xid : ℕ) (o : Opened)
       (abort_keeps_before_images w (records_in l.transactions) (holds_of l.holds) tied.before_image xid (records_in n.transactions) records_gone (holds_of n.holds) at)
 
   -- its changes are committed
-  pub tied_committed : (info : CommitInfo) → IsReleased l.tables.schema l.tables n.tables old.record → Represents (committed_with l.tables.schema w xid o info) n
+  pub tied_committed : (info : CommitInfo) → IsReleased l.tables.schema l.tables n.tables old.record → RepresentsByHolds (committed_with l.tables.schema w xid o info) n
   tied_committed info given =
       tied_gone (own_rows l.tables.schema w xid o) (w.line ++ (record { xid = xid; items = o.items; info = info }) ∷ [])
       (λ other p r differs at theirs had. commit_keeps_marks l.tables.schema w tied.kept.fine xid o is other p differs at r theirs (cells_held l.holds other) had) given.schema_is

@@ -2,6 +2,7 @@ pub mod Cells
 pub mod Transactions
 pub mod Answers
 pub mod Represents
+pub mod ByHolds
 pub mod KeptRecords
 pub mod RecordLemmas
 pub mod KeptLemmas
@@ -38,3 +39,9 @@ pub mod NamedLemmas
 pub mod Merged
 pub mod Released
 pub mod ReleasedLemmas
+pub mod RowSource
+pub mod MadeHolds
+pub mod MadeHoldsLemmas
+pub mod ByHoldsLemmas
+pub mod WouldHoldLemmas
+pub mod LoneLemmas

@@ -6,7 +6,6 @@ use Rattle.std.specs.Prelude.{All}
 use Rattle.std.proofs.lemmas.List.Elements.{All-nil, All-cons, All-head, All-tail}
 use Rattle.model.specs.declared.change.Change as change_type
 use Rattle.model.specs.declared.item.Item.{Item}
-use Rattle.model.specs.declared.item.Item.TheVariants.{Change}
 use Rattle.model.specs.Survivors.{changes_of}
 use Rattle.model.specs.SurvivorLemmas.{changes_of_both}
 

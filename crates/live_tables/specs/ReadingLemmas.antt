@@ -18,9 +18,10 @@ use Rattle.live_tables.specs.declared.before_image.BeforeImage.TheVariants.{Row 
 use Rattle.live_tables.specs.ReadLemmas.{free_row_is_committed, held_row_is_committed, wiped_row_is_committed, each_fits, before_image_of}
 use Rattle.live_tables.specs.BeforeImages.{BeforeImageFits, HasNoRowBeside}
 use Rattle.live_tables.specs.BeforeImageCallLemmas.{contains_key}
-use Rattle.live_tables.specs.Represents.{records_in, Represents}
+use Rattle.live_tables.specs.Represents.{records_in}
+use Rattle.live_tables.specs.ByHolds.{RepresentsByHolds}
 
-module _ (w : World) (l : Live) (tied : Represents w l) where
+module _ (w : World) (l : Live) (tied : RepresentsByHolds w l) where
   pub tied_fits : BeforeImageFits (holds_of l.holds)
   tied_fits = each_fits l.tables.schema l.tables w (records_in l.transactions) tied.kept (holds_of l.holds) tied.holds tied.before_image
 

@@ -27,7 +27,8 @@ use Rattle.live_tables.specs.HoldsLemmas.{free_of_others, meets_one, share_one, 
 use Rattle.live_tables.specs.KeptRecords.{IsRecordOf, Represents as RecordsRepresent}
 use Rattle.live_tables.specs.KeptLemmas.{log_of_work}
 use Rattle.live_tables.specs.Released.{IsLetGo, HasReleased, AreReleased}
-use Rattle.live_tables.specs.Represents.{records_in, Represents}
+use Rattle.live_tables.specs.Represents.{records_in}
+use Rattle.live_tables.specs.ByHolds.{RepresentsByHolds}
 use Rattle.live_tables.specs.BasicLemmas.{tied_by}
 
 pub are_released : (mark : ℕ) (cells : List Cell) (old new : Content) → HasReleased (IsLetGo mark cells) old new → AreReleased mark cells new
@@ -61,7 +62,7 @@ front_within (suc n) (suc m) (cell ∷ cells) below d there =
     ]
 
 -- where a transaction lets the cells past a mark go, nobody holds one that overlaps one of those
-pub lets_go_free : (w : World) (l : Live) → Represents w l → (xid : ℕ) (o : Opened) → get w.opened xid ≡ Some o → (mark : ℕ) (new : ℕ → List Cell)
+pub lets_go_free : (w : World) (l : Live) → RepresentsByHolds w l → (xid : ℕ) (o : Opened) → get w.opened xid ≡ Some o → (mark : ℕ) (new : ℕ → List Cell)
     → IsHeldAt (cells_held l.holds) xid (take mark (cells_held l.holds xid)) new → HoldsNone (IsLetGo mark (cells_held l.holds xid)) new
 lets_go_free w l tied xid o is mark new at cell goes other d there =
     elim (xid_cases other xid) [
@@ -124,8 +125,8 @@ module _ (schema : Schema) (t : Content) (w : World) (records : ℕ → Option R
   }
 
 -- a store is tied to its world past what was given up
-pub tied_released : (w : World) (l : Live) → Represents w l → (Goes : Cell → Type 0) (new : Content) → HasReleased Goes l.tables new → HasRoomForAll new
-    → HoldsNone Goes (cells_held l.holds) → Represents w (record l { tables = new })
+pub tied_released : (w : World) (l : Live) → RepresentsByHolds w l → (Goes : Cell → Type 0) (new : Content) → HasReleased Goes l.tables new → HasRoomForAll new
+    → HoldsNone Goes (cells_held l.holds) → RepresentsByHolds w (record l { tables = new })
 tied_released w l tied Goes new given room free =
     tied_by w (record l { tables = new }) l.tables.schema given.schema
     (released_is_kept l.tables.schema l.tables w (records_in l.transactions) tied.kept (cells_held l.holds) tied.holds Goes new given room free)

@@ -34,7 +34,8 @@ use Rattle.live_tables.specs.declared.live_tables.Stopped.TheVariants.{Held as S
 use Rattle.live_tables.specs.declared.transaction.OpenTransaction.{OpenTransaction}
 use Rattle.live_tables.specs.Answers.{after_stop}
 use Rattle.live_tables.specs.CallLemmas.{stop_is_kept}
-use Rattle.live_tables.specs.Represents.{records_in, Represents}
+use Rattle.live_tables.specs.Represents.{records_in}
+use Rattle.live_tables.specs.ByHolds.{RepresentsByHolds}
 use Rattle.live_tables.specs.BasicLemmas.{is_there}
 use Rattle.live_tables.specs.Waits.{IsOneHeldBy, WaitsByHolds, WaitsForNobody, IsSettledLive, IsUnsettledLive, IsSentCount, not_open, not_waiting, not_settled}
 use Rattle.live_tables.specs.WaitLemmas.{shared_is_held, stop_is_found, stop_is_refused}
@@ -91,7 +92,7 @@ module _ (l : Live) (sent : List (ℕ × ℕ)) (xid : ℕ) (kept : OpenTransacti
   unsettled_by None b is passes fails = passes
   unsettled_by (Some holder) b is passes fails = absurd (true≢false (sym is ∙ fails))
 
-module _ (w : World) (l : Live) (tied : Represents w l) where
+module _ (w : World) (l : Live) (tied : RepresentsByHolds w l) where
   -- ---- the cells of a change
 
   pub cells_held_by : (xid : ℕ) (cells : List Cell) (holder : ℕ) → holder ≢ xid → shares_cell cells (cells_held l.holds holder) ≡ true
@@ -193,7 +194,7 @@ module _ (w : World) (l : Live) (tied : Represents w l) where
 
     -- a store that differs in what stopped it alone
     pub tied_stopped : (holder : ℕ) → Answers (Some holder)
-        → Represents (after_stop w waiter (Some holder)) (record l { stopped = Some (StoppedByHold waiter holder) })
+        → RepresentsByHolds (after_stop w waiter (Some holder)) (record l { stopped = Some (StoppedByHold waiter holder) })
     tied_stopped holder stops =
         let still =
         stop_is_kept l.tables.schema l.tables w (records_in l.transactions) tied.kept (cells_held l.holds) tied.holds sent waiter (Some holder)

@@ -1,5 +1,6 @@
 -- What a call that tried a change makes of the live part.
---     HasActed      the world that it is tied to takes the call, and it is tied to the one that follows
+--     HasActedBy      the world that it stands for takes the call, and it stands for the one that follows
+--     HasActed      so it is where the store represents its world
 use Rattle.std.specs.Prelude.{◌≡◌, ℕ, Some, Result}
 use Rattle.std.specs.FinMap.{get}
 use Rattle.model.specs.declared.change.Change as change_type
@@ -11,9 +12,13 @@ use Rattle.live_tables.specs.declared.live_tables.Live.{Live}
 use Rattle.live_tables.specs.Answers.{told, after_act, TellsCause}
 use Rattle.live_tables.specs.Represents.{Represents}
 
--- In each world that it is tied to and has the transaction open, the call is a step to the world that it is tied to then.
-pub record HasActed (old new : Live) (xid sub : ℕ) (c : change_type.Change) (answer : Result acted_type.Acted fault_type.EngineFault) : Type 0 where
-  pub acts : (w : World) (o : Opened) → Represents w old → get w.opened xid ≡ Some o → Acts old.tables.schema w xid o sub c (told answer) (after_act w xid o sub c (told answer))
-  pub tied : (w : World) (o : Opened) → Represents w old → get w.opened xid ≡ Some o → Represents (after_act w xid o sub c (told answer)) new
+-- In each world that it stands for so and that has the transaction open, the call is a step to the world that it stands for then.
+pub record HasActedBy (Stands : World → Live → Type 0) (old new : Live) (xid sub : ℕ) (c : change_type.Change) (answer : Result acted_type.Acted fault_type.EngineFault) : Type 0 where
+  pub acts : (w : World) (o : Opened) → Stands w old → get w.opened xid ≡ Some o → Acts old.tables.schema w xid o sub c (told answer) (after_act w xid o sub c (told answer))
+  pub tied : (w : World) (o : Opened) → Stands w old → get w.opened xid ≡ Some o → Stands (after_act w xid o sub c (told answer)) new
   pub cause : TellsCause answer
   pub schema : new.tables.schema ≡ old.tables.schema
+
+-- so it is in each world that the store represents
+abbrev pub HasActed : Live → Live → ℕ → ℕ → change_type.Change → Result acted_type.Acted fault_type.EngineFault → Type 0
+HasActed old new xid sub c answer = HasActedBy Represents old new xid sub c answer

@@ -8,8 +8,9 @@ ghost use Rattle.keyholds.specs.Holds.{holds_of, cells_held, IsFreeCell};
 ghost use Rattle.model.specs.declared.cell.Cell.TheVariants.{Row as RowCell};
 ghost use Rattle.live_tables.specs.declared.before_image.BeforeImage.TheVariants.{Row as BeforeImageRow};
 ghost use Rattle.live_tables.specs.BeforeImages.{IsToStand, AreToStand, BeforeImageFits, HasNoRowBeside, TellsCommitted};
+ghost use Rattle.live_tables.specs.RowSource.{row_read, CanRead};
 
-use indexes::Tables;
+use crate::row_source::RowSource;
 use keyholds::{Holds, SoughtRow};
 use model::{Cell, Key, OutOfMemory, Row, TableId, Xid};
 use std::alloc::Global;
@@ -77,39 +78,39 @@ fn row_beside<'a>(
     }
 }
 
-/// The cells of a change, which nobody else holds, each with what is to lie beside it. `count` is how
-/// many inverses the transaction has before the change.
-pub fn with_before_images(
+/// The cells of a change, which nobody else holds, each with what is to lie beside it, by the rows before
+/// the change. `count` is how many inverses the transaction has before it.
+pub(crate) fn with_before_images(
     alloc: Global,
-    tables: &Tables,
+    source: RowSource<'_>,
     holds: &Holds<BeforeImage>,
     count: usize,
     cells: Vec<Cell>,
 ) -> Result<Vec<(Cell, BeforeImage)>, OutOfMemory>
-    requires known { All (λ cell. table_of cell < length tables.now.schema) cells.items }
+    requires known { All (λ cell. CanRead source (table_of cell)) cells.items }
     ensures cells { IfOk result (λ more. keys_of more.items ≡ cells.items) }
     ensures stand { IfOk result (λ more. (xid : ℕ) → All (IsFreeCell (cells_held holds.now) xid) cells.items
-        → AreToStand tables.now.rows count (cells_held holds.now xid) more.items) }
+        → AreToStand (row_read source.entry) count (cells_held holds.now xid) more.items) }
 {
     let mut more = Vec::new(alloc);
     for cell in cells {
-        let before_image = before_image_of(tables, holds, count, &cell)?;
+        let before_image = before_image_of(source, holds, count, &cell)?;
         more.push((cell, before_image))?;
     }
     Ok(more)
 }
 
-// What is to lie beside a cell: beside a place the live row, but nothing if its transaction holds the
-// place, or the table as a whole.
+// What is to lie beside a cell: beside a place the row that is read there, but nothing if its transaction
+// holds the place, or the table as a whole.
 fn before_image_of(
-    tables: &Tables,
+    source: RowSource<'_>,
     holds: &Holds<BeforeImage>,
     count: usize,
     cell: &Cell,
 ) -> Result<BeforeImage, OutOfMemory>
-    requires known { table_of cell.now < length tables.now.schema }
+    requires known { CanRead source (table_of cell.now) }
     ensures { IfOk result (λ before_image. (xid : ℕ) → IsFreeCell (cells_held holds.now) xid cell.now
-        → (Contains (cells_held holds.now xid) cell.now → ⊥) → IsToStand tables.now.rows count (cells_held holds.now xid) cell.now before_image) }
+        → (Contains (cells_held holds.now xid) cell.now → ⊥) → IsToStand (row_read source.entry) count (cells_held holds.now xid) cell.now before_image) }
 {
     match cell {
         Cell::Whole(_) => Ok(BeforeImage::Wiped(count)),
@@ -118,7 +119,7 @@ fn before_image_of(
             if holds.held_at(cell).is_some() || holds.held_at(&Cell::Whole(*table)).is_some() {
                 return Ok(BeforeImage::Other);
             }
-            match tables.get(*table, key) {
+            match source.row(*table, key) {
                 Some(row) => Ok(BeforeImage::Row(Some(row.to_row()?))),
                 None => Ok(BeforeImage::Row(None)),
             }

@@ -10,6 +10,7 @@ ghost use Rattle.keyholds.specs.Holds.{cells_held};
 ghost use Rattle.world.specs.World.{World};
 ghost use Rattle.live_tables.specs.Merged.{AreMerged, AreLaid, or_row};
 ghost use Rattle.live_tables.specs.Represents.{Represents};
+ghost use Rattle.live_tables.specs.ByHolds.{RepresentsByHolds};
 
 use crate::live_tables::Live;
 use crate::merging::merge_rows;
@@ -32,11 +33,42 @@ impl Live {
         ensures { IfOk result (λ rows. (w : World) → Represents w self.now → AreMerged w.committed table known rows.items) }
     {
         let mut known = known;
-        match self.holds.held_at(&Cell::Whole(table)) {
-            Some((xid, _)) => self.lay_log(xid, table, &mut known)?,
-            None => self.lay_held(table, &mut known)?,
-        }
+        self.lay_open(table, &mut known)?;
         merge_rows(alloc, &self.tables, table, known)
+    }
+
+    // Adds what is committed in a table where open work changed it.
+    fn lay_open(
+        &self,
+        table: TableId,
+        known: &mut BTreeMap<Key, Option<Row>>,
+    ) -> Result<(), OutOfMemory>
+        requires tied { (w : World) × Represents w self.now }
+        requires known { table < length self.now.tables.schema }
+        ensures { OnOk result ((w : World) → Represents w self.now → (key : AnyKey)
+            → or_row (known_at known.new key) (get self.now.tables.rows (table, key)) ≡ or_row (known_at known.old key) (get w.committed (table, key))) }
+    {
+        if self.made {
+            return self.lay_by_holds(table, known);
+        }
+        self.lay_alone(table, known)
+    }
+
+    // The same, where holds are made.
+    fn lay_by_holds(
+        &self,
+        table: TableId,
+        known: &mut BTreeMap<Key, Option<Row>>,
+    ) -> Result<(), OutOfMemory>
+        requires tied { (w : World) × RepresentsByHolds w self.now }
+        requires known { table < length self.now.tables.schema }
+        ensures { OnOk result ((w : World) → RepresentsByHolds w self.now → (key : AnyKey)
+            → or_row (known_at known.new key) (get self.now.tables.rows (table, key)) ≡ or_row (known_at known.old key) (get w.committed (table, key))) }
+    {
+        match self.holds.held_at(&Cell::Whole(table)) {
+            Some((xid, _)) => self.lay_log(xid, table, known),
+            None => self.lay_held(table, known),
+        }
     }
 
     // Adds what stood in a table before the work of a transaction that holds it as a whole: so nobody else
@@ -47,9 +79,9 @@ impl Live {
         table: TableId,
         known: &mut BTreeMap<Key, Option<Row>>,
     ) -> Result<(), OutOfMemory>
-        requires tied { (w : World) × Represents w self.now }
+        requires tied { (w : World) × RepresentsByHolds w self.now }
         requires whole { Contains (cells_held self.now.holds xid) (Whole table) }
-        ensures { OnOk result ((w : World) → Represents w self.now → (key : AnyKey)
+        ensures { OnOk result ((w : World) → RepresentsByHolds w self.now → (key : AnyKey)
             → or_row (known_at known.new key) (get self.now.tables.rows (table, key)) ≡ or_row (known_at known.old key) (get w.committed (table, key))) }
     {
         let Some(transaction) = self.transactions.get(&xid) else {
@@ -64,10 +96,10 @@ impl Live {
         table: TableId,
         known: &mut BTreeMap<Key, Option<Row>>,
     ) -> Result<(), OutOfMemory>
-        requires tied { (w : World) × Represents w self.now }
+        requires tied { (w : World) × RepresentsByHolds w self.now }
         requires known { table < length self.now.tables.schema }
         requires free { (xid : ℕ) → ¬ Contains (cells_held self.now.holds xid) (Whole table) }
-        ensures { OnOk result ((w : World) → Represents w self.now → (key : AnyKey)
+        ensures { OnOk result ((w : World) → RepresentsByHolds w self.now → (key : AnyKey)
             → or_row (known_at known.new key) (get self.now.tables.rows (table, key)) ≡ or_row (known_at known.old key) (get w.committed (table, key))) }
     {
         let keys = self.holds.keys_held(table)?;
@@ -81,9 +113,9 @@ impl Live {
         keys: &[Key],
         known: &mut BTreeMap<Key, Option<Row>>,
     ) -> Result<(), OutOfMemory>
-        requires tied { (w : World) × Represents w self.now }
+        requires tied { (w : World) × RepresentsByHolds w self.now }
         requires known { table < length self.now.tables.schema }
-        ensures { OnOk result ((w : World) → Represents w self.now → AreLaid w.committed table keys.now known.old known.new) }
+        ensures { OnOk result ((w : World) → RepresentsByHolds w self.now → AreLaid w.committed table keys.now known.old known.new) }
     {
         for key in keys {
             self.lay_committed_at(table, key, known)?;
@@ -98,14 +130,14 @@ impl Live {
         key: &Key,
         known: &mut BTreeMap<Key, Option<Row>>,
     ) -> Result<(), OutOfMemory>
-        requires tied { (w : World) × Represents w self.now }
+        requires tied { (w : World) × RepresentsByHolds w self.now }
         requires known { table < length self.now.tables.schema }
-        ensures { OnOk result ((w : World) → Represents w self.now → AreLaid w.committed table (key.now ∷ []) known.old known.new) }
+        ensures { OnOk result ((w : World) → RepresentsByHolds w self.now → AreLaid w.committed table (key.now ∷ []) known.old known.new) }
     {
         if known.contains_key(key) {
             return Ok(());
         }
-        let row = match self.committed(table, key) {
+        let row = match self.committed_by_holds(table, key) {
             Some(row) => Some(row.to_row()?),
             None => None,
         };

@@ -1,5 +1,5 @@
 // The live tables, with what all open transactions did in them.
-ghost use Rattle.std.specs.Prelude.{◌≡◌, ◌<◌, ℕ, List, Some, None, Ok, Err, IsSome, OnOk, OnErr, length, map, slice_get};
+ghost use Rattle.std.specs.Prelude.{◌≡◌, ◌<◌, ℕ, List, true, false, Some, None, OnOk, OnErr, length, map};
 ghost use Rattle.std.specs.Ordering.{nat_cmp};
 ghost use Rattle.std.specs.Result.{result_ok};
 ghost use Rattle.std.specs.BTreeMap as tree;
@@ -8,37 +8,31 @@ ghost use Rattle.model.specs.declared.item.CommitInfo.{CommitInfo};
 ghost use Rattle.model.specs.declared.item.Item.TheVariants.{Touch, BackTo};
 ghost use Rattle.model.specs.Named.{NamesTables};
 ghost use Rattle.model.specs.Survivors.{survivors};
-ghost use Rattle.model.specs.Effect.{all_back, outcome, serial};
-ghost use Rattle.model.specs.Footprint.{footprint};
+ghost use Rattle.model.specs.Effect.{all_back, serial};
 ghost use Rattle.world.specs.World.{Opened, World, starting, work};
 ghost use Rattle.world.specs.Live.{IsListing, live_rows};
-ghost use Rattle.world.specs.Steps.{Acts, StopsHeld, Held as WasHeld, opened_with, done_with, wanting, committed_with, aborted_with};
-ghost use Rattle.change.specs.Applied.{AnswersOutcome};
-ghost use Rattle.change.specs.declared.inverse.Inverse.{Inverse};
-ghost use Rattle.change.specs.Inverse.{edits_of, row_by_inverse};
+ghost use Rattle.world.specs.Steps.{StopsHeld, opened_with, done_with, committed_with, aborted_with};
+ghost use Rattle.change.specs.Inverse.{edits_of};
 ghost use Rattle.keyholds.specs.Holds.{cells_held};
 ghost use Rattle.savepoint.specs.declared.mark.Mark.{Mark};
 ghost use Rattle.savepoint.specs.Savepoints.{mark_at};
 ghost use Rattle.savepoint.specs.Record.{Record};
 ghost use Rattle.undo.specs.Undo.{AreSettled};
-ghost use Rattle.live_tables.specs.Cells.{IsFreeOf, IsHeldIn};
+ghost use Rattle.undo.specs.Vacated.{AreVacated};
 ghost use Rattle.live_tables.specs.Released.{AreReleased};
 ghost use Rattle.live_tables.specs.Answers.{after_stop};
 ghost use Rattle.live_tables.specs.Represents.{records_in, Represents};
 ghost use Rattle.live_tables.specs.Tried.{HasActed};
-ghost use Rattle.live_tables.specs.declared.transaction.OpenTransaction.{OpenTransaction};
 
 use crate::answers::{Acted, EngineFault, NotSettled};
-use crate::before_image::{BeforeImage, CommittedRow, find_committed, with_before_images};
-use crate::cells::{Found, find_cells};
+use crate::before_image::BeforeImage;
 use crate::let_go::let_go;
-use crate::transaction::{OpenTransaction, Refused};
+use crate::transaction::OpenTransaction;
 use change::Clash;
 use indexes::Tables;
 use keyholds::Holds;
-use model::{Cell, Change, Item, Key, OutOfMemory, Row, TableId, Xid};
+use model::{Change, Item, Key, OutOfMemory, TableId, Xid};
 use rows::RowView;
-use savepoint::TxRecord;
 use std::alloc::Global;
 use std::collections::BTreeMap;
 use undo::UndoLog;
@@ -59,21 +53,17 @@ pub enum Stopped {
 
 /// The live tables, what each open transaction did in them and holds, and what stopped them.
 ///
+/// A transaction that is alone holds nothing: nobody is there who could meet it. What it would hold is
+/// made once a second opens, or at its first savepoint, and is kept from then on until none is open.
+///
 /// Each call is said in the words of every world that they stand for.
 #[derive(Debug, Drop)]
 pub struct Live {
     pub tables: Tables,
     pub holds: Holds<BeforeImage>,
+    pub made: bool,
     pub transactions: BTreeMap<Xid, OpenTransaction>,
     pub stopped: Option<Stopped>,
-}
-
-/// A change that is tried, the subtransaction that makes it, and its cells, which are free.
-#[derive(Drop)]
-struct Tried {
-    sub: Xid,
-    change: Change,
-    cells: Vec<Cell>,
 }
 
 impl Live {
@@ -86,25 +76,29 @@ impl Live {
         Live {
             tables,
             holds: Holds::new(alloc),
+            made: true,
             transactions: BTreeMap::new(alloc),
             stopped: None,
         }
     }
 
-    /// A transaction opens that isn't open. Refused for memory, nothing changes.
+    /// A transaction opens that isn't open. Beside another it is held from then on what each did. Refused
+    /// for memory, nothing changes.
     pub fn open(&mut self, alloc: Global, xid: Xid) -> Result<(), OutOfMemory>
-        requires { tree.get nat_cmp self.old.transactions xid ≡ None }
+        requires absent { tree.get nat_cmp self.old.transactions xid ≡ None }
+        requires tied { (w : World) × Represents w self.old }
         ensures ok { OnOk result ((w : World) → Represents w self.old → w.stopped ≡ None → Represents (opened_with w xid) self.new) }
         ensures err { OnErr result ((w : World) → Represents w self.old → Represents w self.new) }
         ensures schema { self.new.tables.schema ≡ self.old.tables.schema }
     {
-        let opened = OpenTransaction {
-            record: TxRecord::new(alloc, xid),
-            wants: None,
-            done: 0,
-        };
-        self.transactions.insert(xid, opened)?;
-        Ok(())
+        match self.transactions.first_key_value() {
+            Some((other, _)) => {
+                let _ = other;
+                self.make(alloc)?;
+                self.open_beside(alloc, xid)
+            }
+            None => self.open_alone(alloc, xid),
+        }
     }
 
     /// A subtransaction of an open transaction tries a change, which is handed back where it was not
@@ -123,113 +117,33 @@ impl Live {
         if self.stopped.is_some() {
             return Err(EngineFault::Stopped);
         }
-        let change = c.copy()?;
-        match find_cells(alloc, &self.tables, &self.holds, xid, c)? {
-            Found::Held(holder) => {
-                self.wait(xid, sub, change, holder);
-                Ok(Acted::Held(holder))
-            }
-            Found::Free(cells) => self.act_on_free(alloc, xid, Tried { sub, change, cells }),
+        if self.made {
+            return self.act_by_holds(alloc, xid, sub, c);
         }
-    }
-
-    // An open transaction waits with a change that another is in the way of.
-    fn wait(&mut self, xid: Xid, sub: Xid, change: Change, holder: Xid)
-        requires names { NamesTables (length self.old.tables.schema) change }
-        requires there { IsSome (tree.get nat_cmp self.old.transactions xid) }
-        requires running { self.old.stopped ≡ None }
-        requires found { IsHeldIn self.old.tables.schema self.old.tables.rows (cells_held self.old.holds) xid change holder }
-        ensures acts { (w : World) (o : Opened) → Represents w self.old → finite.get w.opened xid ≡ Some o
-            → Acts self.old.tables.schema w xid o sub change (Ok (WasHeld holder)) (wanting w xid o sub change) }
-        ensures tied { (w : World) (o : Opened) → Represents w self.old → finite.get w.opened xid ≡ Some o
-            → Represents (wanting w xid o sub change) self.new }
-        ensures schema { self.new.tables.schema ≡ self.old.tables.schema }
-    {
-        let _ = holder;
-        let Some(transaction) = self.transactions.get_mut(&xid) else {
-            unreachable!()
-        };
-        transaction.wants = Some((sub, change));
-    }
-
-    // Tries a change that nobody is in the way of.
-    fn act_on_free(&mut self, alloc: Global, xid: Xid, tried: Tried) -> Result<Acted, EngineFault>
-        requires names { NamesTables (length self.old.tables.schema) tried.change }
-        requires tied { (w : World) × (o : Opened) × Represents w self.old × (finite.get w.opened xid ≡ Some o) }
-        requires there { IsSome (tree.get nat_cmp self.old.transactions xid) }
-        requires running { self.old.stopped ≡ None }
-        requires free { IsFreeOf self.old.tables.schema self.old.tables.rows (cells_held self.old.holds) xid tried.change }
-        requires cells { tried.cells.items ≡ footprint self.old.tables.schema self.old.tables.rows tried.change }
-        ensures { HasActed self.old self.new xid tried.sub tried.change result }
-    {
-        let Tried { sub, change, cells } = tried;
-        let count = self.inverse_count(xid);
-        let cells = with_before_images(alloc, &self.tables, &self.holds, count, cells)?;
-        let mark = self.holds.mark(xid);
-        self.holds.take(xid, cells)?;
-        let Some(transaction) = self.transactions.get_mut(&xid) else {
-            unreachable!()
-        };
-        match transaction.apply(alloc, &mut self.tables, sub, change, mark) {
-            Ok(true) => Ok(Acted::Done),
-            Ok(false) => Ok(Acted::Skipped),
-            Err(refused) => {
-                self.holds.release_since(xid, mark);
-                self.refuse(xid, sub, refused)
-            }
+        if sub == xid {
+            return self.act_alone(alloc, xid, c);
         }
-    }
-
-    // How many inverses an open transaction has.
-    fn inverse_count(&self, xid: Xid) -> usize
-        ensures { (kept : OpenTransaction) → tree.get nat_cmp self.now.transactions xid ≡ Some kept → result ≡ length kept.record.log.inverses }
-    {
-        match self.transactions.get(&xid) {
-            Some(transaction) => transaction.record.inverse_count(),
-            None => 0,
-        }
-    }
-
-    // A change was refused: a clash stops the store, and its transaction wants the change.
-    fn refuse(&mut self, xid: Xid, sub: Xid, refused: Refused) -> Result<Acted, EngineFault>
-        requires names { NamesTables (length self.old.tables.schema) refused.change }
-        requires there { IsSome (tree.get nat_cmp self.old.transactions xid) }
-        requires running { self.old.stopped ≡ None }
-        requires free { IsFreeOf self.old.tables.schema self.old.tables.rows (cells_held self.old.holds) xid refused.change }
-        requires clash { AnswersOutcome (outcome self.old.tables.schema self.old.tables.rows refused.change) (Err refused.clash) }
-        ensures { HasActed self.old self.new xid sub refused.change result }
-    {
-        let Refused { clash, change } = refused;
-        if clash == Clash::OutOfMemory {
-            return Err(EngineFault::OutOfMemory);
-        }
-        let stopped = Stopped::Clash {
-            xid,
-            change: change.copy()?,
-            clash,
-        };
-        let Some(transaction) = self.transactions.get_mut(&xid) else {
-            unreachable!()
-        };
-        transaction.wants = Some((sub, change));
-        self.stopped = Some(stopped);
-        Err(EngineFault::Clash(clash))
+        self.make(alloc)?;
+        self.act_by_holds(alloc, xid, sub, c)
     }
 
     /// A subtransaction of an open transaction is named by an item that changes no row. Refused,
     /// nothing changes.
-    pub fn touch(&mut self, xid: Xid, sub: Xid) -> Result<(), OutOfMemory>
+    pub fn touch(&mut self, alloc: Global, xid: Xid, sub: Xid) -> Result<(), OutOfMemory>
         requires { (w : World) × (o : Opened) × Represents w self.old × (finite.get w.opened xid ≡ Some o) }
         ensures ok { OnOk result ((w : World) (o : Opened) → Represents w self.old → finite.get w.opened xid ≡ Some o
             → Represents (done_with w xid o (Touch sub)) self.new) }
         ensures err { OnErr result ((w : World) (o : Opened) → Represents w self.old → finite.get w.opened xid ≡ Some o → Represents w self.new) }
         ensures schema { self.new.tables.schema ≡ self.old.tables.schema }
     {
-        let mark = self.holds.mark(xid);
-        let Some(transaction) = self.transactions.get_mut(&xid) else {
-            unreachable!()
-        };
-        transaction.touch(sub, mark)
+        if self.made {
+            return self.touch_by_holds(xid, sub);
+        }
+        if sub == xid {
+            return self.touch_alone(xid);
+        }
+        self.make(alloc)?;
+        self.touch_by_holds(xid, sub)
     }
 
     /// A subtransaction of an open transaction is rolled back: its changes and all later ones are
@@ -257,15 +171,17 @@ impl Live {
         requires { (w : World) × (o : Opened) × Represents w self.old × (finite.get w.opened xid ≡ Some o) }
         ensures tied { (w : World) (o : Opened) → Represents w self.old → finite.get w.opened xid ≡ Some o
             → Represents (aborted_with w xid) self.new }
-        ensures released { AreReleased 0 (cells_held self.old.holds xid) self.new.tables }
+        ensures released { self.old.made ≡ true → AreReleased 0 (cells_held self.old.holds xid) self.new.tables }
+        // Of one that was alone, the cells of each row that went.
+        ensures vacated { (r : Record) → self.old.made ≡ false → records_in self.old.transactions xid ≡ Some r
+            → AreVacated self.old.tables.schema self.old.tables.rows self.new.tables.rows self.new.tables.room r.log.inverses }
         ensures schema { self.new.tables.schema ≡ self.old.tables.schema }
     {
-        let Some(transaction) = self.transactions.remove(&xid) else {
-            unreachable!()
-        };
-        transaction.record.undo_all(&mut self.tables);
-        let_go(&mut self.tables, &mut self.holds, xid, 0);
-        self.holds.release_all(xid);
+        if self.made {
+            self.abort_by_holds(xid);
+            return;
+        }
+        self.abort_alone(xid);
     }
 
     /// An open transaction is gone, its changes are committed and its cells let go. The answer is
@@ -302,11 +218,10 @@ impl Live {
         ensures tied { (w : World) → Represents w self.old → Represents (after_stop w waiter (result_ok result)) self.new }
         ensures schema { self.new.tables.schema ≡ self.old.tables.schema }
     {
-        let Some(holder) = self.find_stuck(waiter, sent) else {
-            return Err(NotSettled);
-        };
-        self.stopped = Some(Stopped::Held { waiter, holder });
-        Ok(holder)
+        if self.made {
+            return self.stop_by_holds(waiter, sent);
+        }
+        Err(NotSettled)
     }
 
     /// The row of a table at a key, with the work of all open transactions. It takes no memory.
@@ -318,27 +233,17 @@ impl Live {
         self.tables.get(table, key)
     }
 
-    /// The committed row of a table at a key, by the holds: no log is searched. It takes no memory.
+    /// The committed row of a table at a key, by the holds; where a transaction is alone its log is
+    /// searched. It takes no memory.
     pub fn committed(&self, table: TableId, key: &Key) -> Option<RowView<'_>>
         requires tied { (w : World) × Represents w self.now }
         requires known { table < length self.now.tables.schema }
         ensures { (w : World) → Represents w self.now → result ≡ finite.get w.committed (table, key.now) }
     {
-        match find_committed(&self.holds, table, key) {
-            CommittedRow::Beside(row) => view_of(row),
-            CommittedRow::Emptied { xid, count } => self.emptied_row(xid, count, table, key),
-            CommittedRow::Live => self.tables.get(table, key),
+        if self.made {
+            return self.committed_by_holds(table, key);
         }
-    }
-
-    // The row that the inverse with this number of an open transaction keeps for a place.
-    fn emptied_row(&self, xid: Xid, count: usize, table: TableId, key: &Key) -> Option<RowView<'_>>
-        ensures { (r : Record) (i : Inverse) → records_in self.now.transactions xid ≡ Some r → slice_get r.log.inverses count ≡ Some i
-            → result ≡ row_by_inverse i (table, key.now) }
-    {
-        let transaction = self.transactions.get(&xid)?;
-        let inverse = transaction.record.inverse_at(count)?;
-        inverse.row_at(table, key)
+        self.committed_alone(table, key)
     }
 
     /// The tables, once no transaction is open. It takes no memory.
@@ -347,15 +252,5 @@ impl Live {
         ensures schema { result.schema ≡ self.tables.schema }
     {
         self.tables
-    }
-}
-
-// A row, or none, as it is read.
-fn view_of(row: &Option<Row>) -> Option<RowView<'_>>
-    ensures { result ≡ row.now }
-{
-    match row {
-        Some(row) => Some(RowView::of_row(row)),
-        None => None,
     }
 }

@@ -1,11 +1,11 @@
 // What a store keeps of an open transaction.
-ghost use Rattle.std.specs.Prelude.{◌≡◌, ◌<◌, [], ◌∷◌, ◌++◌, IfOk, OnOk, OnErr, IfErr, length, option_to_list};
+ghost use Rattle.std.specs.Prelude.{◌≡◌, ◌<◌, [], ◌∷◌, ◌++◌, None, IfOk, OnOk, OnErr, IfErr, length, option_to_list};
 ghost use Rattle.model.specs.declared.item.Item.TheVariants.{Change as ChangeItem};
 ghost use Rattle.model.specs.Named.{NamesTables};
 ghost use Rattle.undo.specs.Undo.{CanUndo};
 ghost use Rattle.savepoint.specs.Savepoints.{mark_at};
 ghost use Rattle.savepoint.specs.Record.{HasMark, OthersAreNamed, AllAreNamed, inverses_since};
-ghost use Rattle.live_tables.specs.CallResults.{IsRolledBack};
+ghost use Rattle.live_tables.specs.CallResults.{IsRolledBack, IsFresh};
 ghost use Rattle.live_tables.specs.Transactions.{WaitsNoMore, IsAsBefore, HasMadeRoom, HasApplied, HasRefused, HasTouched};
 
 use change::{Applied, Clash, Inverse, apply};
@@ -32,6 +32,19 @@ pub(crate) struct Refused {
 }
 
 impl OpenTransaction {
+    /// One that has done nothing yet. It takes no memory.
+    pub(crate) fn new(alloc: Global, xid: Xid) -> OpenTransaction
+        ensures fresh { IsFresh xid result.record }
+        ensures wants { result.wants ≡ None }
+        ensures done { result.done ≡ 0 }
+    {
+        OpenTransaction {
+            record: TxRecord::new(alloc, xid),
+            wants: None,
+            done: 0,
+        }
+    }
+
     /// Applies a change, and keeps it as an item with what takes it back. It says whether it was done,
     /// or skipped. A refusal leaves the tables, and of the record all but room. `held` is how many
     /// cells were held before it.

@@ -13,6 +13,7 @@ ghost use Rattle.world.specs.Steps.{StopsHeld};
 ghost use Rattle.keyholds.specs.Holds.{cells_held, IsFreeCell};
 ghost use Rattle.live_tables.specs.Answers.{after_stop};
 ghost use Rattle.live_tables.specs.Represents.{Represents};
+ghost use Rattle.live_tables.specs.ByHolds.{RepresentsByHolds};
 ghost use Rattle.live_tables.specs.Waits.{IsOneHeldBy, IsSettledLive, IsUnsettledLive, IsSentCount};
 ghost use Rattle.live_tables.specs.StopLemmas.{IsSettledAt, WantsFrom, WantsFromNobody};
 
@@ -68,8 +69,8 @@ impl<'a> CellTest for HeldBy<'a> {
 impl Live {
     /// Whom a transaction waits for, where no more can come of what was sent.
     pub(crate) fn find_stuck(&self, waiter: Xid, sent: &[(Xid, u64)]) -> Option<Xid>
-        requires tied { (w : World) × Represents w self.now }
-        ensures { (w : World) → Represents w self.now → StopsHeld self.now.tables.schema w sent.now waiter result (after_stop w waiter result) }
+        requires tied { (w : World) × RepresentsByHolds w self.now }
+        ensures { (w : World) → RepresentsByHolds w self.now → StopsHeld self.now.tables.schema w sent.now waiter result (after_stop w waiter result) }
     {
         let Some(transaction) = self.transactions.get(&waiter) else {
             return None;
@@ -92,10 +93,10 @@ impl Live {
 
     // Whether each open transaction has done as many items as were sent to it, or waits.
     fn is_settled(&self, sent: &[(Xid, u64)]) -> bool
-        requires tied { (w : World) × Represents w self.now }
-        ensures settled { result ≡ true → (w : World) → Represents w self.now
+        requires tied { (w : World) × RepresentsByHolds w self.now }
+        ensures settled { result ≡ true → (w : World) → RepresentsByHolds w self.now
             → IsSettledLive self.now.tables.schema self.now.tables.rows (cells_held self.now.holds) w sent.now }
-        ensures unsettled { result ≡ false → (w : World) → Represents w self.now
+        ensures unsettled { result ≡ false → (w : World) → RepresentsByHolds w self.now
             → IsUnsettledLive self.now.tables.schema self.now.tables.rows (cells_held self.now.holds) w sent.now }
     {
         for (xid, transaction) in &self.transactions {
@@ -108,10 +109,10 @@ impl Live {
 
     // Whether one has, or waits. The counts are compared first.
     fn is_settled_at(&self, sent: &[(Xid, u64)], xid: Xid, transaction: &OpenTransaction) -> bool
-        requires tied { (w : World) × Represents w self.now }
+        requires tied { (w : World) × RepresentsByHolds w self.now }
         requires found { tree.get nat_cmp self.now.transactions xid ≡ Some transaction.now }
         ensures settled { result ≡ true → IsSettledAt self.now sent.now (xid, transaction.now) }
-        ensures unsettled { result ≡ false → (w : World) → Represents w self.now
+        ensures unsettled { result ≡ false → (w : World) → RepresentsByHolds w self.now
             → IsUnsettledLive self.now.tables.schema self.now.tables.rows (cells_held self.now.holds) w sent.now }
     {
         if is_counted(sent, xid, transaction.done) {
@@ -123,7 +124,7 @@ impl Live {
     // Another open transaction that has a cell of the change that this one wants, if it wants one:
     // first the cell of the row that it looks up, since the others depend on that row.
     fn find_holder(&self, xid: Xid, wants: &Option<(Xid, Change)>) -> Option<Xid>
-        requires tied { (w : World) × Represents w self.now }
+        requires tied { (w : World) × RepresentsByHolds w self.now }
         requires named { IfSome wants.now (λ (p : ℕ × AnyChange). NamesTables (length self.now.tables.schema) p.1) }
         ensures held { IfSome result (WantsFrom self.now xid wants.now) }
         ensures free { IfNone result (WantsFromNobody self.now xid wants.now) }
@@ -139,7 +140,7 @@ impl Live {
 
     // Another open transaction that has a cell of a change.
     fn cell_holder(&self, xid: Xid, change: &Change) -> Option<Xid>
-        requires tied { (w : World) × Represents w self.now }
+        requires tied { (w : World) × RepresentsByHolds w self.now }
         requires named { NamesTables (length self.now.tables.schema) change.now }
         ensures held { IfSome result (IsOneHeldBy (cells_held self.now.holds) xid (footprint self.now.tables.schema self.now.tables.rows change.now)) }
         ensures free { IfNone result (All (IsFreeCell (cells_held self.now.holds) xid) (footprint self.now.tables.schema self.now.tables.rows change.now)) }

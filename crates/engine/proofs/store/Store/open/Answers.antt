@@ -9,6 +9,9 @@ use Rattle.engine.specs.Engine.{Engine, world_in, Represents}
 use Rattle.engine.specs.StoreLemmas.{no_list, store_opened}
 use Rattle.engine.proofs.store.Store.open.Goals as goal
 
+pub open_live-requires : goal.open_live-requires
+open_live-requires c = (world_in c.self.inside, c.self.invariant.tied)
+
 pub open-slip-requires : goal.open-slip-requires
 open-slip-requires c =
     no_list c.self.inside.book.lists c.args.xid (c.in_ok-open_live.ensures.opens (world_in c.self.inside) c.self.invariant.tied).1

@@ -1,45 +1,49 @@
-use Rattle.std.proofs.Common.{rules, refl, sym, subst, ◌∙◌}
-use Rattle.std.specs.Prelude.{Ok}
-use Rattle.model.specs.declared.change.Change as change_type
-use Rattle.keyholds.specs.Holds.{cells_held}
-use Rattle.world.specs.Steps.{Acts, Held as WasHeld, wanting}
-use Rattle.live_tables.specs.declared.cells.Found as found_type
-use Rattle.live_tables.specs.Cells.{IsHeldIn, IsFound}
-use Rattle.live_tables.specs.BasicLemmas.{is_there}
+use Rattle.std.proofs.Common.{rules, refl, sym, ap, subst, ◌∙◌}
+use Rattle.live_tables.specs.declared.live_tables.Live.{Live}
+use Rattle.live_tables.specs.Represents.{Represents}
+use Rattle.live_tables.specs.ByHoldsLemmas.{by_holds, by_some}
 use Rattle.live_tables.specs.ActLemmas.{has_stopped}
-use Rattle.live_tables.proofs.Refusals.{memory_refused}
+use Rattle.live_tables.specs.Tried.{HasActed}
+use Rattle.live_tables.proofs.Refusals.{memory_refused, runs_there, acted_by_holds}
 use Rattle.live_tables.proofs.live_tables.Live.act.Goals as goal
 
 pub returns-then-is_some : goal.returns-then-is_some
 returns-then-is_some c = record {
-  acts = λ w o tied is. (has_stopped w c.args.self.now tied (sym c.is_some.ensures ∙ c.if-is_some.true), refl);
-  tied = search rules;
-  cause = search rules;
-  schema = search rules;
-}
-
-pub returns-in_err-holder : goal.returns-in_err-holder
-returns-in_err-holder c = memory_refused c.args.self.now (search rules) c.args.xid c.args.sub c.args.c.now c.from_residual-in_err-holder.result c.from_residual-in_err-holder.ensures.1
-
-pub wait-requires-clause-there : goal.wait-requires-clause-there
-wait-requires-clause-there c = let tied = c.requires.tied in is_there tied.0 c.args.self.now tied.2 c.args.xid tied.1 tied.3
-
-pub wait-requires-clause-found : goal.wait-requires-clause-found
-wait-requires-clause-found c =
-    subst (λ (change : change_type.Change). IsHeldIn c.args.self.now.tables.schema c.args.self.now.tables.rows (cells_held c.args.self.now.holds) c.args.xid change c.in-Held.holder)
-    (sym c.in_ok-change.ensures)
-    (subst (λ (found : found_type.Found). IsFound c.args.self.now.tables.schema c.args.self.now.tables.rows (cells_held c.args.self.now.holds) c.args.xid c.args.c.now found) c.in-Held.is
-    c.in_ok-holder.ensures)
-
-pub act_on_free-requires-clause-there : goal.act_on_free-requires-clause-there
-act_on_free-requires-clause-there c = let tied = c.requires.tied in is_there tied.0 c.args.self.now tied.2 c.args.xid tied.1 tied.3
-
-pub returns-in-Held : goal.returns-in-Held
-returns-in-Held c = record {
   acts = λ w o tied is.
-      subst (λ (change : change_type.Change). Acts c.args.self.now.tables.schema w c.args.xid o c.args.sub change (Ok (WasHeld c.in-Held.holder)) (wanting w c.args.xid o c.args.sub change))
-      c.in_ok-change.ensures (c.wait.ensures.acts w o tied is);
-  tied = search rules;
-  cause = search rules;
-  schema = search rules;
+      let some = by_some w c.args.self.now tied in
+      (has_stopped w (record c.args.self.now { holds = some.0 }) some.1 (sym c.is_some.ensures ∙ c.if-is_some.true), refl);
+  tied = λ w o tied is. tied;
+  cause = tt;
+  schema = refl;
 }
+
+pub act_by_holds-requires-clause-tied : goal.act_by_holds-requires-clause-tied
+act_by_holds-requires-clause-tied c = let (w, o, tied, is) = c.requires.tied in (w, o, by_holds w c.args.self.now tied c.if-self.true, is)
+
+pub returns-then-self : goal.returns-then-self
+returns-then-self c =
+    acted_by_holds c.args.self.now c.args.self.now c.act_by_holds.new.self c.args.xid c.args.sub c.args.c.now c.act_by_holds.result
+    (λ w tied. by_holds w c.args.self.now tied c.if-self.true) refl (c.act_by_holds.ensures.made ∙ c.if-self.true) c.act_by_holds.ensures.acted
+
+pub returns-then-sub-xid : goal.returns-then-sub-xid
+returns-then-sub-xid c = rw c.if-sub-xid.true c.act_alone.ensures
+
+pub make-requires : goal.make-requires
+make-requires c = let (w, o, tied, is) = c.requires.tied in (w, c.args.xid, o, tied, is)
+
+pub returns-in_err-make : goal.returns-in_err-make
+returns-in_err-make c =
+    subst (λ (m : Live). HasActed c.args.self.now m c.args.xid c.args.sub c.args.c.now c.from_residual.result) (sym c.in_err-make.ensures.err)
+    (memory_refused Represents c.args.self.now (runs_there c.args.self.now (search rules)) c.args.xid c.args.sub c.args.c.now c.from_residual.result c.from_residual.ensures.1)
+
+-- behind the making
+pub act_by_holds-requires-2-clause-names : goal.act_by_holds-requires-2-clause-names
+act_by_holds-requires-2-clause-names c = rw c.in_ok-make.ensures.same c.requires.names
+
+pub act_by_holds-requires-2-clause-tied : goal.act_by_holds-requires-2-clause-tied
+act_by_holds-requires-2-clause-tied c = let (w, o, tied, is) = c.requires.tied in (w, o, c.in_ok-make.ensures.ok w tied, is)
+
+pub returns : goal.returns
+returns c =
+    acted_by_holds c.args.self.now c.make.new.self c.act_by_holds-2.new.self c.args.xid c.args.sub c.args.c.now c.act_by_holds-2.result
+    c.in_ok-make.ensures.ok (ap (λ (m : Live). m.tables.schema) c.in_ok-make.ensures.same) (c.act_by_holds-2.ensures.made ∙ c.in_ok-make.ensures.made) c.act_by_holds-2.ensures.acted

@@ -13,10 +13,10 @@ returns-then-contains_key c = λ w tied.
 
 pub returns : goal.returns
 returns c = λ w tied.
-    let is : c.match-committed.row ≡ get w.committed (c.args.table, c.args.key.now) =
-    elim c.match-committed.branch [
-      | in-Some+in_ok-to_row-in-Some v ↦ v.row-is ∙ ap Some v.in_ok-to_row-in-Some.ensures ∙ sym v.in-Some.is ∙ c.committed.ensures w tied
-      | in-None v ↦ v.row-is ∙ sym v.in-None.is ∙ c.committed.ensures w tied
+    let is : c.match-committed_by_holds.row ≡ get w.committed (c.args.table, c.args.key.now) =
+    elim c.match-committed_by_holds.branch [
+      | in-Some+in_ok-to_row-in-Some v ↦ v.row-is ∙ ap Some v.in_ok-to_row-in-Some.ensures ∙ sym v.in-Some.is ∙ c.committed_by_holds.ensures w tied
+      | in-None v ↦ v.row-is ∙ sym v.in-None.is ∙ c.committed_by_holds.ensures w tied
     ] in
-    one_laid w.committed c.args.table c.args.key.now c.args.known.now c.insert.new.self (sym c.contains_key.ensures ∙ c.if-contains_key.false) c.match-committed.row is
-    (subst (λ (k : Key). Updates key_cmp c.args.known.now c.insert.new.self k (Some c.match-committed.row)) c.in_ok-copy.ensures c.in_ok-insert.ensures.updates)
+    one_laid w.committed c.args.table c.args.key.now c.args.known.now c.insert.new.self (sym c.contains_key.ensures ∙ c.if-contains_key.false) c.match-committed_by_holds.row is
+    (subst (λ (k : Key). Updates key_cmp c.args.known.now c.insert.new.self k (Some c.match-committed_by_holds.row)) c.in_ok-copy.ensures c.in_ok-insert.ensures.updates)

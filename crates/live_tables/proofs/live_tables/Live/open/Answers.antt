@@ -1,34 +1,34 @@
-use Rattle.std.proofs.Common.{◌+◌, None, refl, ap, ◌∙◌, is_some}
-use Rattle.std.specs.Prelude.{Result, Ok, Err, OnErr, if◌then◌else◌}
+use Rattle.std.proofs.Common.{ap, ◌∙◌}
+use Rattle.std.specs.BTreeMap as tree
 use Rattle.std.specs.BTreeMap.{btree_map_len}
-use Rattle.savepoint.specs.Record.{Record}
-use Rattle.live_tables.specs.BasicLemmas.{puts_by_update}
-use Rattle.live_tables.specs.EndedLemmas.{tied_opened, tied_alike}
+use Rattle.std.specs.Ordering.{nat_cmp}
+use Rattle.world.specs.Steps.{opened_with}
+use Rattle.live_tables.specs.declared.live_tables.Live.{Live}
+use Rattle.live_tables.specs.ByHoldsLemmas.{from_holds}
+use Rattle.live_tables.specs.LoneLemmas.{none_open}
+use Rattle.live_tables.specs.ShutLemmas.{open_there, none_left}
+use Rattle.live_tables.proofs.Stands.{on_ok, map_err}
 use Rattle.live_tables.proofs.live_tables.Live.open.Goals as goal
 
-err_of : {T E : Type 0} (r : Result T E) (P : Type 0) → P → OnErr r P
-err_of (Ok x) P is = tt
-err_of (Err e) P is = is
+pub make-requires : goal.make-requires
+make-requires c =
+    let (w, tied) = c.requires.tied in
+    let (o, is) = open_there w c.args.self.now tied c.in-Some.other.now c.in-Some.field-0-1.now c.in-Some.ensures.value in
+    (w, c.in-Some.other.now, o, tied, is)
 
-pub returns-in_err-insert-clause-err : goal.returns-in_err-insert-clause-err
-returns-in_err-insert-clause-err c =
-    let store = c.args.self.now in
-    err_of c.from_residual.result _
-    (λ w tied. tied_alike w store tied c.insert.new.self c.in_err-insert.ensures.err)
+pub open_beside-requires : goal.open_beside-requires
+open_beside-requires c = ap (λ (m : Live). tree.get nat_cmp m.transactions c.args.xid) c.in_ok-make-in-Some.ensures.same ∙ c.requires.absent
 
-pub returns-clause-ok : goal.returns-clause-ok
-returns-clause-ok c =
-    let store = c.args.self.now in
-    let empty = c.new.ensures.empty in
-    let was = c.in_ok-insert.ensures in
-    λ w tied running.
-    tied_opened w store tied c.args.xid c.requires (record { «record» = c.new.result; wants = None; done = 0 }) c.insert.new.self
-    (record {
-      top = ap (λ (r : Record). r.top) empty;
-      survivors = ap (λ (r : Record). r.survivors) empty;
-      marks = ap (λ (r : Record). r.marks) empty;
-      inverses = ap (λ (r : Record). r.log.inverses) empty;
-      named = c.new.ensures.named;
-    })
-    refl refl (puts_by_update c.args.xid _ store.transactions c.insert.new.self was.updates)
-    (was.len ∙ ap (λ o. btree_map_len store.transactions + (if is_some o then 0 else 1)) (was.old ∙ c.requires)) running
+pub open_alone-requires-clause-none : goal.open_alone-requires-clause-none
+open_alone-requires-clause-none c = λ w tied.
+    none_open w c.args.self.now tied (none_left (btree_map_len c.args.self.now.transactions) c.in-None.ensures.variant.1)
+
+pub returns-in_ok-make-in-Some-clause-ok : goal.returns-in_ok-make-in-Some-clause-ok
+returns-in_ok-make-in-Some-clause-ok c =
+    on_ok c.open_beside.result _ _ c.open_beside.ensures.ok (λ opened w tied running.
+    from_holds (opened_with w c.args.xid) c.open_beside.new.self (opened w (c.in_ok-make-in-Some.ensures.ok w tied) running) (c.open_beside.ensures.made ∙ c.in_ok-make-in-Some.ensures.made))
+
+pub returns-in_ok-make-in-Some-clause-err : goal.returns-in_ok-make-in-Some-clause-err
+returns-in_ok-make-in-Some-clause-err c =
+    map_err c.open_beside.result _ _ c.open_beside.ensures.err (λ left w tied.
+    from_holds w c.open_beside.new.self (left w (c.in_ok-make-in-Some.ensures.ok w tied)) (c.open_beside.ensures.made ∙ c.in_ok-make-in-Some.ensures.made))

@@ -1,48 +1,45 @@
-use Rattle.std.proofs.Common.{refl, rules, subst, sym, ℕ, ◌∙◌}
-use Rattle.std.specs.Prelude.{Result, Ok, Err, OnOk, OnErr}
-use Rattle.std.proofs.lemmas.Map.Entries.{length-keys_of}
-use Rattle.keyholds.specs.Holds.{holds_of}
-use Rattle.live_tables.specs.BasicLemmas.{never_missing, writes_by_borrow, its_names}
-use Rattle.live_tables.specs.EndedLemmas.{tied_touched}
-use Rattle.live_tables.specs.ActLemmas.{tied_refused}
-use Rattle.live_tables.specs.Transactions.{HasTouched}
+use Rattle.std.proofs.Common.{sym, subst, ◌∙◌}
+use Rattle.model.specs.declared.item.Item.TheVariants.{Touch}
+use Rattle.world.specs.Steps.{done_with}
+use Rattle.live_tables.specs.Represents.{Represents}
+use Rattle.live_tables.specs.ByHoldsLemmas.{by_holds, from_holds}
+use Rattle.live_tables.proofs.Stands.{on_ok, on_err, map_err}
 use Rattle.live_tables.proofs.live_tables.Live.touch.Goals as goal
 
-on_ok : {T E : Type 0} (r : Result T E) (P Q : Type 0) → (P → Q) → OnOk r P → OnOk r Q
-on_ok (Ok x) P Q so is = so is
-on_ok (Err e) P Q so is = tt
+pub touch_by_holds-requires : goal.touch_by_holds-requires
+touch_by_holds-requires c = let (w, o, tied, is) = c.requires in (w, o, by_holds w c.args.self.now tied c.if-self.true, is)
 
-on_err : {T E : Type 0} (r : Result T E) (P Q : Type 0) → (P → Q) → OnErr r P → OnErr r Q
-on_err (Ok x) P Q so is = tt
-on_err (Err e) P Q so is = so is
+pub returns-then-self-clause-ok : goal.returns-then-self-clause-ok
+returns-then-self-clause-ok c =
+    on_ok c.touch_by_holds.result _ _ c.touch_by_holds.ensures.ok (λ touched w o tied is.
+    from_holds (done_with w c.args.xid o (Touch c.args.sub)) c.touch_by_holds.new.self (touched w o (by_holds w c.args.self.now tied c.if-self.true) is)
+    (c.touch_by_holds.ensures.made ∙ c.if-self.true))
 
-pub unreachable-requires : goal.unreachable-requires
-unreachable-requires c = never_missing c.args.self.now c.args.xid c.requires c.in_default.ensures.value
+pub returns-then-self-clause-err : goal.returns-then-self-clause-err
+returns-then-self-clause-err c =
+    map_err c.touch_by_holds.result _ _ c.touch_by_holds.ensures.err (λ left w o tied is.
+    from_holds w c.touch_by_holds.new.self (left w o (by_holds w c.args.self.now tied c.if-self.true) is) (c.touch_by_holds.ensures.made ∙ c.if-self.true))
 
-pub touch-requires : goal.touch-requires
-touch-requires c =
-    let (w, o, tied, is) = c.requires in
-    record { named = its_names w c.args.self.now tied c.args.xid o is c.in-Some.transaction.now (sym c.in-Some.ensures.value) }
+pub returns-then-sub-xid-clause-ok : goal.returns-then-sub-xid-clause-ok
+returns-then-sub-xid-clause-ok c = rw c.if-sub-xid.true c.touch_alone.ensures.ok
 
-pub returns : goal.returns
-returns c =
-    let old = c.in-Some.transaction.now in
-    let store = c.args.self.now in
-    let after = c.get_mut.follows.lender c.touch.new.self in
-    let writes = writes_by_borrow c.args.xid old c.touch.new.self store.transactions after (sym c.in-Some.ensures.value) (c.get_mut.follows.holds c.touch.new.self) in
-    let count = c.mark-mark.ensures.count ∙ sym (length-keys_of (holds_of store.holds c.args.xid)) in
-    record {
-      ok =
-          on_ok c.touch.result _ _
-          (λ touched w o tied is.
-          tied_touched w store tied c.args.xid o is old c.touch.new.self (record store { transactions = after }) writes c.args.sub
-          (subst (λ (held : ℕ). HasTouched c.args.sub held old c.touch.new.self) count touched) refl refl refl)
-          c.touch.ensures.ok;
-      err =
-          on_err c.touch.result _ _
-          (λ before w o tied is.
-          tied_refused w store tied c.args.xid o is old c.touch.new.self (record store { transactions = after }) writes
-          (record { schema_is = refl; rows = refl; room = λ cell has. has }) before refl refl)
-          c.touch.ensures.err;
-      schema = search rules;
-    }
+pub make-requires : goal.make-requires
+make-requires c = let (w, o, tied, is) = c.requires in (w, c.args.xid, o, tied, is)
+
+pub returns-in_err-make-clause-err : goal.returns-in_err-make-clause-err
+returns-in_err-make-clause-err c =
+    on_err c.from_residual.result _ (λ w o tied is. subst (Represents w) (sym c.in_err-make.ensures.err) tied)
+
+pub touch_by_holds-requires-2 : goal.touch_by_holds-requires-2
+touch_by_holds-requires-2 c = let (w, o, tied, is) = c.requires in (w, o, c.in_ok-make.ensures.ok w tied, is)
+
+pub returns-clause-ok : goal.returns-clause-ok
+returns-clause-ok c =
+    on_ok c.touch_by_holds-2.result _ _ c.touch_by_holds-2.ensures.ok (λ touched w o tied is.
+    from_holds (done_with w c.args.xid o (Touch c.args.sub)) c.touch_by_holds-2.new.self (touched w o (c.in_ok-make.ensures.ok w tied) is)
+    (c.touch_by_holds-2.ensures.made ∙ c.in_ok-make.ensures.made))
+
+pub returns-clause-err : goal.returns-clause-err
+returns-clause-err c =
+    map_err c.touch_by_holds-2.result _ _ c.touch_by_holds-2.ensures.err (λ left w o tied is.
+    from_holds w c.touch_by_holds-2.new.self (left w o (c.in_ok-make.ensures.ok w tied) is) (c.touch_by_holds-2.ensures.made ∙ c.in_ok-make.ensures.made))

@@ -1,5 +1,5 @@
-use Rattle.std.proofs.Common.{ap, is_some, sym, true≢false, ◌∙◌}
-use Rattle.live_tables.specs.BasicLemmas.{is_there}
+use Rattle.std.proofs.Common.{ap, is_some, sym, ◌∙◌}
+use Rattle.live_tables.specs.ByHoldsLemmas.{never_absent}
 use Rattle.live_tables.proofs.live_tables.Live.wants.Goals as goal
 
 pub returns-in-Some : goal.returns-in-Some
@@ -8,4 +8,4 @@ returns-in-Some c = λ w o tied is.
 
 pub returns-in-None : goal.returns-in-None
 returns-in-None c = λ w o tied is.
-    absurd (true≢false (sym (is_there w c.args.self.now tied c.args.xid o is) ∙ ap is_some (sym c.in-None.ensures.value)))
+    absurd (never_absent c.args.self.now c.args.xid (w, o, tied, is) c.in-None.ensures.value)

@@ -1,0 +1,22 @@
+use Rattle.std.proofs.Common.{ap}
+use Rattle.std.specs.BTreeMap.{btree_map_len}
+use Rattle.change.specs.Laid.{known_at}
+use Rattle.live_tables.specs.Merged.{or_row}
+use Rattle.live_tables.specs.LoneLemmas.{none_open}
+use Rattle.live_tables.specs.ShutLemmas.{open_there, none_left}
+use Rattle.live_tables.proofs.LogSteps.{none_row, lone_laid}
+use Rattle.live_tables.proofs.Stands.{on_ok}
+use Rattle.live_tables.proofs.live_tables.Live.lay_alone.Goals as goal
+
+pub returns-in-Some : goal.returns-in-Some
+returns-in-Some c =
+    on_ok c.lay_under.result _ _ c.lay_under.ensures (λ laid w tied.
+    let store = c.args.self.now in
+    let (o, is) = open_there w store tied c.in-Some.field-0-0.now c.in-Some.transaction.now c.in-Some.ensures.value in
+    lone_laid w store tied c.requires.alone c.in-Some.field-0-0.now o is c.in-Some.transaction.now c.in-Some.ensures.value c.args.table c.args.known.now c.lay_under.new.known laid)
+
+pub returns-in-None : goal.returns-in-None
+returns-in-None c = λ w tied key.
+    let store = c.args.self.now in
+    ap (or_row (known_at c.args.known.now key))
+    (none_row w store tied c.requires.alone (none_open w store tied (none_left (btree_map_len store.transactions) c.in-None.ensures.variant.1)) c.args.table key)
