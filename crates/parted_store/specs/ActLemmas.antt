@@ -3,7 +3,7 @@
 --     in_no_other, act_beside, still_stopped      and the parts of other tables
 --     opened_acted, ticket_acted, items_acted      its ticket, and the items that it has done
 --     none_acted, shares_acted      the ticket's shares
-use Rattle.std.specs.Prelude.{◌≡◌, ◌≢◌, ℕ, ◌==◌, Bool, true, false, ◌||◌, List, [], ◌∷◌, ◌++◌, fold, Option, Some, None, IsSome, Result, Ok, Err, refl}
+use Rattle.std.specs.Prelude.{◌≡◌, ◌≢◌, ℕ, ◌==◌, Bool, false, ◌||◌, List, [], ◌∷◌, ◌++◌, fold, Option, Some, None, IsSome, Result, Ok, Err, refl}
 use Rattle.std.proofs.Common.{sym, ◌∙◌, ap, subst, inl, inr, ne_eqb, append-nil}
 use Rattle.std.proofs.lemmas.Grind.{fold-append}
 use Rattle.std.specs.FinMap.{get}

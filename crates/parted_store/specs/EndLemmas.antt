@@ -1,27 +1,28 @@
 -- What follows of the parts' ends, one after another.
 --     no_progress, one_step      none has done it; one more has
 --     still_belongs      the share that is next is a ticket of the part that is next
---     part_committed_by, part_aborted_by      what the end of a share is in every world
+--     committed_by, aborted_by      what the end of a share is in every world
+--     same_committed, end_committed, same_aborted, end_aborted      the part is the same one; where its log goes on
 --     commits_beside, aborts_beside      a part of a table of which there is no share stays
 use Rattle.std.specs.Prelude.{◌≡◌, ◌≢◌, ℕ, ◌+◌, ◌<◌, ◌≤◌, List, [], Option, Some, None, IsSome, IsSomeAnd, slice_get, slice_set, length, refl}
 use Rattle.std.proofs.Common.{sym, ◌∙◌, ap, subst, arith}
 use Rattle.std.proofs.lemmas.List.{get_or-set_same, get_or-set_other, length-set}
-use Rattle.std.proofs.lemmas.Option.{none-some, slice_get_within, slice_get-get_or, slice_get_past, slice_get_cases, same_Some}
+use Rattle.std.proofs.lemmas.Option.{slice_get_within, slice_get-get_or, slice_get_past, slice_get_cases, same_Some}
 use mathlib.Core.Logic.{dite}
 use native.Mathlib.Decide.{ℕ_discrete}
 use Rattle.std.proofs.Common.{inl, inr}
 use Rattle.std.specs.FinMap.{get}
 use Rattle.model.specs.declared.item.CommitInfo.{CommitInfo}
 use Rattle.model.specs.Rows.{Schema}
-use Rattle.world.specs.World.{Opened, World, work}
+use Rattle.world.specs.World.{World}
 use Rattle.world.specs.Steps.{committed_with, aborted_with}
 use Rattle.world_parts.specs.ByTable.{changes_at}
-use Rattle.world_parts.specs.Parts.{work_if, wanted_by, wanted_if, IsPartOf}
+use Rattle.world_parts.specs.Parts.{work_if, wanted_if, IsPartOf}
 use Rattle.world_parts.specs.MoveLemmas.{part_committed, committed_beside, part_aborted, aborted_beside}
 use Rattle.engine.specs.Events.{opened_by}
-use Rattle.table_parts.specs.Part.{Part}
-use Rattle.parted_store.specs.Ends.{CommitsShare, AbortsShare, AreApart, IsBeside, Covers, BelongEach, IsCommitted, IsAborted, Progress}
-use Rattle.parted_store.specs.Lent.{OpenTicket, HasTable, HasTicket, IsShare, HasShares, Belongs}
+use Rattle.table_parts.specs.Part.{Part, last_commit_end}
+use Rattle.parted_store.specs.Ends.{CommitsShare, AbortsShare, AreApart, IsBeside, Covers, BelongEach, Progress}
+use Rattle.parted_store.specs.Lent.{OpenTicket, HasTable, HasTicket, IsSamePart, IsShare, HasShares, Belongs}
 use Rattle.parted_store.specs.Shares.{Share, Shares, share_of, TakesShare}
 
 -- ---- a list in which one element is another
@@ -117,7 +118,7 @@ module _ (t : OpenTicket) (p : Part) (w : World) (has : HasTable w p) (at : HasT
   committed_by info None none q did = subst (HasTable _) (sym did) (commits_nothing none p.store.schema info)
   committed_by info (Some share) number q did = record {
     is =
-        subst (λ (n : ℕ). IsPartOf n (committed_with p.store.schema w t.number (opened_by t.events) info) q.store.world) (sym did.2)
+        subst (λ (n : ℕ). IsPartOf n (committed_with p.store.schema w t.number (opened_by t.events) info) q.store.world) (sym did.2.number)
         (subst (IsPartOf p.number (committed_with p.store.schema w t.number (opened_by t.events) info))
         (sym (did.1 ∙ ap (λ (n : ℕ). committed_with p.store.schema p.store.world n (opened_by share.list) info) number))
         (part_committed p.number w p.store.world has.is t.number p.store.schema (opened_by t.events) at info (opened_by share.list)
@@ -130,12 +131,35 @@ module _ (t : OpenTicket) (p : Part) (w : World) (has : HasTable w p) (at : HasT
   aborted_by None none q did = subst (HasTable _) (sym did) (aborts_nothing none)
   aborted_by (Some share) number q did = record {
     is =
-        subst (λ (n : ℕ). IsPartOf n (aborted_with w t.number) q.store.world) (sym did.1)
+        subst (λ (n : ℕ). IsPartOf n (aborted_with w t.number) q.store.world) (sym did.1.number)
         (subst (IsPartOf p.number (aborted_with w t.number))
         (sym (did.0 ∙ ap (aborted_with p.store.world) number))
         (part_aborted p.number w p.store.world has.is t.number));
     heard = λ is. has.heard (subst (λ (v : World). IsSome v.stopped) did.0 is);
   }
+
+-- ---- the part itself
+
+same_part : (p q : Part) → q ≡ p → IsSamePart p q
+same_part p q is = subst (IsSamePart p) (sym is) (record { number = refl; store = record { schema = refl; tickets = refl; line = refl } })
+
+module _ (p q : Part) (info : CommitInfo) where
+  pub same_committed : (share : Option Share) → CommitsShare info p share q → IsSamePart p q
+  same_committed None did = same_part p q did
+  same_committed (Some share) did = did.2
+
+  pub end_committed : last_commit_end p < info.end → (share : Option Share) → CommitsShare info p share q → last_commit_end q ≤ info.end
+  end_committed later None did = subst (λ (r : Part). last_commit_end r ≤ info.end) (sym did) (omega (arith, later))
+  end_committed later (Some share) did = subst (λ n. n ≤ info.end) (sym did.3) (omega arith)
+
+module _ (p q : Part) where
+  pub same_aborted : (share : Option Share) → AbortsShare p share q → IsSamePart p q
+  same_aborted None did = same_part p q did
+  same_aborted (Some share) did = did.1
+
+  pub end_aborted : (share : Option Share) → AbortsShare p share q → last_commit_end q ≡ last_commit_end p
+  end_aborted None did = ap last_commit_end did
+  end_aborted (Some share) did = did.2
 
 -- a part of a table that is none of those lent
 module _ (parts : List Part) (t : OpenTicket) (its : HasShares t) (covers : Covers parts t.shares) where

@@ -10,8 +10,8 @@ use Rattle.model.specs.declared.item.CommitInfo.{CommitInfo}
 use Rattle.world.specs.World.{World}
 use Rattle.world.specs.Steps.{Commits, Aborts, committed_with, aborted_with}
 use Rattle.engine.specs.Events.{opened_by}
-use Rattle.table_parts.specs.Part.{Part}
-use Rattle.parted_store.specs.Lent.{OpenTicket, HasTable, HasTicket, Belongs}
+use Rattle.table_parts.specs.Part.{Part, last_commit_end}
+use Rattle.parted_store.specs.Lent.{OpenTicket, HasTable, HasTicket, IsSamePart, Belongs}
 use Rattle.parted_store.specs.Shares.{Share, Shares, share_of}
 
 -- the transaction's share in the part, if it has one, is committed
@@ -19,12 +19,14 @@ abbrev pub CommitsShare : CommitInfo → Part → Option Share → Part → Type
 CommitsShare info p None q = q ≡ p
 CommitsShare info p (Some share) q =
     (get p.store.world.opened share.number ≡ Some (opened_by share.list))
-    × Commits p.store.schema p.store.world share.number (opened_by share.list) info q.store.world × (q.number ≡ p.number)
+    × Commits p.store.schema p.store.world share.number (opened_by share.list) info q.store.world
+    × IsSamePart p q × (last_commit_end q ≡ info.end)
 
 -- it is aborted
 abbrev pub AbortsShare : Part → Option Share → Part → Type 0
 AbortsShare p None q = q ≡ p
-AbortsShare p (Some share) q = Aborts p.store.world share.number q.store.world × (q.number ≡ p.number)
+AbortsShare p (Some share) q =
+    Aborts p.store.world share.number q.store.world × IsSamePart p q × (last_commit_end q ≡ last_commit_end p)
 
 -- the parts are of different tables
 abbrev pub AreApart : List Part → Type 0

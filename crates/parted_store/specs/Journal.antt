@@ -2,7 +2,7 @@
 --     JournalPart      its line, how many transactions are open, and what stopped the store
 --     entry_in      an entry, as the world tells it
 --     journal_in, IsJournal      the journal's part from what it keeps; what its type keeps
-use Rattle.std.specs.Prelude.{◌≡◌, ℕ, ◌+◌, ◌≤◌, List, ◌∷◌, Option, map, IfSome, vec_len, vec_capacity}
+use Rattle.std.specs.Prelude.{◌≡◌, ℕ, ◌+◌, ◌≤◌, ◌∷◌, Option, map, IfSome, vec_len, vec_capacity}
 use Rattle.std.specs.List.Sorted.{IsStrictlyIncreasing}
 use Rattle.std.specs.Ordering.{nat_cmp}
 use Rattle.std.specs.BTreeSet as set

@@ -1,17 +1,16 @@
 -- What the journal's part has of a world behind each call.
 --     journal_opens, journal_refuses      what it says of an open is the step
 --     journal_opened, journal_acted, journal_committed, journal_aborted      it has the world behind it
---     open_more, open_fewer      who is open, once the line has one more event
-use Rattle.std.specs.Prelude.{◌≡◌, ℕ, ◌+◌, ◌-◌, ◌<◌, ◌≤◌, Bool, true, false, cond, if◌then◌else◌, List, [], ◌∷◌, ◌++◌, Option, Some, None, IsSome, is_some, Result, Ok, Err, refl}
+use Rattle.std.specs.Prelude.{◌≡◌, ℕ, ◌+◌, ◌-◌, ◌<◌, ◌≤◌, true, false, cond, if◌then◌else◌, List, [], ◌∷◌, ◌++◌, Option, Some, None, IsSome, is_some, Result, Ok, Err, refl}
 use Rattle.std.proofs.Common.{sym, ◌∙◌, ap, subst, inl, inr, true≢false, arith}
 use Rattle.std.proofs.lemmas.Grind.{fold-append}
-use Rattle.std.specs.Ordering.{nat_cmp}
 use Rattle.std.specs.Cmp.{nat_cmp_total}
 use Rattle.std.specs.FinMap as finite
-use Rattle.std.specs.FinMap.{FinMap, get}
+use Rattle.std.specs.FinMap.{get}
 use Rattle.model.specs.declared.change.Change as change_type
 use Rattle.model.specs.declared.item.Item.{Item}
 use Rattle.model.specs.declared.item.CommitInfo.{CommitInfo}
+use Rattle.model.specs.EditLemmas.{cond_inside}
 use Rattle.model.specs.Limits.{most_open}
 use Rattle.model.specs.Rows.{Schema}
 use Rattle.tokens.specs.Half.{Half}
@@ -23,31 +22,13 @@ use Rattle.live_tables.specs.declared.answers.EngineFault.TheVariants.{AlreadyOp
 use Rattle.live_tables.specs.Answers.{told_fault, after_act}
 use Rattle.engine.specs.declared.events.LineEvent.{LineEvent}
 use Rattle.engine.specs.declared.events.LineEvent.TheVariants.{Opened as WasOpened, Committed as WasCommitted, Aborted as WasAborted}
-use Rattle.engine.specs.Events.{opened_by, commits_in, open_after, is_open_in}
+use Rattle.engine.specs.Events.{commits_in, open_after, is_open_in}
 use Rattle.engine.specs.EventLemmas.{same_commits, more_commits}
 use Rattle.engine.specs.StoreLemmas.{same_len}
 use Rattle.parted_store.specs.Journal.{JournalPart}
 use Rattle.parted_store.specs.Lent.{HasJournal}
 use Rattle.parted_store.specs.Acting.{stop_after}
 use Rattle.parted_store.specs.Opening.{CanOpen, RefusesOpen}
-
--- who is open, once the line has one more event
-pub open_more : (line : List LineEvent) (e : LineEvent) (q : ℕ) → is_open_in (line ++ e ∷ []) q ≡ open_after q (is_open_in line q) e
-open_more line e q = fold-append (open_after q) false line (e ∷ [])
-
-there_more : {X : Type 0} (m : FinMap nat_cmp X) (k : ℕ) (x : X) (q : ℕ) → is_some (get (finite.insert m k x) q) ≡ (if is_xid q k then true else is_some (get m q))
-there_more m k x q = ap is_some (finite.get-insert nat_cmp_total m k x q) ∙ by (is_xid q k)
-  where
-    by : (b : Bool) → is_some (cond b (Some x) (get m q)) ≡ (if b then true else is_some (get m q))
-    by true = refl
-    by false = refl
-
-there_less : {X : Type 0} (m : FinMap nat_cmp X) (k q : ℕ) → is_some (get (finite.remove m k) q) ≡ (if is_xid q k then false else is_some (get m q))
-there_less m k q = ap is_some (finite.get-remove nat_cmp_total m k q) ∙ by (is_xid q k)
-  where
-    by : (b : Bool) → is_some (cond b None (get m q)) ≡ (if b then false else is_some (get m q))
-    by true = refl
-    by false = refl
 
 one_fewer : (all less was now : ℕ) → less ≡ all - 1 → all ≡ was → now + 1 ≡ was → less ≡ now
 one_fewer all less was now one same more = omega (arith, one, same, more)
@@ -94,8 +75,10 @@ module _ (w : World) (j : JournalPart) (has : HasJournal w j) (new : JournalPart
     line = has.line ∙ sym (ap commits_in line ∙ same_commits j.line.list (WasOpened xid) refl);
     stopped = has.stopped ∙ sym stopped;
     opened = λ q.
-        there_more w.opened xid (record { items = []; wants = None }) q ∙ ap (λ b. if is_xid q xid then true else b) (has.opened q)
-        ∙ sym (ap (λ (events : List LineEvent). is_open_in events q) line ∙ open_more j.line.list (WasOpened xid) q);
+        ap is_some (finite.get-insert nat_cmp_total w.opened xid (record { items = []; wants = None }) q)
+        ∙ sym (cond_inside is_some (is_xid q xid) (Some (record { items = []; wants = None })) (get w.opened q))
+        ∙ ap (λ b. if is_xid q xid then true else b) (has.opened q)
+        ∙ sym (ap (λ (events : List LineEvent). is_open_in events q) line ∙ fold-append (open_after q) false j.line.list (WasOpened xid ∷ []));
     count =
         finite.len-insert nat_cmp_total w.opened xid (record { items = []; wants = None })
         ∙ ap (λ b. cond b (finite.len w.opened) (finite.len w.opened + 1)) (ap is_some none)
@@ -134,6 +117,11 @@ module _ (w : World) (j : JournalPart) (has : HasJournal w j) (new : JournalPart
         by (Ok (Clashed cause)) e = journal_moved _ (Some (ByClash xid c cause)) (ap (λ (k : JournalPart). k.line) e) (ap (λ (k : JournalPart). k.open_count) e) (ap (λ (k : JournalPart). k.stopped) (sym e))
         by (Err fault) e = subst (HasJournal w) (sym e) has
 
+    gone_there : (q : ℕ) → is_some (get (finite.remove w.opened xid) q) ≡ (if is_xid q xid then false else is_open_in j.line.list q)
+    gone_there q =
+        ap is_some (finite.get-remove nat_cmp_total w.opened xid q) ∙ sym (cond_inside is_some (is_xid q xid) None (get w.opened q))
+        ∙ ap (λ b. if is_xid q xid then false else b) (has.opened q)
+
     gone_count : new.open_count + 1 ≡ j.open_count → finite.len (finite.remove w.opened xid) ≡ new.open_count
     gone_count count =
         one_fewer (finite.len w.opened) (finite.len (finite.remove w.opened xid)) j.open_count new.open_count
@@ -151,8 +139,7 @@ module _ (w : World) (j : JournalPart) (has : HasJournal w j) (new : JournalPart
           ∙ sym (ap commits_in line ∙ more_commits j.line.list xid items info);
       stopped = has.stopped ∙ sym stopped;
       opened = λ q.
-          there_less w.opened xid q ∙ ap (λ b. if is_xid q xid then false else b) (has.opened q)
-          ∙ sym (ap (λ (events : List LineEvent). is_open_in events q) line ∙ open_more j.line.list (WasCommitted xid items info) q);
+          gone_there q ∙ sym (ap (λ (events : List LineEvent). is_open_in events q) line ∙ fold-append (open_after q) false j.line.list (WasCommitted xid items info ∷ []));
       count = gone_count count;
     }
 
@@ -163,7 +150,6 @@ module _ (w : World) (j : JournalPart) (has : HasJournal w j) (new : JournalPart
       line = has.line ∙ sym (ap commits_in line ∙ same_commits j.line.list (WasAborted xid) refl);
       stopped = has.stopped ∙ sym stopped;
       opened = λ q.
-          there_less w.opened xid q ∙ ap (λ b. if is_xid q xid then false else b) (has.opened q)
-          ∙ sym (ap (λ (events : List LineEvent). is_open_in events q) line ∙ open_more j.line.list (WasAborted xid) q);
+          gone_there q ∙ sym (ap (λ (events : List LineEvent). is_open_in events q) line ∙ fold-append (open_after q) false j.line.list (WasAborted xid ∷ []));
       count = gone_count count;
     }

@@ -6,6 +6,7 @@
 --     one_left, has_room      how many are open without one that is; there is room for its entry
 use Rattle.std.specs.Prelude.{◌≡◌, ℕ, ◌+◌, ◌<◌, ◌≤◌, Bool, true, false, if◌then◌else◌, List, [], ◌∷◌, ◌++◌, Option, Some, None, map, length, is_some, IsSome, IfSome, vec_len, vec_capacity, refl}
 use Rattle.std.proofs.Common.{Vec, Global, sym, ◌∙◌, ap, subst, inl, inr, true≢false, arith, eq-eqb, ne_eqb}
+use Rattle.std.proofs.lemmas.Grind.{fold-append}
 use Rattle.std.proofs.lemmas.List.{map-append}
 use Rattle.std.specs.List.Sorted.{IsStrictlyIncreasing}
 use Rattle.std.specs.Ordering.{nat_cmp}
@@ -24,6 +25,7 @@ use Rattle.world.specs.ListingLemmas.{xid_cases}
 use Rattle.engine.specs.declared.events.LineEvent.{LineEvent}
 use Rattle.engine.specs.declared.events.LineEvent.TheVariants.{Opened as WasOpened, Committed as WasCommitted, Aborted as WasAborted}
 use Rattle.engine.specs.Events.{commits_in, ends_in, open_after, is_open_in}
+use Rattle.engine.specs.StoreLemmas.{still_rising}
 use Rattle.engine.specs.EventLemmas.{same_commits, more_commits, ends_same, ends_more, rise_more}
 use Rattle.live_tables.specs.declared.live_tables.Stopped as stopped_type
 use Rattle.live_tables.specs.declared.live_tables.Stopped.TheVariants.{Clash as StoppedByClash, Held as StoppedByHold}
@@ -31,7 +33,6 @@ use Rattle.live_tables.specs.Answers.{cause_of, stop_for, told_stop, HasCause}
 use Rattle.parted_store.specs.declared.entry.Entry.{Entry}
 use Rattle.parted_store.specs.declared.journal.Journal.TheInside.{Inside}
 use Rattle.parted_store.specs.Journal.{entry_in, IsJournal}
-use Rattle.parted_store.specs.JournalLemmas.{open_more}
 
 -- who is open, once one more is, or one less
 still_opened : (b : Bool) (ones new : BTreeSet ℕ) (xid : ℕ) → set.Updates nat_cmp ones new xid b
@@ -42,17 +43,13 @@ still_opened b ones new xid updates line opened e moves q =
     elim (xid_cases q xid) [
       | inl here ↦
           ap (set.contains nat_cmp new) here ∙ updates.1
-          ∙ sym (open_more line e q ∙ moves q (is_open_in line q)
+          ∙ sym (fold-append (open_after q) false line (e ∷ []) ∙ moves q (is_open_in line q)
           ∙ ap (λ t. if t then b else is_open_in line q) (unsigned_tied q xid ∙ eq-eqb q xid here))
       | inr apart ↦
           updates.2 q (unsigned_tied xid q ∙ ne_eqb xid q (λ same. apart (sym same))) ∙ opened q
-          ∙ sym (open_more line e q ∙ moves q (is_open_in line q)
+          ∙ sym (fold-append (open_after q) false line (e ∷ []) ∙ moves q (is_open_in line q)
           ∙ ap (λ t. if t then b else is_open_in line q) (unsigned_tied q xid ∙ ne_eqb q xid apart))
     ]
-
--- ends that rise, of a line that tells these
-still_rising : (line : List LineEvent) (ends : List ℕ) → ends_in line ≡ ends → IsStrictlyIncreasing (0 ∷ ends) → IsStrictlyIncreasing (0 ∷ ends_in line)
-still_rising line ends same rising = subst (λ (ns : List ℕ). IsStrictlyIncreasing (0 ∷ ns)) (sym same) rising
 
 opened_fits : (entries ones new capacity : ℕ) → new ≡ ones + 1 → entries + (ones + 1) ≤ capacity → entries + new ≤ capacity
 opened_fits entries ones new capacity more fits = omega (arith, more, fits)

@@ -2,6 +2,7 @@
 --     OpenTicket      a ticket as its callers see it
 --     HasTable, HasJournal, HasTicket      the world has this part, this journal's part, this ticket
 --     IsShare      what a ticket knows of a table in which it has a share, and of one in which it has none
+--     IsSamePart      a part later on: of the same table, with the same keys and tickets
 --     Belongs      the share is one of the part
 --     WaitsOnlyIn      a transaction waits with no change of other tables
 use Rattle.std.specs.Prelude.{◌≡◌, ◌≢◌, ℕ, List, [], Option, Some, None, IsSome, is_some}
@@ -12,6 +13,7 @@ use Rattle.world_parts.specs.ByTable.{changes_at}
 use Rattle.world_parts.specs.Parts.{wanted_by, IsPartOf}
 use Rattle.table_parts.specs.Part.{Part}
 use Rattle.engine.specs.declared.events.Event.{Event}
+use Rattle.engine.specs.Engine.{IsOtherwiseSame}
 use Rattle.engine.specs.Events.{opened_by, commits_in, is_open_in}
 use Rattle.parted_store.specs.Journal.{JournalPart}
 use Rattle.parted_store.specs.Shares.{Share, Shares, share_of}
@@ -28,6 +30,11 @@ pub record OpenTicket : Type 0 where
 pub record HasTable (w : World) (p : Part) : Type 0 where
   pub is : IsPartOf p.number w p.store.world
   pub heard : IsSome p.store.world.stopped → IsSome w.stopped
+
+-- A part later on: of the same table, with the same keys and tickets.
+pub record IsSamePart (p q : Part) : Type 0 where
+  pub number : q.number ≡ p.number
+  pub store : IsOtherwiseSame p.store q.store
 
 -- The world has this journal's part: the commits, what stopped it, and who is open.
 pub record HasJournal (w : World) (j : JournalPart) : Type 0 where

@@ -6,9 +6,9 @@ ghost use Rattle.world.specs.Steps.{Acts};
 ghost use Rattle.live_tables.specs.Answers.{told, after_act, TellsCause};
 ghost use Rattle.engine.specs.Events.{opened_by, events_of};
 ghost use Rattle.world_parts.specs.ByTable.{IsIn};
-ghost use Rattle.table_parts.specs.Part.{Part as AnyPart};
+ghost use Rattle.table_parts.specs.Part.{Part as AnyPart, last_commit_end};
 ghost use Rattle.parted_store.specs.Acting.{IsLent, items_of, stop_after};
-ghost use Rattle.parted_store.specs.Lent.{HasTable, HasTicket, Belongs, WaitsOnlyIn};
+ghost use Rattle.parted_store.specs.Lent.{HasTable, HasTicket, IsSamePart, Belongs, WaitsOnlyIn};
 ghost use Rattle.parted_store.specs.Shares.{share_of};
 
 use crate::journal::Journal;
@@ -51,7 +51,8 @@ pub fn act_in(
     ensures xid { ticket.new.number ≡ ticket.old.number }
     ensures belongs { Belongs part.new ticket.new.shares }
     ensures others { (other : ℕ) → other ≢ part.old.number → share_of ticket.new.shares other ≡ share_of ticket.old.shares other }
-    ensures number { part.new.number ≡ part.old.number }
+    ensures same { IsSamePart part.old part.new }
+    ensures end { last_commit_end part.new ≡ last_commit_end part.old }
     ensures line { journal.new.line ≡ journal.old.line }
 {
     if journal.is_stopped() {

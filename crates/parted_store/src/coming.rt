@@ -1,8 +1,9 @@
 // An open transaction comes to a table.
-ghost use Rattle.std.specs.Prelude.{◌≡◌, ◌≢◌, ℕ, IsSome, OnOk};
+ghost use Rattle.std.specs.Prelude.{◌≡◌, ◌≢◌, ℕ, IsSome, IfErr, OnOk, OnErr};
 ghost use Rattle.world.specs.World.{World};
-ghost use Rattle.engine.specs.Engine.{IsOtherwiseSame};
-ghost use Rattle.parted_store.specs.Lent.{HasTable, Belongs};
+ghost use Rattle.live_tables.specs.Answers.{IsNoClash};
+ghost use Rattle.table_parts.specs.Part.{last_commit_end};
+ghost use Rattle.parted_store.specs.Lent.{HasTable, IsSamePart, Belongs};
 ghost use Rattle.parted_store.specs.Shares.{share_of};
 
 use crate::shares::{make_room, put_share};
@@ -13,7 +14,7 @@ use table_parts::Part;
 
 /// An open transaction comes to a table, unless it is there: its ticket gets a share of the table's part.
 /// Nothing is new in a world that has the part. A refusal leaves the ticket's shares; the part may refuse
-/// what its own world refuses, as one that is stopped.
+/// what its own world refuses, as one that is stopped, and clashes with nothing.
 pub fn come_to(alloc: Global, part: &mut Part, ticket: &mut Ticket) -> Result<(), EngineFault>
     requires { Belongs part.old ticket.old.shares }
     ensures share { OnOk result (IsSome (share_of ticket.new.shares part.new.number)) }
@@ -22,8 +23,10 @@ pub fn come_to(alloc: Global, part: &mut Part, ticket: &mut Ticket) -> Result<()
     ensures events { ticket.new.events ≡ ticket.old.events }
     ensures xid { ticket.new.number ≡ ticket.old.number }
     ensures others { (other : ℕ) → other ≢ part.old.number → share_of ticket.new.shares other ≡ share_of ticket.old.shares other }
-    ensures number { part.new.number ≡ part.old.number }
-    ensures same { IsOtherwiseSame part.old.store part.new.store }
+    ensures fault { IfErr result IsNoClash }
+    ensures err { OnErr result ((other : ℕ) → share_of ticket.new.shares other ≡ share_of ticket.old.shares other) }
+    ensures same { IsSamePart part.old part.new }
+    ensures end { last_commit_end part.new ≡ last_commit_end part.old }
 {
     let table = part.number();
     make_room(&mut ticket.shares, table)?;

@@ -1,13 +1,13 @@
 // The end of an open transaction, in the parts in which it did something and in the journal's.
-ghost use Rattle.std.specs.Prelude.{◌≡◌, ◌<◌, ◌++◌, ◌∷◌, [], ℕ, true, Some, IsSomeAnd, slice_get, length};
+ghost use Rattle.std.specs.Prelude.{◌≡◌, ◌<◌, ◌≤◌, ◌++◌, ◌∷◌, [], ℕ, true, Some, IsSomeAnd, slice_get, length};
 ghost use Rattle.model.specs.Beginning.{last_end};
 ghost use Rattle.model.specs.Rows.{Schema};
 ghost use Rattle.world.specs.World.{World};
 ghost use Rattle.world.specs.Steps.{committed_with, aborted_with};
 ghost use Rattle.engine.specs.declared.events.LineEvent.TheVariants.{Committed as WasCommitted, Aborted as WasAborted};
 ghost use Rattle.engine.specs.Events.{opened_by, ends_in, is_open_in};
-ghost use Rattle.table_parts.specs.Part.{Part as AnyPart};
-ghost use Rattle.parted_store.specs.Lent.{HasTable, HasJournal, HasTicket, Belongs};
+ghost use Rattle.table_parts.specs.Part.{Part as AnyPart, last_commit_end};
+ghost use Rattle.parted_store.specs.Lent.{HasTable, HasJournal, HasTicket, IsSamePart, Belongs};
 ghost use Rattle.parted_store.specs.Ends.{CommitsShare, AbortsShare, AreApart, IsBeside, Covers, BelongEach, IsCommitted, IsAborted, Progress};
 ghost use Rattle.parted_store.specs.Shares.{share_of, TakesShare};
 
@@ -31,11 +31,13 @@ pub fn commit_in(
     requires line { line.old.name ≡ journal.old.line.name }
     requires open { is_open_in line.old.list ticket.number ≡ true }
     requires rising { last_end (ends_in line.old.list) < info.end }
-    requires later { (i : ℕ) (p : AnyPart) → slice_get parts.old i ≡ Some p → last_end (ends_in p.store.line.list) < info.end }
+    requires later { (i : ℕ) (p : AnyPart) → slice_get parts.old i ≡ Some p → last_commit_end p < info.end }
     requires apart { AreApart parts.old }
     requires belong { BelongEach parts.old ticket.shares }
     requires covers { Covers parts.old ticket.shares }
     ensures parts { (i : ℕ) (p : AnyPart) → slice_get parts.old i ≡ Some p → IsSomeAnd (slice_get parts.new i) (IsCommitted ticket info p) }
+    ensures same { (i : ℕ) (p : AnyPart) → slice_get parts.old i ≡ Some p → IsSomeAnd (slice_get parts.new i) (IsSamePart p) }
+    ensures ends { (i : ℕ) (p : AnyPart) → slice_get parts.old i ≡ Some p → IsSomeAnd (slice_get parts.new i) (λ q. last_commit_end q ≤ info.end) }
     ensures journal { (schema : Schema) (w : World) → HasJournal w journal.old → HasTicket w ticket → HasJournal (committed_with schema w ticket.number (opened_by ticket.events) info) journal.new }
     ensures beside { (schema : Schema) (w : World) (p : AnyPart) → HasTicket w ticket → HasTable w p → IsBeside parts.old p.number
         → HasTable (committed_with schema w ticket.number (opened_by ticket.events) info) p }
@@ -63,6 +65,8 @@ pub fn abort_in(parts: &mut [Part], journal: &mut Journal, line: &mut Line, tick
     requires belong { BelongEach parts.old ticket.shares }
     requires covers { Covers parts.old ticket.shares }
     ensures parts { (i : ℕ) (p : AnyPart) → slice_get parts.old i ≡ Some p → IsSomeAnd (slice_get parts.new i) (IsAborted ticket p) }
+    ensures same { (i : ℕ) (p : AnyPart) → slice_get parts.old i ≡ Some p → IsSomeAnd (slice_get parts.new i) (IsSamePart p) }
+    ensures ends { (i : ℕ) (p : AnyPart) → slice_get parts.old i ≡ Some p → IsSomeAnd (slice_get parts.new i) (λ q. last_commit_end q ≡ last_commit_end p) }
     ensures journal { (w : World) → HasJournal w journal.old → HasTicket w ticket → HasJournal (aborted_with w ticket.number) journal.new }
     ensures beside { (w : World) (p : AnyPart) → HasTicket w ticket → HasTable w p → IsBeside parts.old p.number → HasTable (aborted_with w ticket.number) p }
     ensures met { line.old ≡ journal.old.line }
@@ -80,7 +84,7 @@ pub fn abort_in(parts: &mut [Part], journal: &mut Journal, line: &mut Line, tick
 
 // The share of each part is committed.
 fn commit_each(parts: &mut [Part], shares: &mut Vec<Option<Share>>, info: CommitInfo)
-    requires later { (i : ℕ) (p : AnyPart) → slice_get parts.old i ≡ Some p → last_end (ends_in p.store.line.list) < info.end }
+    requires later { (i : ℕ) (p : AnyPart) → slice_get parts.old i ≡ Some p → last_commit_end p < info.end }
     requires apart { AreApart parts.old }
     requires belong { BelongEach parts.old shares.old.items }
     ensures { Progress (CommitsShare info) parts.old shares.old.items parts.new shares.new.items (length parts.old) }
@@ -92,7 +96,7 @@ fn commit_each(parts: &mut [Part], shares: &mut Vec<Option<Share>>, info: Commit
 
 // The share of a part is committed, if there is one.
 fn commit_share(part: &mut Part, shares: &mut Vec<Option<Share>>, info: CommitInfo)
-    requires later { last_end (ends_in part.old.store.line.list) < info.end }
+    requires later { last_commit_end part.old < info.end }
     requires belongs { Belongs part.old shares.old.items }
     ensures commits { CommitsShare info part.old (share_of shares.old.items part.old.number) part.new }
     ensures takes { TakesShare shares.old.items part.old.number shares.new.items }

@@ -42,15 +42,14 @@ impl Model for Line {
     ghost view = { λ l. l.token };
 }
 
-/// The part of a store that is no table's: the entries of its commits, which transactions are open, what
-/// stopped it, and how often something moved that others may wait for.
+/// The part of a store that is no table's: the entries of its commits, which transactions are open, and
+/// what stopped it.
 #[derive(Debug, Drop)]
 pub struct Journal {
     line: Kept<LineEvent>,
     entries: Vec<Entry>,
     open_ones: BTreeSet<Xid>,
     stopped: Option<Stopped>,
-    moves: u64,
 }
 
 impl Model for Journal {
@@ -81,14 +80,8 @@ impl Journal {
             entries: Vec::new(alloc),
             open_ones: BTreeSet::new(alloc),
             stopped: None,
-            moves: 0,
         };
         Ok((journal, Line { token }))
-    }
-
-    /// How often something moved that others may wait for, around the last number. It takes no memory.
-    pub fn moves(&self) -> u64 {
-        self.moves
     }
 
     /// The entries of its commits so far, in order. It takes no memory.
@@ -150,7 +143,6 @@ impl Journal {
         ensures { self.new ≡ record self.old { stopped = stop_for xid change (cause_of clash) } }
     {
         self.stopped = Some(Stopped::Clash { xid, change, clash });
-        self.moves = self.moves.wrapping_add(1);
     }
 
     /// A transaction's waiting for another stops the store. It takes no memory.
@@ -158,7 +150,6 @@ impl Journal {
         ensures { self.new ≡ record self.old { stopped = Some (ByHold waiter holder) } }
     {
         self.stopped = Some(Stopped::Held { waiter, holder });
-        self.moves = self.moves.wrapping_add(1);
     }
 
     // An open transaction is committed, with what happened to it and its items that survive: they are an
@@ -189,7 +180,6 @@ impl Journal {
             commit: info.commit,
             end: info.end,
         });
-        self.moves = self.moves.wrapping_add(1);
     }
 
     // An open transaction is aborted. It takes no memory.
@@ -204,7 +194,6 @@ impl Journal {
     {
         grow(&mut self.line, &mut line.token, &LineEvent::Aborted(xid));
         self.open_ones.remove(&xid);
-        self.moves = self.moves.wrapping_add(1);
     }
 }
 

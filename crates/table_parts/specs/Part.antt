@@ -1,5 +1,6 @@
 -- The part of a table as its callers see it, and what its calls come to in every world of which it is a part.
 --     Part      its table, and a store of its own
+--     last_commit_end      where the log goes on behind its last commit
 --     Tries      a change was tried
 --     Opens, GoesBack, Commits, Aborts      a transaction opens; is rolled back; ends
 use Rattle.std.specs.Prelude.{◌≡◌, ℕ, Some, None, Result, Ok, Err}
@@ -7,6 +8,7 @@ use Rattle.std.specs.FinMap.{get}
 use Rattle.model.specs.declared.change.Change as change_type
 use Rattle.model.specs.declared.item.Item.TheVariants.{BackTo}
 use Rattle.model.specs.declared.item.CommitInfo.{CommitInfo}
+use Rattle.model.specs.Beginning.{last_end}
 use Rattle.model.specs.Rows.{Schema}
 use Rattle.model.specs.Survivors.{survivors}
 use Rattle.world.specs.World.{Opened, World}
@@ -14,11 +16,16 @@ use Rattle.world.specs.Steps.{Acted, Acts, Fault, done_with, committed_with, abo
 use Rattle.world_parts.specs.Parts.{after_tried}
 use Rattle.world_parts.specs.Marks.{mark_for, HasPart, CutsTo}
 use Rattle.engine.specs.Engine.{Engine}
+use Rattle.engine.specs.Events.{ends_in}
 
 -- the part of a table as its callers see it
 pub record Part : Type 0 where
   pub number : ℕ
   pub store : Engine
+
+-- where the log goes on behind its last commit
+abbrev pub last_commit_end : Part → ℕ
+last_commit_end p = last_end (ends_in p.store.line.list)
 
 -- What came of a change in the part comes of it in each world that runs, and then the world has the new part. Where the call
 -- was refused, it has it as it is.

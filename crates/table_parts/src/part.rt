@@ -2,20 +2,19 @@
 ghost use Rattle.std.specs.Prelude.{◌≡◌, ◌<◌, ℕ, ◌++◌, ◌∷◌, [], Some, IfOk, IfErr, OnOk, OnErr, length};
 ghost use Rattle.std.specs.FinMap as finite;
 ghost use Rattle.model.specs.declared.item.Item.TheVariants.{BackTo};
-ghost use Rattle.model.specs.Beginning.{last_end};
 ghost use Rattle.model.specs.Named.{NamesTables};
 ghost use Rattle.tokens.specs.Lists.{open_list};
 ghost use Rattle.world.specs.World.{World, starting};
 ghost use Rattle.world.specs.Steps as steps;
 ghost use Rattle.world.specs.Steps.{ReadsCommitted};
 ghost use Rattle.live_tables.specs.declared.answers.EngineFault.TheVariants.{OutOfMemory as NoMemory};
-ghost use Rattle.live_tables.specs.Answers.{told, told_call, TellsCause};
+ghost use Rattle.live_tables.specs.Answers.{told, told_call, TellsCause, IsNoClash};
 ghost use Rattle.engine.specs.declared.events.Event.TheVariants.{Done};
 ghost use Rattle.engine.specs.Engine.{IsOtherwiseSame};
-ghost use Rattle.engine.specs.Events.{opened_by, ends_in, events_of};
+ghost use Rattle.engine.specs.Events.{opened_by, events_of};
 ghost use Rattle.world_parts.specs.ByTable.{IsIn};
 ghost use Rattle.world_parts.specs.Marks.{HasPart};
-ghost use Rattle.table_parts.specs.Part.{Tries, Opens, GoesBack, Commits, Aborts};
+ghost use Rattle.table_parts.specs.Part.{last_commit_end, Tries, Opens, GoesBack, Commits, Aborts};
 
 use engine::{Acted, EngineFault, Line, Store, Ticket};
 use indexes::Tables;
@@ -53,6 +52,7 @@ impl Part {
         ensures number { IfOk result (λ part. part.number ≡ number) }
         ensures world { IfOk result (λ part. part.store.world ≡ starting start.rows) }
         ensures schema { IfOk result (λ part. part.store.schema ≡ start.schema) }
+        ensures end { IfOk result (λ part. last_commit_end part ≡ 0) }
         ensures err { IfErr result (λ tables. tables ≡ start) }
     {
         let (store, line) = Store::new(alloc, start)?;
@@ -73,10 +73,12 @@ impl Part {
     /// A transaction comes to the table for the first time. A refusal changes nothing.
     pub fn open(&mut self, alloc: Global, xid: Xid) -> Result<Ticket, EngineFault>
         ensures ticket { IfOk result (λ ticket. ticket ≡ open_list self.old.store.tickets xid []) }
+        ensures fault { IfErr result IsNoClash }
         ensures in_part { steps.Opens self.old.store.world xid (told_call result) self.new.store.world }
         ensures opens { Opens self.old.number self.old.store.world self.new.store.world }
         ensures same { IsOtherwiseSame self.old.store self.new.store }
         ensures number { self.new.number ≡ self.old.number }
+        ensures end { last_commit_end self.new ≡ last_commit_end self.old }
     {
         self.store.open(alloc, &mut self.line, xid)
     }
@@ -99,6 +101,7 @@ impl Part {
         ensures ticket { t.new ≡ record t.old { list = t.old.list ++ events_of mark c.now (told result) } }
         ensures same { IsOtherwiseSame self.old.store self.new.store }
         ensures number { self.new.number ≡ self.old.number }
+        ensures end { last_commit_end self.new ≡ last_commit_end self.old }
     {
         self.store.act(alloc, t, mark, c)
     }
@@ -112,6 +115,7 @@ impl Part {
         ensures ticket { t.new ≡ record t.old { list = t.old.list ++ Done (BackTo mark) ∷ [] } }
         ensures same { IsOtherwiseSame self.old.store self.new.store }
         ensures number { self.new.number ≡ self.old.number }
+        ensures end { last_commit_end self.new ≡ last_commit_end self.old }
     {
         self.store.back_to(t, mark);
     }
@@ -119,12 +123,13 @@ impl Part {
     /// A transaction commits. It takes no memory.
     pub fn commit(&mut self, t: Ticket, info: CommitInfo)
         requires belongs { t.name ≡ self.old.store.tickets }
-        requires rising { last_end (ends_in self.old.store.line.list) < info.end }
+        requires rising { last_commit_end self.old < info.end }
         ensures stood { finite.get self.old.store.world.opened t.number ≡ Some (opened_by t.list) }
         ensures in_part { steps.Commits self.old.store.schema self.old.store.world t.number (opened_by t.list) info self.new.store.world }
         ensures commits { Commits self.old.store.schema self.old.number self.old.store.world t.number info self.new.store.world }
         ensures same { IsOtherwiseSame self.old.store self.new.store }
         ensures number { self.new.number ≡ self.old.number }
+        ensures end { last_commit_end self.new ≡ info.end }
     {
         self.store.commit(&mut self.line, t, info);
     }
@@ -137,6 +142,7 @@ impl Part {
         ensures aborts { Aborts self.old.number self.old.store.world t.number self.new.store.world }
         ensures same { IsOtherwiseSame self.old.store self.new.store }
         ensures number { self.new.number ≡ self.old.number }
+        ensures end { last_commit_end self.new ≡ last_commit_end self.old }
     {
         self.store.abort(&mut self.line, t);
     }

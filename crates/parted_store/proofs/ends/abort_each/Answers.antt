@@ -1,4 +1,4 @@
-use Rattle.std.proofs.Common.{rules, arith, ◌≡◌, ◌<◌, ◌∙◌, length, slice_index_or, subst, sym}
+use Rattle.std.proofs.Common.{rules, ◌≡◌, ◌<◌, length, slice_index_or, subst}
 use Rattle.std.proofs.lemmas.Option.{slice_get-get_or}
 use Rattle.parted_store.specs.Ends.{AbortsShare, Progress}
 use Rattle.parted_store.specs.EndLemmas.{no_progress, one_step, still_belongs}

@@ -1,4 +1,4 @@
-use Rattle.std.proofs.Common.{◌≡◌, ◌++◌, ◌∷◌, [], ◌∙◌, true, sym, ap, subst, refl}
+use Rattle.std.proofs.Common.{◌≡◌, ◌++◌, ◌∷◌, [], ◌∙◌, true, sym, ap, subst}
 use Rattle.std.specs.Prelude.{IsSomeAnd, slice_get}
 use Rattle.std.proofs.lemmas.Option.{slice_get_within}
 use Rattle.tokens.specs.Half.{Half}
@@ -7,7 +7,7 @@ use Rattle.engine.specs.declared.events.LineEvent.{LineEvent}
 use Rattle.engine.specs.declared.events.LineEvent.TheVariants.{Aborted as WasAborted}
 use Rattle.engine.specs.Events.{opened_by, is_open_in}
 use Rattle.parted_store.specs.Ends.{BelongEach, IsAborted}
-use Rattle.parted_store.specs.EndLemmas.{aborted_by, aborts_nothing, none_beside, some_then}
+use Rattle.parted_store.specs.EndLemmas.{aborted_by, same_aborted, end_aborted, aborts_nothing, none_beside, some_then}
 use Rattle.parted_store.specs.JournalLemmas.{journal_aborted}
 use Rattle.parted_store.specs.Lent.{OpenTicket, HasJournal, HasTicket, HasShares}
 use Rattle.parted_store.specs.Shares.{share_of}
@@ -45,3 +45,13 @@ pub returns-clause-appended : goal.returns-clause-appended
 returns-clause-appended c =
     ap (λ (h : Half LineEvent). h.list) c.abort.ensures.appended
     ∙ ap (λ (t : OpenTicket). c.args.line.now.list ++ WasAborted t.number ∷ []) c.ticket.view_is
+
+pub returns-clause-same : goal.returns-clause-same
+returns-clause-same c i p at =
+    some_then (slice_get c.abort_each.new.parts i) (c.abort_each.ensures.done i p (slice_get_within c.args.parts.now i p at) at)
+    (λ q did. same_aborted p q (share_of (ticket_in c.ticket.inside).shares p.number) did)
+
+pub returns-clause-ends : goal.returns-clause-ends
+returns-clause-ends c i p at =
+    some_then (slice_get c.abort_each.new.parts i) (c.abort_each.ensures.done i p (slice_get_within c.args.parts.now i p at) at)
+    (λ q did. end_aborted p q (share_of (ticket_in c.ticket.inside).shares p.number) did)

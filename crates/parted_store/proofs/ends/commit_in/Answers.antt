@@ -7,7 +7,7 @@ use Rattle.engine.specs.declared.events.LineEvent.{LineEvent}
 use Rattle.engine.specs.declared.events.LineEvent.TheVariants.{Committed as WasCommitted}
 use Rattle.engine.specs.Events.{opened_by, is_open_in}
 use Rattle.parted_store.specs.Ends.{BelongEach, IsCommitted}
-use Rattle.parted_store.specs.EndLemmas.{committed_by, commits_nothing, none_beside, some_then}
+use Rattle.parted_store.specs.EndLemmas.{committed_by, same_committed, end_committed, commits_nothing, none_beside, some_then}
 use Rattle.parted_store.specs.JournalLemmas.{journal_committed}
 use Rattle.parted_store.specs.Lent.{OpenTicket, HasJournal, HasTicket, HasShares}
 use Rattle.parted_store.specs.Shares.{share_of}
@@ -48,3 +48,13 @@ pub returns-clause-appended : goal.returns-clause-appended
 returns-clause-appended c =
     ap (λ (h : Half LineEvent). h.list) c.commit.ensures.appended
     ∙ ap (λ (t : OpenTicket). c.args.line.now.list ++ WasCommitted t.number (opened_by t.events).items c.args.info ∷ []) c.ticket.view_is
+
+pub returns-clause-same : goal.returns-clause-same
+returns-clause-same c i p at =
+    some_then (slice_get c.commit_each.new.parts i) (c.commit_each.ensures.done i p (slice_get_within c.args.parts.now i p at) at)
+    (λ q did. same_committed p q c.args.info (share_of (ticket_in c.ticket.inside).shares p.number) did)
+
+pub returns-clause-ends : goal.returns-clause-ends
+returns-clause-ends c i p at =
+    some_then (slice_get c.commit_each.new.parts i) (c.commit_each.ensures.done i p (slice_get_within c.args.parts.now i p at) at)
+    (λ q did. end_committed p q c.args.info (c.requires.later i p at) (share_of (ticket_in c.ticket.inside).shares p.number) did)

@@ -1,5 +1,5 @@
-use Rattle.std.proofs.Common.{◌≡◌, ℕ, zero, suc, List, [], ◌∷◌, ◌++◌, Option, None, slice_index_or, refl, ap, ◌∙◌}
-use Rattle.parted_store.specs.Shares.{Share, Shares, share_of}
+use Rattle.std.proofs.Common.{◌≡◌, ℕ, zero, suc, [], ◌∷◌, ◌++◌, None, refl, ap, ◌∙◌}
+use Rattle.parted_store.specs.Shares.{Shares, share_of}
 use Rattle.parted_store.proofs.shares.make_room.Goals as goal
 
 -- one place more, with no share

@@ -1,4 +1,4 @@
-use Rattle.std.proofs.Common.{◌≡◌, ◌<◌, ◌≤◌, None, true, false, sym, ap, subst, ◌∙◌}
+use Rattle.std.proofs.Common.{◌<◌, ◌≤◌, sym, ap, subst, ◌∙◌}
 use Rattle.model.specs.Limits.{most_open}
 use Rattle.engine.specs.Events.{is_open_in}
 use Rattle.parted_store.specs.Journal.{JournalPart}

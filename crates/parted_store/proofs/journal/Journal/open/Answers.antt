@@ -1,5 +1,5 @@
-use Rattle.std.proofs.Common.{◌≡◌, ◌≤◌, ◌+◌, ◌++◌, ◌∷◌, [], false, ℕ, rules, refl, sym, ap, subst, ◌∙◌, arith}
-use Rattle.std.specs.Prelude.{Result, Ok, Err, vec_capacity}
+use Rattle.std.proofs.Common.{◌≡◌, ◌+◌, ◌++◌, ◌∷◌, [], ℕ, rules, refl, sym, ap, subst, ◌∙◌}
+use Rattle.std.specs.Prelude.{Result, Ok, Err}
 use Rattle.std.specs.Result.{IsErrAnd}
 use Rattle.tokens.specs.Half.{Half}
 use Rattle.world.specs.World.{World}
@@ -15,7 +15,6 @@ use Rattle.parted_store.specs.JournalLemmas.{journal_opens, journal_refuses, jou
 use Rattle.parted_store.specs.KeptLemmas.{keeps_opened, keeps_room}
 use Rattle.parted_store.specs.Lent.{OpenTicket, HasJournal}
 use Rattle.parted_store.specs.Opening.{CanOpen}
-use Rattle.parted_store.specs.Ticket.{ticket_in}
 use Rattle.parted_store.proofs.journal.Journal.open.Goals as goal
 
 -- by what the type keeps, it isn't among those that are open

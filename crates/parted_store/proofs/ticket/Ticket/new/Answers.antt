@@ -1,4 +1,4 @@
-use Rattle.std.proofs.Common.{◌≡◌, [], ◌∙◌, List, sym, ap, subst}
+use Rattle.std.proofs.Common.{[], ◌∙◌, List, sym, ap, subst}
 use Rattle.model.specs.Survivors.{survivors}
 use Rattle.engine.specs.declared.events.Event.{Event}
 use Rattle.engine.specs.Events.{opened_by}
