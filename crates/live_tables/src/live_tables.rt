@@ -61,6 +61,7 @@ pub enum Stopped {
 pub struct Live {
     pub tables: Tables,
     pub holds: Holds<BeforeImage>,
+    /// Whether holds are made. Until then at most one transaction is open, and it holds nothing.
     pub made: bool,
     pub transactions: BTreeMap<Xid, OpenTransaction>,
     pub stopped: Option<Stopped>,
@@ -82,8 +83,8 @@ impl Live {
         }
     }
 
-    /// A transaction opens that isn't open. Beside another it is held from then on what each did. Refused
-    /// for memory, nothing changes.
+    /// A transaction opens that isn't open. What one holds that was alone until then is made first. Refused
+    /// for memory, it is the same world that the store stands for.
     pub fn open(&mut self, alloc: Global, xid: Xid) -> Result<(), OutOfMemory>
         requires absent { tree.get nat_cmp self.old.transactions xid ≡ None }
         requires tied { (w : World) × Represents w self.old }
