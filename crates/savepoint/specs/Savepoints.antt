@@ -1,6 +1,6 @@
 -- The savepoints of a transaction: a list of subtransactions, each with its mark, in the order in which
 -- they were set. Each subtransaction has one at most.
-use Rattle.std.specs.Prelude.{◌≡◌, ℕ, ◌==◌, List, [], ◌∷◌, ◌++◌, Option, Some, not, is_some, if◌then◌else◌, take_while, map, slice_get}
+use Rattle.std.specs.Prelude.{◌≡◌, ℕ, ◌-◌, ◌==◌, List, [], ◌∷◌, ◌++◌, Option, Some, not, is_some, if◌then◌else◌, take_while, map, length, slice_get}
 use Rattle.std.specs.Map.{lookup}
 use Rattle.model.specs.declared.item.Item.{Item}
 use Rattle.model.specs.declared.item.Item.TheVariants.{Change, Touch, BackTo, Last}
@@ -23,6 +23,10 @@ before_mark {M} sub marks = take_while (λ (m : ℕ × M). not (m.0 == sub)) mar
 -- the subtransactions, in the order of their marks
 abbrev pub subs_of : {M : Type 0} → List (ℕ × M) → List ℕ
 subs_of {M} marks = map (λ (m : ℕ × M). m.0) marks
+
+-- the subtransaction of the last mark, if there is one
+abbrev pub latest_sub : {M : Type 0} → List (ℕ × M) → Option ℕ
+latest_sub marks = slice_get (subs_of marks) (length marks - 1)
 
 -- the marks once an item has come: the first item that names a subtransaction sets its savepoint
 abbrev pub with_mark_of : {M : Type 0} → Item → M → List (ℕ × M) → List (ℕ × M)

@@ -1,6 +1,6 @@
 // The savepoints of one transaction.
-ghost use Rattle.std.specs.Prelude.{◌≡◌, [], OnOk, OnErr};
-ghost use Rattle.savepoint.specs.Savepoints.{mark_at, with_mark, before_mark};
+ghost use Rattle.std.specs.Prelude.{◌≡◌, ◌++◌, [], OnOk, OnErr};
+ghost use Rattle.savepoint.specs.Savepoints.{mark_at, with_mark, before_mark, latest_sub};
 
 use model::{OutOfMemory, Xid};
 use std::alloc::Global;
@@ -65,6 +65,25 @@ impl<M: Copy> Savepoints<M> {
         let index = *self.indexes.get(&sub)?;
         let (_, mark) = self.marks[index];
         Some(mark)
+    }
+
+    /// The subtransaction whose savepoint was set last, if there is one. It takes no memory.
+    pub fn latest(&self) -> Option<Xid>
+        ensures { result ≡ latest_sub self.now }
+    {
+        let (sub, _) = *self.marks.last()?;
+        Some(sub)
+    }
+
+    /// A subtransaction's savepoint and all later ones; none without such a savepoint. It takes no
+    /// memory.
+    pub fn since(&self, sub: Xid) -> &[(Xid, M)]
+        ensures { before_mark sub self.now ++ result.now ≡ self.now }
+    {
+        match self.indexes.get(&sub) {
+            Some(index) => self.marks.get(*index..).unwrap_or(&[]),
+            None => &[],
+        }
     }
 
     /// Drops a subtransaction's savepoint and all later ones, and answers its mark. It takes no
