@@ -1,16 +1,18 @@
 -- Rows and changes by their table: what follows.
 --     get_rows_at, get_rows_here      what stands at a place among the rows of one table
+--     walked_at      they are in the order in which the table's are
 --     same_tables, all_tables      rows that agree in a table, and in each
 --     fewer_at, valid_at, valid_by_tables      rows are valid where those of each table are
 --     InTable, in_view      a change of one table alone, by its kind
 --     outcome_in, effect_in      it does the same where the table's rows are the same
 --     leaves_table      one of another table leaves this one's
 --     effect_at, serial_at      the rows of a table after changes are those after the table's changes
-use Rattle.std.specs.Prelude.{◌≡◌, ℕ, suc, ◌==◌, Bool, true, false, cond, List, [], ◌∷◌, ◌++◌, Option, Some, None, filter, ◌||◌, unwrap_or, if◌then◌else◌, is_some, refl}
+use Rattle.std.specs.Prelude.{◌≡◌, ℕ, suc, ◌==◌, Bool, true, false, cond, List, [], ◌∷◌, ◌++◌, Option, Some, None, filter, map, ◌||◌, unwrap_or, if◌then◌else◌, is_some, refl}
 use Rattle.std.proofs.Common.{sym, ◌∙◌, ap, subst, inl, inr, rules, append_assoc, append-nil}
 use Rattle.std.proofs.lemmas.Bool.{cases_Bool}
 use Rattle.std.specs.List.{list_any}
-use Rattle.std.specs.FinMap.{get, insert, remove, entries, find, get-entries, get-from_entries}
+use Rattle.std.specs.FinMap.{get, insert, remove, entries, find, entries_sorted, get-entries, get-from_entries}
+use Rattle.std.specs.FinMap.Entries.{is_sorted-where_key, same_entries}
 use Rattle.model.specs.declared.key.Key.{Key}
 use Rattle.model.specs.declared.row.Row.{Row as Record}
 use Rattle.model.specs.declared.cell.Cell.{Cell}
@@ -19,10 +21,11 @@ use Rattle.model.specs.declared.change.Change.{Change}
 use Rattle.model.specs.declared.change.Change.TheVariants.{Put, Set, Remove, Wipe}
 use Rattle.model.specs.declared.change.ColumnPatch.{ColumnPatch}
 use Rattle.model.specs.Rows.{Place, Rows, Schema, place_cmp, place_cmp_total, is_place, keys_at, values_in, key_of, is_key, IsValid}
-use Rattle.model.specs.TableRows.{is_in_table}
+use Rattle.model.specs.TableRows.{is_in_table, rows_of_table}
 use Rattle.model.specs.Cells.{table_of, overlaps, row_cell, unique_cell, unique_cells}
 use Rattle.model.specs.Footprint.{both_have, moved_cell, moved_cells, new_place, replaced_cells, removed_cells, footprint}
 use Rattle.model.specs.Effect.{Edits, Outcome, Done, Clashes, Unique, one_edit, are_taken_unless_null, first_taken, unless_taken, row_outcome_at, row_outcome, patch_row, set_outcome, remove_outcome, wipe_edits, outcome, edits_of, effect, serial}
+use Rattle.model.specs.ExactLemmas.{place_cmp_exact}
 use Rattle.model.specs.EditLemmas.{place_is, same_rows, same_edits, get_remove, get_overlay}
 use Rattle.model.specs.EffectLemmas.{cleared_row, not_cleared, get_wiped, get_effect_wipe, serial_append}
 use Rattle.model.specs.TakenLemmas.{number_is, same_number}
@@ -71,6 +74,33 @@ get_rows_at table rows p =
 pub get_rows_here : (table : ℕ) (rows : Rows) → AreSameIn table (rows_at table rows) rows
 get_rows_here table rows key =
     get_rows_at table rows (table, key) ∙ ap (λ b. cond b (get rows (table, key)) None) (same_number table)
+
+-- ---- in their order
+
+entries_at : (table : ℕ) (rows : Rows) → entries (rows_at table rows) ≡ filter (is_in_table table) (entries rows)
+entries_at table rows =
+    same_entries place_cmp place_cmp_total place_cmp_exact (entries (rows_at table rows)) (filter (is_in_table table) (entries rows))
+    (entries_sorted (rows_at table rows))
+    (is_sorted-where_key place_cmp (λ (p : Place). p.0 == table) (entries rows) (entries_sorted rows))
+    (λ p.
+    sym (get-entries (rows_at table rows) p) ∙ get_rows_at table rows p
+    ∙ ap (λ r. cond (p.0 == table) r None) (get-entries rows p)
+    ∙ sym (find_in_table table p (entries rows)))
+
+kept_again : {A : Type 0} (test : A → Bool) (xs : List A) → filter test (filter test xs) ≡ filter test xs
+kept_again test [] = refl
+kept_again test (x ∷ xs) = by (kept_again test xs) (test x) refl
+  where
+    by : filter test (filter test xs) ≡ filter test xs → (b : Bool) → test x ≡ b
+        → filter test (cond b (x ∷ filter test xs) (filter test xs)) ≡ cond b (x ∷ filter test xs) (filter test xs)
+    by rest true is = rw is (ap (λ ys. x ∷ ys) rest)
+    by rest false is = rest
+
+-- the rows of a table among all are those of its own
+pub walked_at : (table : ℕ) (rows : Rows) → rows_of_table (rows_at table rows) table ≡ rows_of_table rows table
+walked_at table rows =
+    ap (λ es. map (λ (e : Place × Record). e.1) (filter (is_in_table table) es)) (entries_at table rows)
+    ∙ ap (map (λ (e : Place × Record). e.1)) (kept_again (is_in_table table) (entries rows))
 
 pub get_rows_beside : (table : ℕ) (rows : Rows) (p : Place) → (p.0 == table) ≡ false → get (rows_at table rows) p ≡ None
 get_rows_beside table rows p not = get_rows_at table rows p ∙ ap (λ b. cond b (get rows p) None) not

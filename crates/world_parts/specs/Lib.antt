@@ -8,6 +8,7 @@ pub mod ByTableLemmas
 pub mod HeldLemmas
 pub mod PartLemmas
 pub mod TruncateLemmas
+pub mod LiveLemmas
 pub mod MoveLemmas
 pub mod MarkLemmas
 pub mod PartOfLemmas

@@ -3,7 +3,9 @@
 --     cut_at, one_cut      a rollback drops of a table what is under the marks that it drops; one mark says so
 --     told_with      one more change is told under the latest mark
 --     back_here, back_nowhere      a rollback in the part, where a mark of it is dropped, and where none is
-use Rattle.std.specs.Prelude.{◌≡◌, ℕ, ◌==◌, Bool, true, false, cond, ◌||◌, not, List, [], ◌∷◌, ◌++◌, Option, Some, None, map, if◌then◌else◌, refl}
+--     back_by_each, own_dropped      one to each mark that is dropped, in any order; the subtransaction's own is among them
+--     nothing_told, cuts_nothing      where nothing was done in the table, nothing is told to it, and nothing dropped of it
+use Rattle.std.specs.Prelude.{◌≡◌, ℕ, ◌==◌, Bool, true, false, cond, ◌||◌, not, List, [], ◌∷◌, ◌++◌, Option, Some, None, map, take_while, if◌then◌else◌, refl}
 use Rattle.std.proofs.Common.{sym, ◌∙◌, ap, inl, inr, true≢false, append-nil, append_assoc}
 use Rattle.std.proofs.lemmas.Bool.{cases_Bool}
 use Rattle.std.proofs.lemmas.List.{map-append}
@@ -21,7 +23,7 @@ use Rattle.model.specs.TakenLemmas.{number_is, same_number}
 use Rattle.world.specs.World.{Opened, World}
 use Rattle.world_parts.specs.ByTable.{change_at, changes_at}
 use Rattle.world_parts.specs.ByTableLemmas.{turned}
-use Rattle.world_parts.specs.Marks.{is_marked, marks_with, marks_in, latest, Marked, under, marked_in, marked_at, told_of, items_at, is_kept, before_dropped, kept_by, IsFirstDropped, AreKept, mark_for, survivors_if, AreMarked}
+use Rattle.world_parts.specs.Marks.{is_marked, marks_with, marks_in, latest, Marked, under, marked_in, marked_at, told_of, items_at, is_kept, before_dropped, kept_by, IsFirstDropped, AreKept, AreDropped, CutsNothing, mark_for, survivors_if, AreMarked}
 use Rattle.world_parts.specs.Parts.{work_if}
 
 -- ---- the changes under marks are the changes
@@ -338,6 +340,129 @@ module _ (table top sub : ℕ) (items mine : List Item) (not_top : (sub == top) 
       → survivors top mine ≡ items_at table top (survivors top (items ++ BackTo sub ∷ []))
   back_nowhere all = told ∙ ap (map told_of) (sym (none_cut top kept theirs all)) ∙ sym cut_told
 
+-- ---- a rollback in the part, to each mark that is dropped
+
+-- the changes before the first that is under this mark; before the first that is under one of these
+abbrev before_one : ℕ → List Marked → List Marked
+before_one mark ms = take_while (λ (m : Marked). not (m.0 == mark)) ms
+
+abbrev before_any : List ℕ → List Marked → List Marked
+before_any marks ms = take_while (λ (m : Marked). not (is_marked m.0 marks)) ms
+
+one_step : (mark : ℕ) (m : Marked) (ms : List Marked) (b : Bool) → (m.0 == mark) ≡ b
+    → before_one mark (m ∷ ms) ≡ cond (not b) (m ∷ before_one mark ms) []
+one_step mark m ms b e =
+    take_while-cons (λ (n : Marked). not (n.0 == mark)) m ms ∙ ap (λ x. cond (not x) (m ∷ before_one mark ms) []) e
+
+any_step : (marks : List ℕ) (m : Marked) (ms : List Marked) (b : Bool) → is_marked m.0 marks ≡ b
+    → before_any marks (m ∷ ms) ≡ cond (not b) (m ∷ before_any marks ms) []
+any_step marks m ms b e =
+    take_while-cons (λ (n : Marked). not (is_marked n.0 marks)) m ms ∙ ap (λ x. cond (not x) (m ∷ before_any marks ms) []) e
+
+before_none : (ms : List Marked) → before_any [] ms ≡ ms
+before_none [] = refl
+before_none (m ∷ ms) = any_step [] m ms false refl ∙ ap (λ ns. m ∷ ns) (before_none ms)
+
+-- a cut by one mark, and then by others, is one by all
+cut_twice : (mark : ℕ) (marks : List ℕ) (ms : List Marked) → before_any marks (before_one mark ms) ≡ before_any (mark ∷ marks) ms
+cut_twice mark marks [] = refl
+cut_twice mark marks (m ∷ ms) =
+    elim (cases_Bool (m.0 == mark)) [
+      | inl here ↦
+          ap (before_any marks) (one_step mark m ms true here)
+          ∙ sym (any_step (mark ∷ marks) m ms true (ap (λ b. b || is_marked m.0 marks) here))
+      | inr apart ↦
+          ap (before_any marks) (one_step mark m ms false apart)
+          ∙ any_step marks m (before_one mark ms) (is_marked m.0 marks) refl
+          ∙ ap (λ ns. cond (not (is_marked m.0 marks)) (m ∷ ns) []) (cut_twice mark marks ms)
+          ∙ sym (any_step (mark ∷ marks) m ms (is_marked m.0 marks) (ap (λ b. b || is_marked m.0 marks) apart))
+    ]
+
+-- a rollback to one mark
+one_told : (mark : ℕ) (ms : List Marked) → before_savepoint mark (map told_of ms) ≡ map told_of (before_one mark ms)
+one_told mark [] = refl
+one_told mark (m ∷ ms) =
+    elim (cases_Bool (m.0 == mark)) [
+      | inl here ↦ before_mark mark m ms true here ∙ sym (ap (map told_of) (one_step mark m ms true here))
+      | inr apart ↦
+          before_mark mark m ms false apart ∙ ap (λ is. told_of m ∷ is) (one_told mark ms)
+          ∙ sym (ap (map told_of) (one_step mark m ms false apart))
+    ]
+
+-- one to each of these
+each_told : (top : ℕ) (marks : List ℕ) (mine : List Item) (ms : List Marked) → survivors top mine ≡ map told_of ms
+    → ((mark : ℕ) → is_marked mark marks ≡ true → (mark == top) ≡ false)
+    → survivors top (mine ++ map BackTo marks) ≡ map told_of (before_any marks ms)
+each_told top [] mine ms told others =
+    ap (survivors top) (append-nil mine) ∙ told ∙ ap (map told_of) (sym (before_none ms))
+each_told top (mark ∷ marks) mine ms told others =
+    let not_top : (mark == top) ≡ false = others mark (ap (λ b. b || is_marked mark marks) (same_number mark)) in
+    let once : survivors top (mine ++ BackTo mark ∷ []) ≡ map told_of (before_one mark ms) =
+    after_back top mark mine not_top ∙ ap (before_savepoint mark) told ∙ one_told mark ms in
+    ap (survivors top) (sym (append_assoc mine (BackTo mark ∷ []) (map BackTo marks)))
+    ∙ each_told top marks (mine ++ BackTo mark ∷ []) (before_one mark ms) once
+    (λ other is. others other (or_true (other == mark) (is_marked other marks) is))
+    ∙ ap (map told_of) (cut_twice mark marks ms)
+
+-- a mark that stands is kept, or it is dropped
+stands_or_top : (top : ℕ) (all kept : List ℕ) (mark : ℕ) → is_kept top all mark ≡ true → is_kept top kept mark ≡ false
+    → is_marked mark all ≡ true
+stands_or_top top all kept mark is dropped =
+    sym (ap (λ b. b || is_marked mark all) (neither_first (mark == top) (is_marked mark kept) dropped)) ∙ is
+
+-- where each change is under a mark that stands, a cut by the dropped ones is that of the rollback
+same_cut : (top sub : ℕ) (items : List Item) (marks : List ℕ) → AreDropped top sub items marks → (ms : List Marked)
+    → AreUnder (is_kept top (marks_in top [] items)) true ms → before_any marks ms ≡ before_dropped top (kept_by top sub items) ms
+same_cut top sub items marks are [] stand = refl
+same_cut top sub items marks are (m ∷ ms) stand =
+    elim (cases_Bool (is_kept top (kept_by top sub items) m.0)) [
+      | inl kept ↦
+          any_step marks m ms false (not_dropped kept) ∙ ap (λ ns. m ∷ ns) (same_cut top sub items marks are ms stand.1)
+          ∙ sym (before_step top (kept_by top sub items) m ms true kept)
+      | inr dropped ↦
+          any_step marks m ms true
+          (are.all m.0 (stands_or_top top (marks_in top [] items) (kept_by top sub items) m.0 stand.0 dropped) dropped)
+          ∙ sym (before_step top (kept_by top sub items) m ms false dropped)
+    ]
+  where
+    not_dropped : is_kept top (kept_by top sub items) m.0 ≡ true → is_marked m.0 marks ≡ false
+    not_dropped kept =
+        elim (cases_Bool (is_marked m.0 marks)) [
+          | inl is ↦ absurd (true≢false (sym kept ∙ are.alone m.0 is))
+          | inr none ↦ none
+        ]
+
+module _ (table top sub : ℕ) (items mine : List Item) (not_top : (sub == top) ≡ false)
+    (told : survivors top mine ≡ items_at table top (survivors top items)) where
+  pub back_by_each : (marks : List ℕ) → AreDropped top sub (survivors top items) marks
+      → survivors top (mine ++ map BackTo marks) ≡ items_at table top (survivors top (items ++ BackTo sub ∷ []))
+  back_by_each marks are =
+      let they : List Marked = marked_at table (under top [] (survivors top items)) in
+      each_told top marks mine they told
+      (λ mark is. neither_first (mark == top) (is_marked mark (kept_by top sub (survivors top items))) (are.alone mark is))
+      ∙ ap (map told_of)
+      (same_cut top sub (survivors top items) marks are they
+      (under_at table (is_kept top (marks_in top [] (survivors top items))) true (under top [] (survivors top items))
+      (first_under top [] (survivors top items))))
+      ∙ sym (cut_told table top sub items mine not_top told)
+
+-- its own mark is dropped
+pub own_dropped : (top sub : ℕ) (items : List Item) → (sub == top) ≡ false → is_kept top (kept_by top sub items) sub ≡ false
+own_dropped top sub items not_top =
+    neither (sub == top) (is_marked sub (kept_by top sub items)) not_top
+    (not_marked top sub [] (before_savepoint sub items) (cut_before sub items).1.unnamed refl)
+
+-- ---- where nothing was done
+
+nothing_marked : (ms : List Marked) → map (λ (m : Marked). m.1) ms ≡ [] → map told_of ms ≡ []
+nothing_marked [] none = refl
+nothing_marked (m ∷ ms) none = cc
+
+pub nothing_told : (table top : ℕ) (items : List Item) → changes_at table (changes_of items) ≡ [] → items_at table top items ≡ []
+nothing_told table top items none =
+    nothing_marked (marked_at table (under top [] items))
+    (changes_marked table (under top [] items) ∙ ap (changes_at table) (changes_under top [] items) ∙ none)
+
 -- ---- one more item
 
 module _ (table top sub : ℕ) (items mine : List Item) (told : survivors top mine ≡ items_at table top (survivors top items)) where
@@ -375,3 +500,17 @@ module _ (table top sub : ℕ) (items mine : List Item) (told : survivors top mi
       told ∙ ap (λ ms. map told_of (marked_at table ms))
       (sym (append-nil (under top [] (survivors top items))) ∙ sym (under_both top [] (survivors top items) (Touch sub ∷ [])))
       ∙ ap (items_at table top) (sym (survivors_with top items (Touch sub)))
+
+kept_nothing : (top : ℕ) (kept : List ℕ) (ms : List Marked) → map told_of ms ≡ [] → AreKept top kept ms
+kept_nothing top kept [] none = tt
+kept_nothing top kept (m ∷ ms) none = absurd (none_here none)
+  where
+    none_here : map told_of (m ∷ ms) ≡ [] → ⊥
+    none_here e = cc
+
+pub cuts_nothing : (table top sub : ℕ) (items : List Item) → changes_at table (changes_of items) ≡ [] → CutsNothing table top sub items
+cuts_nothing table top sub items none =
+    elim (cases_Bool (sub == top)) [
+      | inl is_top ↦ inl is_top
+      | inr not_top ↦ inr (not_top, kept_nothing top (kept_by top sub items) (marked_at table (under top [] items)) (nothing_told table top items none))
+    ]

@@ -8,6 +8,7 @@
 --     IsFirstDropped      the first dropped mark among those of a table
 --     HasPart      the part of a table, with just these items
 --     CutsTo, CutsNothing      what a rollback drops of a table
+--     AreDropped      the marks that a rollback drops
 use Rattle.std.specs.Prelude.{◌≡◌, ◌⊎◌, ℕ, ◌==◌, Bool, true, false, ◌||◌, List, [], ◌∷◌, Option, Some, None, map, flat_map, take_while, if◌then◌else◌}
 use Rattle.std.specs.List.{AllByRecursion, list_any}
 use Rattle.std.specs.FinMap.{get}
@@ -126,3 +127,9 @@ abbrev pub CutsNothing : ℕ → ℕ → ℕ → List Item → Type 0
 CutsNothing table top sub items =
     ((sub == top) ≡ true)
     ⊎ (((sub == top) ≡ false) × AreKept top (kept_by top sub items) (marked_at table (under top [] items)))
+
+-- These marks, and no others, are the ones that a rollback of the subtransaction drops, where these items survived.
+pub record AreDropped (top sub : ℕ) (items : List Item) (marks : List ℕ) : Type 0 where
+  pub all : (mark : ℕ) → is_marked mark (marks_in top [] items) ≡ true → is_kept top (kept_by top sub items) mark ≡ false
+      → is_marked mark marks ≡ true
+  pub alone : (mark : ℕ) → is_marked mark marks ≡ true → is_kept top (kept_by top sub items) mark ≡ false

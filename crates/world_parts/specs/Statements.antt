@@ -1,24 +1,28 @@
 -- The laws of parts, each as one statement. `src/laws.rt` names them, so that the check proves them.
-use Rattle.std.specs.Prelude.{◌≡◌, ℕ, ◌==◌, true, false, List, [], ◌∷◌, ◌++◌, Some, None, Ok}
+use Rattle.std.specs.Prelude.{◌≡◌, ℕ, ◌==◌, true, false, List, [], ◌∷◌, ◌++◌, Option, Some, None, Ok, map}
 use Rattle.std.specs.List.{AllByRecursion}
 use Rattle.std.specs.FinMap.{get}
 use Rattle.model.specs.declared.change.Change as change_type
 use Rattle.model.specs.declared.change.Change.TheVariants.{Wipe}
+use Rattle.model.specs.declared.key.Key.{Key}
+use Rattle.model.specs.declared.row.Row.{Row}
 use Rattle.model.specs.declared.cell.Cell.{Cell}
 use Rattle.model.specs.declared.cell.Cell.TheVariants.{Whole}
 use Rattle.model.specs.declared.item.Item.{Item}
 use Rattle.model.specs.declared.item.Item.TheVariants.{Change, Touch, BackTo}
 use Rattle.model.specs.declared.item.CommitInfo.{CommitInfo}
 use Rattle.model.specs.Rows.{Rows, Schema, IsValid}
+use Rattle.model.specs.TableRows.{rows_of_table}
 use Rattle.model.specs.Effect.{serial}
 use Rattle.model.specs.Footprint.{held_cells, shares_cell}
 use Rattle.model.specs.Survivors.{survivors}
 use Rattle.world.specs.World.{Opened, World, starting, changes_in, IsHeldBy, IsFree}
 use Rattle.world.specs.Steps.{Acted, IsDone, Held, Acts, Reaches, opened_with, done_with, wanting, committed_with, aborted_with}
+use Rattle.world.specs.Live.{IsListing, live_rows}
 use Rattle.world.specs.Fine.{StillClashes, IsFine}
 use Rattle.world_parts.specs.ByTable.{names_table, rows_at, change_at, changes_at, IsIn, AreOf}
 use Rattle.world_parts.specs.Parts.{wanted_if, IsPartOf, after_tried, rested}
-use Rattle.world_parts.specs.Marks.{marked_at, under, items_at, mark_for, kept_by, survivors_if, IsFirstDropped, AreKept, HasPart, CutsTo, CutsNothing}
+use Rattle.world_parts.specs.Marks.{marked_at, under, items_at, mark_for, kept_by, survivors_if, IsFirstDropped, AreKept, AreDropped, HasPart, CutsTo, CutsNothing}
 use Rattle.world_parts.specs.Reached.{IsReachedByParts}
 
 -- ---- rows and changes by their table
@@ -26,6 +30,10 @@ use Rattle.world_parts.specs.Reached.{IsReachedByParts}
 -- rows that agree in each table are the same
 abbrev pub RowsByTable : Type 0
 RowsByTable = (rows others : Rows) → ((table : ℕ) → rows_at table rows ≡ rows_at table others) → rows ≡ others
+
+-- those of a table, in the order of their keys, are those of it alone
+abbrev pub WalkedByTable : Type 0
+WalkedByTable = (table : ℕ) (rows : Rows) → rows_of_table (rows_at table rows) table ≡ rows_of_table rows table
 
 -- rows are valid just where those of each table are
 abbrev pub ValidByTable : Type 0
@@ -75,6 +83,13 @@ TruncatedByParts =
     × ((table : ℕ) (part : World) → IsPartOf table w part → names_table tables table ≡ true → (holder : ℕ)
     → IsHeldBy schema part xid (Whole table ∷ []) holder
     → Acts schema w xid o sub (Wipe tables) (Ok (Held holder)) (wanting w xid o sub (Wipe tables)))
+
+-- what stands at a place with the work of all open transactions, by the part of its table, stands there in the world
+abbrev pub LiveInPart : Type 0
+LiveInPart =
+    (schema : Schema) (table : ℕ) (w part : World) → IsPartOf table w part → (key : Key) (row : Option Row)
+    → ((listing : List (ℕ × Opened)) → IsListing part listing → row ≡ get (live_rows schema part listing) (table, key))
+    → (listing : List (ℕ × Opened)) → IsListing w listing → row ≡ get (live_rows schema w listing) (table, key)
 
 -- ---- what a part is behind each call
 
@@ -157,6 +172,14 @@ RollbackByTable =
     → survivors top (mine ++ BackTo mark ∷ []) ≡ items_at table top (survivors top (items ++ BackTo sub ∷ [])))
     × (AreKept top (kept_by top sub (survivors top items)) (marked_at table (under top [] (survivors top items)))
     → survivors top mine ≡ items_at table top (survivors top (items ++ BackTo sub ∷ [])))
+
+-- so is one to each of the marks that are dropped, in any order
+abbrev pub RollbackByMarks : Type 0
+RollbackByMarks =
+    (table top sub : ℕ) (items mine : List Item) → (sub == top) ≡ false
+    → survivors top mine ≡ items_at table top (survivors top items)
+    → (marks : List ℕ) → AreDropped top sub (survivors top items) marks
+    → survivors top (mine ++ map BackTo marks) ≡ items_at table top (survivors top (items ++ BackTo sub ∷ []))
 
 -- ---- what every world keeps that calls reach
 

@@ -4,10 +4,12 @@
 --     opens_beside, opens_here      it opens in the world; in the part, at any time behind that
 --     tried_here, tried_elsewhere      it tries a change of the table; of another
 --     touched_here, touched_beside      an item comes that changes no row
+--     rested_touched, rested_elsewhere      it waited here, and is told by a rollback to the top transaction that it waits no more
 --     back_told, back_rested, back_beside      a rollback that the part is told; one that drops nothing of the table
+--     back_each_told, back_nothing_told      one that it is told by each mark that is dropped; one to the top transaction
 --     ends_here, ends_beside, aborts_here, aborts_beside      it ends
-use Rattle.std.specs.Prelude.{◌≡◌, ◌≢◌, ℕ, List, [], ◌∷◌, ◌++◌, None, Some, if◌then◌else◌, refl}
-use Rattle.std.proofs.Common.{sym, ◌∙◌, ap, subst, inl, inr}
+use Rattle.std.specs.Prelude.{◌≡◌, ◌≢◌, ℕ, ◌==◌, true, false, List, [], ◌∷◌, ◌++◌, map, None, Some, if◌then◌else◌, refl}
+use Rattle.std.proofs.Common.{sym, ◌∙◌, ap, subst, inl, inr, append-nil}
 use Rattle.std.specs.FinMap.{get, insert, remove}
 use Rattle.model.specs.declared.change.Change as change_type
 use Rattle.model.specs.declared.item.Item.{Item}
@@ -16,14 +18,15 @@ use Rattle.model.specs.declared.item.CommitInfo.{CommitInfo}
 use Rattle.model.specs.Rows.{Schema}
 use Rattle.model.specs.Survivors.{survivors, before_savepoint}
 use Rattle.model.specs.SurvivorLemmas.{survivors_with}
+use Rattle.model.specs.TakenLemmas.{same_number}
 use Rattle.world.specs.World.{Opened, World, OpenOnes}
 use Rattle.world.specs.Steps.{Acted, IsDone, IsSkipped, Held, Clashed, opened_with, done_with, committed_with, aborted_with}
 use Rattle.world.specs.ListingLemmas.{xid_cases, got_same, got_other, gone_same, gone_other}
 use Rattle.world_parts.specs.ByTable.{change_at, changes_at}
 use Rattle.world_parts.specs.Parts.{wanted_by, wanted_if, after_tried, rested}
-use Rattle.world_parts.specs.Marks.{under, marked_at, items_at, mark_for, survivors_if, AreMarked, HasPart, CutsTo, CutsNothing}
-use Rattle.world_parts.specs.MarkLemmas.{works_told, no_work, told_with, told_beside, told_touch, back_here, back_nowhere}
-use Rattle.world_parts.specs.MoveLemmas.{part_put, put_beside, opened_beside, part_opened, part_tried, tried_beside, part_aborted, aborted_beside, part_committed, committed_beside}
+use Rattle.world_parts.specs.Marks.{under, marked_at, items_at, mark_for, survivors_if, AreMarked, HasPart, AreDropped, CutsTo, CutsNothing}
+use Rattle.world_parts.specs.MarkLemmas.{works_told, no_work, told_with, told_beside, told_touch, back_here, back_nowhere, back_by_each}
+use Rattle.world_parts.specs.MoveLemmas.{part_as, part_put, put_beside, opened_beside, part_opened, part_tried, tried_beside, part_aborted, aborted_beside, part_committed, committed_beside}
 use Rattle.world_parts.specs.PartOfLemmas.{all_stay}
 
 -- the items of a transaction that survive are those that were told
@@ -223,6 +226,66 @@ module _ (table : ℕ) (w part : World) (has : HasPart table w part) (xid : ℕ)
       moved_here table w part has xid (record { items = o.items ++ BackTo sub ∷ []; wants = None })
       (record { items = p.items ++ BackTo mark ∷ []; wants = None })
       (back_here table xid sub o.items p.items cuts.0 told_both mark cuts.1) refl
+
+  -- a rollback to the top transaction leaves its items
+  same_rested : survivors xid (p.items ++ BackTo xid ∷ []) ≡ items_at table xid (survivors xid o.items)
+  same_rested =
+      survivors_with xid p.items (BackTo xid)
+      ∙ ap (λ b. if b then survivors xid p.items else before_savepoint xid (survivors xid p.items)) (same_number xid) ∙ told_both
+
+  -- an item comes that changes no row, and it waits here no more
+  pub rested_touched : (sub : ℕ) → HasPart table (done_with w xid o (Touch sub)) (done_with part xid p (BackTo xid))
+  rested_touched sub =
+      moved_here table w part has xid (record { items = o.items ++ Touch sub ∷ []; wants = None })
+      (record { items = p.items ++ BackTo xid ∷ []; wants = None }) (same_rested ∙ touch_same table xid sub o.items) refl
+
+  -- it tries a change of another table, and waits here no more
+  pub rested_elsewhere : (sub : ℕ) (c : change_type.Change) → change_at table c ≡ [] → (answer : Acted)
+      → HasPart table (after_tried w xid o sub c answer) (done_with part xid p (BackTo xid))
+  rested_elsewhere sub c not answer = by answer
+    where
+      rests : Opened
+      rests = record { items = p.items ++ BackTo xid ∷ []; wants = None }
+
+      wants_nothing : [] ≡ changes_at table (c ∷ [])
+      wants_nothing = sym (append-nil (change_at table c) ∙ not)
+
+      waits : HasPart table (record w { opened = insert w.opened xid (record o { wants = Some (sub, c) }) }) (done_with part xid p (BackTo xid))
+      waits = moved_here table w part has xid (record o { wants = Some (sub, c) }) rests same_rested wants_nothing
+
+      does : HasPart table (done_with w xid o (Change sub c)) (done_with part xid p (BackTo xid))
+      does =
+          moved_here table w part has xid (record { items = o.items ++ Change sub c ∷ []; wants = None }) rests
+          (same_rested ∙ beside_same table xid sub o.items c not) refl
+
+      by : (tried : Acted) → HasPart table (after_tried w xid o sub c tried) (done_with part xid p (BackTo xid))
+      by IsDone = does
+      by IsSkipped = does
+      by (Held holder) = waits
+      by (Clashed cause) = (
+        part_as table (record w { opened = insert w.opened xid (record o { wants = Some (sub, c) }) }) (after_tried w xid o sub c (Clashed cause))
+            (done_with part xid p (BackTo xid)) (done_with part xid p (BackTo xid)) refl refl refl refl waits.0,
+        waits.1,
+      )
+
+  -- or to each mark that is dropped
+  pub back_each_told : (sub : ℕ) (marks : List ℕ) → (sub == xid) ≡ false → AreDropped xid sub (survivors xid o.items) marks
+      → HasPart table (done_with w xid o (BackTo sub))
+      (record part { opened = insert part.opened xid (record { items = p.items ++ map BackTo marks; wants = None }) })
+  back_each_told sub marks not_top are =
+      moved_here table w part has xid (record { items = o.items ++ BackTo sub ∷ []; wants = None })
+      (record { items = p.items ++ map BackTo marks; wants = None })
+      (back_by_each table xid sub o.items p.items not_top told_both marks are) refl
+
+  -- to the top transaction
+  pub back_nothing_told : (sub : ℕ) → (sub == xid) ≡ true
+      → HasPart table (done_with w xid o (BackTo sub)) (done_with part xid p (BackTo sub))
+  back_nothing_told sub is_top =
+      moved_here table w part has xid (record { items = o.items ++ BackTo sub ∷ []; wants = None })
+      (record { items = p.items ++ BackTo sub ∷ []; wants = None })
+      (survivors_with xid p.items (BackTo sub)
+      ∙ ap (λ b. if b then survivors xid p.items else before_savepoint sub (survivors xid p.items)) is_top
+      ∙ told_both ∙ back_same table xid sub o.items (inl is_top)) refl
 
   pub ends_here : (schema : Schema) (info : CommitInfo)
       → HasPart table (committed_with schema w xid o info) (committed_with schema part xid p info)

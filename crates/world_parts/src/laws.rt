@@ -1,10 +1,15 @@
 // The laws of parts. Each function does nothing: its contract is a law, and the check of this crate
 // proves it.
-ghost use Rattle.world_parts.specs.Statements.{RowsByTable, ValidByTable, SerialByTable, HeldByTable, HasEachPart, TriedInPart, TruncatedByParts, PartAfterOpen, PartAfterTry, PartAfterTouch, PartAfterRollback, PartAfterCommit, PartAfterAbort, ReachedByParts, ChangesAreTold, RollbackByTable, PartIsFine, FineByParts};
+ghost use Rattle.world_parts.specs.Statements.{RowsByTable, WalkedByTable, ValidByTable, SerialByTable, HeldByTable, HasEachPart, TriedInPart, TruncatedByParts, LiveInPart, PartAfterOpen, PartAfterTry, PartAfterTouch, PartAfterRollback, PartAfterCommit, PartAfterAbort, ReachedByParts, ChangesAreTold, RollbackByTable, RollbackByMarks, PartIsFine, FineByParts};
 
 /// Rows that agree in each table are the same.
 pub fn rows_by_table()
     ensures { RowsByTable }
+{}
+
+/// The rows of a table, in the order of their keys, are those of it alone.
+pub fn walked_by_table()
+    ensures { WalkedByTable }
 {}
 
 /// Rows are valid just where those of each table are.
@@ -35,6 +40,11 @@ pub fn tried_in_part()
 /// A truncate is done where each of its tables is free by its part, and held where one is.
 pub fn truncated_by_parts()
     ensures { TruncatedByParts }
+{}
+
+/// What stands at a place with the work of all open transactions is told by the part of its table.
+pub fn live_in_part()
+    ensures { LiveInPart }
 {}
 
 /// A transaction may open in a part at any time behind its open in the world.
@@ -80,6 +90,11 @@ pub fn changes_are_told()
 /// A rollback is one in the part, to the first of its marks that is dropped.
 pub fn rollback_by_table()
     ensures { RollbackByTable }
+{}
+
+/// So is a rollback to each mark that is dropped, whatever their order.
+pub fn rollback_by_marks()
+    ensures { RollbackByMarks }
 {}
 
 /// A part keeps what every world keeps that calls reach.
