@@ -1,20 +1,23 @@
 -- What a call of a part's store is in every world of which it is a part.
 --     opened_lifts, tried_lifts      a transaction opens; a change was tried
 --     back_lifts, commit_lifts, abort_lifts      a rollback; the two ends
---     read_lifts      a committed row
+--     read_lifts, rows_lift, live_lifts      a committed row; all of them; a row with the work of all open transactions
 use Rattle.std.proofs.Common.{◌≡◌, ℕ, sym, ap, subst, ◌∙◌}
-use Rattle.std.specs.Prelude.{Option, Some, Result, Ok, Err}
+use Rattle.std.specs.Prelude.{Vec, IfOk, Option, Some, Result, Ok, Err}
 use Rattle.std.specs.FinMap.{get}
+use Rattle.std.specs.Global.{Global}
 use Rattle.model.specs.declared.change.Change as change_type
 use Rattle.model.specs.declared.key.Key.{Key}
 use Rattle.model.specs.declared.row.Row.{Row}
 use Rattle.model.specs.declared.item.CommitInfo.{CommitInfo}
 use Rattle.model.specs.Rows.{Rows, Schema}
+use Rattle.model.specs.TableRows.{rows_of_table}
 use Rattle.world.specs.World.{Opened, World}
 use Rattle.world.specs.Steps as steps
-use Rattle.world.specs.Steps.{Fault, AlreadyOpen, TooManyOpen, Stopped, OutOfMemory, Acted, IsDone, IsSkipped, Held, Clashed, Acts}
+use Rattle.world.specs.Steps.{Fault, AlreadyOpen, TooManyOpen, Stopped, OutOfMemory, Acted, IsDone, IsSkipped, Held, Clashed, Acts, ReadsLive}
 use Rattle.world_parts.specs.ByTable.{IsIn}
-use Rattle.world_parts.specs.ByTableLemmas.{get_rows_here}
+use Rattle.world_parts.specs.ByTableLemmas.{get_rows_here, walked_at}
+use Rattle.world_parts.specs.LiveLemmas.{live_here}
 use Rattle.world_parts.specs.Parts.{after_tried}
 use Rattle.world_parts.specs.Marks.{HasPart}
 use Rattle.world_parts.specs.PartLemmas.{acts_lifts}
@@ -71,3 +74,15 @@ pub read_lifts : {E : Type 0} → (table : ℕ) (part : World) (key : Key) (resu
 read_lifts table part key (Ok row) reads w has =
     reads ∙ ap (λ (rows : Rows). get rows (table, key)) has.0.committed ∙ get_rows_here table w.committed key
 read_lifts table part key (Err fault) reads w has = reads
+
+pub rows_lift : {E : Type 0} (table : ℕ) (part : World) (answer : Result (Vec Row Global) E)
+    → IfOk answer (λ rows. rows.items ≡ rows_of_table part.committed table)
+    → (w : World) → HasPart table w part → IfOk answer (λ rows. rows.items ≡ rows_of_table w.committed table)
+rows_lift table part (Ok rows) read w has =
+    read ∙ ap (λ (r : Rows). rows_of_table r table) has.0.committed ∙ walked_at table w.committed
+rows_lift table part (Err fault) read w has = read
+
+pub live_lifts : {E : Type 0} (schema : Schema) (table : ℕ) (w part : World) → HasPart table w part → (key : Key) (answer : Result (Option Row) E)
+    → ReadsLive schema part (table, key) answer → ReadsLive schema w (table, key) answer
+live_lifts schema table w part has key (Ok row) reads = live_here schema table w part has.0 key row reads
+live_lifts schema table w part has key (Err fault) reads = λ listing listed. tt

@@ -3,10 +3,11 @@ ghost use Rattle.std.specs.Prelude.{◌≡◌, ◌<◌, ℕ, ◌++◌, ◌∷◌
 ghost use Rattle.std.specs.FinMap as finite;
 ghost use Rattle.model.specs.declared.item.Item.TheVariants.{BackTo};
 ghost use Rattle.model.specs.Named.{NamesTables};
+ghost use Rattle.model.specs.TableRows.{rows_of_table};
 ghost use Rattle.tokens.specs.Lists.{open_list};
 ghost use Rattle.world.specs.World.{World, starting};
 ghost use Rattle.world.specs.Steps as steps;
-ghost use Rattle.world.specs.Steps.{ReadsCommitted};
+ghost use Rattle.world.specs.Steps.{ReadsCommitted, ReadsLive};
 ghost use Rattle.live_tables.specs.declared.answers.EngineFault.TheVariants.{OutOfMemory as NoMemory};
 ghost use Rattle.live_tables.specs.Answers.{told, told_call, TellsCause, IsNoClash};
 ghost use Rattle.engine.specs.declared.events.Event.TheVariants.{Done};
@@ -154,5 +155,23 @@ impl Part {
         ensures fault { IfErr result (λ fault. fault ≡ NoMemory) }
     {
         self.store.committed(self.number, key)
+    }
+
+    /// The committed rows in key order, as copies.
+    pub fn committed_rows(&self, alloc: Global) -> Result<Vec<Row>, EngineFault>
+        requires { self.now.number < length self.now.store.schema }
+        ensures reads { (w : World) → HasPart self.now.number w self.now.store.world → IfOk result (λ rows. rows.items ≡ rows_of_table w.committed self.now.number) }
+        ensures fault { IfErr result (λ fault. fault ≡ NoMemory) }
+    {
+        self.store.committed_rows(alloc, self.number)
+    }
+
+    /// The row at a key with the work of all open transactions, as a copy.
+    pub fn live(&self, key: &Key) -> Result<Option<Row>, EngineFault>
+        requires { self.now.number < length self.now.store.schema }
+        ensures reads { (w : World) → HasPart self.now.number w self.now.store.world → ReadsLive self.now.store.schema w (self.now.number, key.now) result }
+        ensures fault { IfErr result (λ fault. fault ≡ NoMemory) }
+    {
+        self.store.live(self.number, key)
     }
 }
