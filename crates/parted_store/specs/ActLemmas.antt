@@ -1,6 +1,6 @@
 -- What a change that is tried in the part of its table comes to in a world that has the part.
 --     act_step, act_part, act_heard      it is the step; the world behind it has the new part, which has heard of each stop of it
---     in_no_other, act_beside, still_stopped      and the parts of other tables
+--     in_no_other      it is nothing in other tables
 --     opened_acted, ticket_acted, items_acted      its ticket, and the items that it has done
 --     none_acted, shares_acted      the ticket's shares
 use Rattle.std.specs.Prelude.{◌≡◌, ◌≢◌, ℕ, ◌==◌, Bool, false, ◌||◌, List, [], ◌∷◌, ◌++◌, fold, Option, Some, None, IsSome, Result, Ok, Err, refl}
@@ -21,9 +21,10 @@ use Rattle.engine.specs.declared.events.Event.{Event}
 use Rattle.engine.specs.Events.{after_event, opened_by, events_of}
 use Rattle.world_parts.specs.ByTable.{only_if, change_at, changes_at, IsIn, names_table}
 use Rattle.world_parts.specs.ByTableLemmas.{InTable, puts, sets, removes, wipes, in_view, turned, changes_with}
-use Rattle.world_parts.specs.Parts.{wanted_by, wanted_if, IsPartOf, after_tried}
+use Rattle.world_parts.specs.Marks.{mark_for, HasPart}
+use Rattle.world_parts.specs.Parts.{after_tried}
 use Rattle.world_parts.specs.PartLemmas.{acts_lifts}
-use Rattle.world_parts.specs.MoveLemmas.{part_tried, tried_beside}
+use Rattle.world_parts.specs.ToldLemmas.{tried_here}
 use Rattle.parted_store.specs.Acting.{items_of}
 use Rattle.parted_store.specs.Lent.{IsShare}
 use Rattle.parted_store.specs.Shares.{Share, Shares, share_of}
@@ -43,36 +44,37 @@ nothing_in table other _ wipes not =
 pub in_no_other : (table other : ℕ) (c : change_type.Change) → IsIn table c → other ≢ table → change_at other c ≡ []
 in_no_other table other c inside apart = nothing_in table other c (in_view table c inside) (turned table other ∙ ne_eqb other table apart)
 
-module _ (schema : Schema) (table : ℕ) (w part : World) (is : IsPartOf table w part) (xid : ℕ) (o p : Opened)
+module _ (schema : Schema) (table : ℕ) (w part : World) (has : HasPart table w part) (xid : ℕ) (o p : Opened)
     (at : get w.opened xid ≡ Some o) (here : get part.opened xid ≡ Some p) (c : change_type.Change) (inside : IsIn table c) where
   -- the step in the part is one of the world
   pub act_step : (IsSome part.stopped → IsSome w.stopped) → w.stopped ≡ None → (sub mark : ℕ) (answer : Result Acted Fault) (new : World)
       → Acts schema part xid p mark c answer new → Acts schema w xid o sub c answer (after_act w xid o sub c answer)
-  act_step heard runs sub mark (Ok IsDone) new acts = acts_lifts schema table w part is xid o p at here c inside runs sub mark IsDone new acts
-  act_step heard runs sub mark (Ok IsSkipped) new acts = acts_lifts schema table w part is xid o p at here c inside runs sub mark IsSkipped new acts
-  act_step heard runs sub mark (Ok (Held holder)) new acts = acts_lifts schema table w part is xid o p at here c inside runs sub mark (Held holder) new acts
-  act_step heard runs sub mark (Ok (Clashed cause)) new acts = acts_lifts schema table w part is xid o p at here c inside runs sub mark (Clashed cause) new acts
+  act_step heard runs sub mark (Ok IsDone) new acts = acts_lifts schema table w part has.0 xid o p at here c inside runs sub mark IsDone new acts
+  act_step heard runs sub mark (Ok IsSkipped) new acts = acts_lifts schema table w part has.0 xid o p at here c inside runs sub mark IsSkipped new acts
+  act_step heard runs sub mark (Ok (Held holder)) new acts = acts_lifts schema table w part has.0 xid o p at here c inside runs sub mark (Held holder) new acts
+  act_step heard runs sub mark (Ok (Clashed cause)) new acts = acts_lifts schema table w part has.0 xid o p at here c inside runs sub mark (Clashed cause) new acts
   act_step heard runs sub mark (Err AlreadyOpen) new acts = absurd acts
   act_step heard runs sub mark (Err TooManyOpen) new acts = absurd acts
   act_step heard runs sub mark (Err Stopped) new acts = (heard acts.0, refl)
   act_step heard runs sub mark (Err OutOfMemory) new acts = (runs, refl)
 
   -- the world behind it has the new part
-  new_part : (sub mark : ℕ) (answer : Acted) (new : World) → new ≡ after_tried part xid p mark c answer
-      → IsPartOf table (after_tried w xid o sub c answer) new
-  new_part sub mark answer new left =
-      subst (IsPartOf table (after_tried w xid o sub c answer)) (sym left) (part_tried table w part is xid o p at here sub mark c c inside answer)
+  new_part : (sub mark : ℕ) → mark ≡ mark_for xid sub (survivors xid o.items) → (answer : Acted) (new : World)
+      → new ≡ after_tried part xid p mark c answer → HasPart table (after_tried w xid o sub c answer) new
+  new_part sub mark is answer new left =
+      subst (HasPart table (after_tried w xid o sub c answer)) (sym (left ∙ ap (λ (m : ℕ). after_tried part xid p m c answer) is))
+      (tried_here table w part has xid o p at here sub c c answer inside)
 
-  pub act_part : (sub mark : ℕ) (answer : Result Acted Fault) (new : World)
-      → Acts schema part xid p mark c answer new → IsPartOf table (after_act w xid o sub c answer) new
-  act_part sub mark (Ok IsDone) new acts = new_part sub mark IsDone new acts.3
-  act_part sub mark (Ok IsSkipped) new acts = new_part sub mark IsSkipped new acts.3
-  act_part sub mark (Ok (Held holder)) new acts = new_part sub mark (Held holder) new acts.2
-  act_part sub mark (Ok (Clashed cause)) new acts = new_part sub mark (Clashed cause) new acts.3
-  act_part sub mark (Err AlreadyOpen) new acts = absurd acts
-  act_part sub mark (Err TooManyOpen) new acts = absurd acts
-  act_part sub mark (Err Stopped) new acts = subst (IsPartOf table w) (sym acts.1) is
-  act_part sub mark (Err OutOfMemory) new acts = subst (IsPartOf table w) (sym acts.1) is
+  pub act_part : (sub mark : ℕ) → mark ≡ mark_for xid sub (survivors xid o.items) → (answer : Result Acted Fault) (new : World)
+      → Acts schema part xid p mark c answer new → HasPart table (after_act w xid o sub c answer) new
+  act_part sub mark is (Ok IsDone) new acts = new_part sub mark is IsDone new acts.3
+  act_part sub mark is (Ok IsSkipped) new acts = new_part sub mark is IsSkipped new acts.3
+  act_part sub mark is (Ok (Held holder)) new acts = new_part sub mark is (Held holder) new acts.2
+  act_part sub mark is (Ok (Clashed cause)) new acts = new_part sub mark is (Clashed cause) new acts.3
+  act_part sub mark is (Err AlreadyOpen) new acts = absurd acts
+  act_part sub mark is (Err TooManyOpen) new acts = absurd acts
+  act_part sub mark is (Err Stopped) new acts = subst (HasPart table w) (sym acts.1) has
+  act_part sub mark is (Err OutOfMemory) new acts = subst (HasPart table w) (sym acts.1) has
 
 -- a part that is stopped is one of a world that is
 pub act_heard : (schema : Schema) (w part : World) (xid : ℕ) (o p : Opened) (c : change_type.Change) → (IsSome part.stopped → IsSome w.stopped)
@@ -86,31 +88,6 @@ act_heard schema w part xid o p c heard sub mark (Err AlreadyOpen) new acts is =
 act_heard schema w part xid o p c heard sub mark (Err TooManyOpen) new acts is = absurd acts
 act_heard schema w part xid o p c heard sub mark (Err Stopped) new acts is = heard (subst (λ (v : World). IsSome v.stopped) acts.1 is)
 act_heard schema w part xid o p c heard sub mark (Err OutOfMemory) new acts is = heard (subst (λ (v : World). IsSome v.stopped) acts.1 is)
-
--- the parts of other tables stay
-pub act_beside : (table other : ℕ) (w part : World) → IsPartOf other w part → (xid : ℕ) (o : Opened) → get w.opened xid ≡ Some o
-    → (c : change_type.Change) → IsIn table c → other ≢ table → changes_at other (wanted_by o.wants) ≡ []
-    → (sub : ℕ) (answer : Result Acted Fault) → IsPartOf other (after_act w xid o sub c answer) part
-act_beside table other w part is xid o at c inside apart none sub answer = by answer
-  where
-    rests : wanted_if (get part.opened xid) ≡ []
-    rests = is.wanted xid ∙ ap (λ open_one. changes_at other (wanted_if open_one)) at ∙ none
-
-    by : (answer : Result Acted Fault) → IsPartOf other (after_act w xid o sub c answer) part
-    by (Ok IsDone) = tried_beside other w part is xid o at sub c (in_no_other table other c inside apart) rests IsDone
-    by (Ok IsSkipped) = tried_beside other w part is xid o at sub c (in_no_other table other c inside apart) rests IsSkipped
-    by (Ok (Held holder)) = tried_beside other w part is xid o at sub c (in_no_other table other c inside apart) rests (Held holder)
-    by (Ok (Clashed cause)) = tried_beside other w part is xid o at sub c (in_no_other table other c inside apart) rests (Clashed cause)
-    by (Err fault) = is
-
--- a world that is stopped is so behind the call
-pub still_stopped : (w : World) (xid : ℕ) (o : Opened) (sub : ℕ) (c : change_type.Change) (answer : Result Acted Fault)
-    → IsSome w.stopped → IsSome (after_act w xid o sub c answer).stopped
-still_stopped w xid o sub c (Ok IsDone) is = is
-still_stopped w xid o sub c (Ok IsSkipped) is = is
-still_stopped w xid o sub c (Ok (Held holder)) is = is
-still_stopped w xid o sub c (Ok (Clashed cause)) is = refl
-still_stopped w xid o sub c (Err fault) is = is
 
 -- ---- its ticket
 

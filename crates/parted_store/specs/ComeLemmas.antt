@@ -7,23 +7,23 @@ use Rattle.std.proofs.Common.{sym, ◌∙◌, ap, subst, inl, inr}
 use Rattle.world.specs.World.{Opened, World, Stop}
 use Rattle.world.specs.Steps.{Fault, AlreadyOpen, TooManyOpen, Stopped, OutOfMemory, Opens, opened_with}
 use Rattle.world.specs.ListingLemmas.{xid_cases}
-use Rattle.world_parts.specs.Parts.{IsPartOf}
-use Rattle.world_parts.specs.MoveLemmas.{part_opened}
+use Rattle.world_parts.specs.Marks.{HasPart}
+use Rattle.world_parts.specs.ToldLemmas.{opens_here}
 use Rattle.table_parts.specs.Part.{Part}
 use Rattle.parted_store.specs.Lent.{HasTable, IsShare}
 use Rattle.parted_store.specs.Shares.{Share, Shares, share_of}
 
 module _ (w : World) (p q : Part) (has : HasTable w p) (number : q.number ≡ p.number) where
   -- where the part's world is this one, which is one of the table's and stopped as before
-  still_there : (v : World) → IsPartOf p.number w v → v.stopped ≡ p.store.world.stopped → q.store.world ≡ v → HasTable w q
+  still_there : (v : World) → HasPart p.number w v → v.stopped ≡ p.store.world.stopped → q.store.world ≡ v → HasTable w q
   still_there v is stopped same = record {
-    is = subst (λ (n : ℕ). IsPartOf n w q.store.world) (sym number) (subst (IsPartOf p.number w) (sym same) is);
+    is = subst (λ (n : ℕ). HasPart n w q.store.world) (sym number) (subst (HasPart p.number w) (sym same) is);
     heard = λ heard. has.heard (subst (λ (stop : Option Stop). IsSome stop) (ap (λ (u : World). u.stopped) same ∙ stopped) heard);
   }
 
   pub comes_to : (xid : ℕ) (answer : Result (Unit {0}) Fault) → Opens p.store.world xid answer q.store.world → HasTable w q
   comes_to xid (Ok u) opens =
-      still_there (opened_with p.store.world xid) (part_opened p.number w p.store.world has.is xid opens.1) refl opens.3
+      still_there (opened_with p.store.world xid) (opens_here p.number w p.store.world has.is xid opens.1) refl opens.3
   comes_to xid (Err AlreadyOpen) opens = still_there p.store.world has.is refl opens.2
   comes_to xid (Err TooManyOpen) opens = still_there p.store.world has.is refl opens.3
   comes_to xid (Err Stopped) opens = still_there p.store.world has.is refl opens.1

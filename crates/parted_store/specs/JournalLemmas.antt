@@ -1,6 +1,6 @@
 -- What the journal's part has of a world behind each call.
 --     journal_opens, journal_refuses      what it says of an open is the step
---     journal_opened, journal_acted, journal_committed, journal_aborted      it has the world behind it
+--     journal_opened, journal_acted, journal_done, journal_committed, journal_aborted      it has the world behind it
 use Rattle.std.specs.Prelude.{◌≡◌, ℕ, ◌+◌, ◌-◌, ◌<◌, ◌≤◌, true, false, cond, if◌then◌else◌, List, [], ◌∷◌, ◌++◌, Option, Some, None, IsSome, is_some, Result, Ok, Err, refl}
 use Rattle.std.proofs.Common.{sym, ◌∙◌, ap, subst, inl, inr, true≢false, arith}
 use Rattle.std.proofs.lemmas.Grind.{fold-append}
@@ -15,7 +15,7 @@ use Rattle.model.specs.Limits.{most_open}
 use Rattle.model.specs.Rows.{Schema}
 use Rattle.tokens.specs.Half.{Half}
 use Rattle.world.specs.World.{is_xid, Opened, Past, World, Stop, ByClash}
-use Rattle.world.specs.Steps.{Fault, Acted, IsDone, IsSkipped, Held, Clashed, Opens, opened_with, committed_with, aborted_with}
+use Rattle.world.specs.Steps.{Fault, Acted, IsDone, IsSkipped, Held, Clashed, Opens, opened_with, done_with, committed_with, aborted_with}
 use Rattle.world.specs.ListingLemmas.{xid_cases, got_same, got_other}
 use Rattle.live_tables.specs.declared.answers.EngineFault as fault_type
 use Rattle.live_tables.specs.declared.answers.EngineFault.TheVariants.{AlreadyOpen as AlreadyOpenFault, TooManyOpen as TooManyOpenFault, Clash as ClashFault, Stopped as StoppedFault, OutOfMemory as NoMemory}
@@ -153,3 +153,9 @@ module _ (w : World) (j : JournalPart) (has : HasJournal w j) (new : JournalPart
           gone_there q ∙ sym (ap (λ (events : List LineEvent). is_open_in events q) line ∙ fold-append (open_after q) false j.line.list (WasAborted xid ∷ []));
       count = gone_count count;
     }
+
+-- an item leaves it
+pub journal_done : (w : World) (j : JournalPart) → HasJournal w j → (xid : ℕ) (o : Opened) → get w.opened xid ≡ Some o → (item : Item)
+    → HasJournal (done_with w xid o item) j
+journal_done w j has xid o at item =
+    journal_moved w j has j xid o at (record { items = o.items ++ item ∷ []; wants = None }) w.stopped refl refl has.stopped

@@ -4,13 +4,13 @@
 --     IsShare      what a ticket knows of a table in which it has a share, and of one in which it has none
 --     IsSamePart      a part later on: of the same table, with the same keys and tickets
 --     Belongs      the share is one of the part
---     WaitsOnlyIn      a transaction waits with no change of other tables
-use Rattle.std.specs.Prelude.{◌≡◌, ◌≢◌, ℕ, List, [], Option, Some, None, IsSome, is_some}
+use Rattle.std.specs.Prelude.{◌≡◌, ℕ, List, [], Option, Some, None, IsSome, is_some}
 use Rattle.std.specs.FinMap as finite
 use Rattle.std.specs.FinMap.{get}
 use Rattle.world.specs.World.{Opened, World, work}
 use Rattle.world_parts.specs.ByTable.{changes_at}
-use Rattle.world_parts.specs.Parts.{wanted_by, IsPartOf}
+use Rattle.world_parts.specs.Parts.{wanted_by}
+use Rattle.world_parts.specs.Marks.{HasPart}
 use Rattle.table_parts.specs.Part.{Part}
 use Rattle.engine.specs.declared.events.Event.{Event}
 use Rattle.engine.specs.Engine.{IsOtherwiseSame}
@@ -26,9 +26,10 @@ pub record OpenTicket : Type 0 where
   -- its shares of the tables' parts
   pub shares : Shares
 
--- The world has this part of a table. A part that is stopped has heard of a stop of the world.
+-- The world has this part of a table, to which just the items were told that its transactions did there. A part that is
+-- stopped has heard of a stop of the world.
 pub record HasTable (w : World) (p : Part) : Type 0 where
-  pub is : IsPartOf p.number w p.store.world
+  pub is : HasPart p.number w p.store.world
   pub heard : IsSome p.store.world.stopped → IsSome w.stopped
 
 -- A part later on: of the same table, with the same keys and tickets.
@@ -59,7 +60,3 @@ HasShares t = (table : ℕ) → IsShare t.number (opened_by t.events) table (sha
 -- the share of the part's table, if there is one, is a ticket of the part
 abbrev pub Belongs : Part → Shares → Type 0
 Belongs p shares = (share : Share) → share_of shares p.number ≡ Some share → share.name ≡ p.store.tickets
-
--- it waits with no change of another table
-abbrev pub WaitsOnlyIn : ℕ → Opened → Type 0
-WaitsOnlyIn table o = (other : ℕ) → other ≢ table → changes_at other (wanted_by o.wants) ≡ []

@@ -4,10 +4,17 @@ pub mod Ticket
 pub mod Journal
 pub mod JournalCode
 pub mod Opening
+pub mod EachPart
 pub mod Acting
+pub mod Touching
+pub mod Back
 pub mod Ends
+pub mod EachPartLemmas
 pub mod ActLemmas
+pub mod BackLemmas
+pub mod RestLemmas
 pub mod ComeLemmas
 pub mod EndLemmas
 pub mod JournalLemmas
 pub mod KeptLemmas
+pub mod PlaceLemmas

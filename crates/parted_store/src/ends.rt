@@ -8,7 +8,8 @@ ghost use Rattle.engine.specs.declared.events.LineEvent.TheVariants.{Committed a
 ghost use Rattle.engine.specs.Events.{opened_by, ends_in, is_open_in};
 ghost use Rattle.table_parts.specs.Part.{Part as AnyPart, last_commit_end};
 ghost use Rattle.parted_store.specs.Lent.{HasTable, HasJournal, HasTicket, IsSamePart, Belongs};
-ghost use Rattle.parted_store.specs.Ends.{CommitsShare, AbortsShare, AreApart, IsBeside, Covers, BelongEach, IsCommitted, IsAborted, Progress};
+ghost use Rattle.parted_store.specs.EachPart.{AreApart, IsBeside, Covers, BelongEach, Progress};
+ghost use Rattle.parted_store.specs.Ends.{CommitsShare, AbortsShare, Takes, IsCommitted, IsAborted};
 ghost use Rattle.parted_store.specs.Shares.{share_of, TakesShare};
 
 use crate::journal::{Journal, Line};
@@ -50,6 +51,7 @@ pub fn commit_in(
         events,
         items,
         mut shares,
+        ..
     } = ticket;
     commit_each(parts, &mut shares, info);
     journal.commit(line, xid, &events, items, info);
@@ -87,7 +89,7 @@ fn commit_each(parts: &mut [Part], shares: &mut Vec<Option<Share>>, info: Commit
     requires later { (i : ℕ) (p : AnyPart) → slice_get parts.old i ≡ Some p → last_commit_end p < info.end }
     requires apart { AreApart parts.old }
     requires belong { BelongEach parts.old shares.old.items }
-    ensures { Progress (CommitsShare info) parts.old shares.old.items parts.new shares.new.items (length parts.old) }
+    ensures { Progress (Takes (CommitsShare info)) parts.old shares.old.items parts.new shares.new.items (length parts.old) }
 {
     for i in 0..parts.len() {
         commit_share(&mut parts[i], shares, info);
@@ -111,7 +113,7 @@ fn commit_share(part: &mut Part, shares: &mut Vec<Option<Share>>, info: CommitIn
 fn abort_each(parts: &mut [Part], shares: &mut Vec<Option<Share>>)
     requires apart { AreApart parts.old }
     requires belong { BelongEach parts.old shares.old.items }
-    ensures { Progress AbortsShare parts.old shares.old.items parts.new shares.new.items (length parts.old) }
+    ensures { Progress (Takes AbortsShare) parts.old shares.old.items parts.new shares.new.items (length parts.old) }
 {
     for i in 0..parts.len() {
         abort_share(&mut parts[i], shares);

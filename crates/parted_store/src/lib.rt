@@ -14,31 +14,39 @@
 // an abort needs the parts of the shares and the journal's, known at run time alone.
 //
 //   journal       `Journal`, the part that is no table's, and its `Line`
-//   ticket        `Ticket`; shares: its shares of the tables' parts; told: a list of which one hand has all
+//   ticket        `Ticket`; shares: its shares of the tables' parts; marks: its subtransactions' marks; told: a
+//                 list of which one hand has all
 //   coming        an open transaction comes to a table
 //   acting        a change that is tried in the part of its table
+//   touching      an item that changes no row
+//   back          a rollback of a subtransaction, part by part
 //   ends          a commit and an abort, part by part
 //   entry         a committed transaction as the journal has it
 //
 //   specs/Lent                    what a call is lent of a world
-//   specs/Acting, Ends            what the calls do
+//   specs/Acting, Touching, Back, Ends    what the calls do
 //   specs/Journal, Ticket, Shares    what the types keep
 //   specs/..Lemmas                what follows, from one call to the next
 //
 // It stands on `table_parts` for the part of a table, on `world_parts` for the laws of parts, on `tokens`,
 // and on `engine` for events.
 mod acting;
+mod back;
 mod coming;
 mod ends;
 mod entry;
 mod journal;
+mod marks;
 mod shares;
 mod ticket;
 mod told;
+mod touching;
 
 pub use acting::act_in;
+pub use back::back_to_in;
 pub use coming::come_to;
 pub use ends::{abort_in, commit_in};
 pub use entry::Entry;
 pub use journal::{Journal, Line};
 pub use ticket::Ticket;
+pub use touching::touch_in;

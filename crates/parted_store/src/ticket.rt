@@ -4,6 +4,7 @@ ghost use Rattle.std.specs.Prelude.{◌≡◌, [], IfOk};
 use crate::told::Told;
 use engine::{Event, Ticket as Share};
 use model::{Item, OutOfMemory, Xid};
+use savepoint::Savepoints;
 use std::alloc::Global;
 use std::marker::Model;
 
@@ -13,8 +14,10 @@ use std::marker::Model;
 pub struct Ticket {
     pub(crate) xid: Xid,
     pub(crate) events: Told<Event>,
-    /// The items that it has done.
+    /// The items that it has done and no rollback has dropped.
     pub(crate) items: Vec<Item>,
+    /// The subtransactions' marks, each with the number of items before it.
+    pub(crate) marks: Savepoints<usize>,
     /// By the number of the table.
     pub(crate) shares: Vec<Option<Share>>,
 }
@@ -41,6 +44,7 @@ impl Ticket {
             xid,
             events,
             items: Vec::new(alloc),
+            marks: Savepoints::new(alloc),
             shares: Vec::new(alloc),
         })
     }

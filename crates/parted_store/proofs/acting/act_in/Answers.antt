@@ -1,5 +1,5 @@
-use Rattle.std.proofs.Common.{◌≡◌, ◌≢◌, ◌++◌, ◌∙◌, ℕ, List, Option, Some, None, sym, ap, subst, refl}
-use Rattle.std.specs.Prelude.{Bool, false, Result, Ok, Err, IsSome, is_some}
+use Rattle.std.proofs.Common.{arith, ◌≡◌, ◌≢◌, ◌++◌, ◌∙◌, ℕ, List, Option, Some, None, sym, ap, subst, refl}
+use Rattle.std.specs.Prelude.{Bool, false, Result, Ok, Err, IsSome, IsSomeAnd, is_some, length, slice_get, not, ◌==◌, ◌||◌, unwrap_or, if◌then◌else◌}
 use Rattle.std.specs.Result.{IsErrAnd}
 use Rattle.std.specs.FinMap.{get}
 use Rattle.model.specs.declared.change.Change.{Change}
@@ -12,15 +12,18 @@ use Rattle.live_tables.specs.Answers.{told, after_act}
 use Rattle.engine.specs.declared.events.Event.{Event}
 use Rattle.engine.specs.Events.{opened_by, events_of}
 use Rattle.world_parts.specs.ByTable.{IsIn}
-use Rattle.world_parts.specs.Parts.{IsPartOf}
-use Rattle.table_parts.specs.Part.{Part}
-use Rattle.parted_store.specs.Acting.{IsLent, items_of, stop_after}
-use Rattle.parted_store.specs.ActLemmas.{act_step, act_part, act_heard, act_beside, still_stopped, ticket_acted, items_acted, shares_acted}
+use Rattle.world_parts.specs.Marks.{mark_for, HasPart}
+use Rattle.table_parts.specs.Part.{Part, last_commit_end}
+use Rattle.savepoint.specs.Savepoints.{mark_at, before_mark, latest_sub}
+use Rattle.parted_store.specs.Acting.{IsLent, is_done, items_of, stop_after, Rests, IsActed}
+use Rattle.parted_store.specs.ActLemmas.{act_step, act_part, act_heard, in_no_other, ticket_acted, items_acted, shares_acted}
 use Rattle.parted_store.specs.Journal.{JournalPart}
 use Rattle.parted_store.specs.JournalLemmas.{none_there, journal_acted}
-use Rattle.parted_store.specs.Lent.{OpenTicket, HasTable, HasJournal, HasTicket, IsShare, WaitsOnlyIn}
+use Rattle.parted_store.specs.Lent.{OpenTicket, HasTable, HasJournal, HasTicket, IsSamePart, IsShare}
+use Rattle.parted_store.specs.RestLemmas.{each_rests, same_rested, end_rested, share_kept, acted_by, stays_by}
 use Rattle.parted_store.specs.Shares.{share_of}
-use Rattle.parted_store.specs.Ticket.{ticket_in}
+use Rattle.parted_store.specs.PlaceLemmas.{latest_with, placed_acted}
+use Rattle.parted_store.specs.Ticket.{Places, ticket_in, with_place, places_of}
 use Rattle.parted_store.proofs.acting.act_in.Goals as goal
 
 module _ (c : goal.After-keep) where
@@ -51,10 +54,39 @@ module _ (c : goal.After-keep) where
   here : get c.args.part.now.store.world.opened t.number ≡ Some (opened_by c.in-Some.share.list)
   here = subst (λ n. get c.args.part.now.store.world.opened n ≡ Some (opened_by c.in-Some.share.list)) number_is c.act-answer.ensures.stood
 
-  in_part : Acts c.args.part.now.store.schema c.args.part.now.store.world t.number (opened_by c.in-Some.share.list) c.args.sub c.args.c.now answer c.act-answer.new.self.store.world
+  abbrev mark : ℕ
+  mark = c.latest-mark.result
+
+  in_part : Acts c.args.part.now.store.schema c.args.part.now.store.world t.number (opened_by c.in-Some.share.list) mark c.args.c.now answer c.act-answer.new.self.store.world
   in_part =
-      subst (λ n. Acts c.args.part.now.store.schema c.args.part.now.store.world n (opened_by c.in-Some.share.list) c.args.sub c.args.c.now answer c.act-answer.new.self.store.world)
+      subst (λ n. Acts c.args.part.now.store.schema c.args.part.now.store.world n (opened_by c.in-Some.share.list) mark c.args.c.now answer c.act-answer.new.self.store.world)
       number_is c.act-answer.ensures.in_part
+
+  -- the mark is the latest one, once the subtransaction's was set
+  count_is : c.len.result ≡ length c.ticket.inside.items.items
+  count_is = omega (arith, c.len.ensures, c.reserve.ensures.len, c.ticket.inside.items.ok.0)
+
+  set_is : c.set_mark.new.marks ≡ with_place t.number c.args.sub (length c.ticket.inside.items.items) (places_of t.number c.ticket.inside.items.items)
+  set_is =
+      c.in_ok-set.ensures.ok ∙ ap (λ n. with_place t.number c.args.sub n c.ticket.inside.marks) count_is
+      ∙ ap (with_place t.number c.args.sub (length c.ticket.inside.items.items)) c.ticket.invariant.marks
+
+  mark_is : mark ≡ mark_for t.number c.args.sub (survivors t.number o.items)
+  mark_is =
+      c.latest-mark.ensures ∙ ap (λ (places : Places). unwrap_or (latest_sub places) t.number) set_is
+      ∙ latest_with t.number c.args.sub (length c.ticket.inside.items.items) c.ticket.inside.items.items
+      ∙ ap (mark_for t.number c.args.sub) c.ticket.invariant.items
+
+  -- and it is taken back where the change wasn't done
+  was_set : c.in_ok-set.set ≡ not ((c.args.sub == t.number) || is_some (mark_at c.args.sub (places_of t.number c.ticket.inside.items.items)))
+  was_set = c.in_ok-set.ensures.set ∙ ap (λ (places : Places). not ((c.args.sub == t.number) || is_some (mark_at c.args.sub places))) c.ticket.invariant.marks
+
+  marks_are : c.unset_mark.new.marks ≡ places_of t.number c.keep.new.items.items
+  marks_are =
+      c.unset_mark.ensures
+      ∙ ap (λ (places : Places). if not c.in_ok-set.set || is_done answer then places else before_mark c.args.sub places) set_is
+      ∙ placed_acted t.number c.args.sub c.ticket.inside.items.items c.args.c.now c.in_ok-set.set was_set answer
+      ∙ sym (ap (places_of t.number) (c.keep.ensures.items ∙ (λ i. c.reserve.ensures.items i ++ items_of c.args.sub (c.in_ok-change.ensures i) answer)))
 
   abbrev later : World → World
   later w = after_act w t.number o c.args.sub c.args.c.now answer
@@ -63,17 +95,17 @@ module _ (c : goal.After-keep) where
       → Acts c.args.part.now.store.schema w t.number o c.args.sub c.args.c.now answer (later w)
   acted w has at runs =
       act_step c.args.part.now.store.schema c.args.part.now.number w c.args.part.now.store.world has.is t.number o (opened_by c.in-Some.share.list) at here
-      c.args.c.now c.requires.its has.heard runs c.args.sub c.args.sub answer c.act-answer.new.self.store.world in_part
+      c.args.c.now c.requires.its has.heard runs c.args.sub mark answer c.act-answer.new.self.store.world in_part
 
   table_after : (w : World) → HasTable w c.args.part.now → HasTicket w t → HasTable (later w) c.act-answer.new.self
   table_after w has at = record {
     is =
-        subst (λ n. IsPartOf n (later w) c.act-answer.new.self.store.world) (sym c.act-answer.ensures.number)
+        subst (λ n. HasPart n (later w) c.act-answer.new.self.store.world) (sym c.act-answer.ensures.number)
         (act_part c.args.part.now.store.schema c.args.part.now.number w c.args.part.now.store.world has.is t.number o (opened_by c.in-Some.share.list) at here
-        c.args.c.now c.requires.its c.args.sub c.args.sub answer c.act-answer.new.self.store.world in_part);
+        c.args.c.now c.requires.its c.args.sub mark mark_is answer c.act-answer.new.self.store.world in_part);
     heard =
         act_heard c.args.part.now.store.schema w c.args.part.now.store.world t.number o (opened_by c.in-Some.share.list) c.args.c.now has.heard
-        c.args.sub c.args.sub answer c.act-answer.new.self.store.world in_part;
+        c.args.sub mark answer c.act-answer.new.self.store.world in_part;
   }
 
   journal_after : (w : World) → HasJournal w c.args.journal.now → HasTicket w t → HasJournal (later w) c.keep.new.journal
@@ -82,22 +114,38 @@ module _ (c : goal.After-keep) where
       (c.keep.ensures.journal
       ∙ ap (λ (d : Change). record c.args.journal.now { stopped = stop_after t.number d answer c.args.journal.now.stopped }) c.in_ok-change.ensures)
 
-  beside : (w : World) → HasTicket w t → WaitsOnlyIn c.args.part.now.number o → (p : Part) → HasTable w p → p.number ≢ c.args.part.now.number → HasTable (later w) p
-  beside w at elsewhere p has apart = record {
-    is =
-        act_beside c.args.part.now.number p.number w p.store.world has.is t.number o at c.args.c.now c.requires.its apart (elsewhere p.number apart) c.args.sub answer;
-    heard = λ is. still_stopped w t.number o c.args.sub c.args.c.now answer (has.heard is);
-  }
+  -- the parts of other tables
+  rests : Rests t.number answer c.args.others.now c.put_share.new.shares.items c.rest_each.new.others c.rest_each.new.shares.items
+  rests = c.rest_each.ensures.rests
+
+  same_share : (p : Part) → p.number ≢ c.args.part.now.number → share_of c.put_share.new.shares.items p.number ≡ share_of t.shares p.number
+  same_share p apart =
+      let beside : p.number ≢ c.number-table.result = λ e. apart (e ∙ c.number-table.ensures) in
+      c.put_share.ensures.others p.number beside ∙ c.take_share.ensures.others p.number beside
+
+  other_part : (i : ℕ) (p : Part) → slice_get c.args.others.now i ≡ Some p → IsSomeAnd (slice_get c.rest_each.new.others i) (IsActed t c.args.sub c.args.c.now answer p)
+  other_part i p at =
+      let apart : p.number ≢ c.args.part.now.number = c.requires.other i p at in
+      each_rests t.number answer c.args.others.now c.rest_each.new.others c.put_share.new.shares.items c.rest_each.new.shares.items rests
+      (IsActed t c.args.sub c.args.c.now answer p) i p at
+      (λ q did w has its_ticket.
+      acted_by t c.args.sub c.args.c.now p (in_no_other c.args.part.now.number p.number c.args.c.now c.requires.its apart) w has its_ticket answer
+      (share_of c.put_share.new.shares.items p.number)
+      (subst (IsShare t.number o p.number) (sym (same_share p apart)) (c.ticket.invariant.shares p.number))
+      q (share_of c.rest_each.new.shares.items p.number) did)
 
 pub invariant_of-ticket-2 : goal.invariant_of-ticket-2
 invariant_of-ticket-2 c = record {
   shares = λ other.
-      subst (λ (events : List Event). IsShare (t c).number (opened_by events) other (share_of c.put_share.new.shares.items other)) (sym c.tell.ensures) (shares_now c other);
+      subst (λ (events : List Event). IsShare (t c).number (opened_by events) other (share_of c.rest_each.new.shares.items other)) (sym c.tell.ensures)
+      (share_kept (t c).number (opened_by ((t c).events ++ events_of c.args.sub c.args.c.now (answer c))) other (share_of c.put_share.new.shares.items other) (share_of c.rest_each.new.shares.items other)
+      (c.rest_each.ensures.shares other) (shares_now c other));
   items =
       c.keep.ensures.items
       ∙ (λ i. (c.reserve.ensures.items ∙ c.ticket.invariant.items) i ++ items_of c.args.sub (c.in_ok-change.ensures i) (answer c))
       ∙ items_acted (t c).number c.args.sub (t c).events c.args.c.now (answer c)
       ∙ ap (λ (events : List Event). survivors (t c).number (opened_by events).items) (sym c.tell.ensures);
+  marks = marks_are c;
 }
 
 -- ---- it was tried
@@ -111,7 +159,7 @@ returns-clause-acts c w lent =
 pub returns-clause-lent : goal.returns-clause-lent
 returns-clause-lent c w lent =
     subst (λ (u : OpenTicket). HasTicket w u → IsLent (after_act w u.number (opened_by u.events) c.args.sub c.args.c.now (answer c)) c.act-answer.new.self c.keep.new.journal
-    (record { number = (t c).number; events = c.tell.new.events; shares = c.put_share.new.shares.items })) c.ticket.view_is
+    (record { number = (t c).number; events = c.tell.new.events; shares = c.rest_each.new.shares.items })) c.ticket.view_is
     (λ at. (
       table_after c w lent.0 at,
       journal_after c w lent.1 at,
@@ -120,15 +168,31 @@ returns-clause-lent c w lent =
     )) lent.2
 
 pub returns-clause-beside : goal.returns-clause-beside
-returns-clause-beside c w p its_ticket has apart =
-    subst (λ (u : OpenTicket). HasTicket w u → WaitsOnlyIn c.args.part.now.number (opened_by u.events)
-    → HasTable (after_act w u.number (opened_by u.events) c.args.sub c.args.c.now (answer c)) p) c.ticket.view_is
-    (λ at elsewhere. beside c w at elsewhere p has apart) its_ticket c.requires.elsewhere
+returns-clause-beside c w p its_ticket has apart beside =
+    stays_by c.args.ticket.now c.args.sub c.args.c.now p (in_no_other c.args.part.now.number p.number c.args.c.now c.requires.its apart) w has its_ticket
+    (c.requires.elsewhere p.number apart beside) (answer c)
+
+pub returns-clause-others : goal.returns-clause-others
+returns-clause-others c i p at =
+    subst (λ (u : OpenTicket). IsSomeAnd (slice_get c.rest_each.new.others i) (IsActed u c.args.sub c.args.c.now (answer c) p)) c.ticket.view_is
+    (other_part c i p at)
+
+pub returns-clause-same_others : goal.returns-clause-same_others
+returns-clause-same_others c i p at =
+    each_rests (t c).number (answer c) c.args.others.now c.rest_each.new.others c.put_share.new.shares.items c.rest_each.new.shares.items (rests c)
+    (IsSamePart p) i p at
+    (λ q did. same_rested (t c).number (answer c) p (share_of c.put_share.new.shares.items p.number) q (share_of c.rest_each.new.shares.items p.number) did)
+
+pub returns-clause-ends : goal.returns-clause-ends
+returns-clause-ends c i p at =
+    each_rests (t c).number (answer c) c.args.others.now c.rest_each.new.others c.put_share.new.shares.items c.rest_each.new.shares.items (rests c)
+    (λ (q : Part). last_commit_end q ≡ last_commit_end p) i p at
+    (λ q did. end_rested (t c).number (answer c) p (share_of c.put_share.new.shares.items p.number) q (share_of c.rest_each.new.shares.items p.number) did)
 
 -- ---- the store is stopped, or memory was refused
 
 pub invariant_of-ticket : goal.invariant_of-ticket
-invariant_of-ticket c = record { shares = c.ticket.invariant.shares; items = c.reserve.ensures.items ∙ c.ticket.invariant.items }
+invariant_of-ticket c = record { shares = c.ticket.invariant.shares; items = c.reserve.ensures.items ∙ c.ticket.invariant.items; marks = c.ticket.invariant.marks ∙ ap (places_of c.ticket.inside.xid) (sym c.reserve.ensures.items) }
 
 by_memory : {A : Type 0} (P : Result A EngineFault → Type 0) (r : Result A EngineFault) → IsErrAnd r (λ fault. fault ≡ NoMemory) → P (Err NoMemory) → P r
 by_memory P (Ok x) is so = absurd is
@@ -155,7 +219,7 @@ returns-in_err-reserve-clause-lent c w lent =
     (subst (λ (u : OpenTicket). IsLent w c.args.part.now c.args.journal.now u) (sym c.ticket.view_is) lent)
 
 pub returns-in_err-reserve-clause-beside : goal.returns-in_err-reserve-clause-beside
-returns-in_err-reserve-clause-beside c w p its_ticket has apart =
+returns-in_err-reserve-clause-beside c w p its_ticket has apart beside =
     by_memory (λ r. HasTable (after_act w c.args.ticket.now.number (opened_by c.args.ticket.now.events) c.args.sub c.args.c.now (told r)) p)
     c.from_residual.result c.from_residual.ensures.1 has
 
@@ -173,6 +237,6 @@ returns-in_err-change-clause-lent c w lent =
     (subst (λ (u : OpenTicket). IsLent w c.args.part.now c.args.journal.now u) (sym c.ticket.view_is) lent)
 
 pub returns-in_err-change-clause-beside : goal.returns-in_err-change-clause-beside
-returns-in_err-change-clause-beside c w p its_ticket has apart =
+returns-in_err-change-clause-beside c w p its_ticket has apart beside =
     by_memory (λ r. HasTable (after_act w c.args.ticket.now.number (opened_by c.args.ticket.now.events) c.args.sub c.args.c.now (told r)) p)
     c.from_residual-in_err-change.result c.from_residual-in_err-change.ensures.1 has

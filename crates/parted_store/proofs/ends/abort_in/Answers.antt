@@ -6,8 +6,10 @@ use Rattle.world.specs.Steps.{aborted_with}
 use Rattle.engine.specs.declared.events.LineEvent.{LineEvent}
 use Rattle.engine.specs.declared.events.LineEvent.TheVariants.{Aborted as WasAborted}
 use Rattle.engine.specs.Events.{opened_by, is_open_in}
-use Rattle.parted_store.specs.Ends.{BelongEach, IsAborted}
-use Rattle.parted_store.specs.EndLemmas.{aborted_by, same_aborted, end_aborted, aborts_nothing, none_beside, some_then}
+use Rattle.parted_store.specs.EachPart.{BelongEach}
+use Rattle.parted_store.specs.Ends.{IsAborted}
+use Rattle.parted_store.specs.EachPartLemmas.{some_then}
+use Rattle.parted_store.specs.EndLemmas.{aborted_by, same_aborted, end_aborted, aborts_nothing, none_beside}
 use Rattle.parted_store.specs.JournalLemmas.{journal_aborted}
 use Rattle.parted_store.specs.Lent.{OpenTicket, HasJournal, HasTicket, HasShares}
 use Rattle.parted_store.specs.Shares.{share_of}
@@ -25,7 +27,7 @@ returns-clause-parts c i p at =
     let t : OpenTicket = ticket_in c.ticket.inside in
     subst (λ (u : OpenTicket). IsSomeAnd (slice_get c.abort_each.new.parts i) (IsAborted u p)) c.ticket.view_is
     (some_then (slice_get c.abort_each.new.parts i) (c.abort_each.ensures.done i p (slice_get_within c.args.parts.now i p at) at)
-    (λ q did w has its_ticket. aborted_by t p w has its_ticket (share_of t.shares p.number) (c.ticket.invariant.shares p.number) q did))
+    (λ q did w has its_ticket. aborted_by t p w has its_ticket (share_of t.shares p.number) (c.ticket.invariant.shares p.number) q did.0))
 
 pub returns-clause-journal : goal.returns-clause-journal
 returns-clause-journal c w has =
@@ -49,9 +51,9 @@ returns-clause-appended c =
 pub returns-clause-same : goal.returns-clause-same
 returns-clause-same c i p at =
     some_then (slice_get c.abort_each.new.parts i) (c.abort_each.ensures.done i p (slice_get_within c.args.parts.now i p at) at)
-    (λ q did. same_aborted p q (share_of (ticket_in c.ticket.inside).shares p.number) did)
+    (λ q did. same_aborted p q (share_of (ticket_in c.ticket.inside).shares p.number) did.0)
 
 pub returns-clause-ends : goal.returns-clause-ends
 returns-clause-ends c i p at =
     some_then (slice_get c.abort_each.new.parts i) (c.abort_each.ensures.done i p (slice_get_within c.args.parts.now i p at) at)
-    (λ q did. end_aborted p q (share_of (ticket_in c.ticket.inside).shares p.number) did)
+    (λ q did. end_aborted p q (share_of (ticket_in c.ticket.inside).shares p.number) did.0)

@@ -6,8 +6,10 @@ use Rattle.world.specs.Steps.{committed_with}
 use Rattle.engine.specs.declared.events.LineEvent.{LineEvent}
 use Rattle.engine.specs.declared.events.LineEvent.TheVariants.{Committed as WasCommitted}
 use Rattle.engine.specs.Events.{opened_by, is_open_in}
-use Rattle.parted_store.specs.Ends.{BelongEach, IsCommitted}
-use Rattle.parted_store.specs.EndLemmas.{committed_by, same_committed, end_committed, commits_nothing, none_beside, some_then}
+use Rattle.parted_store.specs.EachPart.{BelongEach}
+use Rattle.parted_store.specs.Ends.{IsCommitted}
+use Rattle.parted_store.specs.EachPartLemmas.{some_then}
+use Rattle.parted_store.specs.EndLemmas.{committed_by, same_committed, end_committed, commits_nothing, none_beside}
 use Rattle.parted_store.specs.JournalLemmas.{journal_committed}
 use Rattle.parted_store.specs.Lent.{OpenTicket, HasJournal, HasTicket, HasShares}
 use Rattle.parted_store.specs.Shares.{share_of}
@@ -28,7 +30,7 @@ returns-clause-parts c i p at =
     let t : OpenTicket = ticket_in c.ticket.inside in
     subst (λ (u : OpenTicket). IsSomeAnd (slice_get c.commit_each.new.parts i) (IsCommitted u c.args.info p)) c.ticket.view_is
     (some_then (slice_get c.commit_each.new.parts i) (c.commit_each.ensures.done i p (slice_get_within c.args.parts.now i p at) at)
-    (λ q did w has its_ticket. committed_by t p w has its_ticket c.args.info (share_of t.shares p.number) (c.ticket.invariant.shares p.number) q did))
+    (λ q did w has its_ticket. committed_by t p w has its_ticket c.args.info (share_of t.shares p.number) (c.ticket.invariant.shares p.number) q did.0))
 
 pub returns-clause-journal : goal.returns-clause-journal
 returns-clause-journal c schema w has =
@@ -52,9 +54,9 @@ returns-clause-appended c =
 pub returns-clause-same : goal.returns-clause-same
 returns-clause-same c i p at =
     some_then (slice_get c.commit_each.new.parts i) (c.commit_each.ensures.done i p (slice_get_within c.args.parts.now i p at) at)
-    (λ q did. same_committed p q c.args.info (share_of (ticket_in c.ticket.inside).shares p.number) did)
+    (λ q did. same_committed p q c.args.info (share_of (ticket_in c.ticket.inside).shares p.number) did.0)
 
 pub returns-clause-ends : goal.returns-clause-ends
 returns-clause-ends c i p at =
     some_then (slice_get c.commit_each.new.parts i) (c.commit_each.ensures.done i p (slice_get_within c.args.parts.now i p at) at)
-    (λ q did. end_committed p q c.args.info (c.requires.later i p at) (share_of (ticket_in c.ticket.inside).shares p.number) did)
+    (λ q did. end_committed p q c.args.info (c.requires.later i p at) (share_of (ticket_in c.ticket.inside).shares p.number) did.0)

@@ -1,0 +1,68 @@
+// The marks of a transaction's subtransactions: under the latest one a change goes to its table.
+ghost use Rattle.std.specs.Prelude.{◌≡◌, ◌==◌, ◌||◌, not, is_some, unwrap_or, IfOk, OnOk, OnErr, if◌then◌else◌};
+ghost use Rattle.model.specs.declared.item.Item.TheVariants.{BackTo};
+ghost use Rattle.model.specs.Survivors.{after_item};
+ghost use Rattle.live_tables.specs.Answers.{told};
+ghost use Rattle.savepoint.specs.Savepoints.{mark_at, before_mark, latest_sub};
+ghost use Rattle.parted_store.specs.Acting.{is_done};
+ghost use Rattle.parted_store.specs.Ticket.{with_place, places_of};
+
+use engine::{Acted, EngineFault};
+use model::{Item, OutOfMemory, Xid};
+use savepoint::Savepoints;
+
+/// Sets the mark of a subtransaction that has none, behind so many items, and answers whether it did. The
+/// top transaction needs none. Refused for memory, it changes nothing.
+pub(crate) fn set_mark(
+    marks: &mut Savepoints<usize>,
+    top: Xid,
+    sub: Xid,
+    items: usize,
+) -> Result<bool, OutOfMemory>
+    ensures ok { OnOk result (marks.new ≡ with_place top sub items marks.old) }
+    ensures set { IfOk result (λ set. set ≡ not ((sub == top) || is_some (mark_at sub marks.old))) }
+    ensures err { OnErr result (marks.new ≡ marks.old) }
+{
+    if sub == top || marks.mark_of(sub).is_some() {
+        return Ok(false);
+    }
+    marks.note(sub, items)?;
+    Ok(true)
+}
+
+/// The latest mark, or the top transaction. It takes no memory.
+pub(crate) fn latest(marks: &Savepoints<usize>, top: Xid) -> Xid
+    ensures { result ≡ unwrap_or (latest_sub marks.now) top }
+{
+    marks.latest().unwrap_or(top)
+}
+
+/// Takes the mark back that was set for a change which wasn't done. It takes no memory.
+pub(crate) fn unset_mark(
+    marks: &mut Savepoints<usize>,
+    sub: Xid,
+    set: bool,
+    answer: &Result<Acted, EngineFault>,
+)
+    ensures { marks.new ≡ (if not set || is_done (told answer.now) then marks.old else before_mark sub marks.old) }
+{
+    let is_done = matches!(answer, Ok(Acted::Done) | Ok(Acted::Skipped));
+    if set && !is_done {
+        marks.cut(sub);
+    }
+}
+
+/// Drops the items of a subtransaction and all later ones, and their marks. A rollback to the top transaction
+/// drops none. It takes no memory.
+pub(crate) fn cut_back(items: &mut Vec<Item>, marks: &mut Savepoints<usize>, top: Xid, sub: Xid)
+    requires { marks.old ≡ places_of top items.old.items }
+    ensures items { items.new.items ≡ after_item top items.old.items (BackTo sub) }
+    ensures marks { marks.new ≡ places_of top items.new.items }
+{
+    if sub == top {
+        return;
+    }
+    if let Some(count) = marks.cut(sub) {
+        items.truncate(count);
+    }
+}
