@@ -22,39 +22,79 @@ enum Step {
     RowsAfter(TableId, usize),
 }
 
-static BEGIN: [Deed; 5] = [
-    Deed::Open(699),
-    Deed::Open(700),
-    Deed::Open(701),
-    Deed::Act(699, 699, Put(ACCOUNTS, ("3", "c", "n"))),
-    Deed::Commit(699),
-];
+/// Calls one after another, each of which may be refused, behind some that aren't.
+#[derive(Clone, Copy, Debug)]
+struct Play {
+    begin: &'static [Deed],
+    steps: &'static [Step],
+}
 
-// One call after another, with two transactions open over two accounts, of which one is committed
-// then: rows that come, change, move, go and are not there, one that waits, and an emptied table.
-static STEPS: [Step; 21] = [
-    Step::Make(Deed::Act(701, 701, Put(ACCOUNTS, ("4", "d", "n")))),
-    Step::Make(Deed::Open(702)),
-    Step::Make(Deed::Touch(700, 711)),
-    Step::Make(Deed::Act(700, 711, Set(ACCOUNTS, "1", ("5", "e", "-")))),
-    Step::Make(Deed::Act(700, 712, Set(ACCOUNTS, "2", ("-", "-", "v")))),
-    Step::Live(ACCOUNTS, "5"),
-    Step::Committed(ACCOUNTS, "1"),
-    Step::Make(Deed::Act(700, 713, Remove(ACCOUNTS, "2"))),
-    Step::Make(Deed::Act(700, 713, Set(ACCOUNTS, "9", ("-", "-", "v")))),
-    Step::Make(Deed::Act(702, 702, Remove(ACCOUNTS, "5"))),
-    Step::Make(Deed::Act(702, 712, Set(NAMES, "a", ("-", "-", "v")))),
-    Step::RowsAfter(ACCOUNTS, 1),
-    Step::Make(Deed::Open(703)),
-    Step::Make(Deed::Act(701, 721, Wipe(&[NAMES]))),
-    Step::Make(Deed::Touch(701, 722)),
-    Step::Make(Deed::Act(701, 722, Set(ACCOUNTS, "4", ("-", "g", "v")))),
-    Step::Make(Deed::Act(703, 703, Wipe(&[ACCOUNTS]))),
-    Step::Committed(ACCOUNTS, "2"),
-    Step::CommittedRows(ACCOUNTS),
-    Step::Live(ACCOUNTS, "4"),
-    Step::RowsAfter(ACCOUNTS, 0),
-];
+// Two transactions open over two accounts and one more that was committed: rows that come, change, move, go
+// and are not there, one that waits, and an emptied table.
+static SIDE_BY_SIDE: Play = Play {
+    begin: &[
+        Deed::Open(699),
+        Deed::Open(700),
+        Deed::Open(701),
+        Deed::Act(699, 699, Put(ACCOUNTS, ("3", "c", "n"))),
+        Deed::Commit(699),
+    ],
+    steps: &[
+        Step::Make(Deed::Act(701, 701, Put(ACCOUNTS, ("4", "d", "n")))),
+        Step::Make(Deed::Open(702)),
+        Step::Make(Deed::Touch(700, 711)),
+        Step::Make(Deed::Act(700, 711, Set(ACCOUNTS, "1", ("5", "e", "-")))),
+        Step::Make(Deed::Act(700, 712, Set(ACCOUNTS, "2", ("-", "-", "v")))),
+        Step::Live(ACCOUNTS, "5"),
+        Step::Committed(ACCOUNTS, "1"),
+        Step::Make(Deed::Act(700, 713, Remove(ACCOUNTS, "2"))),
+        Step::Make(Deed::Act(700, 713, Set(ACCOUNTS, "9", ("-", "-", "v")))),
+        Step::Make(Deed::Act(702, 702, Remove(ACCOUNTS, "5"))),
+        Step::Make(Deed::Act(702, 712, Set(NAMES, "a", ("-", "-", "v")))),
+        Step::RowsAfter(ACCOUNTS, 1),
+        Step::Make(Deed::Open(703)),
+        Step::Make(Deed::Act(701, 721, Wipe(&[NAMES]))),
+        Step::Make(Deed::Touch(701, 722)),
+        Step::Make(Deed::Act(701, 722, Set(ACCOUNTS, "4", ("-", "g", "v")))),
+        Step::Make(Deed::Act(703, 703, Wipe(&[ACCOUNTS]))),
+        Step::Committed(ACCOUNTS, "2"),
+        Step::CommittedRows(ACCOUNTS),
+        Step::Live(ACCOUNTS, "4"),
+        Step::RowsAfter(ACCOUNTS, 0),
+    ],
+};
+
+// One that is alone does the same to rows and tables, and reads; what it holds is made as another opens.
+static SECOND_OPENS: Play = Play {
+    begin: &[Deed::Open(700)],
+    steps: &[
+        Step::Make(Deed::Act(700, 700, Put(ACCOUNTS, ("4", "d", "n")))),
+        Step::Make(Deed::Act(700, 700, Set(ACCOUNTS, "1", ("5", "e", "-")))),
+        Step::Make(Deed::Act(700, 700, Remove(ACCOUNTS, "2"))),
+        Step::Committed(ACCOUNTS, "1"),
+        Step::Make(Deed::Act(700, 700, Put(ACCOUNTS, ("2", "b", "v")))),
+        Step::Make(Deed::Act(700, 700, Wipe(&[NAMES]))),
+        Step::CommittedRows(ACCOUNTS),
+        Step::Make(Deed::Open(701)),
+        Step::Make(Deed::Act(701, 701, Put(ACCOUNTS, ("3", "c", "n")))),
+        Step::Make(Deed::Act(701, 701, Remove(ACCOUNTS, "1"))),
+        Step::Committed(ACCOUNTS, "2"),
+    ],
+};
+
+// The same as its first subtransaction is named.
+static NAMES_ONE: Play = Play {
+    begin: &[Deed::Open(700)],
+    steps: &[
+        Step::Make(Deed::Act(700, 700, Remove(ACCOUNTS, "1"))),
+        Step::Make(Deed::Act(700, 700, Put(ACCOUNTS, ("4", "a", "n")))),
+        Step::Make(Deed::Act(700, 700, Set(ACCOUNTS, "2", ("6", "-", "v")))),
+        Step::Make(Deed::Act(700, 712, Set(ACCOUNTS, "6", ("-", "g", "-")))),
+        Step::Committed(ACCOUNTS, "1"),
+        Step::Make(Deed::Open(701)),
+        Step::Make(Deed::Act(701, 722, Put(ACCOUNTS, ("7", "b", "n")))),
+    ],
+};
 
 // What ends the transactions that may be open then, in two parts.
 static ROLLBACKS: [Deed; 2] = [Deed::BackTo(700, 712), Deed::BackTo(701, 722)];
@@ -135,30 +175,24 @@ fn new_scene(rt: &impl Abort, alloc: Global) -> Result<Scene, EngineFault> {
     }
 }
 
-/// The same with one more account that was committed, and two transactions open.
-fn begun(rt: &impl Abort, alloc: Global) -> Result<Scene, EngineFault> {
+/// The same once a play has begun.
+fn begun(rt: &impl Abort, alloc: Global, play: &Play) -> Result<Scene, EngineFault> {
     let mut scene = new_scene(rt, alloc)?;
-    scene.make_all(rt, alloc, &BEGIN)?;
+    scene.make_all(rt, alloc, play.begin)?;
     Ok(scene)
 }
 
-/// Makes the first so many calls.
-fn make_first(
+/// The same, after its first so many calls.
+fn stepped(
     rt: &impl Abort,
     alloc: Global,
-    scene: &mut Scene,
+    play: &Play,
     count: usize,
-) -> Result<(), EngineFault> {
-    for step in STEPS.iter().take(count) {
-        make(rt, alloc, scene, step)?;
+) -> Result<Scene, EngineFault> {
+    let mut scene = begun(rt, alloc, play)?;
+    for step in play.steps.iter().take(count) {
+        make(rt, alloc, &mut scene, step)?;
     }
-    Ok(())
-}
-
-/// The same, after the first so many calls.
-fn stepped(rt: &impl Abort, alloc: Global, count: usize) -> Result<Scene, EngineFault> {
-    let mut scene = begun(rt, alloc)?;
-    make_first(rt, alloc, &mut scene, count)?;
     Ok(scene)
 }
 
@@ -256,6 +290,31 @@ fn show_tables(
     Ok(())
 }
 
+/// The transaction that a rollback or a commit ends, or a part of it.
+fn ended_by(deed: &Deed) -> Option<Xid> {
+    match deed {
+        Deed::BackTo(xid, _) | Deed::Commit(xid) => Some(*xid),
+        _ => None,
+    }
+}
+
+/// Makes the calls of transactions that are open.
+fn make_open(
+    rt: &impl Abort,
+    alloc: Global,
+    scene: &mut Scene,
+    deeds: &[Deed],
+) -> Result<(), EngineFault> {
+    for deed in deeds {
+        if let Some(xid) = ended_by(deed)
+            && scene.is_open(xid)
+        {
+            scene.make(rt, alloc, deed)?;
+        }
+    }
+    Ok(())
+}
+
 /// Some transactions are rolled back and committed, and the others aborted.
 fn end_in_parts(
     rt: &impl Abort,
@@ -264,7 +323,7 @@ fn end_in_parts(
     out: &mut String,
 ) -> Result<(), EngineFault> {
     for deeds in [&ROLLBACKS, &COMMITS] {
-        scene.make_all(rt, alloc, deeds)?;
+        make_open(rt, alloc, scene, deeds)?;
         show_reads(rt, alloc, scene, out)?;
     }
     for xid in [702, 703] {
@@ -321,9 +380,10 @@ fn shows_as_stepped(
     rt: &impl Abort,
     alloc: Global,
     scene: &Scene,
+    play: &Play,
     (count, step): (usize, &Step),
 ) -> Result<(), EngineFault> {
-    let same = stepped(rt, alloc, count)?;
+    let same = stepped(rt, alloc, play, count)?;
     read_alike(rt, alloc, scene, &same, step)
 }
 
@@ -361,10 +421,11 @@ fn was_refused(
     rt: &impl Abort,
     alloc: Global,
     scene: Scene,
+    play: &Play,
     (count, step): (usize, &Step),
 ) -> Result<(), EngineFault> {
-    shows_as_stepped(rt, alloc, &scene, (count, step))?;
-    let never_asked = stepped(rt, alloc, count)?;
+    shows_as_stepped(rt, alloc, &scene, play, (count, step))?;
+    let never_asked = stepped(rt, alloc, play, count)?;
     answers_alike(rt, alloc, scene, never_asked, step)
 }
 
@@ -385,19 +446,34 @@ fn first_refused<'a>(
 }
 
 /// Makes the calls up to the first that is refused. Then memory is there again.
-fn step_until_refused(rt: &impl Abort, alloc: Global) -> Result<(), EngineFault> {
-    let mut scene = stepped(rt, alloc, 0)?;
-    match first_refused(rt, alloc, &mut scene, &STEPS) {
-        Some(refused) => was_refused(rt, alloc, scene, refused),
+fn step_until_refused(rt: &impl Abort, alloc: Global, play: &Play) -> Result<(), EngineFault> {
+    let mut scene = begun(rt, alloc, play)?;
+    match first_refused(rt, alloc, &mut scene, play.steps) {
+        Some(refused) => was_refused(rt, alloc, scene, play, refused),
         None => Ok(()),
+    }
+}
+
+/// Where one of all allocations is refused, a play goes on as though its call had never come.
+fn stands_refusals(rt: &impl Abort, alloc: Global, play: &Play) {
+    if let Err(fault) = step_until_refused(rt, alloc, play) {
+        assert_same(rt, fault, EngineFault::OutOfMemory, "refused");
     }
 }
 
 #[test]
 fn calls_where_memory_is_refused(rt: HostRuntime) {
-    if let Err(fault) = step_until_refused(&rt, rt.alloc()) {
-        assert_same(&rt, fault, EngineFault::OutOfMemory, "refused");
-    }
+    stands_refusals(&rt, rt.alloc(), &SIDE_BY_SIDE);
+}
+
+#[test]
+fn a_second_open_where_memory_is_refused(rt: HostRuntime) {
+    stands_refusals(&rt, rt.alloc(), &SECOND_OPENS);
+}
+
+#[test]
+fn a_first_savepoint_where_memory_is_refused(rt: HostRuntime) {
+    stands_refusals(&rt, rt.alloc(), &NAMES_ONE);
 }
 
 /// Whether the accounts are these.
@@ -448,7 +524,7 @@ fn have_all_wait(rt: &impl Abort, alloc: Global, scene: &mut Scene) -> Result<()
 }
 
 fn waiting(rt: &impl Abort, alloc: Global) -> Result<Scene, EngineFault> {
-    let mut scene = stepped(rt, alloc, 0)?;
+    let mut scene = begun(rt, alloc, &SIDE_BY_SIDE)?;
     have_all_wait(rt, alloc, &mut scene)?;
     Ok(scene)
 }
