@@ -290,7 +290,8 @@ impl Store {
         }
     }
 
-    /// The committed row of a table at a key, as a copy. No log is searched for it.
+    /// The committed row of a table at a key, as a copy. No log is searched for it, but that of a transaction
+    /// which is alone.
     pub fn committed(&self, table: TableId, key: &Key) -> Result<Option<Row>, EngineFault>
         requires { table < length self.now.schema }
         ensures reads { ReadsCommitted self.now.world (table, key.now) result }
@@ -315,7 +316,7 @@ impl Store {
 
     /// The rows of a table after the first so many commits, in key order, as copies: the committed ones,
     /// but where a later commit changed them what stood before it. It costs what `committed_rows` costs,
-    /// and the changes of the later commits.
+    /// and the changes of the later commits; in memory each key that they changed besides.
     pub fn rows_after(
         &self,
         alloc: Global,

@@ -24,6 +24,7 @@ mod holds;
 mod left;
 mod many;
 mod memory;
+mod older;
 mod runs;
 mod schedules;
 mod stress;

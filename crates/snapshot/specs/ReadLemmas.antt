@@ -1,12 +1,12 @@
 -- What a store tells of its commits, as a reader sees it.
 --     positions_of      the position behind the first so many entries of a journal, for each number of them
---     found_next, not_next      the search for a position among them, entry by entry
+--     found_next, still_behind, in_none      the search for a position among them, from the newest entry on
 --     positions_told      they are those of the commits that the line tells
 --     sees_more      a look at the line
 --     within_line      how many commits come before one
 --     rows_told      the rows that a store reads are those of these commits
 --     one_position      where commits end above one another, one number of them ends at a position
-use Rattle.std.proofs.Common.{◌≡◌, ℕ, zero, suc, ◌+◌, ◌<◌, ◌≤◌, List, [], ◌∷◌, ◌++◌, length, get_or, take, map, Some, refl, sym, ap, subst, ◌∙◌, inl, inr, arith}
+use Rattle.std.proofs.Common.{◌≡◌, ℕ, suc, ◌+◌, ◌<◌, ◌≤◌, List, [], ◌∷◌, length, get_or, take, drop, drop-cons, map, Some, refl, sym, ap, subst, ◌∙◌, inl, inr, arith}
 use Rattle.std.specs.Prelude.{slice_get, option_map}
 use Rattle.std.specs.List.{Contains}
 use Rattle.std.specs.List.Sorted.{IsStrictlyIncreasing}
@@ -14,7 +14,7 @@ use Rattle.std.proofs.lemmas.Bool.{cases_order}
 use Rattle.std.proofs.lemmas.List.{length-map}
 use Rattle.std.proofs.lemmas.List.Kept.{AllPairs-from_increasing}
 use Rattle.std.proofs.lemmas.Option.{slice_get-map, slice_get_read, slice_get_within, get_or_from_slice_get}
-use Rattle.std.proofs.lemmas.List.Elements.{Contains-push_cases}
+use Rattle.std.proofs.lemmas.List.Elements.{Contains-push_cases, Contains-append_cases}
 use Rattle.model.specs.Rows.{Rows, Schema}
 use Rattle.model.specs.Effect.{serial}
 use Rattle.model.specs.Beginning.{Begins}
@@ -42,22 +42,38 @@ module _ (e : entry_type.Entry) where
       ap (slice_get (positions_of entries)) one ∙ slice_get-map (λ (f : entry_type.Entry). f.end) entries index
       ∙ ap (option_map (λ (f : entry_type.Entry). f.end)) (slice_get_read entries (length entries) index e refl below is)
 
-  ends_next : (entries : List entry_type.Entry) (index : ℕ) → index < length entries → e ≡ get_or entries index e
-      → map (λ (f : entry_type.Entry). f.end) (take (suc index) entries) ≡ map (λ (f : entry_type.Entry). f.end) (take index entries) ++ e.end ∷ []
-  ends_next [] index below is = absurd (omega arith)
-  ends_next (f ∷ entries) zero below is = ap (λ (g : entry_type.Entry). g.end ∷ []) (sym is)
-  ends_next (f ∷ entries) (suc index) below is = ap (λ (ends : List ℕ). f.end ∷ ends) (ends_next entries index (omega arith) is)
+-- where the entries end from one on
+abbrev pub ends_from : ℕ → List entry_type.Entry → List ℕ
+ends_from index entries = map (λ (e : entry_type.Entry). e.end) (drop index entries)
 
-  pub not_next : (entries : List entry_type.Entry) (index position : ℕ) → index < length entries → e ≡ get_or entries index e
-      → ¬ Contains (positions_of (take index entries)) position → ¬ (e.end ≡ position) → ¬ Contains (positions_of (take (index + 1) entries)) position
-  not_next entries index position below is before here has =
-      let one : index + 1 ≡ suc index = omega arith in
-      let more : positions_of (take (index + 1) entries) ≡ positions_of (take index entries) ++ e.end ∷ [] =
-      ap (λ (n : ℕ). positions_of (take n entries)) one ∙ ap (λ (ends : List ℕ). 0 ∷ ends) (ends_next entries index below is) in
-      elim (Contains-push_cases (positions_of (take index entries)) e.end position (subst (λ (ns : List ℕ). Contains ns position) more has)) [
-        | inl earlier ↦ before earlier
-        | inr same ↦ here same
-      ]
+alone : (end position : ℕ) → Contains (end ∷ []) position → end ≡ position
+alone end position has =
+    elim (Contains-push_cases [] end position has) [
+      | inl none ↦ absurd (omega (arith, none.1))
+      | inr same ↦ same
+    ]
+
+-- one more is not the one that ends there
+pub still_behind : (entries : List entry_type.Entry) (index position : ℕ) (e : entry_type.Entry) → index < length entries → e ≡ get_or entries index e
+    → ¬ Contains (ends_from (index + 1) entries) position → ¬ (e.end ≡ position) → ¬ Contains (ends_from index entries) position
+still_behind entries index position e below is behind here has =
+    let one : index + 1 ≡ suc index = omega arith in
+    let both : ends_from index entries ≡ e.end ∷ ends_from (suc index) entries =
+    ap (map (λ (f : entry_type.Entry). f.end)) (drop-cons entries index e below)
+    ∙ ap (λ (f : entry_type.Entry). f.end ∷ ends_from (suc index) entries) (sym is) in
+    elim (Contains-append_cases (e.end ∷ []) (ends_from (suc index) entries) position (subst (λ (ns : List ℕ). Contains ns position) both has)) [
+      | inl first ↦ here (alone e.end position first)
+      | inr later ↦ behind (subst (λ n. Contains (ends_from n entries) position) (sym one) later)
+    ]
+
+-- where no entry ends there, and it isn't 0, it is no position of theirs
+pub in_none : (entries : List entry_type.Entry) (position : ℕ) → ¬ (0 ≡ position) → ¬ Contains (ends_from 0 entries) position
+    → ¬ Contains (positions_of entries) position
+in_none entries position apart none has =
+    elim (Contains-append_cases (0 ∷ []) (map (λ (e : entry_type.Entry). e.end) entries) position has) [
+      | inl first ↦ apart (alone 0 position first)
+      | inr later ↦ none later
+    ]
 
 -- ---- what a store tells
 

@@ -6,19 +6,20 @@ ghost use Rattle.snapshot.specs.ReadLemmas.{positions_of};
 use engine::Entry;
 use model::Lsn;
 
-/// How many entries there are up to the one that ends at this position; for 0 none of them.
+/// How many entries there are up to the one that ends at this position; for 0 none of them. It looks at
+/// those behind the position alone, from the newest on.
 pub(crate) fn count_up_to(entries: &[Entry], position: Lsn) -> Option<usize>
     ensures { MatchOption result (¬ Contains (positions_of entries.now) position) (λ count. slice_get (positions_of entries.now) count ≡ Some position) }
 {
     if position == 0 {
         return Some(0);
     }
-    let mut count = 0;
-    for entry in entries {
-        count += 1;
-        if entry.end == position {
-            return Some(count);
+    let mut left = entries.len();
+    while left > 0 {
+        if entries[left - 1].end == position {
+            return Some(left);
         }
+        left -= 1;
     }
     None
 }

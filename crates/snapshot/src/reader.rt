@@ -124,7 +124,8 @@ impl<'a, N: StoreNames> Reader<'a, N> {
 
     /// The rows of a table after the commits up to the one that ends at this position, in key order, as
     /// copies; at position 0 those before the first commit. What stood before the later commits takes the
-    /// place of what they changed: beside what `rows` costs it is their changes, under the store's lock.
+    /// place of what they changed: beside what `rows` costs it is their entries and changes, under the
+    /// store's lock, and in memory each key that they changed.
     pub fn rows_at<R: Wait>(
         &mut self,
         rt: &R,

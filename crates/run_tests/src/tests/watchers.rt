@@ -327,8 +327,8 @@ fn push_rows(out: &mut String, rows: Result<Vec<Row>, ReadFault>) -> Result<(), 
     Ok(())
 }
 
-// Appends the rows at a position.
-fn push_at<N: StoreNames, R: Wait>(
+/// Appends the rows at a position.
+pub(super) fn push_at<N: StoreNames, R: Wait>(
     out: &mut String,
     rt: &R,
     alloc: Global,

@@ -1,10 +1,14 @@
-use Rattle.std.proofs.Common.{◌≡◌, take}
+use Rattle.std.proofs.Common.{◌≤◌, length}
 use Rattle.std.specs.List.{Contains}
-use Rattle.snapshot.specs.ReadLemmas.{positions_of}
+use Rattle.snapshot.specs.ReadLemmas.{ends_from}
 use Rattle.snapshot.proofs.entries.count_up_to.Given as goal
 
-abbrev pub invariant-loop-entry : goal.invariant-loop-entry
-invariant-loop-entry l = record {
-  count : l.count ≡ l.entry-index;
-  beyond : ¬ Contains (positions_of (take l.entry-index l.entries)) l.position;
+-- none behind those that are left ends there
+abbrev pub invariant-loop-left : goal.invariant-loop-left
+invariant-loop-left l = record {
+  within : l.left ≤ length l.entries;
+  behind : ¬ Contains (ends_from l.left l.entries) l.position;
 }
+
+abbrev pub decreases-loop-left : goal.decreases-loop-left
+decreases-loop-left l = l.left

@@ -131,5 +131,8 @@ fn each_position_has_the_rows_of_a_fold_forward(rt: HostRuntime) -> Result<(), F
     let put = scene.act(&rt, alloc, 900, 900, &Put(NAMES, ("c", "x", "n")))?;
     assert_same(&rt, put, Acted::Done, "a row is put");
     has_each(&rt, alloc, &scene, history.as_slice())?;
+    // Until then it was alone, and held nothing.
+    scene.open(alloc, 901)?;
+    has_each(&rt, alloc, &scene, history.as_slice())?;
     Ok(())
 }
