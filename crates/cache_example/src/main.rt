@@ -10,9 +10,10 @@
 //
 // What is promised. `keep` answers with the rows that the commits of the stream leave, applied one after
 // another, or says why there is no clean end (`IsKeptFrom` in `specs/Accounts.antt`, by the contract of
-// `run`). Each look-up answers with what stands in these rows, and with none only where there is none; at
-// the desk, with what stands in the rows of the commits so far. So no answer is of a transaction that was
-// rolled back, or that has not come whole. Which bytes come over a socket is said by no clause.
+// `run`). Each look-up answers with what stands in these rows, and with none only where there is none. So no
+// answer is of a transaction that was rolled back, or that has not come whole. The desk answers with what a
+// reader's contract says, committed rows alone; that its reader is one of this run `run_on` would say, and
+// `run` doesn't. Which bytes come over a socket is said by no clause.
 //
 //   accounts   the cache, asked by number and by email
 //   desk       whoever asks while the stream comes

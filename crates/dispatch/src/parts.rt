@@ -98,7 +98,7 @@ pub struct WorkerPool<N: StoreNames, L: OutboxNames, G: Drop> {
 }
 
 impl<N: StoreNames, L: OutboxNames, G: Gate + Drop> WorkerPool<N, L, G> {
-    /// A worker for each gate, in their order: its place is its number.
+    /// A worker for each gate: its place is its number.
     pub fn new(
         alloc: Global,
         mut parts: Vec<Parts<N>>,

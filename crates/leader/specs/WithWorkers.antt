@@ -63,7 +63,7 @@ pub record IsShutSo (keys : Schema) (rows : Rows) (line : List LineEvent) (o : O
 
 -- A run with workers from these rows: the items handled are those of the bytes up to its end, at which there is a world
 -- of theirs that calls on a store reach, and a cause of the end; all of them if it ended cleanly. The end is the one that
--- was decided there: of a clash, where its change stopped that world and is still wanted. What is left are the
+-- was decided there: of a clash, where a change of an open transaction stopped that world, and it wants one still. What is left are the
 -- commits among them, each with the changes of its transaction that survived its rollbacks, applied one after another in
 -- their order. A world that calls reach closes with them.
 pub record IsRunByWorkers (g : Setting) (rows : Rows) (old new : DeviceState) (o : Outcome) : Type 0 where

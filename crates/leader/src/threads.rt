@@ -48,8 +48,8 @@ use worker_threads::{Mailbox, make_mailboxes};
 ///
 /// Each watcher has turns meanwhile, in a thread of its own, and one more behind the end.
 ///
-/// The start tables must be those of the catalog. It is `run_on` with devices of its own: what
-/// it sends is said there, and what its watchers know behind it.
+/// The start tables must be those of the catalog. It is `run_on` with devices of its own, which are gone when
+/// it returns: so no clause of this one says what was sent, that a device failed, or what watchers know.
 pub fn run<R, S, W, C, G, V>(
     rt: &R,
     alloc: Global,

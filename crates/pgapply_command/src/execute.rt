@@ -34,7 +34,8 @@ const OUT_OF_MEMORY: Ended = Ended {
 };
 
 /// Reads the catalog, runs the stream from empty tables and appends the report to `out`. It is
-/// `execute_on` with devices of its own: what it sends is said there.
+/// `execute_on` with devices of its own, which are gone when it returns: so no clause of this one says what
+/// was sent, or that a device failed.
 ///
 /// Streamed transactions are applied while they come, by as many workers as `config` says; where
 /// `spooled` asks for it, each at its commit.

@@ -57,8 +57,8 @@ impl<R: Source, W: Sink, C: Clock> Devices<R, W, C> {
 /// Reads the stream to its end and applies its transactions one after another, a streamed one at its
 /// commit. Open work is undone before the answer.
 ///
-/// The start tables must be those of the catalog. It is `run_spooled_on` with devices of its own: what it
-/// sends is said there.
+/// The start tables must be those of the catalog. It is `run_spooled_on` with devices of its own, which are
+/// gone when it returns: so no clause of this one says what was sent, or that a device failed.
 pub fn run_spooled<R: Source + Drop, W: Sink + Drop, C: Clock + Drop>(
     alloc: Global,
     reader: R,

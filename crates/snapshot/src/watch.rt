@@ -9,7 +9,7 @@ use std::sync::Wait;
 ///
 /// A run gives each watcher a thread and a reader of its own. It calls `turn` until that answers
 /// false or the run has ended, and then once more, when no transaction is open: so the last turn sees
-/// what the run leaves.
+/// what the run leaves. No clause says that a turn comes.
 pub trait Watch {
     ghost use Rattle.snapshot.specs.Reads.{Sight};
 

@@ -3,12 +3,13 @@
 --     OutboxModel, outbox_model      what an outbox knows, and that of its parts
 --     IsOutbox      what its type keeps
 --     SendsOn, GoesOn      more may be sent, and the rest is as it was
+--     FindsNoRoom      the ring has no room, by a look of this call
 --     HandsOn, IsSameMeeting      the items that aren't done are handed out
-use Rattle.std.specs.Prelude.{◌≡◌, ◌≤◌, ℕ, false, List, [], ◌∷◌, ◌++◌, Option, Some, None, IsSome, MatchOption, fold}
+use Rattle.std.specs.Prelude.{◌≡◌, ◌<◌, ◌≤◌, ℕ, false, List, [], ◌∷◌, ◌++◌, Option, Some, None, IsSome, MatchOption, fold}
 use Rattle.atomic_table.specs.Seated.{TableId}
 use Rattle.model.specs.declared.item.Item.{Item}
 use Rattle.tokens.specs.Half.{Name, no_name}
-use Rattle.ring.specs.Ends.{Sending, Meeting}
+use Rattle.ring.specs.Ends.{Sending, Meeting, HasNoRoom}
 use Rattle.worker.specs.declared.outbox.OutboxEvent.{OutboxEvent}
 use Rattle.worker.specs.declared.outbox.OutboxEvent.TheVariants.{Begun, Given}
 
@@ -54,6 +55,11 @@ pub record SendsOn {T : Type 0} (old new : Sending T) : Type 0 where
   pub before : new.before ≡ old.before
   pub dooms : new.dooms ≡ old.dooms
   pub grows : old.counted ≤ new.counted
+  pub looks : old.looks ≤ new.looks
+
+-- it has looked once more how many items were acknowledged, and that leaves no room
+abbrev pub FindsNoRoom : {T : Type 0} → Sending T → Sending T → Type 0
+FindsNoRoom old new = HasNoRoom new × (old.looks < new.looks)
 
 -- the same worker, from which more may be sent
 abbrev pub GoesOn : OutboxModel → OutboxModel → Type 0

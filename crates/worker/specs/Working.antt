@@ -84,8 +84,8 @@ HasNext j = (item : Item) × (j.taker.taken ≡ Some item) × (item ≢ Last)
 abbrev pub HasDone : Working → Working → Type 0
 HasDone old new = (item : Item) × (old.taker.taken ≡ Some item) × (done_in new ≡ done_in old ++ item ∷ [])
 
--- A world that the store came to, in which the transaction is open with just these events. The store has these keys, and
--- started from these rows.
+-- A world that calls lead to from where the store began, with these keys and rows, in which the transaction is open with
+-- just these events.
 pub record IsMet (keys : Schema) (first : Rows) (xid : ℕ) (events : List Event) (w : World) : Type 0 where
   pub reached : ∥ Reaches keys (starting first) w ∥₁
   pub open_one : get w.opened xid ≡ Some (opened_by events)

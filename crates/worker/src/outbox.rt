@@ -12,10 +12,10 @@ ghost use Rattle.std.specs.VecDeque.{deque_len, deque_capacity};
 ghost use Rattle.std.specs.Sync.Mutex.{mutex_guard_value};
 ghost use Rattle.model.specs.declared.item.Item.TheVariants.{Last};
 ghost use Rattle.model.specs.Beginning.{Begins};
-ghost use Rattle.ring.specs.Ends.{AtStart, HasNoRoom};
+ghost use Rattle.ring.specs.Ends.{AtStart};
 ghost use Rattle.worker.specs.declared.outbox.OutboxEvent.TheVariants.{Begun, Given};
 ghost use Rattle.worker.specs.declared.outbox.Collected.TheVariants.{All as WasAll};
-ghost use Rattle.worker.specs.Outbox.{given_since, SendsOn, GoesOn, HandsOn, IsSameMeeting};
+ghost use Rattle.worker.specs.Outbox.{given_since, SendsOn, GoesOn, FindsNoRoom, HandsOn, IsSameMeeting};
 
 use crate::hidden::wait_for_ever;
 use crate::item::WorkItem;
@@ -111,7 +111,7 @@ impl<N: StoreNames, L: OutboxNames> Outbox<N, L> {
     }
 
     /// Gives an item. It is sent behind those that are queued, while the ring has room, and is queued
-    /// itself where it hasn't. Refused, it is dropped, and nothing was given.
+    /// itself where a look finds none. Refused, it is dropped, and nothing was given.
     pub fn give(
         &mut self,
         token: &mut Token<OutboxEvent>,
@@ -122,7 +122,7 @@ impl<N: StoreNames, L: OutboxNames> Outbox<N, L> {
         ensures ok { OnOk result (token.new ≡ record token.old { list = token.old.list ++ Given item ∷ [] }) }
         ensures outbox { OnOk result (self.new.events ≡ token.new.list) }
         ensures items { OnOk result (self.new.sending.sent ++ self.new.queued ≡ (self.old.sending.sent ++ self.old.queued) ++ item ∷ []) }
-        ensures room { OnOk result ((self.new.queued ≡ []) ⊎ HasNoRoom self.new.sending) }
+        ensures room { OnOk result ((self.new.queued ≡ []) ⊎ FindsNoRoom self.old.sending self.new.sending) }
         ensures err { OnErr result (token.new ≡ token.old) }
         ensures same { OnErr result (self.new ≡ self.old) }
         ensures goes_on { GoesOn self.old self.new }
@@ -139,7 +139,7 @@ impl<N: StoreNames, L: OutboxNames> Outbox<N, L> {
     /// Sends queued items, oldest first, while the ring has room. It takes no memory.
     pub fn send_on(&mut self)
         ensures items { self.new.sending.sent ++ self.new.queued ≡ self.old.sending.sent ++ self.old.queued }
-        ensures room { (self.new.queued ≡ []) ⊎ HasNoRoom self.new.sending }
+        ensures room { (self.new.queued ≡ []) ⊎ FindsNoRoom self.old.sending self.new.sending }
         ensures events { self.new.events ≡ self.old.events }
         ensures goes_on { GoesOn self.old self.new }
     {
@@ -222,7 +222,7 @@ pub fn lock_outbox<'a, N: StoreNames, L: OutboxNames, R: Wait>(
 // Sends the items, oldest first, while there is room.
 fn send_queued<T: Drop>(sender: &mut Sender<T>, queued: &mut VecDeque<T>)
     ensures items { sender.new.sent ++ queued.new.items ≡ sender.old.sent ++ queued.old.items }
-    ensures room { (queued.new.items ≡ []) ⊎ HasNoRoom sender.new }
+    ensures room { (queued.new.items ≡ []) ⊎ FindsNoRoom sender.old sender.new }
     ensures sends_on { SendsOn sender.old sender.new }
 {
     while let Some(item) = queued.pop_front() {
@@ -237,7 +237,7 @@ fn send_queued<T: Drop>(sender: &mut Sender<T>, queued: &mut VecDeque<T>)
 fn send_or_keep<T: Drop>(sender: &mut Sender<T>, queued: &mut VecDeque<T>, item: T)
     requires { deque_len queued.old < deque_capacity queued.old }
     ensures items { sender.new.sent ++ queued.new.items ≡ (sender.old.sent ++ queued.old.items) ++ item ∷ [] }
-    ensures room { (queued.new.items ≡ []) ⊎ HasNoRoom sender.new }
+    ensures room { (queued.new.items ≡ []) ⊎ FindsNoRoom sender.old sender.new }
     ensures sends_on { SendsOn sender.old sender.new }
 {
     if queued.is_empty() {

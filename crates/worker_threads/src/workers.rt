@@ -56,7 +56,7 @@ impl<'a, F: FnMut(usize) -> X, X> Task for Lent<'a, F> {
 }
 
 /// Starts a worker for each mailbox and lets the leader work, which is told how many mailboxes have one: the
-/// first so many, and all of them unless a thread can't be started. Once the leader has answered, all
+/// first so many, and all of them unless a thread can't be started (by no clause: fewer may be told). Once the leader has answered, all
 /// mailboxes are closed, and it returns when the workers have ended. A job that still lies in a mailbox is
 /// dropped.
 pub fn with_workers<J, R, W, F, X>(

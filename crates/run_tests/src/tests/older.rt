@@ -103,7 +103,8 @@ fn push_kept(out: &mut String, kept: &Kept) -> Result<(), OutOfMemory> {
             write!(out, "{}|{}|{} ", at + 1, EMAILS[at], NOTES[note % 4])?;
         }
     }
-    out.push_str(";")
+    out.push_str(";")?;
+    Ok(())
 }
 
 /// Appends a transaction of three drawn changes.
