@@ -23,6 +23,7 @@ pub struct Parts<N: StoreNames> {
     taker: Taker<WorkItem<N>>,
     kept: Kept<OutboxEvent>,
     token: Token<OutboxEvent>,
+    half_ring: u64,
 }
 
 impl<N: StoreNames> Model for Parts<N> {
@@ -64,6 +65,7 @@ fn new_parts<N: StoreNames>(alloc: Global, slots: usize) -> Result<Parts<N>, Out
         taker,
         kept,
         token,
+        half_ring: (slots as u64 / 2).max(1),
     })
 }
 
@@ -149,10 +151,12 @@ impl<N: StoreNames, L: OutboxNames, G: Gate + Drop> WorkerPool<N, L, G> {
             taker,
             kept,
             token,
+            half_ring,
         } = parts;
         let outbox = Outbox::new(alloc, number, sender, kept);
         self.shared.push(WorkerShared {
             number,
+            half_ring,
             outbox: Mutex::new(outbox),
             gate: Mutex::new(gate),
         })?;

@@ -41,6 +41,9 @@ impl<N: StoreNames, L: OutboxNames, G: Drop> Shared<N, L, G> {
 #[derive(Debug, Drop)]
 pub struct WorkerShared<N: StoreNames, L: OutboxNames, G: Drop> {
     pub number: usize,
+    /// Behind so many items the worker sends on what is queued: half of what its ring holds, so that
+    /// it does that before it has done all of it.
+    pub half_ring: u64,
     pub outbox: Mutex<Outbox<N, L>>,
     pub gate: Mutex<G>,
 }
@@ -62,24 +65,41 @@ impl Gate for OpenGate {
 }
 
 // A worker that lags wakes the leader behind each item whose count is a multiple of this.
-const LAGGING: u64 = 64;
+const LAGGING: u64 = 4096;
 
-// A worker's gate: behind each item it sends on what is queued, and it wakes the leader. While items are
-// queued still the leader has nothing to commit of this worker, so it is woken now and then alone.
+// A worker's gate: it sends on what is queued, and it wakes the leader.
+//
+// It sends on behind each half of a ring. Where an item is queued the ring was full then, so there is as
+// much to do still, and it sends on before nothing is left. While items are queued the leader has
+// nothing to commit of this worker, so it is woken now and then alone; else behind each item.
 #[derive(Drop)]
 struct WakingGate<'a, R: Wait, N: StoreNames, L: OutboxNames, G: Gate> {
     rt: &'a R,
     outbox: &'a Mutex<Outbox<N, L>>,
     moved: &'a EventCount,
     gate: &'a mut G,
+    half_ring: u64,
+    // The count of the item behind which it sends on next.
+    next: u64,
+    // Whether items were queued still when it last sent on.
+    lags: bool,
 }
 
 impl<'a, R: Wait, N: StoreNames, L: OutboxNames, G: Gate> WakingGate<'a, R, N, L, G> {
-    // Sends on what is queued. Answers whether nothing is queued any more.
+    // Whether the leader is woken behind this item.
+    fn is_news(&mut self, count: u64) -> bool {
+        if count >= self.next {
+            self.next = count.saturating_add(self.half_ring);
+            self.lags = self.send_on();
+        }
+        !self.lags || count % LAGGING == 0
+    }
+
+    // Sends on what is queued. Answers whether items are queued still.
     fn send_on(&mut self) -> bool {
         let mut outbox = self.outbox.lock(self.rt);
         outbox.send_on();
-        outbox.queued_len() == 0
+        outbox.queued_len() > 0
     }
 }
 
@@ -87,7 +107,7 @@ impl<'a, R: Wait, N: StoreNames, L: OutboxNames, G: Gate> Gate for WakingGate<'a
     fn pass(&mut self, xid: Xid, at: Point) {
         let is_news = match at {
             Point::Before(_) => false,
-            Point::After(count) => self.send_on() || count % LAGGING == 0,
+            Point::After(count) => self.is_news(count),
             Point::Clash(_) => true,
         };
         if is_news {
@@ -117,6 +137,9 @@ impl<N: StoreNames, L: OutboxNames, G: Gate + Drop> Work<Job<N, L>> for Shared<N
             outbox: &worker.outbox,
             moved: &self.moved,
             gate: &mut *gate,
+            half_ring: worker.half_ring,
+            next: worker.half_ring,
+            lags: false,
         };
         let ended = work_on(rt, self.alloc, &self.store, &self.changed, job, &mut waking);
         if ended == Ended::OutOfMemory {

@@ -2,8 +2,9 @@
 //
 // A ring has few slots, and the leader is not to wait for room in it. So what finds no room is queued: it
 // lies behind the ring, and whoever comes by sends on. `give` and `send_on` each leave nothing queued, or
-// a full ring. Then an item before the queued ones is not acknowledged, and the worker, which calls
-// `send_on` behind each acknowledgement, sends them on; so none stays behind while the worker goes on.
+// a full ring. Then all that the ring holds is to be acknowledged before the queued ones, and the worker,
+// which calls `send_on` again before it has acknowledged so much, sends them on; so none stays behind
+// while the worker goes on.
 //
 // Both are under a lock, of which only its type is known. What the leader knows over its releases is
 // what it lists with a token: each item given, and each transaction that began.
