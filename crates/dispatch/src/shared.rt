@@ -123,9 +123,10 @@ impl<'a, R: Wait, N: StoreNames, L: OutboxNames, G: Gate> Gate for WakingGate<'a
 }
 
 impl<N: StoreNames, L: OutboxNames, G: Gate + Drop> Work<Job<N, L>> for Shared<N, L, G> {
-    ghost use Rattle.worker.specs.Working.{GoesOn};
+    ghost use Rattle.worker.specs.Working.{GoesOn, IsEndedBy};
+    ghost use Rattle.worker.specs.declared.ended.Ended.{Ended as EndedBy};
 
-    ghost keeps = { GoesOn };
+    ghost keeps = { λ old new. GoesOn old new × (ended : EndedBy) × IsEndedBy N.schema N.start ended new };
 
     fn work<R: Wait>(&self, rt: &R, job: &mut Job<N, L>) {
         let Some(worker) = self.workers.get(job.worker()) else {
