@@ -3,9 +3,9 @@
 // A store: several open transactions on one live set of tables, and the journal of those that were
 // committed.
 //
-// A `Store` has the live tables with the work of all open transactions (`live_tables`), the tables at the
-// start, and the journal. A clause sees the world that it stands for (`world`), and each call is a step
-// of that world. Who opens a transaction gets its `Ticket`, and who opens and ends them has the
+// A `Store` has the live tables with the work of all open transactions (`live_tables`), and the journal,
+// whose entries keep what stood before them. A clause sees the world that it stands for (`world`), and each
+// call is a step of that world. Who opens a transaction gets its `Ticket`, and who opens and ends them has the
 // `Line`: what they list is known by proofs alone, and a call that has one of them shows that it is
 // the store's own list (`tokens`). So whoever gives the store back and takes it again still knows
 // what its transaction has done.
@@ -19,7 +19,7 @@
 //   shut                the end of a store in which transactions are still open
 //   tickets, events     `Ticket`, `Line`, `Seen`, and what they list
 //   entry               a committed transaction as the journal has it
-//   rows_after          the rows of a table after entries of the journal
+//   rows_after          what stood in a table before entries of the journal
 //
 //   specs/Engine, EngineCode      a store as its callers see it; what its type keeps
 //   specs/Shared, SharedLemmas      what the type of a store under a lock keeps
@@ -28,8 +28,8 @@
 //   specs/FirstClash, FirstClashLemmas        changes one after another, and the first that clashes
 //   specs/Events, EventLemmas       the world that tickets and line tell
 //   specs/StoreLemmas               what the type keeps, once a call has altered the parts
-//   specs/EntryLemmas               the tables that the journal's entries name
-//   specs/RowsAfterLemmas           the steps of the loops that make their changes
+//   specs/EntryLemmas               what entries keep, put back
+//   specs/KnownLemmas               what is known of a table's rows
 //
 // It stands on `live_tables` for the tables and the open transactions, on `world` for the definitions, on
 // `change`, `undo` and `indexes` for a store of one transaction at a time, and on `tokens`.

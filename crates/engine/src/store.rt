@@ -303,8 +303,8 @@ impl Store {
         }
     }
 
-    /// The committed rows of a table, in key order, as copies. It costs one walk of the table, and what
-    /// open transactions did there.
+    /// The committed rows of a table, in key order, as copies. It costs one walk of the table, and one of
+    /// what open transactions did, in any table.
     pub fn committed_rows(&self, alloc: Global, table: TableId) -> Result<Vec<Row>, EngineFault>
         requires { table < length self.now.schema }
         ensures reads { IfOk result (λ rows. rows.items ≡ rows_of_table self.now.world.committed table) }

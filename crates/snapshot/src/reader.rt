@@ -98,8 +98,8 @@ impl<'a, N: StoreNames> Reader<'a, N> {
         Ok(row)
     }
 
-    /// The committed rows of a table in key order, as copies. It costs one walk of the table, and what
-    /// open transactions did there, under the store's lock.
+    /// The committed rows of a table in key order, as copies. It costs one walk of the table, and one of
+    /// what open transactions did, in any table, under the store's lock.
     pub fn rows<R: Wait>(
         &mut self,
         rt: &R,

@@ -5,8 +5,8 @@
 --     IsInStep      what the type of a job keeps
 --     GoesOn      the same transaction of the same worker, with more done
 --     HasNext, HasDone      an item of the transaction is taken, and not done; it is done
---     IsMet, WasRefused      a world that the store came to; why an item was refused there
---     Shows, IsEndedBy      why a worker came back, as its job shows it, and as the store was
+--     IsMet, WasRefused      a world that calls lead to; why an item was refused in some such world
+--     Shows, IsEndedBy      why a worker came back, as its job shows it, and as some such world shows it
 --     Wanted, Comes      the events of a transaction once an item was tried
 --     ComesTo      what the transaction has done once it was tried until it was done or refused
 use Rattle.std.specs.Prelude.{◌≡◌, ◌≢◌, ℕ, true, List, [], ◌∷◌, ◌++◌, Option, Some, None, IsSome, All, MatchOption, Result, Ok, Err}
@@ -90,8 +90,8 @@ pub record IsMet (keys : Schema) (first : Rows) (xid : ℕ) (events : List Event
   pub reached : ∥ Reaches keys (starting first) w ∥₁
   pub open_one : get w.opened xid ≡ Some (opened_by events)
 
--- Why an item of a transaction was refused: the store was stopped, by the transaction's change that it tells as wanted, or
--- by whatever before; it was not, where memory was.
+-- Why an item of a transaction was refused, by some world that calls lead to: it was stopped, by the transaction's change
+-- that it tells as wanted, or by whatever before; it was not, where memory was.
 abbrev pub WasRefused : Schema → Rows → Ended → ℕ → List Event → Type 0
 WasRefused keys first AtLast xid events = Unit {0}
 WasRefused keys first Doomed xid events = Unit {0}
@@ -109,7 +109,7 @@ Shows Clashed j = HasNext j
 Shows Stopped j = HasNext j
 Shows OutOfMemory j = HasNext j
 
--- why a worker of a store came back: the job shows it, and the store was so
+-- why a worker came back: the job shows it, and some world that calls lead to is so
 abbrev pub IsEndedBy : Schema → Rows → Ended → Working → Type 0
 IsEndedBy keys first ended j = Shows ended j × WasRefused keys first ended j.xid j.events
 
