@@ -3,6 +3,9 @@ use crate::frame::{int32_at, int64_at, message_of, push_unstreamed};
 use model::{Lsn, Xid};
 use std::alloc::AllocError;
 
+/// The number of the transaction of a copy of rows, FrozenTransactionId: no transaction of a server has it.
+const COPY: Xid = 2;
+
 /// What is left out just now.
 #[derive(Clone, Copy, Debug, PartialEq, Eq)]
 enum Within {
@@ -73,7 +76,7 @@ impl Applied {
     // Whether a message that stands outside of transactions and blocks begins what the file has, or is it.
     fn has(&self, tag: u8, message: &[u8]) -> bool {
         match tag {
-            b'B' => int64_at(message, 1) < self.position,
+            b'B' => self.has_committed(int64_at(message, 1), int32_at(message, 17)),
             b'S' | b'c' | b'A' => self
                 .xids
                 .as_slice()
@@ -81,5 +84,11 @@ impl Applied {
                 .is_ok(),
             _ => false,
         }
+    }
+
+    // Whether this transaction, which commits at this place, did so before the position. A copy's commit is no
+    // record of the log, so it ends where it begins.
+    fn has_committed(&self, commit: Lsn, xid: Xid) -> bool {
+        commit < self.position || commit == self.position && xid == COPY
     }
 }

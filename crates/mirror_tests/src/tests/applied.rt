@@ -94,6 +94,44 @@ fn what_a_file_has_is_left_out(rt: HostRuntime) -> Result<(), Fail> {
     Ok(())
 }
 
+/// A copy of rows as `publisher` puts it, whose commit ends where it begins, and the first commit of the
+/// slot, which may begin there.
+const COPIED: [Message; 4] = [
+    Message::Begin(2, 0x100),
+    TOLD,
+    Message::Insert(0, (Column::Number(1), Column::Text("a"), Column::Null)),
+    Message::Commit(0x100, 0x100),
+];
+
+const BEHIND: [Message; 3] = [
+    Message::Begin(500, 0x100),
+    Message::Insert(0, (Column::Number(2), Column::Text("b"), Column::Null)),
+    Message::Commit(0x100, 0x140),
+];
+
+/// Where a file is, and what of these is handed on.
+static COPIES: [(Lsn, &[Message], &[Message]); 4] = [
+    (0, &COPIED, &BEHIND),
+    (0xFF, &COPIED, &BEHIND),
+    (0x100, &[TOLD], &BEHIND),
+    (0x140, &[TOLD], &[]),
+];
+
+#[test]
+fn a_copy_that_a_file_ends_with_is_left_out(rt: HostRuntime) -> Result<(), Fail> {
+    let mut stream = Stream::new(rt.alloc());
+    push_all(&mut stream, &COPIED)?;
+    push_all(&mut stream, &BEHIND)?;
+    for (position, front, rest) in &COPIES {
+        let read = handed_on(rt.alloc(), stream.bytes(), *position)?;
+        let mut want = Stream::new(rt.alloc());
+        push_all(&mut want, *front)?;
+        push_all(&mut want, *rest)?;
+        assert_same(read.as_slice(), want.bytes(), *position)?;
+    }
+    Ok(())
+}
+
 /// A notice as `publisher` puts it at the front, and one of another kind.
 const OF_SYSTEM: &[u8] =
     b"N\0\0\0\x45SNOTICE\0C00000\0Mpublication \"p\" through slot \"s\" of system 7421\0\0";
