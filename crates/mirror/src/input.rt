@@ -43,6 +43,14 @@ pub fn open(
     }
 }
 
+/// What an input is called.
+pub fn name_of<'a>(input: Input<'a>) -> &'a str {
+    match input {
+        Input::Stdin => "standard input",
+        Input::File(name) | Input::Connection(name) => name,
+    }
+}
+
 /// The streamed transactions of the input that committed before a position. Whoever sends a stream
 /// over a connection begins behind them, and standard input comes once.
 fn find_streamed(rt: &HostRuntime, input: Input<'_>, position: Lsn) -> Result<Vec<Xid>, Refused> {

@@ -144,8 +144,13 @@ fn open_stream(
             Ok(()) => Ok(opened),
             Err(status) => Err(Next::Over(status)),
         },
-        Err(_) if is_over(options) => Err(Next::Over(2)),
-        Err(_) => Err(Next::Again(false)),
+        Err(_) => {
+            say(rt, Event::NotRead(input::name_of(options.input)));
+            Err(match is_over(options) {
+                true => Next::Over(2),
+                false => Next::Again(false),
+            })
+        }
     }
 }
 

@@ -4,7 +4,7 @@ use clap::error::ErrorKind;
 use clap::{Arg, ArgAction, ArgMatches, Command, Error};
 use leader::Config;
 use mirror_source::Limits;
-use pgapply_command::options::Input;
+use pgapply_command::options::{Input, is_address};
 use std::alloc::{AllocError, Global};
 
 /// What a command line asks for.
@@ -197,8 +197,16 @@ pub fn parse<'a>(alloc: Global, words: &'a [String]) -> Result<Options<'a>, Erro
         )?;
         return Err(program.error(ErrorKind::ValueValidation, message.as_str())?);
     }
-    if let Some(lacking) = lacking_in(&given) {
-        return Err(program.error(ErrorKind::MissingRequiredArgument, lacking)?);
+    if let Some((kind, text)) = wrong_in(&given) {
+        return Err(program.error(kind, text)?);
+    }
+    if let Some(text) = given.get_str("connect")
+        && !is_address(text)
+    {
+        let message = format!(in alloc;
+            "invalid value '{text}' for '--connect <A>': an address is HOST:PORT, as localhost:5500"
+        )?;
+        return Err(program.error(ErrorKind::ValueValidation, message.as_str())?);
     }
     match (given.get_str("stream"), given.get_str("connect")) {
         (Some("-"), None) => Ok(options_of(Input::Stdin, &given)),
@@ -211,17 +219,26 @@ pub fn parse<'a>(alloc: Global, words: &'a [String]) -> Result<Options<'a>, Erro
     }
 }
 
-/// What is wanted of where commits are kept, and isn't given.
-fn lacking_in(given: &ArgMatches<'_>) -> Option<&'static str> {
+/// What is wrong with where commits are kept: something is wanted and isn't given, or a copy would take the
+/// place of the file that it is made of.
+fn wrong_in(given: &ArgMatches<'_>) -> Option<(ErrorKind, &'static str)> {
     match (
         given.get_str("into"),
         given.get_str("json"),
         given.get_str("publish"),
     ) {
-        (None, None, _) => Some("one of --into and --json is wanted"),
-        (None, Some(_), Some(_)) => Some(
+        (None, None, _) => Some((
+            ErrorKind::MissingRequiredArgument,
+            "one of --into and --json is wanted",
+        )),
+        (None, Some(_), Some(_)) => Some((
+            ErrorKind::MissingRequiredArgument,
             "--publish copies the file of --into, which is wanted too",
-        ),
+        )),
+        (Some(into), _, Some(copy)) if into == copy => Some((
+            ErrorKind::ArgumentConflict,
+            "--publish and --into are one file: a copy is a file of its own",
+        )),
         _ => None,
     }
 }
@@ -268,7 +285,7 @@ fn limits_of(given: &ArgMatches<'_>) -> Limits {
     let most = number_of(given, "journal").unwrap_or(1);
     Limits {
         commits: number_of(given, "epoch").unwrap_or(1),
-        bytes: most / SHARE,
+        bytes: (most / SHARE).max(1),
         most,
     }
 }

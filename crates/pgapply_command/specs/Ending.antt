@@ -115,7 +115,7 @@ pub record LacksMemory (HeardEnd : List Definition → Outcome → Type 0) (work
   pub said : HasNoMemory old new ended
 
 -- The catalog was refused, the stream was run and reported, or memory was refused. Whoever hears was told of the catalog's
--- fault, or of the run's end.
+-- fault, or of the run's end; of memory that was refused before a device was used nothing is said.
 abbrev pub Executes : (CatalogFault → Type 0) → (List Definition → Outcome → Type 0) → ℕ → List ℕ → Config → DeviceState → DeviceState → List ℕ → List ℕ → Ended → Type 0
 Executes HeardFault HeardEnd workers bytes config given left old new ended =
     IsRefused HeardFault bytes given left old new ended

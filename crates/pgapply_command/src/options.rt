@@ -107,7 +107,7 @@ pub fn parse<'a>(alloc: Global, words: &'a [String]) -> Result<Options<'a>, Erro
 }
 
 /// Whether a text is a host, which is not looked at, and the number of a port.
-fn is_address(text: &str) -> bool {
+pub fn is_address(text: &str) -> bool {
     match text.rsplit_once(':') {
         Some((host, port)) => !host.is_empty() && port.parse::<u16>().is_ok(),
         None => false,

@@ -102,6 +102,33 @@ fn assert_defaults(asked: &Options<'_>) -> Result<(), Fail> {
     assert_same(asked.config, config, "config")
 }
 
+/// So many bytes for a run, and behind how many it ends where no transaction is open.
+static SHARES: [(&str, u64); 4] = [("1", 1), ("63", 1), ("128", 2), ("4294967296", 67_108_864)];
+
+#[test]
+fn a_run_of_few_bytes_has_one_at_least(rt: HostRuntime) -> Result<(), Fail> {
+    for (text, want) in &SHARES {
+        let given = [
+            "mirror",
+            "--config",
+            "c",
+            "--stream",
+            "s",
+            "--into",
+            "f",
+            "--journal",
+            *text,
+        ];
+        let words = owned(rt.alloc(), &given)?;
+        let read = match options::parse(rt.alloc(), words.as_slice()) {
+            Ok(asked) => Some(asked.limits.bytes),
+            Err(_) => None,
+        };
+        assert_same(read, Some(*want), text)?;
+    }
+    Ok(())
+}
+
 /// Where the stream comes from, and what is said of it.
 static INPUTS: [(&str, &str, Input<'static>); 3] = [
     ("--stream", "s", Input::File("s")),
@@ -175,7 +202,7 @@ struct Refused {
     text: &'static str,
 }
 
-static REFUSED: [Refused; 8] = [
+static REFUSED: [Refused; 10] = [
     Refused {
         words: &["mirror", "--version"],
         is_fault: false,
@@ -220,6 +247,34 @@ static REFUSED: [Refused; 8] = [
         ],
         is_fault: true,
         text: "error: --publish copies the file of --into, which is wanted too\n\nUsage: mirror [OPTIONS] --config <F>\n\nFor more information, try '--help'.\n",
+    },
+    Refused {
+        words: &[
+            "mirror",
+            "--config",
+            "c",
+            "--stream",
+            "s",
+            "--into",
+            "f",
+            "--publish",
+            "f",
+        ],
+        is_fault: true,
+        text: "error: --publish and --into are one file: a copy is a file of its own\n\nUsage: mirror [OPTIONS] --config <F>\n\nFor more information, try '--help'.\n",
+    },
+    Refused {
+        words: &[
+            "mirror",
+            "--config",
+            "c",
+            "--into",
+            "f",
+            "--connect",
+            "localhost",
+        ],
+        is_fault: true,
+        text: "error: invalid value 'localhost' for '--connect <A>': an address is HOST:PORT, as localhost:5500\n\nUsage: mirror [OPTIONS] --config <F>\n\nFor more information, try '--help'.\n",
     },
     Refused {
         words: &["mirror", "--into", "f", "--stream", "s"],
