@@ -100,7 +100,7 @@ fn assert_begun(
 }
 
 #[test]
-fn a_log_that_fails_behind_each_number_of_calls(rt: HostRuntime) -> Result<(), Fail> {
+fn a_log_that_fails_behind_each_fifth_call(rt: HostRuntime) -> Result<(), Fail> {
     let stream = stream_of(rt.alloc(), 7)?;
     let plan = Plan {
         stream: stream.bytes(),
