@@ -2,6 +2,7 @@ pub mod ByTable
 pub mod Parts
 pub mod Marks
 pub mod PartOf
+pub mod Lines
 pub mod Reached
 pub mod Statements
 pub mod ByTableLemmas
@@ -13,5 +14,6 @@ pub mod MoveLemmas
 pub mod MarkLemmas
 pub mod PartOfLemmas
 pub mod ToldLemmas
+pub mod LineLemmas
 pub mod ReachedLemmas
 pub mod FineLemmas

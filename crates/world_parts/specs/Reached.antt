@@ -6,11 +6,13 @@ use Rattle.model.specs.Rows.{Rows, Schema}
 use Rattle.world.specs.World.{World, starting}
 use Rattle.world.specs.Steps.{Step}
 use Rattle.world_parts.specs.ByTable.{rows_at}
+use Rattle.world_parts.specs.Lines.{HasLine}
 use Rattle.world_parts.specs.Marks.{HasPart}
 
--- Some call in some world that has this part does this to it.
+-- Some call in some world that has this part and its line does this to it.
 pub data PartStep (schema : Schema) (table : ℕ) (part : World) : World → Type 0 where
-  part_step : (w next new : World) → HasPart table w part → Step schema w next → HasPart table next new
+  part_step : (w next new : World) → HasPart table w part → HasLine table w part
+      → Step schema w next → HasPart table next new → HasLine table next new
       → PartStep schema table part new
 
 -- such calls, one after another
@@ -23,4 +25,5 @@ pub data PartReaches (schema : Schema) (table : ℕ) (from : World) : World → 
 -- those of another.
 pub record IsReachedByParts (schema : Schema) (start : Rows) (w : World) : Type 0 where
   pub parts : (table : ℕ)
-      → (part : World) × HasPart table w part × PartReaches schema table (starting (rows_at table start)) part
+      → (part : World) × HasPart table w part × HasLine table w part
+      × PartReaches schema table (starting (rows_at table start)) part

@@ -9,6 +9,8 @@ use Rattle.model.specs.Rows.{Rows, Schema}
 use Rattle.world.specs.World.{World, starting}
 use Rattle.world.specs.Steps.{Reaches, at_start as world_at_start, by_step as world_by_step}
 use Rattle.world_parts.specs.ByTable.{rows_at, changes_at}
+use Rattle.world_parts.specs.Lines.{HasLine}
+use Rattle.world_parts.specs.LineLemmas.{line_begins, part_line}
 use Rattle.world_parts.specs.Parts.{work_if, wanted_if}
 use Rattle.world_parts.specs.Marks.{items_at, survivors_if, HasPart}
 use Rattle.world_parts.specs.PartOf.{part_of}
@@ -33,13 +35,17 @@ has_part : (table : ℕ) (w : World) → HasPart table w (part_of table w)
 has_part table w = (part_is table w, part_marked table w)
 
 part_reached : (schema : Schema) (table : ℕ) (start : Rows) (w : World) → Reaches schema (starting start) w
-    → (part : World) × HasPart table w part × PartReaches schema table (starting (rows_at table start)) part
-part_reached schema table start w world_at_start = (starting (rows_at table start), starts_with table start, at_start)
+    → (part : World) × HasPart table w part × HasLine table w part
+    × PartReaches schema table (starting (rows_at table start)) part
+part_reached schema table start w world_at_start =
+    (starting (rows_at table start), starts_with table start, line_begins table start, at_start)
 part_reached schema table start _ (world_by_step w new led step) =
     let before = part_reached schema table start w led in (
       part_of table new,
       has_part table new,
-      by_step before.0 (part_of table new) before.2 (part_step w new (part_of table new) before.1 step (has_part table new)),
+      part_line table new,
+      by_step before.0 (part_of table new) before.3
+          (part_step w new (part_of table new) before.1 before.2 step (has_part table new) (part_line table new)),
     )
 
 pub reached_by_parts : (schema : Schema) (start : Rows) (w : World) → Reaches schema (starting start) w

@@ -1,5 +1,5 @@
 -- The laws of parts, each as one statement. `src/laws.rt` names them, so that the check proves them.
-use Rattle.std.specs.Prelude.{◌≡◌, ℕ, ◌==◌, true, false, List, [], ◌∷◌, ◌++◌, Option, Some, None, Ok, map}
+use Rattle.std.specs.Prelude.{◌≡◌, ◌⊎◌, ℕ, ◌==◌, true, false, List, [], ◌∷◌, ◌++◌, Option, Some, None, Ok, map}
 use Rattle.std.specs.List.{AllByRecursion}
 use Rattle.std.specs.FinMap.{get}
 use Rattle.model.specs.declared.change.Change as change_type
@@ -17,12 +17,13 @@ use Rattle.model.specs.Effect.{serial}
 use Rattle.model.specs.Footprint.{held_cells, shares_cell}
 use Rattle.model.specs.Survivors.{survivors}
 use Rattle.world.specs.World.{Opened, World, starting, changes_in, IsHeldBy, IsFree}
-use Rattle.world.specs.Steps.{Acted, IsDone, Held, Acts, Reaches, opened_with, done_with, wanting, committed_with, aborted_with}
+use Rattle.world.specs.Steps.{Acted, IsDone, Held, Acts, Step, Reaches, opened_with, done_with, wanting, committed_with, aborted_with}
 use Rattle.world.specs.Live.{IsListing, live_rows}
 use Rattle.world.specs.Fine.{StillClashes, IsFine}
 use Rattle.world_parts.specs.ByTable.{names_table, rows_at, change_at, changes_at, IsIn, AreOf}
 use Rattle.world_parts.specs.Parts.{wanted_if, IsPartOf, after_tried, rested}
 use Rattle.world_parts.specs.Marks.{marked_at, under, items_at, mark_for, kept_by, survivors_if, IsFirstDropped, AreKept, AreDropped, HasPart, CutsTo, CutsNothing}
+use Rattle.world_parts.specs.Lines.{HasLine, KeepsLine, IsCommit, rows_until}
 use Rattle.world_parts.specs.Reached.{IsReachedByParts}
 
 -- ---- rows and changes by their table
@@ -57,9 +58,9 @@ HeldByTable =
 
 -- ---- parts
 
--- every world has a part of each table, to which the transactions' items were told
+-- every world has a part of each table, to which the transactions' items were told, and its line
 abbrev pub HasEachPart : Type 0
-HasEachPart = (table : ℕ) (w : World) → (part : World) × HasPart table w part
+HasEachPart = (table : ℕ) (w : World) → (part : World) × HasPart table w part × HasLine table w part
 
 -- a change of the table comes to in the world what it comes to in the part
 abbrev pub TriedInPart : Type 0
@@ -144,6 +145,42 @@ PartAfterAbort =
     → HasPart table (aborted_with w xid) (aborted_with part xid)
     × (survivors_if xid (get part.opened xid) ≡ [] → wanted_if (get part.opened xid) ≡ []
     → HasPart table (aborted_with w xid) part)
+
+-- ---- the line of a part
+
+-- a world and its part begin with no commit
+abbrev pub LineBegins : Type 0
+LineBegins =
+    (table : ℕ) (start : Rows) → HasLine table (starting start) (starting (rows_at table start))
+
+-- a part has it behind a commit that it is told, and stays where the transaction did nothing there
+abbrev pub LineAfterCommit : Type 0
+LineAfterCommit =
+    (schema : Schema) (table : ℕ) (w part : World) → HasPart table w part → HasLine table w part
+    → (xid : ℕ) (o : Opened) → get w.opened xid ≡ Some o → (info : CommitInfo)
+    → ((p : Opened) → get part.opened xid ≡ Some p
+    → HasLine table (committed_with schema w xid o info) (committed_with schema part xid p info))
+    × (survivors_if xid (get part.opened xid) ≡ []
+    → HasLine table (committed_with schema w xid o info) part)
+
+-- each other call leaves start and commits
+abbrev pub LineAfterStep : Type 0
+LineAfterStep =
+    (schema : Schema) (w new : World) → Step schema w new → KeepsLine w new ⊎ IsCommit schema w new
+
+-- where a world and its part keep both, the part has the line still
+abbrev pub LineStays : Type 0
+LineStays =
+    (table : ℕ) (w new part other : World) → KeepsLine w new → KeepsLine part other
+    → HasLine table w part → HasLine table new other
+
+-- the rows of the table after the commits up to a position are the part's after its own up to there
+abbrev pub RowsUntilInPart : Type 0
+RowsUntilInPart =
+    (schema : Schema) (table : ℕ) (w part : World) → HasLine table w part → (position : ℕ)
+    → rows_at table (rows_until schema part position) ≡ rows_at table (rows_until schema w position)
+
+-- ---- all calls
 
 -- each part of a world that calls lead to is reached by what they are in its table
 abbrev pub ReachedByParts : Type 0

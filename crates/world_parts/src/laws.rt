@@ -1,6 +1,6 @@
 // The laws of parts. Each function does nothing: its contract is a law, and the check of this crate
 // proves it.
-ghost use Rattle.world_parts.specs.Statements.{RowsByTable, WalkedByTable, ValidByTable, SerialByTable, HeldByTable, HasEachPart, TriedInPart, TruncatedByParts, LiveInPart, PartAfterOpen, PartAfterTry, PartAfterTouch, PartAfterRollback, PartAfterCommit, PartAfterAbort, ReachedByParts, ChangesAreTold, RollbackByTable, RollbackByMarks, PartIsFine, FineByParts};
+ghost use Rattle.world_parts.specs.Statements.{RowsByTable, WalkedByTable, ValidByTable, SerialByTable, HeldByTable, HasEachPart, TriedInPart, TruncatedByParts, LiveInPart, PartAfterOpen, PartAfterTry, PartAfterTouch, PartAfterRollback, PartAfterCommit, PartAfterAbort, LineBegins, LineAfterCommit, LineAfterStep, LineStays, RowsUntilInPart, ReachedByParts, ChangesAreTold, RollbackByTable, RollbackByMarks, PartIsFine, FineByParts};
 
 /// Rows that agree in each table are the same.
 pub fn rows_by_table()
@@ -27,7 +27,7 @@ pub fn held_by_table()
     ensures { HeldByTable }
 {}
 
-/// Every world has a part of each table.
+/// Every world has a part of each table, which has its line.
 pub fn has_each_part()
     ensures { HasEachPart }
 {}
@@ -75,6 +75,31 @@ pub fn part_after_commit()
 /// So does an abort.
 pub fn part_after_abort()
     ensures { PartAfterAbort }
+{}
+
+/// A world and its part begin with no commit.
+pub fn line_begins()
+    ensures { LineBegins }
+{}
+
+/// A part has the world's line behind a commit, also one of which it needn't be told.
+pub fn line_after_commit()
+    ensures { LineAfterCommit }
+{}
+
+/// Each other call leaves start and commits.
+pub fn line_after_step()
+    ensures { LineAfterStep }
+{}
+
+/// Where a world and its part keep both, the part has the world's line still.
+pub fn line_stays()
+    ensures { LineStays }
+{}
+
+/// The rows of a table after the commits up to a position are those of its part.
+pub fn rows_until_in_part()
+    ensures { RowsUntilInPart }
 {}
 
 /// What calls lead to is, table by table, what they are in the parts lead to.
