@@ -1,1 +1,2 @@
 mod Lifting
+mod Until

@@ -1,6 +1,7 @@
 -- What a call of a part's store is in every world of which it is a part.
 --     opened_lifts, tried_lifts      a transaction opens; a change was tried
 --     back_lifts, commit_lifts, abort_lifts      a rollback; the two ends
+--     commit_line      a commit in the lines of both
 --     read_lifts, rows_lift, live_lifts      a committed row; all of them; a row with the work of all open transactions
 use Rattle.std.proofs.Common.{◌≡◌, ℕ, sym, ap, subst, ◌∙◌}
 use Rattle.std.specs.Prelude.{Vec, IfOk, Option, Some, Result, Ok, Err}
@@ -17,12 +18,14 @@ use Rattle.world.specs.Steps as steps
 use Rattle.world.specs.Steps.{Fault, AlreadyOpen, TooManyOpen, Stopped, OutOfMemory, Acted, IsDone, IsSkipped, Held, Clashed, Acts, ReadsLive}
 use Rattle.world_parts.specs.ByTable.{IsIn}
 use Rattle.world_parts.specs.ByTableLemmas.{get_rows_here, walked_at}
+use Rattle.world_parts.specs.Lines.{HasLine}
+use Rattle.world_parts.specs.LineLemmas.{line_here}
 use Rattle.world_parts.specs.LiveLemmas.{live_here}
 use Rattle.world_parts.specs.Parts.{after_tried}
 use Rattle.world_parts.specs.Marks.{HasPart}
 use Rattle.world_parts.specs.PartLemmas.{acts_lifts}
 use Rattle.world_parts.specs.ToldLemmas.{tried_here, back_told, ends_here, opens_here, aborts_here}
-use Rattle.table_parts.specs.Part.{Tries, Opens, GoesBack, Commits, Aborts}
+use Rattle.table_parts.specs.Part.{Tries, Opens, GoesBack, Commits, CommitsLine, Aborts}
 
 -- what was altered into the same is the same part
 same_part : (table : ℕ) (w part new : World) → new ≡ part → HasPart table w part → HasPart table w new
@@ -65,6 +68,10 @@ module _ (schema : Schema) (table : ℕ) (part new : World) (xid : ℕ) (p : Ope
 
   pub commit_lifts : (info : CommitInfo) → steps.Commits schema part xid p info new → Commits schema table part xid info new
   commit_lifts info commits w o has at = subst (HasPart table _) (sym commits) (ends_here table w part has xid o p at here schema info)
+
+  pub commit_line : (info : CommitInfo) → steps.Commits schema part xid p info new → CommitsLine schema table part xid info new
+  commit_line info commits w o has line at =
+      subst (HasLine table _) (sym commits) (line_here schema table w part has line xid o at info p here)
 
 pub abort_lifts : (table : ℕ) (part new : World) (xid : ℕ) → steps.Aborts part xid new → Aborts table part xid new
 abort_lifts table part new xid aborts w has = subst (HasPart table _) (sym aborts) (aborts_here table w part has xid)

@@ -3,6 +3,7 @@
 --     last_commit_end      where the log goes on behind its last commit
 --     Tries      a change was tried
 --     Opens, GoesBack, Commits, Aborts      a transaction opens; is rolled back; ends
+--     CommitsLine      its commit comes in the line of the world and in that of the part
 use Rattle.std.specs.Prelude.{◌≡◌, ℕ, Some, None, Result, Ok, Err}
 use Rattle.std.specs.FinMap.{get}
 use Rattle.model.specs.declared.change.Change as change_type
@@ -13,6 +14,7 @@ use Rattle.model.specs.Rows.{Schema}
 use Rattle.model.specs.Survivors.{survivors}
 use Rattle.world.specs.World.{Opened, World}
 use Rattle.world.specs.Steps.{Acted, Acts, Fault, done_with, committed_with, aborted_with}
+use Rattle.world_parts.specs.Lines.{HasLine}
 use Rattle.world_parts.specs.Parts.{after_tried}
 use Rattle.world_parts.specs.Marks.{mark_for, HasPart, CutsTo}
 use Rattle.engine.specs.Engine.{Engine}
@@ -49,6 +51,12 @@ GoesBack table part xid mark new =
 abbrev pub Commits : Schema → ℕ → World → ℕ → CommitInfo → World → Type 0
 Commits schema table part xid info new =
     (w : World) (o : Opened) → HasPart table w part → get w.opened xid ≡ Some o → HasPart table (committed_with schema w xid o info) new
+
+-- where the world has the line of the part, it has the new part's
+abbrev pub CommitsLine : Schema → ℕ → World → ℕ → CommitInfo → World → Type 0
+CommitsLine schema table part xid info new =
+    (w : World) (o : Opened) → HasPart table w part → HasLine table w part
+    → get w.opened xid ≡ Some o → HasLine table (committed_with schema w xid o info) new
 
 -- it aborts
 abbrev pub Aborts : ℕ → World → ℕ → World → Type 0

@@ -12,8 +12,10 @@
 // to the first of the part's marks that it drops.
 //
 //   part      `Part`, and its calls
+//   entries   positions among its entries
 //
 // It stands on `engine` for a store, and on `world_parts` for the laws of parts.
+mod entries;
 pub mod part;
 
 pub use part::Part;

@@ -14,12 +14,14 @@ ghost use Rattle.engine.specs.declared.events.Event.TheVariants.{Done};
 ghost use Rattle.engine.specs.Engine.{IsOtherwiseSame};
 ghost use Rattle.engine.specs.Events.{opened_by, events_of};
 ghost use Rattle.world_parts.specs.ByTable.{IsIn};
+ghost use Rattle.world_parts.specs.Lines.{HasLine, KeepsLine, rows_until};
 ghost use Rattle.world_parts.specs.Marks.{HasPart};
-ghost use Rattle.table_parts.specs.Part.{last_commit_end, Tries, Opens, GoesBack, Commits, Aborts};
+ghost use Rattle.table_parts.specs.Part.{last_commit_end, Tries, Opens, GoesBack, Commits, CommitsLine, Aborts};
 
+use crate::entries::count_until;
 use engine::{Acted, EngineFault, Line, Store, Ticket};
 use indexes::Tables;
-use model::{Change, CommitInfo, Key, Row, TableId, Xid};
+use model::{Change, CommitInfo, Key, Lsn, Row, TableId, Xid};
 use std::alloc::Global;
 use std::marker::Model;
 
@@ -77,6 +79,7 @@ impl Part {
         ensures fault { IfErr result IsNoClash }
         ensures in_part { steps.Opens self.old.store.world xid (told_call result) self.new.store.world }
         ensures opens { Opens self.old.number self.old.store.world self.new.store.world }
+        ensures line { KeepsLine self.old.store.world self.new.store.world }
         ensures same { IsOtherwiseSame self.old.store self.new.store }
         ensures number { self.new.number ≡ self.old.number }
         ensures end { last_commit_end self.new ≡ last_commit_end self.old }
@@ -99,6 +102,7 @@ impl Part {
         ensures in_part { steps.Acts self.old.store.schema self.old.store.world t.old.number (opened_by t.old.list) mark c.now (told result) self.new.store.world }
         ensures cause { TellsCause result }
         ensures tries { Tries self.old.store.schema self.old.number self.old.store.world t.old.number mark c.now (told result) self.new.store.world }
+        ensures line { KeepsLine self.old.store.world self.new.store.world }
         ensures ticket { t.new ≡ record t.old { list = t.old.list ++ events_of mark c.now (told result) } }
         ensures same { IsOtherwiseSame self.old.store self.new.store }
         ensures number { self.new.number ≡ self.old.number }
@@ -113,6 +117,7 @@ impl Part {
         ensures stood { finite.get self.old.store.world.opened t.old.number ≡ Some (opened_by t.old.list) }
         ensures in_part { steps.GoesBack self.old.store.world t.old.number (opened_by t.old.list) mark self.new.store.world }
         ensures goes_back { GoesBack self.old.number self.old.store.world t.old.number mark self.new.store.world }
+        ensures line { KeepsLine self.old.store.world self.new.store.world }
         ensures ticket { t.new ≡ record t.old { list = t.old.list ++ Done (BackTo mark) ∷ [] } }
         ensures same { IsOtherwiseSame self.old.store self.new.store }
         ensures number { self.new.number ≡ self.old.number }
@@ -128,6 +133,7 @@ impl Part {
         ensures stood { finite.get self.old.store.world.opened t.number ≡ Some (opened_by t.list) }
         ensures in_part { steps.Commits self.old.store.schema self.old.store.world t.number (opened_by t.list) info self.new.store.world }
         ensures commits { Commits self.old.store.schema self.old.number self.old.store.world t.number info self.new.store.world }
+        ensures line { CommitsLine self.old.store.schema self.old.number self.old.store.world t.number info self.new.store.world }
         ensures same { IsOtherwiseSame self.old.store self.new.store }
         ensures number { self.new.number ≡ self.old.number }
         ensures end { last_commit_end self.new ≡ info.end }
@@ -141,6 +147,7 @@ impl Part {
         ensures stood { finite.get self.old.store.world.opened t.number ≡ Some (opened_by t.list) }
         ensures in_part { steps.Aborts self.old.store.world t.number self.new.store.world }
         ensures aborts { Aborts self.old.number self.old.store.world t.number self.new.store.world }
+        ensures line { KeepsLine self.old.store.world self.new.store.world }
         ensures same { IsOtherwiseSame self.old.store self.new.store }
         ensures number { self.new.number ≡ self.old.number }
         ensures end { last_commit_end self.new ≡ last_commit_end self.old }
@@ -164,6 +171,20 @@ impl Part {
         ensures fault { IfErr result (λ fault. fault ≡ NoMemory) }
     {
         self.store.committed_rows(alloc, self.number)
+    }
+
+    /// The rows in key order after the commits up to a position, those that end there or below, as
+    /// copies. It costs what `committed_rows` costs, and the changes of the later commits; in memory
+    /// each key that they changed besides.
+    pub fn rows_until(&self, alloc: Global, position: Lsn) -> Result<Vec<Row>, EngineFault>
+        requires { self.now.number < length self.now.store.schema }
+        ensures reads { (w : World) → HasLine self.now.number w self.now.store.world
+            → IfOk result (λ rows. rows.items
+            ≡ rows_of_table (rows_until self.now.store.schema w position) self.now.number) }
+        ensures fault { IfErr result (λ fault. fault ≡ NoMemory) }
+    {
+        let count = count_until(self.store.journal(), position);
+        self.store.rows_after(alloc, self.number, count)
     }
 
     /// The row at a key with the work of all open transactions, as a copy.

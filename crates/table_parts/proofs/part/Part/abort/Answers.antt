@@ -1,4 +1,6 @@
 use Rattle.std.proofs.Common.{subst}
+use Rattle.world_parts.specs.Lines.{KeepsLine}
+use Rattle.world_parts.specs.LineLemmas.{aborts_keeps}
 use Rattle.table_parts.specs.Part.{Part, Aborts}
 use Rattle.table_parts.proofs.Lifting.{abort_lifts}
 use Rattle.table_parts.proofs.part.Part.abort.Goals as goal
@@ -7,3 +9,8 @@ pub returns-clause-aborts : goal.returns-clause-aborts
 returns-clause-aborts c =
     subst (λ (p : Part). Aborts p.number p.store.world c.args.t.number c.abort.new.self.world) c.self.view_is
     (abort_lifts c.self.inside.number c.self.inside.store.world c.abort.new.self.world c.args.t.number c.abort.ensures.aborts)
+
+pub returns-clause-line : goal.returns-clause-line
+returns-clause-line c =
+    subst (λ (p : Part). KeepsLine p.store.world c.abort.new.self.world) c.self.view_is
+    (aborts_keeps c.self.inside.store.world c.abort.new.self.world c.args.t.number c.abort.ensures.aborts)

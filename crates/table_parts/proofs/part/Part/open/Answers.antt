@@ -1,5 +1,7 @@
 use Rattle.std.proofs.Common.{subst}
 use Rattle.live_tables.specs.Answers.{told_call}
+use Rattle.world_parts.specs.Lines.{KeepsLine}
+use Rattle.world_parts.specs.LineLemmas.{opens_keeps}
 use Rattle.table_parts.specs.Part.{Part, Opens}
 use Rattle.table_parts.proofs.Lifting.{opened_lifts}
 use Rattle.table_parts.proofs.part.Part.open.Goals as goal
@@ -8,3 +10,8 @@ pub returns-clause-opens : goal.returns-clause-opens
 returns-clause-opens c =
     subst (λ (p : Part). Opens p.number p.store.world c.open.new.self.world) c.self.view_is
     (opened_lifts c.self.inside.number c.self.inside.store.world c.open.new.self.world c.args.xid (told_call c.open.result) c.open.ensures.opens)
+
+pub returns-clause-line : goal.returns-clause-line
+returns-clause-line c =
+    subst (λ (p : Part). KeepsLine p.store.world c.open.new.self.world) c.self.view_is
+    (opens_keeps c.self.inside.store.world c.open.new.self.world c.args.xid (told_call c.open.result) c.open.ensures.opens)
