@@ -1,5 +1,6 @@
 -- What a change that is tried in the part of its table comes to in a world that has the part.
 --     act_step, act_part, act_heard      it is the step; the world behind it has the new part, which has heard of each stop of it
+--     act_line      it leaves start and commits
 --     in_no_other      it is nothing in other tables
 --     opened_acted, ticket_acted, items_acted      its ticket, and the items that it has done
 --     none_acted, shares_acted      the ticket's shares
@@ -21,6 +22,7 @@ use Rattle.engine.specs.declared.events.Event.{Event}
 use Rattle.engine.specs.Events.{after_event, opened_by, events_of}
 use Rattle.world_parts.specs.ByTable.{only_if, change_at, changes_at, IsIn, names_table}
 use Rattle.world_parts.specs.ByTableLemmas.{InTable, puts, sets, removes, wipes, in_view, turned, changes_with}
+use Rattle.world_parts.specs.Lines.{KeepsLine}
 use Rattle.world_parts.specs.Marks.{mark_for, HasPart}
 use Rattle.world_parts.specs.Parts.{after_tried}
 use Rattle.world_parts.specs.PartLemmas.{acts_lifts}
@@ -88,6 +90,15 @@ act_heard schema w part xid o p c heard sub mark (Err AlreadyOpen) new acts is =
 act_heard schema w part xid o p c heard sub mark (Err TooManyOpen) new acts is = absurd acts
 act_heard schema w part xid o p c heard sub mark (Err Stopped) new acts is = heard (subst (λ (v : World). IsSome v.stopped) acts.1 is)
 act_heard schema w part xid o p c heard sub mark (Err OutOfMemory) new acts is = heard (subst (λ (v : World). IsSome v.stopped) acts.1 is)
+
+-- it leaves start and commits
+pub act_line : (w : World) (xid : ℕ) (o : Opened) (sub : ℕ) (c : change_type.Change) (answer : Result Acted Fault)
+    → KeepsLine w (after_act w xid o sub c answer)
+act_line w xid o sub c (Ok IsDone) = record { start = refl; line = refl }
+act_line w xid o sub c (Ok IsSkipped) = record { start = refl; line = refl }
+act_line w xid o sub c (Ok (Held holder)) = record { start = refl; line = refl }
+act_line w xid o sub c (Ok (Clashed cause)) = record { start = refl; line = refl }
+act_line w xid o sub c (Err fault) = record { start = refl; line = refl }
 
 -- ---- its ticket
 

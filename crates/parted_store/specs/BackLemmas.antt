@@ -30,6 +30,7 @@ use Rattle.engine.specs.Engine.{IsOtherwiseSame}
 use Rattle.engine.specs.Events.{after_event, opened_by}
 use Rattle.world_parts.specs.ByTable.{changes_at}
 use Rattle.world_parts.specs.ByTableLemmas.{changes_both}
+use Rattle.world_parts.specs.Lines.{HasLine}
 use Rattle.world_parts.specs.Parts.{wanted_by}
 use Rattle.world_parts.specs.Marks.{HasPart, AreDropped}
 use Rattle.world_parts.specs.MarkLemmas.{cuts_nothing}
@@ -193,11 +194,14 @@ module _ (p : Part) (xid : ℕ) (share : Share) (number : share.number ≡ xid) 
       ∙ ap (λ (n : ℕ). record p.store.world { opened = insert p.store.world.opened n (opened_by (share.list ++ backs_to (mark ∷ marks))) }) number
       ∙ ap (λ (o : Opened). record p.store.world { opened = insert p.store.world.opened xid o }) (opened_behind share.list mark marks)
 
-  -- a world that has it so has the part, where it has heard of its stops
-  pub has_back : (now : World) → (IsSome p.store.world.stopped → IsSome now.stopped) → HasPart p.number now (back_world p xid share mark marks)
-      → HasTable now q
-  has_back now heard has = record {
+  -- a world that has it so, and the line that it had, has the part, where it has heard of its stops
+  pub has_back : (now : World) → (IsSome p.store.world.stopped → IsSome now.stopped) → HasLine p.number now p.store.world
+      → HasPart p.number now (back_world p xid share mark marks) → HasTable now q
+  has_back now heard line has = record {
     is = subst (λ (n : ℕ). HasPart n now q.store.world) (sym is.same.number) (subst (HasPart p.number now) (sym world_is) has);
+    line =
+        subst (λ (n : ℕ). HasLine n now q.store.world) (sym is.same.number)
+        (subst (HasLine p.number now) (sym world_is) (record { start = line.start; line = line.line }));
     heard = λ stopped. heard (subst (λ (v : World). IsSome v.stopped) is.world stopped);
   }
 
@@ -225,12 +229,17 @@ module _ (t : OpenTicket) (sub : ℕ) (marks : List ℕ) (drops : Drops t.number
   abbrev now : World
   now = done_with w t.number (opened_by t.events) (BackTo sub)
 
+  -- it leaves start and commits
+  line_now : HasLine p.number now p.store.world
+  line_now = record { start = has.line.start; line = has.line.line }
+
   pub nothing_rolled : IsShare t.number (opened_by t.events) p.number None → HasTable now p
   nothing_rolled none = record {
     is =
         back_beside p.number w p.store.world has.is t.number (opened_by t.events) at sub
         (cuts_nothing p.number t.number sub (survivors t.number (opened_by t.events).items) none.0)
         (no_wants_here t p w has at none.1);
+    line = line_now;
     heard = has.heard;
   }
 
@@ -250,7 +259,7 @@ module _ (t : OpenTicket) (sub : ℕ) (marks : List ℕ) (drops : Drops t.number
   rolled_by None none q new did = subst (HasTable now) (sym did.0) (nothing_rolled none)
   rolled_by (Some share) number q None did = absurd did
   rolled_by (Some share) number q (Some new) did =
-      has_back p t.number share number sub marks q new did now has.heard (part_behind share (stood_there p t.number share number sub marks q new did))
+      has_back p t.number share number sub marks q new did now has.heard line_now (part_behind share (stood_there p t.number share number sub marks q new did))
 
 -- ---- the part itself
 

@@ -7,6 +7,8 @@ use Rattle.std.proofs.Common.{sym, ◌∙◌, ap, subst, inl, inr}
 use Rattle.world.specs.World.{Opened, World, Stop}
 use Rattle.world.specs.Steps.{Fault, AlreadyOpen, TooManyOpen, Stopped, OutOfMemory, Opens, opened_with}
 use Rattle.world.specs.ListingLemmas.{xid_cases}
+use Rattle.world_parts.specs.Lines.{HasLine, KeepsLine}
+use Rattle.world_parts.specs.LineLemmas.{line_stays, opens_keeps}
 use Rattle.world_parts.specs.Marks.{HasPart}
 use Rattle.world_parts.specs.ToldLemmas.{opens_here}
 use Rattle.table_parts.specs.Part.{Part}
@@ -14,20 +16,26 @@ use Rattle.parted_store.specs.Lent.{HasTable, IsShare}
 use Rattle.parted_store.specs.Shares.{Share, Shares, share_of}
 
 module _ (w : World) (p q : Part) (has : HasTable w p) (number : q.number ≡ p.number) where
-  -- where the part's world is this one, which is one of the table's and stopped as before
-  still_there : (v : World) → HasPart p.number w v → v.stopped ≡ p.store.world.stopped → q.store.world ≡ v → HasTable w q
-  still_there v is stopped same = record {
+  -- where the part's world is this one, which is one of the table's, stopped as before and with the same line
+  still_there : (v : World) → HasPart p.number w v → v.stopped ≡ p.store.world.stopped → q.store.world ≡ v
+      → KeepsLine p.store.world q.store.world → HasTable w q
+  still_there v is stopped same keeps = record {
     is = subst (λ (n : ℕ). HasPart n w q.store.world) (sym number) (subst (HasPart p.number w) (sym same) is);
+    line =
+        subst (λ (n : ℕ). HasLine n w q.store.world) (sym number)
+        (line_stays p.number w w p.store.world q.store.world (record { start = refl; line = refl }) keeps has.line);
     heard = λ heard. has.heard (subst (λ (stop : Option Stop). IsSome stop) (ap (λ (u : World). u.stopped) same ∙ stopped) heard);
   }
 
   pub comes_to : (xid : ℕ) (answer : Result (Unit {0}) Fault) → Opens p.store.world xid answer q.store.world → HasTable w q
-  comes_to xid (Ok u) opens =
-      still_there (opened_with p.store.world xid) (opens_here p.number w p.store.world has.is xid opens.1) refl opens.3
-  comes_to xid (Err AlreadyOpen) opens = still_there p.store.world has.is refl opens.2
-  comes_to xid (Err TooManyOpen) opens = still_there p.store.world has.is refl opens.3
-  comes_to xid (Err Stopped) opens = still_there p.store.world has.is refl opens.1
-  comes_to xid (Err OutOfMemory) opens = still_there p.store.world has.is refl opens.3
+  comes_to xid answer came = by answer came (opens_keeps p.store.world q.store.world xid answer came)
+    where
+      by : (told : Result (Unit {0}) Fault) → Opens p.store.world xid told q.store.world → KeepsLine p.store.world q.store.world → HasTable w q
+      by (Ok u) opens = still_there (opened_with p.store.world xid) (opens_here p.number w p.store.world has.is xid opens.1) refl opens.3
+      by (Err AlreadyOpen) opens = still_there p.store.world has.is refl opens.2
+      by (Err TooManyOpen) opens = still_there p.store.world has.is refl opens.3
+      by (Err Stopped) opens = still_there p.store.world has.is refl opens.1
+      by (Err OutOfMemory) opens = still_there p.store.world has.is refl opens.3
 
 -- its ticket has a share more
 pub shares_with : (xid : ℕ) (o : Opened) (table : ℕ) (shares new : Shares) → ((other : ℕ) → IsShare xid o other (share_of shares other))

@@ -11,6 +11,8 @@ use Rattle.model.specs.Survivors.{survivors}
 use Rattle.world.specs.World.{World}
 use Rattle.world.specs.Steps.{committed_with, aborted_with}
 use Rattle.world_parts.specs.ByTable.{changes_at}
+use Rattle.world_parts.specs.Lines.{HasLine}
+use Rattle.world_parts.specs.LineLemmas.{line_here, line_beside}
 use Rattle.world_parts.specs.Parts.{wanted_by, wanted_if}
 use Rattle.world_parts.specs.Marks.{items_at, survivors_if, HasPart}
 use Rattle.world_parts.specs.MarkLemmas.{nothing_told}
@@ -38,14 +40,22 @@ module _ (t : OpenTicket) (p : Part) (w : World) (has : HasTable w p) (at : HasT
       → HasTable (committed_with schema w t.number (opened_by t.events) info) p
   commits_nothing none schema info = record {
     is = ends_beside p.number w p.store.world has.is t.number (opened_by t.events) at schema info (no_items_here none) (no_wants_here none.1);
+    line =
+        line_beside schema p.number w p.store.world has.is has.line t.number (opened_by t.events) at info (no_items_here none);
     heard = has.heard;
   }
 
   pub aborts_nothing : IsShare t.number (opened_by t.events) p.number None → HasTable (aborted_with w t.number) p
   aborts_nothing none = record {
     is = aborts_beside p.number w p.store.world has.is t.number (no_items_here none) (no_wants_here none.1);
+    line = record { start = has.line.start; line = has.line.line };
     heard = has.heard;
   }
+
+  -- the share's transaction is open in the part
+  stood_by : (share : Share) → share.number ≡ t.number → get p.store.world.opened share.number ≡ Some (opened_by share.list)
+      → get p.store.world.opened t.number ≡ Some (opened_by share.list)
+  stood_by share number = subst (λ (n : ℕ). get p.store.world.opened n ≡ Some (opened_by share.list)) number
 
   pub committed_by : (info : CommitInfo) (share : Option Share) → IsShare t.number (opened_by t.events) p.number share
       → (q : Part) → CommitsShare info p share q → HasTable (committed_with p.store.schema w t.number (opened_by t.events) info) q
@@ -56,7 +66,13 @@ module _ (t : OpenTicket) (p : Part) (w : World) (has : HasTable w p) (at : HasT
         (subst (HasPart p.number (committed_with p.store.schema w t.number (opened_by t.events) info))
         (sym (did.1 ∙ ap (λ (n : ℕ). committed_with p.store.schema p.store.world n (opened_by share.list) info) number))
         (ends_here p.number w p.store.world has.is t.number (opened_by t.events) (opened_by share.list) at
-        (subst (λ (n : ℕ). get p.store.world.opened n ≡ Some (opened_by share.list)) number did.0) p.store.schema info));
+        (stood_by share number did.0) p.store.schema info));
+    line =
+        subst (λ (n : ℕ). HasLine n (committed_with p.store.schema w t.number (opened_by t.events) info) q.store.world) (sym did.2.number)
+        (subst (HasLine p.number (committed_with p.store.schema w t.number (opened_by t.events) info))
+        (sym (did.1 ∙ ap (λ (n : ℕ). committed_with p.store.schema p.store.world n (opened_by share.list) info) number))
+        (line_here p.store.schema p.number w p.store.world has.is has.line t.number (opened_by t.events) at info (opened_by share.list)
+        (stood_by share number did.0)));
     heard = λ is. has.heard (subst (λ (v : World). IsSome v.stopped) did.1 is);
   }
 
@@ -69,6 +85,9 @@ module _ (t : OpenTicket) (p : Part) (w : World) (has : HasTable w p) (at : HasT
         (subst (HasPart p.number (aborted_with w t.number))
         (sym (did.0 ∙ ap (aborted_with p.store.world) number))
         (aborts_here p.number w p.store.world has.is t.number));
+    line =
+        subst (λ (n : ℕ). HasLine n (aborted_with w t.number) q.store.world) (sym did.1.number)
+        (subst (HasLine p.number (aborted_with w t.number)) (sym did.0) (record { start = has.line.start; line = has.line.line }));
     heard = λ is. has.heard (subst (λ (v : World). IsSome v.stopped) did.0 is);
   }
 

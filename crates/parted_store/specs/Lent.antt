@@ -9,6 +9,7 @@ use Rattle.std.specs.FinMap as finite
 use Rattle.std.specs.FinMap.{get}
 use Rattle.world.specs.World.{Opened, World, work}
 use Rattle.world_parts.specs.ByTable.{changes_at}
+use Rattle.world_parts.specs.Lines.{HasLine}
 use Rattle.world_parts.specs.Parts.{wanted_by}
 use Rattle.world_parts.specs.Marks.{HasPart}
 use Rattle.table_parts.specs.Part.{Part}
@@ -26,10 +27,11 @@ pub record OpenTicket : Type 0 where
   -- its shares of the tables' parts
   pub shares : Shares
 
--- The world has this part of a table, to which just the items were told that its transactions did there. A part that is
--- stopped has heard of a stop of the world.
+-- The world has this part of a table, to which just the items were told that its transactions did
+-- there, and the part's line. A part that is stopped has heard of a stop of the world.
 pub record HasTable (w : World) (p : Part) : Type 0 where
   pub is : HasPart p.number w p.store.world
+  pub line : HasLine p.number w p.store.world
   pub heard : IsSome p.store.world.stopped → IsSome w.stopped
 
 -- A part later on: of the same table, with the same keys and tickets.

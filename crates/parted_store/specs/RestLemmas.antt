@@ -20,6 +20,7 @@ use Rattle.world.specs.ListingLemmas.{got_same}
 use Rattle.engine.specs.declared.events.Event.TheVariants.{Done}
 use Rattle.engine.specs.Events.{opened_by}
 use Rattle.world_parts.specs.ByTable.{change_at, changes_at}
+use Rattle.world_parts.specs.Lines.{HasLine}
 use Rattle.world_parts.specs.Parts.{wanted_by, after_tried}
 use Rattle.world_parts.specs.ToldLemmas.{touched_beside, tried_elsewhere, rested_touched, rested_elsewhere}
 use Rattle.table_parts.specs.Part.{Part, last_commit_end}
@@ -36,9 +37,14 @@ module _ (t : OpenTicket) (sub : ℕ) (p : Part) (w : World) (has : HasTable w p
   abbrev touched : World
   touched = done_with w t.number (opened_by t.events) (Touch sub)
 
+  -- it leaves start and commits
+  line_touched : HasLine p.number touched p.store.world
+  line_touched = record { start = has.line.start; line = has.line.line }
+
   pub nothing_touched : changes_at p.number (wanted_by (opened_by t.events).wants) ≡ [] → HasTable touched p
   nothing_touched none = record {
     is = touched_beside p.number w p.store.world has.is t.number (opened_by t.events) at sub (no_wants_here t p w has at none);
+    line = line_touched;
     heard = has.heard;
   }
 
@@ -47,7 +53,7 @@ module _ (t : OpenTicket) (sub : ℕ) (p : Part) (w : World) (has : HasTable w p
   touched_by None none q new did = subst (HasTable touched) (sym did.0) (nothing_touched none.1)
   touched_by (Some share) number q None did = absurd did
   touched_by (Some share) number q (Some new) did =
-      has_back p t.number share number t.number [] q new did touched has.heard
+      has_back p t.number share number t.number [] q new did touched has.heard line_touched
       (rested_touched p.number w p.store.world has.is t.number (opened_by t.events) (opened_by share.list) at
       (stood_there p t.number share number t.number [] q new did) sub)
 
@@ -98,6 +104,12 @@ module _ (t : OpenTicket) (sub : ℕ) (c : change_type.Change) (p : Part) (not :
   heard_by (Held holder) is = is
   heard_by (Clashed cause) is = refl
 
+  line_tried : (answer : Acted) → HasLine p.number (tried answer) p.store.world
+  line_tried IsDone = record { start = has.line.start; line = has.line.line }
+  line_tried IsSkipped = record { start = has.line.start; line = has.line.line }
+  line_tried (Held holder) = record { start = has.line.start; line = has.line.line }
+  line_tried (Clashed cause) = record { start = has.line.start; line = has.line.line }
+
   same_world : (answer : Acted) → after_act w t.number (opened_by t.events) sub c (Ok answer) ≡ tried answer
   same_world IsDone = refl
   same_world IsSkipped = refl
@@ -107,6 +119,7 @@ module _ (t : OpenTicket) (sub : ℕ) (c : change_type.Change) (p : Part) (not :
   nothing_tried : changes_at p.number (wanted_by (opened_by t.events).wants) ≡ [] → (answer : Acted) → HasTable (tried answer) p
   nothing_tried none answer = record {
     is = tried_elsewhere p.number w p.store.world has.is t.number (opened_by t.events) at sub c answer not (no_wants_here t p w has at none);
+    line = line_tried answer;
     heard = λ is. heard_by answer (has.heard is);
   }
 
@@ -115,7 +128,7 @@ module _ (t : OpenTicket) (sub : ℕ) (c : change_type.Change) (p : Part) (not :
   rests_by answer None none q new did = subst (HasTable (tried answer)) (sym did.0) (nothing_tried none.1 answer)
   rests_by answer (Some share) number q None did = absurd did
   rests_by answer (Some share) number q (Some new) did =
-      has_back p t.number share number t.number [] q new did (tried answer) (λ is. heard_by answer (has.heard is))
+      has_back p t.number share number t.number [] q new did (tried answer) (λ is. heard_by answer (has.heard is)) (line_tried answer)
       (rested_elsewhere p.number w p.store.world has.is t.number (opened_by t.events) (opened_by share.list) at
       (stood_there p t.number share number t.number [] q new did) sub c not answer)
 

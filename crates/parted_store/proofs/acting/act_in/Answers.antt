@@ -12,11 +12,13 @@ use Rattle.live_tables.specs.Answers.{told, after_act}
 use Rattle.engine.specs.declared.events.Event.{Event}
 use Rattle.engine.specs.Events.{opened_by, events_of}
 use Rattle.world_parts.specs.ByTable.{IsIn}
+use Rattle.world_parts.specs.Lines.{HasLine}
+use Rattle.world_parts.specs.LineLemmas.{line_stays}
 use Rattle.world_parts.specs.Marks.{mark_for, HasPart}
 use Rattle.table_parts.specs.Part.{Part, last_commit_end}
 use Rattle.savepoint.specs.Savepoints.{mark_at, before_mark, latest_sub}
 use Rattle.parted_store.specs.Acting.{IsLent, is_done, items_of, stop_after, Rests, IsActed}
-use Rattle.parted_store.specs.ActLemmas.{act_step, act_part, act_heard, in_no_other, ticket_acted, items_acted, shares_acted}
+use Rattle.parted_store.specs.ActLemmas.{act_step, act_part, act_heard, act_line, in_no_other, ticket_acted, items_acted, shares_acted}
 use Rattle.parted_store.specs.Journal.{JournalPart}
 use Rattle.parted_store.specs.JournalLemmas.{none_there, journal_acted}
 use Rattle.parted_store.specs.Lent.{OpenTicket, HasTable, HasJournal, HasTicket, IsSamePart, IsShare}
@@ -103,6 +105,10 @@ module _ (c : goal.After-keep) where
         subst (λ n. HasPart n (later w) c.act-answer.new.self.store.world) (sym c.act-answer.ensures.number)
         (act_part c.args.part.now.store.schema c.args.part.now.number w c.args.part.now.store.world has.is t.number o (opened_by c.in-Some.share.list) at here
         c.args.c.now c.requires.its c.args.sub mark mark_is answer c.act-answer.new.self.store.world in_part);
+    line =
+        subst (λ n. HasLine n (later w) c.act-answer.new.self.store.world) (sym c.act-answer.ensures.number)
+        (line_stays c.args.part.now.number w (later w) c.args.part.now.store.world c.act-answer.new.self.store.world
+        (act_line w t.number o c.args.sub c.args.c.now answer) c.act-answer.ensures.line has.line);
     heard =
         act_heard c.args.part.now.store.schema w c.args.part.now.store.world t.number o (opened_by c.in-Some.share.list) c.args.c.now has.heard
         c.args.sub mark answer c.act-answer.new.self.store.world in_part;
