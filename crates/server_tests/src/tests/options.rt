@@ -16,7 +16,7 @@ pub fn words(alloc: Global, line: &str) -> Result<Vec<String>, Fail> {
 }
 
 /// An option of `capture` with its value, and whether it is read.
-static VALUES: [(&str, bool); 21] = [
+static VALUES: [(&str, bool); 23] = [
     ("--timeout 1", true),
     ("--timeout 0", false),
     ("--timeout 1000000001", false),
@@ -32,6 +32,8 @@ static VALUES: [(&str, bool); 21] = [
     ("--require-auth scram-sha-256,md5", true),
     ("--require-auth !password,!none", true),
     ("--require-auth !password,none", false),
+    ("--require-auth md5,password,md5", false),
+    ("--require-auth !gss,!gss", false),
     ("--require-auth kerberos", false),
     ("--require-auth ", false),
     ("--create --copy", true),
