@@ -36,7 +36,7 @@ fn place_of(number: u32) -> Lsn {
 
 /// Where it ends.
 fn end_of(number: u32) -> Lsn {
-    place_of(number) + 0x20
+    place_of(number).saturating_add(0x20)
 }
 
 /// The next drawn number.
@@ -47,10 +47,15 @@ fn draw(seed: &mut u64) -> usize {
     (*seed >> 33) as usize
 }
 
+/// The id of the row at a place.
+fn id_of(at: usize) -> Column {
+    Column::Number(u32::try_from(at).unwrap_or(0).wrapping_add(1))
+}
+
 /// The row at a place with a note.
 fn row(at: usize, note: usize) -> Tuple {
     (
-        Column::Number((at as u32).wrapping_add(1)),
+        id_of(at),
         Column::Text(EMAILS[at % 6]),
         Column::Text(NOTES[note % 4]),
     )
@@ -58,11 +63,7 @@ fn row(at: usize, note: usize) -> Tuple {
 
 /// The key of the row at a place.
 fn key(at: usize) -> Tuple {
-    (
-        Column::Number((at as u32).wrapping_add(1)),
-        Column::Null,
-        Column::Null,
-    )
+    (id_of(at), Column::Null, Column::Null)
 }
 
 /// A drawn change, which is made in what is kept too: a truncate, a new row, one that moves, one that goes,
