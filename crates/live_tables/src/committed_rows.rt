@@ -20,8 +20,8 @@ use std::collections::BTreeMap;
 
 impl Live {
     /// The committed rows of a table in key order, as copies, but at these keys what is known of them
-    /// already: a row, or none. It costs one walk of the live rows, and what open transactions did in the
-    /// table: where one of them emptied it, the rows that lie in its inverses.
+    /// already: a row, or none. It costs one walk of the table's live rows, and one of what open
+    /// transactions did in any table: where one of them emptied it, the rows that lie in its inverses.
     pub fn committed_rows(
         &self,
         alloc: Global,
