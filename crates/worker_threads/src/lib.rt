@@ -8,9 +8,9 @@
 // mailboxes and waits until each thread has ended. What a job is, and what workers share, is the caller's
 // (`Work`).
 //
-//   - The leader is told how many mailboxes have a worker, the first so many. A thread that can't be
-//     started makes it fewer, and the leader decides what that means. In a mailbox without a worker a
-//     job would lie for ever.
+//   - The leader is told how many mailboxes have a worker, the first so many: each is counted by the
+//     handle of its thread. A thread that can't be started makes it fewer, and the leader decides what
+//     that means. In a mailbox without a worker a job would lie for ever.
 //   - What the leader answered, and what it left of all that it could alter, comes out as if it had
 //     been called alone.
 //   - Of a job that comes back nothing is known but its type. Whoever has to know which one it is lets
@@ -26,12 +26,14 @@
 //
 //   mailbox    `Mailbox`, `make_mailboxes`
 //   workers    `Work`, `with_workers`
+//   serving    how many workers were started
 //   state      what lies in a mailbox
 //
 //   specs/MailboxState      what lies in a mailbox, and who waits there
 //
 // It stands on `model` for `OutOfMemory`.
 mod mailbox;
+mod serving;
 mod state;
 mod workers;
 

@@ -2,6 +2,7 @@
 ghost use Rattle.std.specs.Prelude.{◌≡◌, ◌≤◌, ℕ, length};
 
 use crate::mailbox::Mailbox;
+use crate::serving::Serving;
 use std::sync::Wait;
 use std::thread;
 use std::thread::Threads;
@@ -19,7 +20,7 @@ pub trait Work<J> {
     fn came_back<R: Wait>(&self, rt: &R);
 }
 
-// What is done once the threads were started. It is told how many were.
+// What is done once the threads were started. It is told how many workers were.
 trait Task {
     type Output;
 
@@ -27,7 +28,7 @@ trait Task {
 
     ghost run_gives: { Self → ℕ → Self.Output → Type 0 };
 
-    fn run(self, serving: usize) -> Self::Output
+    fn run(self, serving: Serving) -> Self::Output
         requires { can_run self serving }
         ensures { run_gives self serving result };
 }
@@ -48,17 +49,17 @@ impl<'a, F: FnMut(usize) -> X, X> Task for Lent<'a, F> {
 
     ghost run_gives = { λ lent serving given. (given.0.ghost_name ≡ lent.leader.ghost_name) × F.step lent.leader.now serving given.1 given.0.now };
 
-    fn run(self, serving: usize) -> (&'a mut F, X) {
+    fn run(self, serving: Serving) -> (&'a mut F, X) {
         let Lent { leader } = self;
-        let outcome = leader(serving);
+        let outcome = leader(serving.count());
         (leader, outcome)
     }
 }
 
-/// Starts a worker for each mailbox and lets the leader work, which is told how many mailboxes have one: the
-/// first so many, and all of them unless a thread can't be started (by no clause: fewer may be told). Once the leader has answered, all
-/// mailboxes are closed, and it returns when the workers have ended. A job that still lies in a mailbox is
-/// dropped.
+/// Starts a worker for each mailbox and lets the leader work, which is told how many mailboxes have one:
+/// the first so many, and all of them unless a thread can't be started (no clause says so: fewer may be
+/// told). Once the leader has answered, all mailboxes are closed, and it returns when the workers have
+/// ended. A job that still lies in a mailbox is dropped.
 pub fn with_workers<J, R, W, F, X>(
     rt: &R,
     mailboxes: &[Mailbox<J>],
@@ -95,12 +96,12 @@ where
             requires { (serving : ℕ) → serving ≤ length mailboxes.now → T.can_run task serving }
             ensures { (serving : ℕ) × (serving ≤ length mailboxes.entry.now) × T.run_gives task serving result }
         {
-            let mut serving = 0;
+            let mut serving = Serving::none();
             for mailbox in mailboxes {
-                if scope.spawn(move || mailbox.serve(rt, shared)).is_err() {
-                    break;
+                match scope.spawn(move || mailbox.serve(rt, shared)) {
+                    Ok(started) => serving.add(started),
+                    Err(_) => break,
                 }
-                serving += 1;
             }
             let outcome = task.run(serving);
             for mailbox in mailboxes {
