@@ -1,3 +1,4 @@
+pub mod Onlookers
 pub mod Threads
 pub mod Decided
 pub mod Ending

@@ -3,7 +3,8 @@
 // `worker_threads` takes a leader as a closure. What a run's leader needs has more than one type parameter, and a
 // closure that holds references to it gets no proof yet; so the closure holds a value of a type
 // parameter, which leads.
-ghost use Rattle.std.specs.Prelude.{◌≡◌, ◌≤◌, ℕ, Bool, [], ◌&&◌, nat_eq, IfNone, IfSome, length, vec_capacity};
+ghost use Rattle.std.specs.Prelude.{◌≡◌, ◌≤◌, ℕ, Bool, true, [], ◌&&◌, nat_eq, All, IfNone, IfSome, length, vec_capacity};
+ghost use Rattle.leader.specs.Onlookers.{HasThread};
 
 use crate::watching::Watching;
 use dispatch::RunNames;
@@ -82,7 +83,7 @@ impl<V: Drop> Onlookers<V> {
 
 /// Starts a thread for each watcher and a worker for each mailbox, and lets the leader lead, which tells
 /// the watchers the end. It returns when each of them has had its last turn, which one whose thread can't
-/// be started has here: then nothing is read.
+/// be started has here: then the leader is told so, and nothing is read.
 pub fn beside<J, R, W, L, V, T, X>(
     rt: &R,
     mailboxes: &[Mailbox<J>],
@@ -99,7 +100,8 @@ where
     V: Turns<W, L> + Drop + Send,
     T: Leading<J, W, Left = X> + Drop,
     requires { T.can_lead leader (length mailboxes.now) }
-    ensures led { (has_all : Bool) × T.lead_gives leader (length mailboxes.now) has_all result.0 }
+    ensures led { (has_all : Bool) × T.lead_gives leader (length mailboxes.now) has_all result.0
+        × (has_all ≡ true → All HasThread result.1.items) }
     ensures count { length result.1.items ≡ length watchers.all.items }
 {
     thread::scope(
@@ -107,26 +109,38 @@ where
         rt,
         move |scope| -> (X, Vec<Onlooker<V>>)
             requires { T.can_lead leader (length mailboxes.now) }
-            ensures led { (has_all : Bool) × T.lead_gives leader (length mailboxes.entry.now) has_all result.0 }
+            ensures led { (has_all : Bool) × T.lead_gives leader (length mailboxes.entry.now) has_all result.0
+                × (has_all ≡ true → All HasThread result.1.items) }
             ensures count { length result.1.items ≡ length watchers.all.items }
         {
             let (all, mut away) = watchers.into_parts();
-            let mut are_watching = true;
             for onlooker in all {
                 let watcher = onlooker.join(rt);
                 match scope.spawn(move || watcher.take_turns(rt, shared, watching)) {
                     Ok(thread) => away.push_reserved(Onlooker::Away(thread)),
                     Err(refused) => {
-                        are_watching = false;
                         watching.signal_end();
                         away.push_reserved(Onlooker::Here((refused.value)()));
                     }
                 }
             }
+            let are_watching = have_threads(&away);
             let left = beside_workers(rt, mailboxes, shared, leader, are_watching);
             (left, away)
         },
     )
+}
+
+// Whether each of those who watch has a thread of its own.
+fn have_threads<V: Drop>(onlookers: &[Onlooker<V>]) -> bool
+    ensures { result ≡ true → All HasThread onlookers.now }
+{
+    for onlooker in onlookers {
+        if let Onlooker::Here(_) = onlooker {
+            return false;
+        }
+    }
+    true
 }
 
 // Starts a worker for each mailbox and lets the leader lead, as `with_workers` has it. It is told that it has
