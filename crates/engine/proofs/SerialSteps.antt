@@ -1,12 +1,12 @@
 -- What a store whose transactions come one at a time keeps through its calls.
 --     known_all      what can be undone is of tables that are there
 --     if_err, on_err, taken_front      an error that is passed on; what holds anyway; what the iterator of a vector has given
---     change_kept      a change more among items
 --     serially_idle      what the type keeps where no work is open
 --     rows_based, rows_idle      the rows without the open work are the committed ones; where none is open, those of the tables
---     worked, worked_view, worked_kept      with more changes
+--     worked_view, worked_kept      once the work has grown
+--     unworked_view      what is seen of one whose work has not grown
 --     item_applied, item_clear, item_refused      items in turn
-use Rattle.std.proofs.Common.{◌≡◌, ℕ, Vec, Global, ◌++◌, ◌∷◌, [], List, None, sym, ap, subst, ◌∙◌, append_assoc}
+use Rattle.std.proofs.Common.{◌≡◌, ◌++◌, ◌∷◌, [], List, None, sym, ap, subst, ◌∙◌, append_assoc, append-nil}
 use Rattle.std.specs.Prelude.{Result, Ok, Err, IsErrAnd, IfErr, OnErr, map}
 use Rattle.std.specs.Iterator.{Yields}
 use Rattle.std.specs.Vec.Iter.{into_iter_items, into_iter_steps}
@@ -14,7 +14,6 @@ use Rattle.std.specs.declared.vec.IntoIter.{IntoIter}
 use Rattle.std.specs.FinMap as finite
 use Rattle.model.specs.declared.change.Change.{Change}
 use Rattle.model.specs.declared.item.Item.{Item}
-use Rattle.model.specs.declared.item.Item.TheVariants.{Change as ChangeItem}
 use Rattle.model.specs.Rows.{Rows, Schema}
 use Rattle.model.specs.Effect.{all_back, serial}
 use Rattle.model.specs.Survivors.{changes_of}
@@ -25,15 +24,17 @@ use Rattle.indexes.specs.Content.{Content}
 use Rattle.change.specs.declared.inverse.Inverse.{Inverse}
 use Rattle.change.specs.Inverse.{edits_of, IsKnown}
 use Rattle.change.specs.declared.outcome.Clash.{Clash}
-use Rattle.undo.specs.Undo.{Log, CanUndo, AreKnownAll}
+use Rattle.undo.specs.Undo.{CanUndo, AreKnownAll}
 use Rattle.undo.specs.UndoLemmas.{schema_undone}
 use Rattle.engine.specs.declared.serial.SerialStore.TheInside.{Inside}
 use Rattle.engine.specs.FirstClash.{ClashesIn}
 use Rattle.engine.specs.FirstClashLemmas.{ClashesIn-behind, ClashesIn-before}
 use Rattle.engine.specs.Engine.{engine_in, world_in, Represents as StoreRepresents}
 use Rattle.engine.specs.Serial.{Serial, rows_now, with_changes}
-use Rattle.engine.specs.SerialInside.{base_in, idle_in, serial_in, Represents}
+use Rattle.engine.specs.OpenWork.{Work, base_of, HasGrown}
+use Rattle.engine.specs.SerialInside.{idle_in, serial_in, Represents}
 use Rattle.engine.specs.SerialLemmas.{idle_rows, rows_with}
+use Rattle.live_tables.specs.declared.live_tables.Live.{Live}
 use Rattle.live_tables.specs.Answers.{told_stop}
 
 -- what can be undone is of tables that are there
@@ -56,63 +57,59 @@ pub taken_front : {X A : Type 0} (s : IntoIter X A) (xs : List X) (t : IntoIter 
 taken_front s [] t y = ap into_iter_items y
 taken_front s (x ∷ xs) t y = y.1.0 ∙ ap (λ ys. x ∷ ys) (taken_front y.0 xs t y.2)
 
--- a change more is kept, behind room that was made
-pub change_kept : (old room new : List Item) (sub : ℕ) (c : Change) → room ≡ old → new ≡ room ++ ChangeItem sub c ∷ [] → changes_of new ≡ changes_of old ++ c ∷ []
-change_kept old room new sub c made pushed = ap changes_of (pushed ∙ ap (λ (items : List Item). items ++ ChangeItem sub c ∷ []) made) ∙ changes_of_both old (ChangeItem sub c ∷ [])
-
 -- where no work is open, it is a store of which the type keeps all
-pub serially_idle : (s : Inside) → StoreRepresents (idle_in s) → s.book.lists ≡ finite.empty → told_stop s.live.stopped ≡ None → s.token ≡ s.line
-    → s.undo.inverses ≡ [] → changes_of s.items.items ≡ [] → Represents s
+pub serially_idle : (s : Inside) → StoreRepresents (idle_in s) → s.book.lists ≡ finite.empty → told_stop s.work.live.stopped ≡ None → s.token ≡ s.line
+    → s.work.undo.inverses ≡ [] → s.work.changes ≡ [] → Represents s
 serially_idle s idle none runs line undone unchanged = record {
   idle = idle;
   none = none;
   runs = runs;
   line = line;
   done =
-      ap (λ (is : List Inverse). all_back s.live.tables.rows (map edits_of is)) (sym undone) ∙ idle_rows (idle_in s) idle none
-      ∙ ap (serial s.live.tables.schema (world_in (idle_in s)).committed) (sym unchanged);
-  undoable = subst (CanUndo s.live.tables) (sym undone) tt;
-  clear = subst (AreAccepted s.live.tables.schema (base_in s)) (sym unchanged) tt;
+      ap (λ (is : List Inverse). all_back s.work.live.tables.rows (map edits_of is)) (sym undone) ∙ idle_rows (idle_in s) idle none
+      ∙ ap (serial s.work.live.tables.schema (world_in (idle_in s)).committed) (sym unchanged);
+  clear = subst (AreAccepted s.work.live.tables.schema (base_of s.work)) (sym unchanged) tt;
 }
 
 module _ (s : Inside) (is : Represents s) where
   -- the rows without the open work are the committed ones
-  pub rows_based : base_in s ≡ (world_in (idle_in s)).committed
+  pub rows_based : base_of s.work ≡ (world_in (idle_in s)).committed
   rows_based = idle_rows (idle_in s) is.idle is.none
 
   -- where no work is open, they are the rows of the tables
-  pub rows_idle : changes_of s.items.items ≡ [] → s.live.tables.rows ≡ base_in s
-  rows_idle unchanged = is.done ∙ ap (serial s.live.tables.schema (world_in (idle_in s)).committed) unchanged ∙ sym rows_based
+  pub rows_idle : s.work.changes ≡ [] → s.work.live.tables.rows ≡ base_of s.work
+  rows_idle unchanged = is.done ∙ ap (serial s.work.live.tables.schema (world_in (idle_in s)).committed) unchanged ∙ sym rows_based
 
-  -- The tables have more changes in them, which can be undone too.
-  module _ (t : Content) (u : Log) (items : Vec Item Global) (cs : List Change) (schema : t.schema ≡ s.live.tables.schema)
-      (base : all_back t.rows (map edits_of u.inverses) ≡ base_in s) (more : changes_of items.items ≡ changes_of s.items.items ++ cs)
-      (rows : t.rows ≡ serial s.live.tables.schema s.live.tables.rows cs) where
-    abbrev pub worked : Inside
-    worked = record s { live = record s.live { tables = t }; undo = u; items = items }
+  -- the work has grown by changes
+  module _ (w : Work) (cs : List Change) (grown : HasGrown s.work cs w) where
+    abbrev worked : Inside
+    worked = record s { work = w }
 
     same_idle : idle_in worked ≡ idle_in s
-    same_idle = λ i. record (idle_in s) { live = record s.live { tables = record { schema = schema i; rows = base i; room = [] } } }
+    same_idle = λ i. record (idle_in s) { live = record (grown.live i) { tables = record { schema = grown.schema i; rows = grown.base i; room = [] } } }
 
     pub worked_view : serial_in worked ≡ with_changes (serial_in s) cs
-    worked_view = λ i. record { store = engine_in (same_idle i); changes = more i }
+    worked_view = λ i. record { store = engine_in (same_idle i); changes = grown.changes i }
 
-    pub worked_kept : CanUndo t u.inverses → AreAccepted s.live.tables.schema s.live.tables.rows cs → Represents worked
-    worked_kept can clear = record {
+    pub worked_kept : Represents worked
+    worked_kept = record {
       idle = subst StoreRepresents (sym same_idle) is.idle;
       none = is.none;
-      runs = is.runs;
+      runs = ap (λ (l : Live). told_stop l.stopped) grown.live ∙ is.runs;
       line = is.line;
-      done = rows ∙ ap (λ (r : Rows). serial s.live.tables.schema r cs) is.done ∙ sym (rows_with (serial_in s) cs) ∙ ap rows_now (sym worked_view);
-      undoable = can;
+      done = grown.rows ∙ ap (λ (r : Rows). serial s.work.live.tables.schema r cs) is.done ∙ sym (rows_with (serial_in s) cs) ∙ ap rows_now (sym worked_view);
       clear =
-          let behind : AreAccepted s.live.tables.schema (serial s.live.tables.schema (base_in s) (changes_of s.items.items)) cs =
-          subst (λ (r : Rows). AreAccepted s.live.tables.schema r cs) (is.done ∙ ap (λ (r : Rows). serial s.live.tables.schema r (changes_of s.items.items)) (sym rows_based)) clear in
-          let all = accepted_append s.live.tables.schema (base_in s) (changes_of s.items.items) cs is.clear behind in
-          subst (λ (ds : List Change). AreAccepted t.schema (base_in worked) ds) (sym more)
-          (subst (λ (keys : Schema). AreAccepted keys (base_in worked) (changes_of s.items.items ++ cs)) (sym schema)
-          (subst (λ (r : Rows). AreAccepted s.live.tables.schema r (changes_of s.items.items ++ cs)) (sym base) all));
+          let behind : AreAccepted s.work.live.tables.schema (serial s.work.live.tables.schema (base_of s.work) s.work.changes) cs =
+          subst (λ (r : Rows). AreAccepted s.work.live.tables.schema r cs) (is.done ∙ ap (λ (r : Rows). serial s.work.live.tables.schema r s.work.changes) (sym rows_based)) grown.clear in
+          let all = accepted_append s.work.live.tables.schema (base_of s.work) s.work.changes cs is.clear behind in
+          subst (λ (ds : List Change). AreAccepted w.live.tables.schema (base_of w) ds) (sym grown.changes)
+          (subst (λ (keys : Schema). AreAccepted keys (base_of w) (s.work.changes ++ cs)) (sym grown.schema)
+          (subst (λ (r : Rows). AreAccepted s.work.live.tables.schema r (s.work.changes ++ cs)) (sym grown.base) all));
     }
+
+  -- it has not grown
+  pub unworked_view : (w : Work) → HasGrown s.work [] w → serial_in (record s { work = w }) ≡ serial_in s
+  unworked_view w same = worked_view w [] same ∙ ap (λ (cs : List Change). record (serial_in s) { changes = cs }) (append-nil s.work.changes)
 
 -- ---- items in turn
 

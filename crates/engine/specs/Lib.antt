@@ -8,6 +8,7 @@ pub mod SharedLemmas
 pub mod ShutLemmas
 pub mod FirstClash
 pub mod FirstClashLemmas
+pub mod OpenWork
 pub mod Serial
 pub mod SerialInside
 pub mod SerialLemmas

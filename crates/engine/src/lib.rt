@@ -16,6 +16,7 @@
 //   store               `Store`: each call with its ticket or line
 //   shared              `SharedStore`: a store under a lock
 //   serial              `SerialStore`: a store whose transactions come one at a time
+//   open_work           the tables with the open work of such a store, and what takes it back
 //   shut                the end of a store in which transactions are still open
 //   tickets, events     `Ticket`, `Line`, `Seen`, and what they list
 //   entry               a committed transaction as the journal has it
@@ -25,6 +26,7 @@
 //   specs/Shared, SharedLemmas      what the type of a store under a lock keeps
 //   specs/ShutLemmas                a store that is given up while transactions are open
 //   specs/Serial, SerialInside, SerialLemmas    a store whose transactions come one at a time
+//   specs/OpenWork                  its open work
 //   specs/FirstClash, FirstClashLemmas        changes one after another, and the first that clashes
 //   specs/Events, EventLemmas       the world that tickets and line tell
 //   specs/StoreLemmas               what the type keeps, once a call has altered the parts
@@ -35,6 +37,7 @@
 // `change`, `undo` and `indexes` for a store of one transaction at a time, and on `tokens`.
 mod entry;
 mod events;
+mod open_work;
 mod rows_after;
 mod serial;
 mod shared;

@@ -1,15 +1,11 @@
 // A store whose transactions come one at a time.
 ghost use Rattle.std.specs.Prelude.{◌≡◌, ◌<◌, [], ◌∷◌, ◌++◌, OnOk, OnErr, IfOk, IfErr, All, length, map};
 ghost use Rattle.model.specs.declared.item.Item.TheVariants.{Change as ChangeItem};
-ghost use Rattle.model.specs.Effect.{all_back, serial};
 ghost use Rattle.model.specs.Named.{NamesTables};
 ghost use Rattle.model.specs.Survivors.{changes_of};
 ghost use Rattle.model.specs.Accepted.{HasNoClash, AreAccepted};
 ghost use Rattle.model.specs.Beginning.{last_end};
-ghost use Rattle.change.specs.Inverse.{edits_of};
 ghost use Rattle.change.specs.Refusal.{ClashesAs};
-ghost use Rattle.indexes.specs.Content.{KeepsCells};
-ghost use Rattle.undo.specs.Undo.{CanUndo, AreKnownAll, AreSettled};
 ghost use Rattle.world.specs.World.{starting, ends_of};
 ghost use Rattle.world.specs.Steps.{Closes, Reaches};
 ghost use Rattle.engine.specs.declared.events.LineEvent.TheVariants.{Opened as WasOpened, Committed as WasCommitted};
@@ -20,6 +16,7 @@ ghost use Rattle.live_tables.specs.Journal.{rows_after};
 
 use crate::entry::{Changes, Entry};
 use crate::events::{Event, LineEvent};
+use crate::open_work::OpenWork;
 use crate::shut::forget_each;
 use crate::store::{Store, new_tokens, record_start};
 use crate::tickets::Line;
@@ -29,9 +26,7 @@ use live_tables::Live;
 use model::{Change, CommitInfo, Item, OutOfMemory, Xid};
 use std::alloc::Global;
 use std::marker::{Brand, Model};
-use std::mem;
 use tokens::{Book, Items, Kept, Token, grow, grow_by, pair};
-use undo::UndoLog;
 
 /// A store whose transactions come one at a time, by one hand that has the store and its line: so no
 /// transaction needs a ticket, and none holds a cell. Where no work is open it is a `Store` in which no
@@ -41,15 +36,13 @@ use undo::UndoLog;
 /// calls of a `Store` come to: one transaction opens, makes these changes and is committed.
 #[derive(Debug, Drop)]
 pub struct SerialStore {
-    live: Live,
+    work: OpenWork,
     /// One list of the tables at the start, which proofs alone know.
     start: Kept<Tables>,
     journal: Vec<Entry>,
     book: Book<Event>,
     line: Kept<LineEvent>,
     token: Token<LineEvent>,
-    undo: UndoLog,
-    items: Vec<Item>,
 }
 
 impl Model for SerialStore {
@@ -82,14 +75,12 @@ impl SerialStore {
             return Err(start);
         };
         Ok(SerialStore {
-            live: Live::new(alloc, start),
+            work: OpenWork::new(alloc, Live::new(alloc, start)),
             start: told,
             journal: Vec::new(alloc),
             book,
             line,
             token,
-            undo: UndoLog::new(alloc),
-            items: Vec::new(alloc),
         })
     }
 
@@ -100,17 +91,15 @@ impl SerialStore {
         ensures line { result.1 ≡ self.store.line }
     {
         let SerialStore {
-            live,
+            work,
             start,
             journal,
             book,
             line,
             token,
-            undo: _,
-            items: _,
         } = self;
         let store = Store {
-            live,
+            live: work.into_live(),
             start,
             journal,
             book,
@@ -127,9 +116,7 @@ impl SerialStore {
         ensures refused { IfErr result (ClashesAs self.old.store.schema (rows_now self.old) change) }
         ensures err { OnErr result (self.new ≡ self.old) }
     {
-        self.items.reserve(1)?;
-        self.undo.apply(alloc, &mut self.live.tables, &change)?;
-        self.items.push_reserved(Item::Change { sub, change });
+        self.work.act(alloc, sub, change)?;
         Ok(())
     }
 
@@ -157,7 +144,7 @@ impl SerialStore {
         ensures err { OnErr result (HasBegun self.old (changes_of items.items) self.new) }
         ensures store { self.new.store ≡ self.old.store }
     {
-        if self.items.is_empty() {
+        if self.work.is_empty() {
             return self.take_list(alloc, items);
         }
         for item in items {
@@ -175,12 +162,7 @@ impl SerialStore {
         ensures refused { IfErr result (ClashesIn self.old.store.schema (rows_now self.old) (changes_of items.items)) }
         ensures err { OnErr result (self.new ≡ self.old) }
     {
-        make_room(alloc, &mut self.live.tables, &items);
-        if let Err(clash) = apply_each(alloc, &mut self.live.tables, &mut self.undo, &items) {
-            self.undo.undo_to(&mut self.live.tables, 0);
-            return Err(clash);
-        }
-        self.items = items;
+        self.work.take_list(alloc, items)?;
         Ok(())
     }
 
@@ -197,10 +179,9 @@ impl SerialStore {
         ensures err { OnErr result (self.new ≡ self.old) }
     {
         self.journal.reserve(1)?;
+        let (items, inverses) = self.work.commit(alloc);
         grow(&mut self.line, &mut self.token, &LineEvent::Opened(xid));
-        record_changes(&mut self.line, &mut self.token, xid, &self.items, info);
-        let inverses = settle_open(alloc, &mut self.live.tables, &mut self.undo);
-        let items = mem::replace(&mut self.items, Vec::new(alloc));
+        record_changes(&mut self.line, &mut self.token, xid, &items, info);
         self.journal.push_reserved(Entry {
             xid,
             changes: Changes::of_items(items),
@@ -218,34 +199,16 @@ impl SerialStore {
         ensures schema { result.0.schema ≡ self.store.schema }
     {
         let SerialStore {
-            live,
+            work,
             start: _,
             mut journal,
             book: _,
             line: _,
             token: _,
-            mut undo,
-            items: _,
         } = self;
-        let Live { mut tables, .. } = live;
-        undo.undo_to(&mut tables, 0);
         forget_each(&mut journal);
-        (tables, journal)
+        (work.take_back(), journal)
     }
-}
-
-// The slots and entries by which open work could be undone go, where nothing fills them. The answer is
-// its log, and a new one begins. It takes no memory.
-fn settle_open(alloc: Global, tables: &mut Tables, undo: &mut UndoLog) -> UndoLog
-    requires { AreKnownAll tables.old.schema undo.old.inverses }
-    ensures settled { AreSettled tables.old.schema tables.new.rows tables.new.room undo.old.inverses }
-    ensures rows { tables.new.rows ≡ tables.old.rows }
-    ensures schema { tables.new.schema ≡ tables.old.schema }
-    ensures log { result ≡ undo.old }
-    ensures none { undo.new.inverses ≡ [] }
-{
-    undo.settle(tables);
-    mem::replace(undo, UndoLog::new(alloc))
 }
 
 // Appends a commit to the line, of a transaction that has made the changes among items and nothing else.
@@ -279,84 +242,4 @@ fn grow_changes<N: Items<LineEvent>>(
     let _ = items;
     let _ = info;
     grow_by::<LineEvent, N>(kept, token);
-}
-
-// Room in each table for the rows that items put into it, so that the tables grow once and not again
-// and again. Where memory for it is refused, they grow as the rows come.
-fn make_room(alloc: Global, tables: &mut Tables, items: &[Item])
-    ensures schema { tables.new.schema ≡ tables.old.schema }
-    ensures rows { tables.new.rows ≡ tables.old.rows }
-    ensures room { KeepsCells tables.old.room tables.new.room }
-{
-    let Ok(counts) = count_rows(alloc, tables.len(), items) else {
-        return;
-    };
-    for table in 0..tables.len() {
-        let count = counts.get(table).copied().unwrap_or(0);
-        if tables.make_room(table, count).is_err() {
-            return;
-        }
-    }
-}
-
-// How many rows items put into each of so many tables.
-fn count_rows(alloc: Global, tables: usize, items: &[Item]) -> Result<Vec<usize>, OutOfMemory> {
-    let mut counts = vec![in alloc; 0; tables]?;
-    for item in items {
-        if let Item::Change {
-            change: Change::Put { table, .. },
-            ..
-        } = item
-        {
-            if let Some(count) = counts.get_mut(*table) {
-                *count = usize::saturating_add(*count, 1);
-            }
-        }
-    }
-    Ok(counts)
-}
-
-// Applies the changes of items in turn, and logs what takes each back. A refusal leaves those before
-// the refused one.
-fn apply_each(
-    alloc: Global,
-    tables: &mut Tables,
-    undo: &mut UndoLog,
-    items: &[Item],
-) -> Result<(), Clash>
-    requires tables { All (NamesTables (length tables.old.schema)) (changes_of items.now) }
-    requires can_undo { CanUndo tables.old undo.old.inverses }
-    ensures clear { OnOk result (AreAccepted tables.old.schema tables.old.rows (changes_of items.now)) }
-    ensures ok { OnOk result (tables.new.rows ≡ serial tables.old.schema tables.old.rows (changes_of items.now)) }
-    ensures refused { IfErr result (ClashesIn tables.old.schema tables.old.rows (changes_of items.now)) }
-    ensures base { all_back tables.new.rows (map edits_of undo.new.inverses) ≡ all_back tables.old.rows (map edits_of undo.old.inverses) }
-    ensures schema { tables.new.schema ≡ tables.old.schema }
-    ensures can_undo { CanUndo tables.new undo.new.inverses }
-{
-    for item in items {
-        apply_item(alloc, tables, undo, item)?;
-    }
-    Ok(())
-}
-
-// Applies an item's change, if it has one, and logs what takes it back. A refusal changes no row.
-fn apply_item(
-    alloc: Global,
-    tables: &mut Tables,
-    undo: &mut UndoLog,
-    item: &Item,
-) -> Result<(), Clash>
-    requires tables { All (NamesTables (length tables.old.schema)) (changes_of (item.now ∷ [])) }
-    requires can_undo { CanUndo tables.old undo.old.inverses }
-    ensures clear { OnOk result (AreAccepted tables.old.schema tables.old.rows (changes_of (item.now ∷ []))) }
-    ensures ok { OnOk result (tables.new.rows ≡ serial tables.old.schema tables.old.rows (changes_of (item.now ∷ []))) }
-    ensures refused { IfErr result (ClashesIn tables.old.schema tables.old.rows (changes_of (item.now ∷ []))) }
-    ensures base { all_back tables.new.rows (map edits_of undo.new.inverses) ≡ all_back tables.old.rows (map edits_of undo.old.inverses) }
-    ensures schema { tables.new.schema ≡ tables.old.schema }
-    ensures can_undo { CanUndo tables.new undo.new.inverses }
-{
-    match item {
-        Item::Change { change, .. } => undo.apply(alloc, tables, change),
-        Item::Touch(_) | Item::BackTo(_) | Item::Last => Ok(()),
-    }
 }

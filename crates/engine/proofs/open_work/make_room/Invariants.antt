@@ -1,6 +1,6 @@
 use Rattle.std.proofs.Common.{◌≡◌}
 use Rattle.indexes.specs.Content.{KeepsCells}
-use Rattle.engine.proofs.serial.make_room.Given as goal
+use Rattle.engine.proofs.open_work.make_room.Given as goal
 
 abbrev pub invariant-loop-table : goal.invariant-loop-table
 invariant-loop-table l =

@@ -4,7 +4,7 @@ use Rattle.model.specs.Survivors.{changes_of}
 use Rattle.model.specs.Accepted.{AreAccepted}
 use Rattle.change.specs.Inverse.{edits_of}
 use Rattle.undo.specs.Undo.{CanUndo}
-use Rattle.engine.proofs.serial.apply_each.Given as goal
+use Rattle.engine.proofs.open_work.apply_each.Given as goal
 
 -- the items so far were applied, and can be undone
 abbrev pub invariant-loop-item : goal.invariant-loop-item

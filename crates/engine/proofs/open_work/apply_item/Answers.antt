@@ -3,7 +3,7 @@ use Rattle.model.specs.Survivors.{changes_of}
 use Rattle.model.specs.declared.item.Item.{Item}
 use Rattle.engine.specs.FirstClash.{ClashesIn}
 use Rattle.engine.specs.FirstClashLemmas.{one_refused}
-use Rattle.engine.proofs.serial.apply_item.Goals as goal
+use Rattle.engine.proofs.open_work.apply_item.Goals as goal
 
 pub returns-in-Change-clause-refused : goal.returns-in-Change-clause-refused
 returns-in-Change-clause-refused c =

@@ -10,8 +10,8 @@ use Rattle.model.specs.Accepted.{AreAccepted}
 use Rattle.engine.specs.FirstClash.{ClashesIn}
 use Rattle.engine.specs.FirstClashLemmas.{list_done, list_clear, list_refused}
 use Rattle.engine.proofs.SerialSteps.{if_err}
-use Rattle.engine.proofs.serial.apply_each.Goals as goal
-use Rattle.engine.proofs.serial.apply_each.Goals.{After-apply_item}
+use Rattle.engine.proofs.open_work.apply_each.Goals as goal
+use Rattle.engine.proofs.open_work.apply_each.Goals.{After-apply_item}
 use Rattle.live_tables.specs.NamedLemmas.{changes_at}
 
 -- the items up to this one are those before it and it
