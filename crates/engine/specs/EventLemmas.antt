@@ -1,14 +1,16 @@
 -- What the lists of tickets and of the line tell, once they are longer.
 --     get_values, values_insert, values_remove      a finite map whose values are altered
 --     opened_more, work_back      an open transaction once one more event has come, and what survives of it after a rollback
---     world_acted      the world once a call that tried a change is in its transaction's list
---     world_done      the world once an item is in it
+--     opened_refused      and where it was refused
+--     world_done      the world once an item is in its transaction's list
+--     world_refused, world_acted, world_touched      the world once a call is in it: one that was refused, one that tried a
+--         change, one that named a subtransaction
 --     same_commits, more_commits      the commits with an event that is none, and with one more
 --     rise_more      numbers that rise, with one more
 --     ends_same, last_same, ends_more, last_more      the ends of the commits with an event that is none, and with one more
 --     more_committed      the committed rows after one commit more
 --     world_opened, world_aborted, world_committed      the world once the line has one more event
-use Rattle.std.proofs.Common.{◌≡◌, ℕ, zero, suc, ◌+◌, ◌<◌, Bool, true, false, List, [], ◌∷◌, ◌++◌, get_or, Option, Some, None, refl, sym, ap, subst, ◌∙◌, append-nil, arith}
+use Rattle.std.proofs.Common.{◌≡◌, ℕ, zero, suc, ◌+◌, ◌<◌, Bool, true, false, List, [], ◌∷◌, ◌++◌, get_or, Option, Some, None, refl, sym, ap, subst, ◌∙◌, append-nil, arith, inl, inr}
 use Rattle.std.specs.Prelude.{Result, Ok, Err, ◌==◌, if◌then◌else◌, fold, map, option_map, cond}
 use Rattle.std.specs.List.Sorted.{IsStrictlyIncreasing}
 use Rattle.std.specs.Ordering.{nat_cmp, eq_by_cmp}
@@ -19,7 +21,7 @@ use Rattle.std.proofs.lemmas.Grind.{flat_map-append, fold-append}
 use Rattle.std.proofs.lemmas.List.{map-append}
 use Rattle.model.specs.declared.change.Change as change_type
 use Rattle.model.specs.declared.item.Item.{Item}
-use Rattle.model.specs.declared.item.Item.TheVariants.{Change, BackTo}
+use Rattle.model.specs.declared.item.Item.TheVariants.{Change, Touch, BackTo}
 use Rattle.model.specs.declared.item.CommitInfo.{CommitInfo}
 use Rattle.model.specs.Rows.{Rows, Schema}
 use Rattle.model.specs.Effect.{serial}
@@ -27,17 +29,16 @@ use Rattle.model.specs.EffectLemmas.{serial_append}
 use Rattle.model.specs.Survivors.{before_savepoint, survivors, changes_of}
 use Rattle.model.specs.SurvivorLemmas.{survivors_with}
 use Rattle.model.specs.Beginning.{last_end}
-use Rattle.tokens.specs.ListLemmas.{grown_by_nothing}
 use Rattle.tokens.specs.Lists.{ListMap}
 use Rattle.world.specs.World.{Past, OpenOnes, Stop, work, changes_in, work_behind}
-use Rattle.world.specs.ListingLemmas.{same_by_xid}
-use Rattle.world.specs.Steps.{Fault, Acted, IsDone, IsSkipped, Held, Clashed, opened_with, done_with, committed_with, aborted_with}
+use Rattle.world.specs.ListingLemmas.{xid_cases, got_same, got_other, same_by_xid}
+use Rattle.world.specs.Steps.{Fault, AlreadyOpen, TooManyOpen, Stopped, OutOfMemory, Acted, IsDone, IsSkipped, Held, Clashed, opened_with, done_with, committed_with, aborted_with}
 use Rattle.engine.specs.declared.events.Event.{Event}
-use Rattle.engine.specs.declared.events.Event.TheVariants.{Done, Wants}
+use Rattle.engine.specs.declared.events.Event.TheVariants.{Done, Wants, FoundStopped, FoundNoMemory}
 use Rattle.engine.specs.declared.events.LineEvent.{LineEvent}
 use Rattle.engine.specs.declared.events.LineEvent.TheVariants.{Opened as WasOpened, Committed as WasCommitted, Aborted as WasAborted}
-use Rattle.engine.specs.Events.{after_event, opened_by, map_values, opened_in, past_of, commits_in, ends_in, world_of, events_of}
-use Rattle.live_tables.specs.Answers.{after_act}
+use Rattle.engine.specs.Events.{after_event, opened_by, map_values, opened_in, past_of, commits_in, ends_in, world_of, refusal_events, events_of, touch_events}
+use Rattle.live_tables.specs.Answers.{after_act, after_touch}
 
 -- ---- a finite map whose values are altered
 
@@ -76,11 +77,26 @@ module _ {X Y : Type 0} (g : X → Y) where
   values_empty = same_by_xid (map_values g finite.empty) finite.empty (λ q.
       get_values finite.empty q ∙ ap (option_map g) (finite.get-empty nat_cmp q) ∙ sym (finite.get-empty nat_cmp q))
 
+-- what is there is put there again
+put_same : {X : Type 0} (m : FinMap nat_cmp X) (k : ℕ) (v : X) → get m k ≡ Some v → finite.insert m k v ≡ m
+put_same m k v is = same_by_xid (finite.insert m k v) m (λ q.
+    elim (xid_cases q k) [
+      | inl at ↦ ap (get (finite.insert m k v)) at ∙ got_same m k v ∙ sym is ∙ sym (ap (get m) at)
+      | inr apart ↦ got_other m k v q apart
+    ])
+
 -- ---- the events of a ticket
 
 -- an open transaction once one more event has come
 pub opened_more : (events : List Event) (e : Event) → opened_by (events ++ e ∷ []) ≡ after_event (opened_by events) e
 opened_more events e = fold-append after_event (record { items = []; wants = None }) events (e ∷ [])
+
+-- a call of it that was refused leaves what it has done
+pub opened_refused : (events : List Event) (fault : Fault) → opened_by (events ++ refusal_events fault) ≡ opened_by events
+opened_refused events AlreadyOpen = ap opened_by (append-nil events)
+opened_refused events TooManyOpen = ap opened_by (append-nil events)
+opened_refused events Stopped = opened_more events FoundStopped
+opened_refused events OutOfMemory = opened_more events FoundNoMemory
 
 -- what survives of an open transaction once it was rolled back
 pub work_back : (events : List Event) (xid sub : ℕ)
@@ -108,7 +124,16 @@ module _ (schema : Schema) (start : Rows) (line : List LineEvent) (lists : ListM
   world_done stopped item =
       ap (λ (o : OpenOnes). record (world_of schema start line lists stopped) { opened = o }) (opened_event lists xid events (Done item))
 
-  -- the world once a call that tried a change is in its transaction's list
+  -- the world once a call that was refused is in its transaction's list
+  pub world_refused : (stopped later : Option Stop) (fault : Fault) → later ≡ stopped
+      → world_of schema start line (finite.insert lists xid (events ++ refusal_events fault)) later ≡ world_of schema start line lists stopped
+  world_refused stopped later fault e =
+      let same : opened_in (finite.insert lists xid (events ++ refusal_events fault)) ≡ opened_in lists =
+      values_insert opened_by lists xid (events ++ refusal_events fault) ∙ ap (finite.insert (opened_in lists) xid) (opened_refused events fault)
+      ∙ put_same (opened_in lists) xid (opened_by events) (opened_stands lists xid events is) in
+      λ i. record (world_of schema start line lists (e i)) { opened = same i }
+
+  -- the world once a call that tried a change is in it
   pub world_acted : (stopped later : Option Stop) (sub : ℕ) (c : change_type.Change) (answer : Result Acted Fault)
       → later ≡ (after_act (world_of schema start line lists stopped) xid (opened_by events) sub c answer).stopped
       → world_of schema start line (finite.insert lists xid (events ++ events_of sub c answer)) later
@@ -121,8 +146,15 @@ module _ (schema : Schema) (start : Rows) (line : List LineEvent) (lists : ListM
       λ i. record (world_of schema start line lists (e i)) { opened = opened_event lists xid events (Wants sub c) i }
   world_acted stopped later sub c (Ok (Clashed cause)) e =
       λ i. record (world_of schema start line lists (e i)) { opened = opened_event lists xid events (Wants sub c) i }
-  world_acted stopped later sub c (Err fault) e =
-      λ i. world_of schema start line (grown_by_nothing lists xid events is i) (e i)
+  world_acted stopped later sub c (Err fault) e = world_refused stopped later fault e
+
+  -- the world once a call that named a subtransaction is in it
+  pub world_touched : (stopped later : Option Stop) (sub : ℕ) (answer : Result (Unit {0}) Fault) → later ≡ stopped
+      → world_of schema start line (finite.insert lists xid (events ++ touch_events sub answer)) later
+      ≡ after_touch (world_of schema start line lists stopped) xid (opened_by events) sub answer
+  world_touched stopped later sub (Ok u) e =
+      ap (world_of schema start line (finite.insert lists xid (events ++ Done (Touch sub) ∷ []))) e ∙ world_done stopped (Touch sub)
+  world_touched stopped later sub (Err fault) e = world_refused stopped later fault e
 
 -- ---- the events of the line
 

@@ -5,20 +5,21 @@
 --     ends_in      where the log goes on behind each of them
 --     open_after, is_open_in      whether a transaction is open, by the events of the line
 --     world_of      the world that start, line, lists and stop tell
---     events_of      what a call that tried a change appends to its transaction's list
+--     refusal_events, events_of, touch_events      what a call appends to its transaction's list: one that was refused,
+--         one that tried a change, one that named a subtransaction
 use Rattle.std.specs.Prelude.{ℕ, Bool, true, false, List, [], ◌∷◌, ◌++◌, Option, Some, None, Result, Ok, Err, map, fold, flat_map, if◌then◌else◌}
 use Rattle.std.specs.Ordering.{nat_cmp}
 use Rattle.std.specs.FinMap as finite
 use Rattle.std.specs.FinMap.{FinMap}
 use Rattle.model.specs.declared.change.Change as change_type
-use Rattle.model.specs.declared.item.Item.TheVariants.{Change}
+use Rattle.model.specs.declared.item.Item.TheVariants.{Change, Touch}
 use Rattle.model.specs.Rows.{Rows, Schema}
 use Rattle.model.specs.Effect.{serial}
 use Rattle.tokens.specs.Lists.{ListMap}
 use Rattle.world.specs.World.{is_xid, Opened, Past, OpenOnes, Stop, World, changes_in}
-use Rattle.world.specs.Steps.{Fault, Acted, IsDone, IsSkipped, Held, Clashed}
+use Rattle.world.specs.Steps.{Fault, AlreadyOpen, TooManyOpen, Stopped, OutOfMemory, Acted, IsDone, IsSkipped, Held, Clashed}
 use Rattle.engine.specs.declared.events.Event.{Event}
-use Rattle.engine.specs.declared.events.Event.TheVariants.{Done, Wants}
+use Rattle.engine.specs.declared.events.Event.TheVariants.{Done, Wants, FoundStopped, FoundNoMemory}
 use Rattle.engine.specs.declared.events.LineEvent.{LineEvent}
 use Rattle.engine.specs.declared.events.LineEvent.TheVariants.{Opened as WasOpened, Committed as WasCommitted, Aborted as WasAborted}
 
@@ -26,6 +27,8 @@ use Rattle.engine.specs.declared.events.LineEvent.TheVariants.{Opened as WasOpen
 abbrev pub after_event : Opened → Event → Opened
 after_event o (Done item) = record { items = o.items ++ item ∷ []; wants = None }
 after_event o (Wants sub change) = record o { wants = Some (sub, change) }
+after_event o FoundStopped = o
+after_event o FoundNoMemory = o
 
 -- what it has done, by all events of its list
 abbrev pub opened_by : List Event → Opened
@@ -73,10 +76,22 @@ world_of schema start line lists stopped = record {
   stopped = stopped;
 }
 
--- what a call that tried a change appends to its transaction's list, by what came of it
+-- what a call that was refused appends to its transaction's list
+abbrev pub refusal_events : Fault → List Event
+refusal_events AlreadyOpen = []
+refusal_events TooManyOpen = []
+refusal_events Stopped = FoundStopped ∷ []
+refusal_events OutOfMemory = FoundNoMemory ∷ []
+
+-- what a call that tried a change appends to it, by what came of it
 abbrev pub events_of : ℕ → change_type.Change → Result Acted Fault → List Event
 events_of sub c (Ok IsDone) = Done (Change sub c) ∷ []
 events_of sub c (Ok IsSkipped) = Done (Change sub c) ∷ []
 events_of sub c (Ok (Held holder)) = Wants sub c ∷ []
 events_of sub c (Ok (Clashed cause)) = Wants sub c ∷ []
-events_of sub c (Err fault) = []
+events_of sub c (Err fault) = refusal_events fault
+
+-- what a call that named a subtransaction appends to it, by what came of it
+abbrev pub touch_events : ℕ → Result (Unit {0}) Fault → List Event
+touch_events sub (Ok u) = Done (Touch sub) ∷ []
+touch_events sub (Err fault) = refusal_events fault

@@ -5,8 +5,7 @@
 --     stands      so is the one of a list
 --     still_before, still_rising      what the journal's entries keep where they are the same
 --     store_grown      a transaction's list has more events
---     store_acted, store_done      those of a call that tried a change; an item
---     store_unmoved      nothing came of a call
+--     store_acted, store_touched, store_done      those of a call that tried a change, that named a subtransaction; an item
 --     store_started      a store with nothing in its lists and no entries
 --     store_opened, store_ended      a transaction opens; one ends
 --     store_aborted, store_committed      it is aborted; it is committed, and the journal has its entry, for which there is room
@@ -36,7 +35,6 @@ use Rattle.change.specs.declared.outcome.Clash as clash_type
 use Rattle.change.specs.Inverse.{edits_of}
 use Rattle.savepoint.specs.Record.{Record}
 use Rattle.tokens.specs.Half.{Half}
-use Rattle.tokens.specs.ListLemmas.{grown_by_nothing}
 use Rattle.tokens.specs.Lists.{ListMap, OpenLists, with_list, without_list}
 use Rattle.world.specs.World as told_entry
 use Rattle.world.specs.World.{Opened, Past, ByClash, World, starting, entry_of, journal, work, changes_in, is_xid}
@@ -48,15 +46,15 @@ use Rattle.engine.specs.declared.events.LineEvent.{LineEvent}
 use Rattle.engine.specs.declared.events.LineEvent.TheVariants.{Opened as WasOpened, Committed as WasCommitted, Aborted as WasAborted}
 use Rattle.engine.specs.declared.entry.Entry.{Entry}
 use Rattle.engine.specs.declared.store.Store.TheInside.{Inside}
-use Rattle.engine.specs.Events.{opened_by, opened_in, commits_in, ends_in, open_after, is_open_in, world_of, events_of}
-use Rattle.engine.specs.EventLemmas.{get_values, values_empty, opened_stands, rise_more, ends_same, ends_more, world_done, world_acted, world_opened, world_aborted, world_committed}
+use Rattle.engine.specs.Events.{opened_by, opened_in, commits_in, ends_in, open_after, is_open_in, world_of, events_of, touch_events}
+use Rattle.engine.specs.EventLemmas.{get_values, values_empty, opened_stands, rise_more, ends_same, ends_more, world_done, world_acted, world_touched, world_opened, world_aborted, world_committed}
 use Rattle.engine.specs.Engine.{entry_in, start_in, world_in, AreTakenBack, edits_behind, Represents}
 use Rattle.engine.specs.EntryLemmas.{taken_back_more, rows_taken_back}
 use Rattle.live_tables.specs.declared.live_tables.Live.{Live}
 use Rattle.live_tables.specs.declared.live_tables.Stopped as stopped_type
 use Rattle.live_tables.specs.declared.live_tables.Stopped.TheVariants.{Clash as StoppedByClash, Held as StoppedByHold}
 use Rattle.live_tables.specs.declared.transaction.OpenTransaction.{OpenTransaction}
-use Rattle.live_tables.specs.Answers.{cause_of, stop_for, told_stop, after_act, stop_of, TellsWhatStopped, HasCause}
+use Rattle.live_tables.specs.Answers.{cause_of, stop_for, told_stop, after_act, after_touch, stop_of, TellsWhatStopped, HasCause}
 use Rattle.live_tables.specs.Journal.{rows_after}
 use Rattle.live_tables.specs.JournalLemmas.{entries_are_serial}
 use Rattle.live_tables.specs.Represents.{Represents as LiveRepresents}
@@ -179,6 +177,26 @@ module _ (s : Inside) (is : Represents s) (xid : ℕ) (events : List Event) (lis
       store_grown m b (events_of sub c answer) (after_act (world_in s) xid (opened_by events) sub c answer) schema book tied (act_count sub c answer)
       (world_acted s.live.tables.schema (start_in s) s.line.list s.book.lists xid events listed (told_stop s.live.stopped) (told_stop m.stopped) sub c answer tied.stopped)
 
+  -- a call that named a subtransaction stops nothing
+  touch_runs : (sub : ℕ) (answer : Result (Unit {0}) Fault) → (after_touch (world_in s) xid (opened_by events) sub answer).stopped ≡ (world_in s).stopped
+  touch_runs sub (Ok u) = refl
+  touch_runs sub (Err fault) = refl
+
+  -- and leaves as many open
+  touch_count : (sub : ℕ) (answer : Result (Unit {0}) Fault)
+      → finite.len (after_touch (world_in s) xid (opened_by events) sub answer).opened ≡ finite.len (world_in s).opened
+  touch_count sub (Ok u) = same_len (world_in s).opened xid (opened_by events) _ stands
+  touch_count sub (Err fault) = refl
+
+  -- A call named a subtransaction, and what came of it is in its transaction's list.
+  pub store_touched : (m : Live) (b : OpenLists Event) (sub : ℕ) (answer : Result (Unit {0}) Fault)
+      → m.tables.schema ≡ s.live.tables.schema → b ≡ with_list s.book xid (events ++ touch_events sub answer)
+      → LiveRepresents (after_touch (world_in s) xid (opened_by events) sub answer) m
+      → (world_in (with_parts s m b) ≡ after_touch (world_in s) xid (opened_by events) sub answer) × Represents (with_parts s m b)
+  store_touched m b sub answer schema book tied =
+      store_grown m b (touch_events sub answer) (after_touch (world_in s) xid (opened_by events) sub answer) schema book tied (touch_count sub answer)
+      (world_touched s.live.tables.schema (start_in s) s.line.list s.book.lists xid events listed (told_stop s.live.stopped) (told_stop m.stopped) sub answer (tied.stopped ∙ touch_runs sub answer))
+
   -- An item is in its transaction's list.
   pub store_done : (m : Live) (b : OpenLists Event) (item : Item)
       → m.tables.schema ≡ s.live.tables.schema → b ≡ with_list s.book xid (events ++ Done item ∷ [])
@@ -188,14 +206,6 @@ module _ (s : Inside) (is : Represents s) (xid : ℕ) (events : List Event) (lis
       store_grown m b (Done item ∷ []) (done_with (world_in s) xid (opened_by events) item) schema book tied (same_len (world_in s).opened xid (opened_by events) _ stands)
       (ap (world_of s.live.tables.schema (start_in s) s.line.list (finite.insert s.book.lists xid (events ++ Done item ∷ []))) tied.stopped
       ∙ world_done s.live.tables.schema (start_in s) s.line.list s.book.lists xid events listed (told_stop s.live.stopped) item)
-
-  -- A call was refused, and the live part is tied to the world that was.
-  pub store_unmoved : (m : Live) (b : OpenLists Event) → m.tables.schema ≡ s.live.tables.schema → b ≡ s.book → LiveRepresents (world_in s) m
-      → (world_in (with_parts s m b) ≡ world_in s) × Represents (with_parts s m b)
-  store_unmoved m b schema book tied =
-      let none : finite.insert s.book.lists xid (events ++ []) ≡ s.book.lists = grown_by_nothing s.book.lists xid events listed in
-      store_grown m b [] (world_in s) schema (book ∙ (λ i. record s.book { lists = sym none i })) tied refl
-      (λ i. world_of s.live.tables.schema (start_in s) s.line.list (none i) (tied.stopped i))
 
 -- ---- a new store
 

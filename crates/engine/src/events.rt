@@ -9,6 +9,10 @@ pub enum Event {
     Done(Item),
     /// A change of this subtransaction waits, or clashed.
     Wants { sub: Xid, change: Change },
+    /// An item of it was refused, since the store was stopped.
+    FoundStopped,
+    /// An item of it was refused for want of memory.
+    FoundNoMemory,
 }
 
 /// What happened to the store's transactions.

@@ -4,7 +4,7 @@ ghost use Rattle.std.specs.FinMap as finite;
 ghost use Rattle.std.specs.List.Sorted.{IsStrictlyIncreasing};
 ghost use Rattle.std.specs.Result.{result_ok};
 ghost use Rattle.model.specs.Named.{NamesTables};
-ghost use Rattle.model.specs.declared.item.Item.TheVariants.{Touch, BackTo};
+ghost use Rattle.model.specs.declared.item.Item.TheVariants.{BackTo};
 ghost use Rattle.model.specs.Beginning.{Begins, last_end};
 ghost use Rattle.model.specs.Effect.{serial};
 ghost use Rattle.model.specs.TableRows.{rows_of_table};
@@ -17,7 +17,7 @@ ghost use Rattle.live_tables.specs.Journal.{rows_after};
 ghost use Rattle.live_tables.specs.Shut.{IsShut};
 ghost use Rattle.engine.specs.declared.events.Event.TheVariants.{Done};
 ghost use Rattle.engine.specs.declared.events.LineEvent.TheVariants.{Opened as WasOpened, Committed as WasCommitted, Aborted as WasAborted};
-ghost use Rattle.engine.specs.Events.{opened_by, commits_in, ends_in, is_open_in, events_of};
+ghost use Rattle.engine.specs.Events.{opened_by, commits_in, ends_in, is_open_in, events_of, touch_events};
 ghost use Rattle.engine.specs.declared.entry.Entry.{Entry as AnyEntry};
 ghost use Rattle.engine.specs.Engine.{entry_in, IsOtherwiseSame};
 ghost use Rattle.engine.specs.Shared.{Represents};
@@ -150,8 +150,7 @@ impl<N: StoreNames> SharedStore<N> {
         ensures stood { finite.get self.old.world.opened t.old.number ≡ Some (opened_by t.old.list) }
         ensures touches { Touches self.old.world t.old.number (opened_by t.old.list) sub (told_call result) self.new.world }
         ensures fault { IfErr result IsNoClash }
-        ensures ok { OnOk result (t.new ≡ record t.old { list = t.old.list ++ Done (Touch sub) ∷ [] }) }
-        ensures err { OnErr result (t.new ≡ t.old) }
+        ensures ticket { t.new ≡ record t.old { list = t.old.list ++ touch_events sub (told_call result) } }
         ensures same { IsOtherwiseSame self.old self.new }
         ensures line { self.new.line ≡ self.old.line }
     {

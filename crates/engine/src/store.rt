@@ -9,7 +9,7 @@ ghost use Rattle.model.specs.Survivors.{before_savepoint, survivors, changes_of}
 ghost use Rattle.model.specs.Beginning.{Begins, last_end};
 ghost use Rattle.model.specs.Effect.{serial};
 ghost use Rattle.model.specs.TableRows.{rows_of_table};
-ghost use Rattle.model.specs.declared.item.Item.TheVariants.{Touch, BackTo};
+ghost use Rattle.model.specs.declared.item.Item.TheVariants.{BackTo};
 ghost use Rattle.tokens.specs.Lists.{open_list, with_list};
 ghost use Rattle.world.specs.World.{Opened, World, starting, entry_of, journal, work, changes_in};
 ghost use Rattle.world.specs.Steps.{Opens, Acts, Touches, GoesBack, Commits, Aborts, StopsHeld, ReadsLive, ReadsCommitted, ReadsAfter, TellsJournal, Closes, Watches, Looks, Fault};
@@ -19,7 +19,7 @@ ghost use Rattle.live_tables.specs.Journal.{rows_after as rows_behind};
 ghost use Rattle.live_tables.specs.Represents.{Represents as LiveRepresents};
 ghost use Rattle.engine.specs.declared.events.Event.TheVariants.{Done};
 ghost use Rattle.engine.specs.declared.events.LineEvent.TheVariants.{Opened as WasOpened, Committed as WasCommitted, Aborted as WasAborted};
-ghost use Rattle.engine.specs.Events.{opened_by, commits_in, ends_in, is_open_in, events_of};
+ghost use Rattle.engine.specs.Events.{opened_by, commits_in, ends_in, is_open_in, events_of, touch_events};
 ghost use Rattle.engine.specs.declared.entry.Entry.{Entry as AnyEntry};
 ghost use Rattle.engine.specs.Engine.{entry_in, IsOtherwiseSame};
 
@@ -141,16 +141,15 @@ impl Store {
         ensures stood { finite.get self.old.world.opened t.old.number ≡ Some (opened_by t.old.list) }
         ensures touches { Touches self.old.world t.old.number (opened_by t.old.list) sub (told_call result) self.new.world }
         ensures fault { IfErr result IsNoClash }
-        ensures ok { OnOk result (t.new ≡ record t.old { list = t.old.list ++ Done (Touch sub) ∷ [] }) }
-        ensures err { OnErr result (t.new ≡ t.old) }
+        ensures ticket { t.new ≡ record t.old { list = t.old.list ++ touch_events sub (told_call result) } }
         ensures same { IsOtherwiseSame self.old self.new }
         ensures line { self.new.line ≡ self.old.line }
     {
         let xid = t.slip.number();
         self.book.meet(&mut t.slip);
-        touch_live(*self.journal.allocator(), &mut self.live, xid, sub)?;
-        self.book.grow(&mut t.slip, &Event::Done(Item::Touch(sub)));
-        Ok(())
+        let answer = touch_live(*self.journal.allocator(), &mut self.live, xid, sub);
+        record_touch(&mut self.book, &mut t.slip, sub, &answer);
+        answer
     }
 
     /// A subtransaction of an open transaction is rolled back, also in a store that is stopped: its
@@ -510,6 +509,38 @@ fn grow_act<N: Items<Event>>(
 {
     let _ = sub;
     let _ = c;
+    let _ = answer;
+    book.grow_by::<N>(slip);
+}
+
+// Appends what a call that named a subtransaction tells of its transaction.
+fn record_touch(
+    book: &mut Book<Event>,
+    slip: &mut Slip<Event>,
+    sub: Xid,
+    answer: &Result<(), EngineFault>,
+)
+    requires { slip.old.name ≡ book.old.name }
+    ensures listed { finite.get book.old.lists slip.old.number ≡ Some slip.old.list }
+    ensures book { book.new ≡ with_list book.old slip.old.number (slip.old.list ++ touch_events sub (told_call answer.now)) }
+    ensures slip { slip.new ≡ record slip.old { list = slip.old.list ++ touch_events sub (told_call answer.now) } }
+{
+    grow_touch::<Brand>(book, slip, sub, answer);
+}
+
+fn grow_touch<N: Items<Event>>(
+    book: &mut Book<Event>,
+    slip: &mut Slip<Event>,
+    sub: Xid,
+    answer: &Result<(), EngineFault>,
+)
+    requires name { slip.old.name ≡ book.old.name }
+    requires items { N.items ≡ touch_events sub (told_call answer.now) }
+    ensures listed { finite.get book.old.lists slip.old.number ≡ Some slip.old.list }
+    ensures book { book.new ≡ with_list book.old slip.old.number (slip.old.list ++ touch_events sub (told_call answer.now)) }
+    ensures slip { slip.new ≡ record slip.old { list = slip.old.list ++ touch_events sub (told_call answer.now) } }
+{
+    let _ = sub;
     let _ = answer;
     book.grow_by::<N>(slip);
 }

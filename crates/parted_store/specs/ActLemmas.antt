@@ -20,6 +20,7 @@ use Rattle.world.specs.ListingLemmas.{xid_cases, got_same}
 use Rattle.live_tables.specs.Answers.{after_act}
 use Rattle.engine.specs.declared.events.Event.{Event}
 use Rattle.engine.specs.Events.{after_event, opened_by, events_of}
+use Rattle.engine.specs.EventLemmas.{opened_refused}
 use Rattle.world_parts.specs.ByTable.{only_if, change_at, changes_at, IsIn, names_table}
 use Rattle.world_parts.specs.ByTableLemmas.{InTable, puts, sets, removes, wipes, in_view, turned, changes_with}
 use Rattle.world_parts.specs.Lines.{KeepsLine}
@@ -117,7 +118,7 @@ module _ (xid sub : ℕ) (events : List Event) (c : change_type.Change) where
   ticket_acted w at (Ok IsSkipped) = got_same w.opened xid _ ∙ ap Some (sym (opened_acted (Ok IsSkipped)))
   ticket_acted w at (Ok (Held holder)) = got_same w.opened xid _ ∙ ap Some (sym (opened_acted (Ok (Held holder))))
   ticket_acted w at (Ok (Clashed cause)) = got_same w.opened xid _ ∙ ap Some (sym (opened_acted (Ok (Clashed cause))))
-  ticket_acted w at (Err fault) = at ∙ ap Some (sym (opened_acted (Err fault)))
+  ticket_acted w at (Err fault) = at ∙ ap Some (sym (opened_refused events fault))
 
   -- the items that it has done
   pub items_acted : (answer : Result Acted Fault)
@@ -131,7 +132,7 @@ module _ (xid sub : ℕ) (events : List Event) (c : change_type.Change) where
   items_acted (Ok (Clashed cause)) =
       append-nil (survivors xid (opened_by events).items) ∙ ap (λ (o : Opened). survivors xid o.items) (sym (opened_acted (Ok (Clashed cause))))
   items_acted (Err fault) =
-      append-nil (survivors xid (opened_by events).items) ∙ ap (λ (o : Opened). survivors xid o.items) (sym (opened_acted (Err fault)))
+      append-nil (survivors xid (opened_by events).items) ∙ ap (λ (o : Opened). survivors xid o.items) (sym (opened_refused events fault))
 
   -- of a table of which it has no share it has still done nothing there, and wants nothing
   module _ (other : ℕ) (not : change_at other c ≡ []) (none : IsShare xid (opened_by events) other None) where
@@ -150,7 +151,7 @@ module _ (xid sub : ℕ) (events : List Event) (c : change_type.Change) where
     none_acted (Ok IsSkipped) = subst (λ (o : Opened). IsShare xid o other None) (sym (opened_acted (Ok IsSkipped))) done_beside
     none_acted (Ok (Held holder)) = subst (λ (o : Opened). IsShare xid o other None) (sym (opened_acted (Ok (Held holder)))) waits_beside
     none_acted (Ok (Clashed cause)) = subst (λ (o : Opened). IsShare xid o other None) (sym (opened_acted (Ok (Clashed cause)))) waits_beside
-    none_acted (Err fault) = subst (λ (o : Opened). IsShare xid o other None) (sym (opened_acted (Err fault))) none
+    none_acted (Err fault) = subst (λ (o : Opened). IsShare xid o other None) (sym (opened_refused events fault)) none
 
   -- so the ticket has the shares that it needs, where the one of the change's table is still one of its number
   pub shares_acted : (table : ℕ) → IsIn table c → (shares new : Shares)

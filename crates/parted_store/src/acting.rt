@@ -16,7 +16,7 @@ ghost use Rattle.parted_store.specs.Shares.{share_of};
 
 use crate::back::back_each;
 use crate::journal::Journal;
-use crate::marks::{latest, set_mark, unset_mark};
+use crate::marks::{latest, make_place, unset_mark};
 use crate::shares::{put_share, take_share};
 use crate::ticket::Ticket;
 use crate::told::Told;
@@ -69,11 +69,14 @@ pub fn act_in(
     ensures line { journal.new.line ≡ journal.old.line }
 {
     if journal.is_stopped() {
-        return Err(EngineFault::Stopped);
+        return Err(ticket.refuse(EngineFault::Stopped));
     }
-    ticket.items.reserve(1)?;
-    let change = c.copy()?;
-    let set = set_mark(&mut ticket.marks, ticket.xid, sub, ticket.items.len())?;
+    let Ok(change) = c.copy() else {
+        return Err(ticket.refuse(EngineFault::OutOfMemory));
+    };
+    let Ok(set) = make_place(&mut ticket.items, &mut ticket.marks, ticket.xid, sub) else {
+        return Err(ticket.refuse(EngineFault::OutOfMemory));
+    };
     let mark = latest(&ticket.marks, ticket.xid);
     let table = part.number();
     let Some(mut share) = take_share(&mut ticket.shares, table) else {

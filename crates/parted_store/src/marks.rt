@@ -1,5 +1,5 @@
 // The marks of a transaction's subtransactions: under the latest one a change goes to its table.
-ghost use Rattle.std.specs.Prelude.{◌≡◌, ◌==◌, ◌||◌, not, is_some, unwrap_or, IfOk, OnOk, OnErr, if◌then◌else◌};
+ghost use Rattle.std.specs.Prelude.{◌≡◌, ◌==◌, ◌||◌, ◌<◌, not, is_some, length, unwrap_or, vec_len, vec_capacity, IfOk, OnOk, OnErr, if◌then◌else◌};
 ghost use Rattle.model.specs.declared.item.Item.TheVariants.{BackTo};
 ghost use Rattle.model.specs.Survivors.{after_item};
 ghost use Rattle.live_tables.specs.Answers.{told};
@@ -11,9 +11,9 @@ use engine::{Acted, EngineFault};
 use model::{Item, OutOfMemory, Xid};
 use savepoint::Savepoints;
 
-/// Sets the mark of a subtransaction that has none, behind so many items, and answers whether it did. The
-/// top transaction needs none. Refused for memory, it changes nothing.
-pub(crate) fn set_mark(
+// Sets the mark of a subtransaction that has none, behind so many items, and answers whether it did. The
+// top transaction needs none. Refused for memory, it changes nothing.
+fn set_mark(
     marks: &mut Savepoints<usize>,
     top: Xid,
     sub: Xid,
@@ -28,6 +28,25 @@ pub(crate) fn set_mark(
     }
     marks.note(sub, items)?;
     Ok(true)
+}
+
+/// Room for one more item, and the mark of the subtransaction that it names, if that has none. It answers
+/// whether it set one. Refused for memory, it changes nothing.
+pub(crate) fn make_place(
+    items: &mut Vec<Item>,
+    marks: &mut Savepoints<usize>,
+    top: Xid,
+    sub: Xid,
+) -> Result<bool, OutOfMemory>
+    ensures items { items.new.items ≡ items.old.items }
+    ensures len { vec_len items.new ≡ vec_len items.old }
+    ensures room { OnOk result (vec_len items.new < vec_capacity items.new) }
+    ensures ok { OnOk result (marks.new ≡ with_place top sub (length items.old.items) marks.old) }
+    ensures set { IfOk result (λ set. set ≡ not ((sub == top) || is_some (mark_at sub marks.old))) }
+    ensures err { OnErr result (marks.new ≡ marks.old) }
+{
+    items.reserve(1)?;
+    set_mark(marks, top, sub, items.len())
 }
 
 /// The latest mark, or the top transaction. It takes no memory.

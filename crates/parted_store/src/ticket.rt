@@ -1,12 +1,15 @@
 // The right to work on an open transaction of a store in parts.
-ghost use Rattle.std.specs.Prelude.{◌≡◌, [], IfOk};
+ghost use Rattle.std.specs.Prelude.{◌≡◌, ◌++◌, [], IfOk};
+ghost use Rattle.live_tables.specs.Answers.{told_fault};
+ghost use Rattle.engine.specs.Events.{refusal_events};
 
 use crate::told::Told;
-use engine::{Event, Ticket as Share};
+use engine::{EngineFault, Event, Ticket as Share};
 use model::{Item, OutOfMemory, Xid};
 use savepoint::Savepoints;
 use std::alloc::Global;
-use std::marker::Model;
+use std::marker::{Brand, Model};
+use tokens::Items;
 
 /// The right to work on an open transaction. A clause sees its number, what happened to it, and its shares:
 /// a ticket of the part of each table that it came to.
@@ -49,10 +52,35 @@ impl Ticket {
         })
     }
 
+    /// A call of the transaction is refused, and its list tells it. Nothing else changes, and it takes no
+    /// memory.
+    pub(crate) fn refuse(&mut self, fault: EngineFault) -> EngineFault
+        ensures same { result ≡ fault }
+        ensures ticket { self.new ≡ record self.old { events = self.old.events ++ refusal_events (told_fault fault) } }
+    {
+        tell_refusal(&mut self.events, &fault);
+        fault
+    }
+
     /// The transaction's number.
     pub fn xid(&self) -> Xid
         ensures { result ≡ self.now.number }
     {
         self.xid
     }
+}
+
+// Lists that a call was refused.
+fn tell_refusal(events: &mut Told<Event>, fault: &EngineFault)
+    ensures { events.new ≡ events.old ++ refusal_events (told_fault fault.now) }
+{
+    grow_refusal::<Brand>(events, fault);
+}
+
+fn grow_refusal<N: Items<Event>>(events: &mut Told<Event>, fault: &EngineFault)
+    requires { N.items ≡ refusal_events (told_fault fault.now) }
+    ensures { events.new ≡ events.old ++ refusal_events (told_fault fault.now) }
+{
+    let _ = fault;
+    events.grow_by::<N>();
 }

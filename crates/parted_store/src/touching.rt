@@ -1,11 +1,11 @@
 // A subtransaction is named by an item that changes no row.
-ghost use Rattle.std.specs.Prelude.{◌≡◌, ◌++◌, ◌∷◌, [], ℕ, Some, IsSomeAnd, IfErr, OnOk, OnErr, slice_get};
+ghost use Rattle.std.specs.Prelude.{◌≡◌, ◌++◌, ◌∷◌, [], ℕ, Some, IsSomeAnd, IfErr, slice_get};
 ghost use Rattle.model.specs.declared.item.Item.TheVariants.{Touch};
 ghost use Rattle.world.specs.World.{World};
 ghost use Rattle.world.specs.Steps.{Touches};
 ghost use Rattle.live_tables.specs.Answers.{told_call, after_touch, IsNoClash};
 ghost use Rattle.engine.specs.declared.events.Event.TheVariants.{Done};
-ghost use Rattle.engine.specs.Events.{opened_by};
+ghost use Rattle.engine.specs.Events.{opened_by, touch_events};
 ghost use Rattle.table_parts.specs.Part.{Part as AnyPart, last_commit_end};
 ghost use Rattle.parted_store.specs.Back.{KeepsShares};
 ghost use Rattle.parted_store.specs.EachPart.{AreApart, IsBeside, BelongEach, WaitsAmong};
@@ -14,7 +14,7 @@ ghost use Rattle.parted_store.specs.Touching.{IsTouched};
 
 use crate::back::back_each;
 use crate::journal::Journal;
-use crate::marks::set_mark;
+use crate::marks::make_place;
 use crate::ticket::Ticket;
 use crate::told::Told;
 use engine::{EngineFault, Event};
@@ -25,7 +25,7 @@ use tokens::Items;
 
 /// A subtransaction of an open transaction is named by an item that changes no row, over the journal's part
 /// and those in which the transaction waits, if it waits. In every world that has them the call is the step,
-/// and the parts of other tables stay. A refusal changes nothing.
+/// and the parts of other tables stay. A refusal is listed, and changes nothing else.
 pub fn touch_in(
     parts: &mut [Part],
     journal: &Journal,
@@ -46,16 +46,16 @@ pub fn touch_in(
     ensures beside { (w : World) (p : AnyPart) → HasTicket w ticket.old → HasTable w p → IsBeside parts.old p.number
         → HasTable (after_touch w ticket.old.number (opened_by ticket.old.events) sub (told_call result)) p }
     ensures fault { IfErr result IsNoClash }
-    ensures ok { OnOk result (ticket.new.events ≡ ticket.old.events ++ Done (Touch sub) ∷ []) }
-    ensures err { OnErr result (ticket.new.events ≡ ticket.old.events) }
+    ensures events { ticket.new.events ≡ ticket.old.events ++ touch_events sub (told_call result) }
     ensures xid { ticket.new.number ≡ ticket.old.number }
     ensures shares { KeepsShares ticket.old.shares ticket.new.shares }
 {
     if journal.is_stopped() {
-        return Err(EngineFault::Stopped);
+        return Err(ticket.refuse(EngineFault::Stopped));
     }
-    ticket.items.reserve(1)?;
-    set_mark(&mut ticket.marks, ticket.xid, sub, ticket.items.len())?;
+    let Ok(_set) = make_place(&mut ticket.items, &mut ticket.marks, ticket.xid, sub) else {
+        return Err(ticket.refuse(EngineFault::OutOfMemory));
+    };
     back_each(parts, &mut ticket.shares, ticket.xid, &[]);
     ticket.items.push_reserved(Item::Touch(sub));
     tell_touch(&mut ticket.events, sub);

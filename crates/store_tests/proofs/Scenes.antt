@@ -1,6 +1,6 @@
 -- What a scene of the tests keeps of its tickets and of what is open, once a call has altered its store.
 use Rattle.std.proofs.Common.{◌≡◌, ◌≢◌, ℕ, true, false, List, [], Option, Some, None, refl, sym, ap, subst, ◌∙◌, inl, inr, is_some, true≢false, length}
-use Rattle.std.specs.Prelude.{Result, Ok, Err, OnOk, OnErr}
+use Rattle.std.specs.Prelude.{Result, Ok, Err}
 use Rattle.std.specs.Ordering.{nat_cmp}
 use Rattle.std.specs.Cmp.{unsigned_tied}
 use Rattle.std.specs.Map.{lookup}
@@ -83,12 +83,6 @@ unaltered old new is = record {
 -- a ticket of which a list is told
 pub told_more : (t u : OpenList Event) (more : List Event) → u ≡ record t { list = more } → (u.name ≡ t.name) × (u.number ≡ t.number)
 told_more t u more is = (ap (λ (s : OpenList Event). s.name) is, ap (λ (s : OpenList Event). s.number) is)
-
--- or perhaps nothing
-pub told_or_not : {X E : Type 0} (r : Result X E) (t u : OpenList Event) (more : List Event) → OnOk r (u ≡ record t { list = more }) → OnErr r (u ≡ t)
-    → (u.name ≡ t.name) × (u.number ≡ t.number)
-told_or_not (Ok x) t u more ok err = told_more t u more ok
-told_or_not (Err e) t u more ok err = (ap (λ (s : OpenList Event). s.name) err, ap (λ (s : OpenList Event). s.number) err)
 
 -- ---- a ticket is taken out
 

@@ -1,36 +1,39 @@
 -- Why an item was refused, by what the store said.
 --     refused_change, refused_touch      a change that was refused; an item that changes no row
 use Rattle.std.specs.Prelude.{◌≡◌, ℕ, List, [], ◌∷◌, ◌++◌, Option, Some, None, IsSome, Err}
-use Rattle.std.proofs.Common.{sym, ◌∙◌, ap, subst, append-nil}
+use Rattle.std.proofs.Common.{refl, sym, ◌∙◌, ap, subst}
 use Rattle.std.specs.FinMap.{get}
 use Rattle.model.specs.declared.change.Change as change_type
 use Rattle.model.specs.Effect.{ClashCause}
 use Rattle.model.specs.Rows.{Rows, Schema}
 use Rattle.world.specs.World.{Opened, ByClash, World, starting}
-use Rattle.world.specs.Steps.{IsRefused, Acts, wanting, Reaches}
+use Rattle.world.specs.Steps.{Fault, Stopped as WasStopped, OutOfMemory as WantsMemory, IsRefused, Acts, wanting, Reaches}
 use Rattle.world.specs.ListingLemmas.{got_same}
 use Rattle.engine.specs.declared.events.Event.{Event}
 use Rattle.engine.specs.declared.events.Event.TheVariants.{Wants}
-use Rattle.engine.specs.Events.{opened_by, events_of}
-use Rattle.engine.specs.EventLemmas.{opened_more}
+use Rattle.engine.specs.Events.{opened_by, refusal_events, events_of}
+use Rattle.engine.specs.EventLemmas.{opened_more, opened_refused}
 use Rattle.live_tables.specs.declared.answers.EngineFault.{EngineFault}
 use Rattle.live_tables.specs.declared.answers.EngineFault.TheVariants.{AlreadyOpen as AlreadyOpenFault, TooManyOpen as TooManyOpenFault, Clash as ClashFault, Stopped as StoppedFault, OutOfMemory as NoMemory}
 use Rattle.live_tables.specs.Answers.{cause_of, told_clash, told_fault, told, TellsCause, IsNoClash}
 use Rattle.worker.specs.declared.ended.Ended.{Ended}
-use Rattle.worker.specs.declared.ended.Ended.TheVariants.{Clashed}
+use Rattle.worker.specs.declared.ended.Ended.TheVariants.{Clashed, Stopped, OutOfMemory}
 use Rattle.worker.specs.Working.{IsMet, WasRefused, ended_by}
 
 module _ (keys : Schema) (first : Rows) (w new : World) (xid : ℕ) (events : List Event)
     (stood : get w.opened xid ≡ Some (opened_by events)) (reached : ∥ Reaches keys (starting first) new ∥₁) where
-  -- the world stays, and so does what is told of the transaction
-  met_again : new ≡ w → IsMet keys first xid events new
-  met_again same = record {
+  -- the world stays, and the transaction's list tells that it was refused
+  met_again : new ≡ w → (fault : Fault) → IsMet keys first xid (events ++ refusal_events fault) new
+  met_again same fault = record {
     reached = reached;
-    open_one = ap (λ (v : World). get v.opened xid) same ∙ stood;
+    open_one = ap (λ (v : World). get v.opened xid) same ∙ stood ∙ ap Some (sym (opened_refused events fault));
   }
 
-  nothing_told : IsMet keys first xid events new → IsMet keys first xid (events ++ []) new
-  nothing_told = subst (λ es. IsMet keys first xid es new) (sym (append-nil events))
+  found_stopped : IsRefused w WasStopped new → WasRefused keys first Stopped xid (events ++ refusal_events WasStopped)
+  found_stopped refused = ((events, refl), new, met_again refused.1 WasStopped, subst (λ (v : World). IsSome v.stopped) (sym refused.1) refused.0)
+
+  found_no_memory : IsRefused w WantsMemory new → WasRefused keys first OutOfMemory xid (events ++ refusal_events WantsMemory)
+  found_no_memory refused = ((events, refl), new, met_again refused.1 WantsMemory, ap (λ (v : World). v.stopped) refused.1 ∙ refused.0)
 
   module _ (sub : ℕ) (c : change_type.Change) where
     -- it clashed, and that stopped the store
@@ -65,10 +68,8 @@ module _ (keys : Schema) (first : Rows) (w new : World) (xid : ℕ) (events : Li
     by_fault AlreadyOpenFault tells acts = absurd acts
     by_fault TooManyOpenFault tells acts = absurd acts
     by_fault (ClashFault clash) tells acts = by_cause (cause_of clash) tells acts
-    by_fault StoppedFault tells acts =
-        (new, nothing_told (met_again acts.1), subst (λ (v : World). IsSome v.stopped) (sym acts.1) acts.0)
-    by_fault NoMemory tells acts =
-        (new, nothing_told (met_again acts.1), ap (λ (v : World). v.stopped) acts.1 ∙ acts.0)
+    by_fault StoppedFault tells acts = found_stopped acts
+    by_fault NoMemory tells acts = found_no_memory acts
 
     -- a change was refused
     pub refused_change : (ended : Ended) (fault : EngineFault) → ended ≡ ended_by fault → TellsCause (Err fault)
@@ -78,16 +79,15 @@ module _ (keys : Schema) (first : Rows) (w new : World) (xid : ℕ) (events : Li
         subst (λ (e : Ended). WasRefused keys first e xid (events ++ events_of sub c (told (Err fault)))) (sym is) (by_fault fault tells acts)
 
   touch_by_fault : (fault : EngineFault) → IsNoClash fault → IsRefused w (told_fault fault) new
-      → WasRefused keys first (ended_by fault) xid events
+      → WasRefused keys first (ended_by fault) xid (events ++ refusal_events (told_fault fault))
   touch_by_fault AlreadyOpenFault no_clash refused = absurd refused
   touch_by_fault TooManyOpenFault no_clash refused = absurd refused
   touch_by_fault (ClashFault clash) no_clash refused = absurd no_clash
-  touch_by_fault StoppedFault no_clash refused =
-      (new, met_again refused.1, subst (λ (v : World). IsSome v.stopped) (sym refused.1) refused.0)
-  touch_by_fault NoMemory no_clash refused = (new, met_again refused.1, ap (λ (v : World). v.stopped) refused.1 ∙ refused.0)
+  touch_by_fault StoppedFault no_clash refused = found_stopped refused
+  touch_by_fault NoMemory no_clash refused = found_no_memory refused
 
   -- an item that changes no row was refused
   pub refused_touch : (ended : Ended) (fault : EngineFault) → ended ≡ ended_by fault → IsNoClash fault → IsRefused w (told_fault fault) new
-      → WasRefused keys first ended xid events
+      → WasRefused keys first ended xid (events ++ refusal_events (told_fault fault))
   refused_touch ended fault is no_clash refused =
-      subst (λ (e : Ended). WasRefused keys first e xid events) (sym is) (touch_by_fault fault no_clash refused)
+      subst (λ (e : Ended). WasRefused keys first e xid (events ++ refusal_events (told_fault fault))) (sym is) (touch_by_fault fault no_clash refused)

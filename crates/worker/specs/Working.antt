@@ -5,7 +5,8 @@
 --     IsInStep      what the type of a job keeps
 --     GoesOn      the same transaction of the same worker, with more done
 --     HasNext, HasDone      an item of the transaction is taken, and not done; it is done
---     IsMet, WasRefused      a world that calls lead to; why an item was refused in some such world
+--     IsMet, EndsWith      a world that calls lead to; the last event of a transaction
+--     WasRefused      why an item was refused, by its transaction's events and some such world
 --     Shows, IsEndedBy      why a worker came back, as its job shows it, and as some such world shows it
 --     Wanted, Comes      the events of a transaction once an item was tried
 --     ComesTo      what the transaction has done once it was tried until it was done or refused
@@ -23,7 +24,7 @@ use Rattle.ring.specs.Ends.{Taking}
 use Rattle.world.specs.World.{Opened, ByClash, World, starting}
 use Rattle.world.specs.Steps.{Reaches}
 use Rattle.engine.specs.declared.events.Event.{Event}
-use Rattle.engine.specs.declared.events.Event.TheVariants.{Done, Wants}
+use Rattle.engine.specs.declared.events.Event.TheVariants.{Done, Wants, FoundStopped, FoundNoMemory}
 use Rattle.engine.specs.Events.{opened_by}
 use Rattle.live_tables.specs.declared.answers.EngineFault.{EngineFault}
 use Rattle.live_tables.specs.declared.answers.EngineFault.TheVariants.{AlreadyOpen, TooManyOpen, Clash as ClashFault, Stopped as StoppedFault, OutOfMemory as NoMemory}
@@ -90,16 +91,22 @@ pub record IsMet (keys : Schema) (first : Rows) (xid : ℕ) (events : List Event
   pub reached : ∥ Reaches keys (starting first) w ∥₁
   pub open_one : get w.opened xid ≡ Some (opened_by events)
 
--- Why an item of a transaction was refused, by some world that calls lead to: it was stopped, by the transaction's change
--- that it tells as wanted, or by whatever before; it was not, where memory was.
+-- the last event of a transaction
+abbrev pub EndsWith : Event → List Event → Type 0
+EndsWith e events = (before : List Event) × (events ≡ before ++ e ∷ [])
+
+-- Why an item of a transaction was refused, by the last event of it and some world that calls lead to: that was stopped,
+-- by the transaction's change that it tells as wanted, or by whatever before; it was not, where memory was refused.
 abbrev pub WasRefused : Schema → Rows → Ended → ℕ → List Event → Type 0
 WasRefused keys first AtLast xid events = Unit {0}
 WasRefused keys first Doomed xid events = Unit {0}
 WasRefused keys first Clashed xid events =
     (w : World) × IsMet keys first xid events w × (sub : ℕ) × (c : change_type.Change) × (cause : ClashCause) ×
     ((opened_by events).wants ≡ Some (sub, c)) × (w.stopped ≡ Some (ByClash xid c cause))
-WasRefused keys first Stopped xid events = (w : World) × IsMet keys first xid events w × IsSome w.stopped
-WasRefused keys first OutOfMemory xid events = (w : World) × IsMet keys first xid events w × (w.stopped ≡ None)
+WasRefused keys first Stopped xid events =
+    EndsWith FoundStopped events × (w : World) × IsMet keys first xid events w × IsSome w.stopped
+WasRefused keys first OutOfMemory xid events =
+    EndsWith FoundNoMemory events × (w : World) × IsMet keys first xid events w × (w.stopped ≡ None)
 
 -- why a worker came back, as its job then shows it
 abbrev pub Shows : Ended → Working → Type 0
@@ -132,8 +139,8 @@ Comes (Ok WasHeld) item old new = Wanted item old new
 Comes (Err AtLast) item old new = ⊥
 Comes (Err Doomed) item old new = ⊥
 Comes (Err Clashed) item old new = Wanted item old new
-Comes (Err Stopped) item old new = new ≡ old
-Comes (Err OutOfMemory) item old new = new ≡ old
+Comes (Err Stopped) item old new = new ≡ old ++ FoundStopped ∷ []
+Comes (Err OutOfMemory) item old new = new ≡ old ++ FoundNoMemory ∷ []
 
 -- what a transaction has done before and after an item was tried until it was done or refused
 abbrev pub ComesTo : Result (Unit {0}) Ended → Taking Item → Opened → Opened → Type 0

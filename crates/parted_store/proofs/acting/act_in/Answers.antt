@@ -1,13 +1,10 @@
-use Rattle.std.proofs.Common.{arith, ◌≡◌, ◌≢◌, ◌++◌, ◌∙◌, ℕ, List, Option, Some, None, sym, ap, subst, refl}
-use Rattle.std.specs.Prelude.{Bool, false, Result, Ok, Err, IsSome, IsSomeAnd, is_some, length, slice_get, not, ◌==◌, ◌||◌, unwrap_or, if◌then◌else◌}
-use Rattle.std.specs.Result.{IsErrAnd}
+use Rattle.std.proofs.Common.{◌≡◌, ◌≢◌, ◌++◌, ◌∙◌, ℕ, List, Some, None, sym, ap, subst}
+use Rattle.std.specs.Prelude.{Result, IsSomeAnd, is_some, length, slice_get, not, ◌==◌, ◌||◌, unwrap_or, if◌then◌else◌}
 use Rattle.std.specs.FinMap.{get}
 use Rattle.model.specs.declared.change.Change.{Change}
 use Rattle.model.specs.Survivors.{survivors}
-use Rattle.world.specs.World.{Opened, Stop, World}
+use Rattle.world.specs.World.{Opened, World}
 use Rattle.world.specs.Steps.{Fault, Acted, Acts}
-use Rattle.live_tables.specs.declared.answers.EngineFault.{EngineFault}
-use Rattle.live_tables.specs.declared.answers.EngineFault.TheVariants.{OutOfMemory as NoMemory}
 use Rattle.live_tables.specs.Answers.{told, after_act}
 use Rattle.engine.specs.declared.events.Event.{Event}
 use Rattle.engine.specs.Events.{opened_by, events_of}
@@ -19,7 +16,6 @@ use Rattle.table_parts.specs.Part.{Part, last_commit_end}
 use Rattle.savepoint.specs.Savepoints.{mark_at, before_mark, latest_sub}
 use Rattle.parted_store.specs.Acting.{IsLent, is_done, items_of, stop_after, Rests, IsActed}
 use Rattle.parted_store.specs.ActLemmas.{act_step, act_part, act_heard, act_line, in_no_other, ticket_acted, items_acted, shares_acted}
-use Rattle.parted_store.specs.Journal.{JournalPart}
 use Rattle.parted_store.specs.JournalLemmas.{none_there, journal_acted}
 use Rattle.parted_store.specs.Lent.{OpenTicket, HasTable, HasJournal, HasTicket, IsSamePart, IsShare}
 use Rattle.parted_store.specs.RestLemmas.{each_rests, same_rested, end_rested, share_kept, acted_by, stays_by}
@@ -65,13 +61,8 @@ module _ (c : goal.After-keep) where
       number_is c.act-answer.ensures.in_part
 
   -- the mark is the latest one, once the subtransaction's was set
-  count_is : c.len.result ≡ length c.ticket.inside.items.items
-  count_is = omega (arith, c.len.ensures, c.reserve.ensures.len, c.ticket.inside.items.ok.0)
-
-  set_is : c.set_mark.new.marks ≡ with_place t.number c.args.sub (length c.ticket.inside.items.items) (places_of t.number c.ticket.inside.items.items)
-  set_is =
-      c.in_ok-set.ensures.ok ∙ ap (λ n. with_place t.number c.args.sub n c.ticket.inside.marks) count_is
-      ∙ ap (with_place t.number c.args.sub (length c.ticket.inside.items.items)) c.ticket.invariant.marks
+  set_is : c.make_place.new.marks ≡ with_place t.number c.args.sub (length c.ticket.inside.items.items) (places_of t.number c.ticket.inside.items.items)
+  set_is = c.in-Ok-make_place.ensures.ok ∙ ap (with_place t.number c.args.sub (length c.ticket.inside.items.items)) c.ticket.invariant.marks
 
   mark_is : mark ≡ mark_for t.number c.args.sub (survivors t.number o.items)
   mark_is =
@@ -80,15 +71,15 @@ module _ (c : goal.After-keep) where
       ∙ ap (mark_for t.number c.args.sub) c.ticket.invariant.items
 
   -- and it is taken back where the change wasn't done
-  was_set : c.in_ok-set.set ≡ not ((c.args.sub == t.number) || is_some (mark_at c.args.sub (places_of t.number c.ticket.inside.items.items)))
-  was_set = c.in_ok-set.ensures.set ∙ ap (λ (places : Places). not ((c.args.sub == t.number) || is_some (mark_at c.args.sub places))) c.ticket.invariant.marks
+  was_set : c.in-Ok-make_place.set ≡ not ((c.args.sub == t.number) || is_some (mark_at c.args.sub (places_of t.number c.ticket.inside.items.items)))
+  was_set = c.in-Ok-make_place.ensures.set ∙ ap (λ (places : Places). not ((c.args.sub == t.number) || is_some (mark_at c.args.sub places))) c.ticket.invariant.marks
 
   marks_are : c.unset_mark.new.marks ≡ places_of t.number c.keep.new.items.items
   marks_are =
       c.unset_mark.ensures
-      ∙ ap (λ (places : Places). if not c.in_ok-set.set || is_done answer then places else before_mark c.args.sub places) set_is
-      ∙ placed_acted t.number c.args.sub c.ticket.inside.items.items c.args.c.now c.in_ok-set.set was_set answer
-      ∙ sym (ap (places_of t.number) (c.keep.ensures.items ∙ (λ i. c.reserve.ensures.items i ++ items_of c.args.sub (c.in_ok-change.ensures i) answer)))
+      ∙ ap (λ (places : Places). if not c.in-Ok-make_place.set || is_done answer then places else before_mark c.args.sub places) set_is
+      ∙ placed_acted t.number c.args.sub c.ticket.inside.items.items c.args.c.now c.in-Ok-make_place.set was_set answer
+      ∙ sym (ap (places_of t.number) (c.keep.ensures.items ∙ (λ i. c.make_place.ensures.items i ++ items_of c.args.sub (c.in-Ok.ensures i) answer)))
 
   abbrev later : World → World
   later w = after_act w t.number o c.args.sub c.args.c.now answer
@@ -118,7 +109,7 @@ module _ (c : goal.After-keep) where
   journal_after w has at =
       journal_acted w c.args.journal.now has c.keep.new.journal t.number o at c.args.sub c.args.c.now answer
       (c.keep.ensures.journal
-      ∙ ap (λ (d : Change). record c.args.journal.now { stopped = stop_after t.number d answer c.args.journal.now.stopped }) c.in_ok-change.ensures)
+      ∙ ap (λ (d : Change). record c.args.journal.now { stopped = stop_after t.number d answer c.args.journal.now.stopped }) c.in-Ok.ensures)
 
   -- the parts of other tables
   rests : Rests t.number answer c.args.others.now c.put_share.new.shares.items c.rest_each.new.others c.rest_each.new.shares.items
@@ -148,7 +139,7 @@ invariant_of-ticket-2 c = record {
       (c.rest_each.ensures.shares other) (shares_now c other));
   items =
       c.keep.ensures.items
-      ∙ (λ i. (c.reserve.ensures.items ∙ c.ticket.invariant.items) i ++ items_of c.args.sub (c.in_ok-change.ensures i) (answer c))
+      ∙ (λ i. (c.make_place.ensures.items ∙ c.ticket.invariant.items) i ++ items_of c.args.sub (c.in-Ok.ensures i) (answer c))
       ∙ items_acted (t c).number c.args.sub (t c).events c.args.c.now (answer c)
       ∙ ap (λ (events : List Event). survivors (t c).number (opened_by events).items) (sym c.tell.ensures);
   marks = marks_are c;
@@ -196,53 +187,3 @@ returns-clause-ends c i p at =
     (λ q did. end_rested (t c).number (answer c) p (share_of c.put_share.new.shares.items p.number) q (share_of c.rest_each.new.shares.items p.number) did)
 
 -- ---- the store is stopped, or memory was refused
-
-pub invariant_of-ticket : goal.invariant_of-ticket
-invariant_of-ticket c = record { shares = c.ticket.invariant.shares; items = c.reserve.ensures.items ∙ c.ticket.invariant.items; marks = c.ticket.invariant.marks ∙ ap (places_of c.ticket.inside.xid) (sym c.reserve.ensures.items) }
-
-by_memory : {A : Type 0} (P : Result A EngineFault → Type 0) (r : Result A EngineFault) → IsErrAnd r (λ fault. fault ≡ NoMemory) → P (Err NoMemory) → P r
-by_memory P (Ok x) is so = absurd is
-by_memory P (Err fault) is so = subst (λ (f : EngineFault). P (Err f)) (sym is) so
-
-pub returns-then-is_stopped-clause-acts : goal.returns-then-is_stopped-clause-acts
-returns-then-is_stopped-clause-acts c w lent =
-    (subst (λ (stop : Option Stop). IsSome stop) (sym lent.1.stopped) (sym c.is_stopped.ensures ∙ c.if-is_stopped.true), refl)
-
-runs_there : (w : World) (j : JournalPart) → HasJournal w j → (b : Bool) → b ≡ is_some j.stopped → b ≡ false → w.stopped ≡ None
-runs_there w j has b stopped runs = has.stopped ∙ none_there j.stopped (sym stopped ∙ runs)
-
-pub returns-in_err-reserve-clause-acts : goal.returns-in_err-reserve-clause-acts
-returns-in_err-reserve-clause-acts c w lent =
-    by_memory (λ r. Acts c.args.part.now.store.schema w c.args.ticket.now.number (opened_by c.args.ticket.now.events) c.args.sub c.args.c.now (told r)
-    (after_act w c.args.ticket.now.number (opened_by c.args.ticket.now.events) c.args.sub c.args.c.now (told r)))
-    c.from_residual.result c.from_residual.ensures.1
-    (runs_there w c.args.journal.now lent.1 c.is_stopped.result c.is_stopped.ensures c.if-is_stopped.false, refl)
-
-pub returns-in_err-reserve-clause-lent : goal.returns-in_err-reserve-clause-lent
-returns-in_err-reserve-clause-lent c w lent =
-    by_memory (λ r. IsLent (after_act w c.args.ticket.now.number (opened_by c.args.ticket.now.events) c.args.sub c.args.c.now (told r)) c.args.part.now c.args.journal.now (ticket_in c.ticket.inside))
-    c.from_residual.result c.from_residual.ensures.1
-    (subst (λ (u : OpenTicket). IsLent w c.args.part.now c.args.journal.now u) (sym c.ticket.view_is) lent)
-
-pub returns-in_err-reserve-clause-beside : goal.returns-in_err-reserve-clause-beside
-returns-in_err-reserve-clause-beside c w p its_ticket has apart beside =
-    by_memory (λ r. HasTable (after_act w c.args.ticket.now.number (opened_by c.args.ticket.now.events) c.args.sub c.args.c.now (told r)) p)
-    c.from_residual.result c.from_residual.ensures.1 has
-
-pub returns-in_err-change-clause-acts : goal.returns-in_err-change-clause-acts
-returns-in_err-change-clause-acts c w lent =
-    by_memory (λ r. Acts c.args.part.now.store.schema w c.args.ticket.now.number (opened_by c.args.ticket.now.events) c.args.sub c.args.c.now (told r)
-    (after_act w c.args.ticket.now.number (opened_by c.args.ticket.now.events) c.args.sub c.args.c.now (told r)))
-    c.from_residual-in_err-change.result c.from_residual-in_err-change.ensures.1
-    (runs_there w c.args.journal.now lent.1 c.is_stopped.result c.is_stopped.ensures c.if-is_stopped.false, refl)
-
-pub returns-in_err-change-clause-lent : goal.returns-in_err-change-clause-lent
-returns-in_err-change-clause-lent c w lent =
-    by_memory (λ r. IsLent (after_act w c.args.ticket.now.number (opened_by c.args.ticket.now.events) c.args.sub c.args.c.now (told r)) c.args.part.now c.args.journal.now (ticket_in c.ticket.inside))
-    c.from_residual-in_err-change.result c.from_residual-in_err-change.ensures.1
-    (subst (λ (u : OpenTicket). IsLent w c.args.part.now c.args.journal.now u) (sym c.ticket.view_is) lent)
-
-pub returns-in_err-change-clause-beside : goal.returns-in_err-change-clause-beside
-returns-in_err-change-clause-beside c w p its_ticket has apart beside =
-    by_memory (λ r. HasTable (after_act w c.args.ticket.now.number (opened_by c.args.ticket.now.events) c.args.sub c.args.c.now (told r)) p)
-    c.from_residual-in_err-change.result c.from_residual-in_err-change.ensures.1 has

@@ -1,4 +1,4 @@
-use Rattle.std.proofs.Common.{arith, ◌≡◌, ◌++◌, ◌∷◌, [], ◌∙◌, List, Some, sym, ap, subst, length}
+use Rattle.std.proofs.Common.{◌≡◌, ◌++◌, ◌∷◌, [], ◌∙◌, List, Some, sym, ap, subst, length}
 use Rattle.std.specs.Prelude.{IsSomeAnd, slice_get, Ok}
 use Rattle.std.proofs.lemmas.Option.{slice_get_within}
 use Rattle.model.specs.declared.item.Item.{Item}
@@ -27,12 +27,11 @@ module _ (c : goal.After-tell_touch) where
   t = ticket_in c.ticket.inside
 
   items_are : c.push_reserved.new.self.items ≡ c.ticket.inside.items.items ++ Touch c.args.sub ∷ []
-  items_are = c.push_reserved.ensures.items ∙ ap (λ (items : List Item). items ++ Touch c.args.sub ∷ []) c.reserve.ensures.items
+  items_are = c.push_reserved.ensures.items ∙ ap (λ (items : List Item). items ++ Touch c.args.sub ∷ []) c.make_place.ensures.items
 
-  marks_are : c.set_mark.new.marks ≡ places_of t.number c.push_reserved.new.self.items
+  marks_are : c.make_place.new.marks ≡ places_of t.number c.push_reserved.new.self.items
   marks_are =
-      c.in_ok-set_mark.ensures.ok
-      ∙ ap (λ n. with_place t.number c.args.sub n c.ticket.inside.marks) (omega (arith, c.len.ensures, c.reserve.ensures.len, c.ticket.inside.items.ok.0))
+      c.in-Ok.ensures.ok
       ∙ ap (with_place t.number c.args.sub (length c.ticket.inside.items.items)) c.ticket.invariant.marks
       ∙ sym (placed_more t.number c.ticket.inside.items.items (Touch c.args.sub))
       ∙ sym (ap (places_of t.number) items_are)

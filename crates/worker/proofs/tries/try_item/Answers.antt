@@ -17,6 +17,6 @@ pub returns-in-Err-touch-clause-why : goal.returns-in-Err-touch-clause-why
 returns-in-Err-touch-clause-why g c =
     let refused = c.in-Err-touch in
     subst (λ (t : OpenList Event). WasRefused g.N.StoreNames.schema g.N.StoreNames.start c.end_refused-in-Err-touch.result t.number t.list)
-    (sym refused.ensures.err)
+    (sym refused.ensures.ticket)
     (refused_touch _ _ _ _ _ _ refused.ensures.stood c.recall_invariant-in-Err-touch.ensures.reached
     c.end_refused-in-Err-touch.result refused.fault c.end_refused-in-Err-touch.ensures refused.ensures.fault refused.ensures.touches)
