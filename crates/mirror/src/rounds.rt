@@ -146,9 +146,10 @@ fn open_stream(
         },
         Err(_) => {
             say(rt, Event::NotRead(input::name_of(options.input)));
-            Err(match is_over(options) {
-                true => Next::Over(2),
-                false => Next::Again(false),
+            Err(if is_over(options) {
+                Next::Over(2)
+            } else {
+                Next::Again(false)
             })
         }
     }

@@ -18,7 +18,7 @@
 //     that is loaded has as many commits as LSNs were published up to its own.
 //
 // Callers owe that tokens belong to the origin. That a load sees what was published just before is
-// tested, and that whoever waits is woken, and no clause says it. Only `Origin::new` takes memory;
+// tested, and that whoever waits is woken, and no clause says it. Only `Origin::new` can be refused;
 // `publish`, `load` and `meet` may wait for each other, and `split` does not.
 //
 // Inside, an origin is a cell of two words. Each call on it takes effect at one step, a store by

@@ -15,7 +15,7 @@
 //
 // `specs/Ends` says what each end knows, call by call, and `Meets` brings the two together. A sender
 // never waits: a full ring hands the item back. A taker waits in `wait_more` alone: it looks for some
-// microseconds, and then sleeps. Only `Ring::new` takes memory. That a taker wakes is tested, and no
+// microseconds, and then sleeps. Only `Ring::new` can be refused. That a taker wakes is tested, and no
 // clause says it.
 //
 // Inside, both ends step on one table of three words (items acknowledged, items sent, the doom) and
