@@ -1,20 +1,23 @@
 #!/usr/bin/env python3
-"""Times pgapply on streams of its own making, beside a plain Rust applier of the same streams.
+"""Times pgapply on streams of its own making, beside a plain Rust applier of the same streams, and a limit.
 
     figures.py [--only KIND,..] [--rows N,..] [--runs N] [--program P] [--keep FOLDER]
 
 Each stream is made as a PostgreSQL server sends the same work, and run by turns: `pgapply replay`,
-`pgapply apply`, and the plain applier (plain.rs, built by `rustc -O`), each --runs times. All have to
-print the same report. A line for each prints the best wall-clock time and processor time (user and
-system), the most memory held, and the ratio of the plain applier's times to these. On a machine with
-other work the processor time is the steadier one. A timing is no test: nothing fails for it.
+`pgapply apply`, the plain applier (plain.rs, built by `rustc -O`), and for `one` what one thread can do
+with that stream (limit.rs), each --runs times. All have to print the same report. A line for each prints
+the best wall-clock time and processor time (user and system), the most memory held, that divided by the
+stream's changes, and the ratio of the plain applier's times to these. On a machine with other work the
+processor time is the steadier one. A timing is no test: nothing fails for it.
 
 Needs: python3 (3.11), rustc, and the built program (`rt run` or `rt ci` leave it in
 crates/pgapply/out). The kinds:
 
     one       one streamed transaction of N inserts, in four blocks
     many      N / 10 small transactions: four inserts, three updates, a delete each
-    beside    four streamed transactions of N / 4 inserts each, whose blocks come by turns
+    beside    four streamed transactions of N / 4 inserts each into one table, whose blocks come by turns
+    apart     the same, each into a table of its own
+    saved     one streamed transaction of N inserts, in subtransactions of ten thousand that stay
     undone    one streamed transaction of N inserts with two unique keys, that isn't committed
     wide      one transaction of N / 10 rows of 50 columns
     pairs     one transaction of N rows whose key is two texts
@@ -24,7 +27,7 @@ crates/pgapply/out). The kinds:
     rolled    one streamed transaction of N inserts, in subtransactions of ten thousand that are rolled back
 """
 import argparse, hashlib, os, struct, subprocess, sys, tempfile, time
-from dataclasses import dataclass, field
+from dataclasses import dataclass, field, replace
 
 HERE = os.path.dirname(os.path.abspath(__file__))
 TYPES = {"i": ("int", 20), "t": ("text", 25), "b": ("bool", 16)}
@@ -103,17 +106,17 @@ def sub_of(xid):
     return struct.pack(">I", xid)
 
 
-def streamed(table, xids, rows, blocks, ends=True):
-    """Streamed transactions, a list of rows each, whose blocks come by turns; committed in their order."""
+def streamed(parts, blocks, ends=True):
+    """Streamed transactions, an xid with a table and rows each, whose blocks come by turns; committed in their order."""
     for block in range(blocks):
-        for xid, own in zip(xids, rows):
+        for xid, table, rows in parts:
             yield stream_start(xid, block == 0)
             if block == 0:
                 yield table.relation(sub_of(xid))
-            for number in range(len(own) * block // blocks, len(own) * (block + 1) // blocks):
-                yield table.insert(own[number], sub_of(xid))
+            for number in range(len(rows) * block // blocks, len(rows) * (block + 1) // blocks):
+                yield table.insert(rows[number], sub_of(xid))
             yield b"E"
-    for place, xid in enumerate(xids if ends else []):
+    for place, (xid, _, _) in enumerate(parts if ends else []):
         yield stream_commit(xid, 0x100 * (place + 1))
 
 
@@ -137,12 +140,23 @@ MAIL = Table("mail", "itt", [0], [[1]])
 
 
 def one(count):
-    return MAIL, streamed(MAIL, [700], [Rows(mail, 1, count)], 4)
+    return [MAIL], streamed([(700, MAIL, Rows(mail, 1, count))], 4)
+
+
+def four(tables, count):
+    """Four streamed transactions, one into each of these tables."""
+    each = count // 4
+    parts = [(700 + n, table, Rows(mail, 1 + n * each, each)) for n, table in enumerate(tables)]
+    return streamed(parts, max(1, each // 1000))
 
 
 def beside(count):
-    each = count // 4
-    return MAIL, streamed(MAIL, [700, 701, 702, 703], [Rows(mail, 1 + n * each, each) for n in range(4)], max(1, each // 1000))
+    return [MAIL], four([MAIL] * 4, count)
+
+
+def apart(count):
+    tables = [replace(MAIL, name=f"mail{n}", oid=MAIL.oid + n) for n in range(4)]
+    return tables, four(tables, count)
 
 
 def many(count):
@@ -160,13 +174,13 @@ def many(count):
                 yield MAIL.update(mail(row, f"changed {number}"))
             yield MAIL.delete(mail(base + 3))
             yield commit(lsn)
-    return MAIL, messages()
+    return [MAIL], messages()
 
 
 def undone(count):
     table = Table("two", "itt", [0], [[1], [2]])
     row = lambda number: [number, f"a{number}", f"b{number}"]
-    return table, streamed(table, [700], [Rows(row, 1, count)], 4, ends=False)
+    return [table], streamed([(700, table, Rows(row, 1, count))], 4, ends=False)
 
 
 def in_transactions(table, changes, size):
@@ -187,13 +201,13 @@ def in_transactions(table, changes, size):
 def wide(count):
     table = Table("wide", "i" + "t" * 49, [0])
     rows = ([number] + [f"column {column} of {number}" for column in range(1, 50)] for number in range(1, count // 10 + 1))
-    return table, in_transactions(table, map(table.insert, rows), count)
+    return [table], in_transactions(table, map(table.insert, rows), count)
 
 
 def pairs(count):
     table = Table("pairs", "tti", [0, 1])
     rows = ([f"country {number % 97}", f"person {number}", number] for number in range(count))
-    return table, in_transactions(table, map(table.insert, rows), count)
+    return [table], in_transactions(table, map(table.insert, rows), count)
 
 
 def updates(count):
@@ -202,7 +216,7 @@ def updates(count):
             yield MAIL.insert(mail(number))
         for number in range(1, count + 1):
             yield MAIL.update(mail(number, f"changed {number}"))
-    return MAIL, in_transactions(MAIL, changes(), 1000)
+    return [MAIL], in_transactions(MAIL, changes(), 1000)
 
 
 def churn(count):
@@ -212,38 +226,50 @@ def churn(count):
                 yield MAIL.insert(mail(number))
             for number in range(first, first + 1000):
                 yield MAIL.delete(mail(number))
-    return MAIL, in_transactions(MAIL, changes(), 1000)
+    return [MAIL], in_transactions(MAIL, changes(), 1000)
 
 
 def aborted(count):
     def messages():
         for xid, first in enumerate(range(1, count + 1, 10000), 700):
-            yield from streamed(MAIL, [xid], [Rows(mail, first, 10000)], 1, ends=False)
+            yield from streamed([(xid, MAIL, Rows(mail, first, 10000))], 1, ends=False)
             yield stream_abort(xid, xid)
-    return MAIL, messages()
+    return [MAIL], messages()
+
+
+def in_subtransactions(count, are_rolled_back):
+    """One streamed transaction of inserts, ten thousand in each subtransaction."""
+    for sub, first in enumerate(range(1, count + 1, 10000), 701):
+        yield stream_start(700, sub == 701)
+        if sub == 701:
+            yield MAIL.relation(sub_of(700))
+        for number in range(first, first + 10000):
+            yield MAIL.insert(mail(number), sub_of(sub))
+        yield b"E"
+        if are_rolled_back:
+            yield stream_abort(700, sub)
+    yield stream_commit(700, 0x100)
+
+
+def saved(count):
+    return [MAIL], in_subtransactions(count, False)
 
 
 def rolled(count):
-    def messages():
-        for sub, first in enumerate(range(1, count + 1, 10000), 701):
-            yield stream_start(700, sub == 701)
-            if sub == 701:
-                yield MAIL.relation(sub_of(700))
-            for number in range(first, first + 10000):
-                yield MAIL.insert(mail(number), sub_of(sub))
-            yield b"E"
-            yield stream_abort(700, sub)
-        yield stream_commit(700, 0x100)
-    return MAIL, messages()
+    return [MAIL], in_subtransactions(count, True)
 
 
-KINDS = {kind.__name__: kind for kind in (one, many, beside, undone, wide, pairs, updates, churn, aborted, rolled)}
+KINDS = {kind.__name__: kind for kind in (one, many, beside, apart, saved, undone, wide, pairs, updates, churn, aborted, rolled)}
 
 
 def write_stream(path, messages):
+    """Writes the frames of messages, and answers how many of these change a row."""
+    changes = 0
     with open(path, "wb", buffering=1 << 20) as file:
         for message in messages:
+            changes += message[:1] in (b"I", b"U", b"D")
             file.write(b"d" + struct.pack(">I", 29 + len(message)) + b"w" + bytes(24) + message)
+    return changes
 
 
 @dataclass
@@ -267,14 +293,16 @@ def run(words, out):
         return Run(seconds, usage.ru_utime + usage.ru_stime, usage.ru_maxrss * 1024, hashlib.file_digest(file, "sha256").hexdigest())
 
 
-def measure(kind, count, program, plain, folder, runs):
-    table, messages = KINDS[kind](count)
+def measure(kind, count, program, folder, runs):
+    tables, messages = KINDS[kind](count)
     stream, catalog = f"{folder}/{kind}.stream", f"{folder}/{kind}.toml"
-    write_stream(stream, messages)
+    changes = write_stream(stream, messages)
     with open(catalog, "w") as file:
-        file.write(table.catalog())
+        file.write("\n".join(table.catalog() for table in tables))
     commands = {verb: [program, verb, "--config", catalog, "--stream", stream] for verb in ("replay", "apply")}
-    commands["plain"] = [plain, stream, table.word()]
+    commands["plain"] = [f"{folder}/plain", stream, *(table.word() for table in tables)]
+    if kind == "one":
+        commands["limit"] = [f"{folder}/limit", stream]
     best = {}
     for _ in range(runs):
         for name, words in commands.items():
@@ -287,7 +315,8 @@ def measure(kind, count, program, plain, folder, runs):
     os.remove(stream)
     for name, it in best.items():
         print(f"| {kind} {count} | {size / 1e6:.0f} MB | {name} | {it.seconds:.2f} | {it.processor:.2f} | {it.memory / 1e6:.0f} MB "
-              f"| {best['plain'].seconds / it.seconds:.2f} | {best['plain'].processor / it.processor:.2f} |", flush=True)
+              f"| {it.memory / changes:.0f} | {best['plain'].seconds / it.seconds:.2f} "
+              f"| {best['plain'].processor / it.processor:.2f} |", flush=True)
 
 
 def main():
@@ -296,16 +325,17 @@ def main():
     words.add_argument("--rows", default="1000000", help="how many rows, divided by commas")
     words.add_argument("--runs", type=int, default=3, help="how often each command runs")
     words.add_argument("--program", default=f"{HERE}/../crates/pgapply/out/pgapply")
-    words.add_argument("--keep", help="a folder for the streams and the plain applier; else a temporary one")
+    words.add_argument("--keep", help="a folder for the streams and the two Rust programs; else a temporary one")
     said = words.parse_args()
     with tempfile.TemporaryDirectory() as temporary:
         folder = said.keep or temporary
-        plain = f"{folder}/plain"
-        subprocess.run(["rustc", "-O", "-o", plain, f"{HERE}/plain.rs"], check=True)
-        print("| stream | size | command | seconds | processor | memory | plain / it | by processor |\n|---|---|---|---|---|---|---|---|")
+        for name in ("plain", "limit"):
+            subprocess.run(["rustc", "-O", "-o", f"{folder}/{name}", f"{HERE}/{name}.rs"], check=True)
+        print("| stream | size | command | seconds | processor | memory | bytes a change | plain / it | by processor |")
+        print("|---|---|---|---|---|---|---|---|---|")
         for kind in said.only.split(","):
             for count in said.rows.split(","):
-                measure(kind, int(count), said.program, plain, folder, said.runs)
+                measure(kind, int(count), said.program, folder, said.runs)
 
 
 if __name__ == "__main__":

@@ -20,7 +20,14 @@ enum Value {
 }
 
 type Row = Vec<Option<Value>>;
-type Key = Vec<Value>;
+
+/// The values of a key. A single one takes no block of its own.
+#[derive(Clone, PartialEq, Eq, Hash, PartialOrd, Ord)]
+enum Key {
+    One(Value),
+    Several(Box<[Value]>),
+}
+
 /// For each column: as it was, or this value.
 type Patch = Vec<Option<Option<Value>>>;
 
@@ -45,8 +52,18 @@ enum Change {
 }
 
 /// The values of these columns, if none of them is null.
-fn values(row: &Row, columns: &[usize]) -> Option<Key> {
-    columns.iter().map(|&column| row[column].clone()).collect()
+fn values<'a>(columns: &[usize], value: impl Fn(usize) -> Option<&'a Value>) -> Option<Key> {
+    match columns {
+        &[column] => value(column).cloned().map(Key::One),
+        _ => {
+            let several: Option<_> = columns.iter().map(|&c| value(c).cloned()).collect();
+            several.map(Key::Several)
+        }
+    }
+}
+
+fn values_of(row: &Row, columns: &[usize]) -> Option<Key> {
+    values(columns, |column| row[column].as_ref())
 }
 
 impl Table {
@@ -74,9 +91,9 @@ impl Table {
     }
 
     fn put(&mut self, row: Row) {
-        let key = values(&row, &self.primary).expect("a key");
+        let key = values_of(&row, &self.primary).expect("a key");
         for unique in &mut self.uniques {
-            if let Some(found) = values(&row, &unique.columns) {
+            if let Some(found) = values_of(&row, &unique.columns) {
                 assert!(unique.keys.insert(found, key.clone()).is_none(), "unique");
             }
         }
@@ -86,7 +103,7 @@ impl Table {
     fn remove(&mut self, key: &Key) -> Option<Row> {
         let row = self.rows.remove(key)?;
         for unique in &mut self.uniques {
-            if let Some(found) = values(&row, &unique.columns) {
+            if let Some(found) = values_of(&row, &unique.columns) {
                 unique.keys.remove(&found);
             }
         }
@@ -151,9 +168,9 @@ impl<'a> Rest<'a> {
     }
 
     fn number(&mut self, count: usize) -> u64 {
-        self.bytes(count)
-            .iter()
-            .fold(0, |n, &byte| n << 8 | u64::from(byte))
+        let mut bytes = [0; 8];
+        bytes[8 - count..].copy_from_slice(self.bytes(count));
+        u64::from_be_bytes(bytes)
     }
 
     fn name(&mut self) -> String {
@@ -213,12 +230,8 @@ impl Applier {
     fn row_change(&self, tag: u8, rest: &mut Rest) -> Change {
         let number = self.relations[&(rest.number(4) as u32)];
         let table = &self.tables[number];
-        let key_of = |patch: &Patch| -> Key {
-            table
-                .primary
-                .iter()
-                .map(|&c| patch[c].clone().flatten().expect("a key"))
-                .collect()
+        let key_of = |patch: &Patch| {
+            values(&table.primary, |column| patch[column].as_ref()?.as_ref()).expect("a key")
         };
         let mut kind = rest.number(1) as u8;
         let mut key = None;
@@ -308,23 +321,28 @@ impl Applier {
     }
 }
 
+/// A text up to the next byte that is escaped, and so on.
+fn print_text(out: &mut impl Write, text: &[u8]) -> io::Result<()> {
+    let mut rest = text;
+    while let Some(end) = rest.iter().position(|byte| b"\\|\n\r".contains(byte)) {
+        out.write_all(&rest[..end])?;
+        out.write_all(match rest[end] {
+            b'\\' => b"\\\\",
+            b'|' => b"\\p",
+            b'\n' => b"\\n",
+            _ => b"\\r",
+        })?;
+        rest = &rest[end + 1..];
+    }
+    out.write_all(rest)
+}
+
 fn print_value(out: &mut impl Write, value: &Option<Value>) -> io::Result<()> {
     match value {
         None => out.write_all(b"\\N"),
         Some(Value::Int(number)) => write!(out, "{number}"),
         Some(Value::Bool(truth)) => out.write_all(if *truth { b"t" } else { b"f" }),
-        Some(Value::Text(text)) => {
-            for &byte in text {
-                match byte {
-                    b'\\' => out.write_all(b"\\\\")?,
-                    b'|' => out.write_all(b"\\p")?,
-                    b'\n' => out.write_all(b"\\n")?,
-                    b'\r' => out.write_all(b"\\r")?,
-                    _ => out.write_all(&[byte])?,
-                }
-            }
-            Ok(())
-        }
+        Some(Value::Text(text)) => print_text(out, text),
     }
 }
 
