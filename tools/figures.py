@@ -8,7 +8,8 @@ Each stream is made as a PostgreSQL server sends the same work, and run by turns
 with that stream (limit.rs), each --runs times. All have to print the same report. A line for each prints
 the best wall-clock time and processor time (user and system), the most memory held, that divided by the
 stream's changes, and the ratio of the plain applier's times to these. On a machine with other work the
-processor time is the steadier one. A timing is no test: nothing fails for it.
+processor time is the steadier one, and below some 22 MB the memory is that of this script, which starts
+the commands. A timing is no test: nothing fails for it.
 
 Needs: python3 (3.11), rustc, and the built program (`rt run` or `rt ci` leave it in
 crates/pgapply/out). The kinds:
