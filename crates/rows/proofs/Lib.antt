@@ -5,3 +5,7 @@ pub mod Making
 pub mod HashedSlots
 pub mod HashedMaking
 pub mod HashedCopies
+pub mod Runs
+pub mod Merging
+pub mod Searching
+pub mod KeyOrders

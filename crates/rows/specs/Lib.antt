@@ -5,4 +5,5 @@ pub mod KeptCode
 pub mod Slots
 pub mod Ordered
 pub mod Hashed
+pub mod Run
 pub mod Walking

@@ -12,13 +12,14 @@ ghost use Rattle.rows.specs.Kept.{HasNumber, KeepsSlots, IsNumbered, IsSlotted};
 ghost use Rattle.rows.specs.Hashed.{row_for, row_of, key_of, number_for, number_to_drop, SetsRow, AddsSlot, DropsSlot, Renumbers, SameNumbers, Unnumbers};
 ghost use Rattle.rows.specs.Slots.{with_row};
 
+use crate::key_order::KeyOrder;
 use crate::store::{SlotNumber, next_number};
 use crate::view::RowView;
 use crate::walk::Walk;
 use model::{Key, OutOfMemory, Row};
 use slab::Slab;
 use std::alloc::{AllocError, Global};
-use std::collections::{BTreeMap, HashMap};
+use std::collections::HashMap;
 use std::hash::{BuildHasher, BuildHasherDefault, FoldHasher};
 use std::marker::Model;
 use std::mem;
@@ -40,7 +41,7 @@ pub(crate) struct HashedSlot {
 pub struct HashedRows<H: BuildHasher = BuildHasherDefault<FoldHasher>> {
     // The number of each key's slot, by the key's hash, and in key order.
     numbers: HashMap<Key, SlotNumber, H>,
-    order: BTreeMap<Key, SlotNumber>,
+    order: KeyOrder,
     slots: Slab<HashedSlot>,
     alloc: Global,
 }
@@ -64,9 +65,9 @@ impl<H: BuildHasher> Model for HashedRows<H> {
 
     ghost use Rattle.rows.specs.Hashed.{kept_by, IsFound};
 
-    ghost view = { λ a. kept_by a.slots a.order.entries };
+    ghost view = { λ a. kept_by a.slots a.order };
 
-    ghost invariant = { λ a. IsFound a.numbers a.order.entries a.slots };
+    ghost invariant = { λ a. IsFound a.numbers a.order a.slots };
 }
 
 impl HashedSlot {
@@ -110,7 +111,7 @@ impl<H: BuildHasher + Drop> HashedRows<H> {
     {
         HashedRows {
             numbers: HashMap::with_hasher(alloc, hasher),
-            order: BTreeMap::new(alloc),
+            order: KeyOrder::new(alloc),
             slots: Slab::new(alloc),
             alloc,
         }
@@ -268,7 +269,7 @@ impl<H: BuildHasher + Drop> HashedRows<H> {
         ensures rows { result ≡ map.values self.now.rows }
         ensures fits { length result < 2 ^ 63 }
     {
-        Walk::over_numbers(self.order.values(), &self.slots)
+        Walk::over_numbers(self.order.numbers(), &self.slots)
     }
 }
 
@@ -279,7 +280,7 @@ impl<H: BuildHasher + Drop + Copy> HashedRows<H> {
     {
         Ok(HashedRows {
             numbers: self.numbers.clone()?,
-            order: self.order.clone()?,
+            order: self.order.copy()?,
             slots: self.slots.clone()?,
             alloc: self.alloc,
         })
@@ -370,15 +371,16 @@ fn set_row(slots: &mut Slab<HashedSlot>, number: SlotNumber, row: Option<Row>) -
 // An empty slot for a key that has none. The answer is its number, which no slot had.
 fn add_slot<H: BuildHasher + Drop>(
     numbers: &mut HashMap<Key, SlotNumber, H>,
-    order: &mut BTreeMap<Key, SlotNumber>,
+    order: &mut KeyOrder,
     slots: &mut Slab<HashedSlot>,
     key: &Key,
 ) -> Result<SlotNumber, OutOfMemory>
+    requires { number_for order.old key.now ≡ None }
     ensures slots { IfOk result (λ number. AddsSlot slots.old slots.new number key.now) }
-    ensures order { IfOk result (λ number. Renumbers (number_for order.old.entries) (number_for order.new.entries) key.now (Some number)) }
+    ensures order { IfOk result (λ number. Renumbers (number_for order.old) (number_for order.new) key.now (Some number)) }
     ensures hashed { IfOk result (λ number. Renumbers (hash.get (eq_by_cmp key_cmp) numbers.old) (hash.get (eq_by_cmp key_cmp) numbers.new) key.now (Some number)) }
     ensures same_slots { OnErr result ((number : ℕ) → slab.get slots.new number ≡ slab.get slots.old number) }
-    ensures same_order { OnErr result (SameNumbers (number_for order.old.entries) (number_for order.new.entries)) }
+    ensures same_order { OnErr result (SameNumbers (number_for order.old) (number_for order.new)) }
     ensures same_hashed { OnErr result (SameNumbers (hash.get (eq_by_cmp key_cmp) numbers.old) (hash.get (eq_by_cmp key_cmp) numbers.new)) }
 {
     let own = key.copy()?;
@@ -411,12 +413,12 @@ fn make_room_for<H: BuildHasher + Drop>(
 // No slot of a key, where no row is in it.
 fn drop_slot<H: BuildHasher + Drop>(
     numbers: &mut HashMap<Key, SlotNumber, H>,
-    order: &mut BTreeMap<Key, SlotNumber>,
+    order: &mut KeyOrder,
     slots: &mut Slab<HashedSlot>,
     key: &Key,
 )
     ensures slots { DropsSlot slots.old slots.new (number_to_drop slots.old (hash.get (eq_by_cmp key_cmp) numbers.old key.now)) }
-    ensures order { Unnumbers (number_for order.old.entries) (number_for order.new.entries) key.now (number_to_drop slots.old (hash.get (eq_by_cmp key_cmp) numbers.old key.now)) }
+    ensures order { Unnumbers (number_for order.old) (number_for order.new) key.now (number_to_drop slots.old (hash.get (eq_by_cmp key_cmp) numbers.old key.now)) }
     ensures hashed { Unnumbers (hash.get (eq_by_cmp key_cmp) numbers.old) (hash.get (eq_by_cmp key_cmp) numbers.new) key.now (number_to_drop slots.old (hash.get (eq_by_cmp key_cmp) numbers.old key.now)) }
 {
     let Some(number) = number_of_empty(numbers, slots, key) else {

@@ -15,9 +15,11 @@
 //   ordered    `OrderedRows`, the first form: an ordered map
 //   hashed     `HashedRows`, the second form: slots that are found by a hash of the key, beside the
 //              keys in key order; tables use it
+//   key_order  `KeyOrder`, the keys in key order: a run of those that came in order, beside a tree
 //   view       a row of a store, as it is read: column by column
 //   walk       `Walk`: the rows one after another
 pub mod hashed;
+mod key_order;
 pub mod ordered;
 pub mod store;
 pub mod view;

@@ -6,8 +6,8 @@ ghost use Rattle.rows.specs.Slots.{rows_among};
 ghost use Rattle.rows.specs.Walking.{YieldsRow, rows_by};
 
 use crate::hashed::{HashedSlot, view_at};
+use crate::key_order::Merge;
 use crate::ordered::Slot;
-use crate::store::SlotNumber;
 use crate::view::RowView;
 use model::Key;
 use slab::Slab;
@@ -32,7 +32,7 @@ pub(crate) enum Left<'a> {
 // The numbers that are left, and the slots that have them.
 #[derive(Debug, Drop)]
 pub(crate) struct Numbers<'a> {
-    numbers: Values<'a, Key, SlotNumber>,
+    numbers: Merge<'a>,
     slots: &'a Slab<HashedSlot>,
 }
 
@@ -58,10 +58,7 @@ impl<'a> Walk<'a> {
     }
 
     // Over the slots with these numbers.
-    pub(crate) fn over_numbers(
-        numbers: Values<'a, Key, SlotNumber>,
-        slots: &'a Slab<HashedSlot>,
-    ) -> Walk<'a>
+    pub(crate) fn over_numbers(numbers: Merge<'a>, slots: &'a Slab<HashedSlot>) -> Walk<'a>
         ensures { result ≡ rows_among (map (slot_by slots.now) numbers.entry) }
     {
         Walk {
@@ -109,14 +106,11 @@ fn next_row<'a>(slots: &mut Values<'a, Key, Slot>) -> Option<RowView<'a>>
 }
 
 // The row of the next number whose slot is filled.
-fn next_numbered<'a>(
-    numbers: &mut Values<'a, Key, SlotNumber>,
-    slots: &'a Slab<HashedSlot>,
-) -> Option<RowView<'a>>
+fn next_numbered<'a>(numbers: &mut Merge<'a>, slots: &'a Slab<HashedSlot>) -> Option<RowView<'a>>
     ensures { YieldsRow (rows_among (map (slot_by slots.now) numbers.old)) result (rows_among (map (slot_by slots.now) numbers.new)) }
 {
     while let Some(number) = numbers.next() {
-        if let Some(row) = view_at(slots, Some(*number)) {
+        if let Some(row) = view_at(slots, Some(number)) {
             return Some(row);
         }
     }

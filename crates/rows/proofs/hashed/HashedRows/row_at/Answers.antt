@@ -6,5 +6,5 @@ use Rattle.rows.proofs.hashed.HashedRows.row_at.Goals as goal
 
 pub returns : goal.returns
 returns g c = λ key e.
-    c.view_at.ensures ∙ sym (row_by_number c.self.inside.slots c.self.inside.order.entries key c.args.number (ap (λ (k : Kept). get k.slots key) c.self.view_is ∙ e))
+    c.view_at.ensures ∙ sym (row_by_number c.self.inside.slots c.self.inside.order key c.args.number (ap (λ (k : Kept). get k.slots key) c.self.view_is ∙ e))
     ∙ ap (λ (k : Kept). get k.rows key) c.self.view_is

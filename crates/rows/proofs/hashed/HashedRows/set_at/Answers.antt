@@ -11,7 +11,7 @@ use Rattle.rows.proofs.hashed.HashedRows.set_at.Goals as goal
 pub invariant_of-self : goal.invariant_of-self
 invariant_of-self g c =
     record {
-      named = set_names c.self.inside.slots c.set_row.new.slots c.self.inside.order.entries c.requires.0 c.args.number c.args.row
+      named = set_names c.self.inside.slots c.set_row.new.slots c.self.inside.order c.requires.0 c.args.number c.args.row
           c.self.invariant.named (ap (λ (k : Kept). get k.slots c.requires.0) c.self.view_is ∙ c.requires.1) c.set_row.ensures.set;
       hashed = c.self.invariant.hashed;
     }
@@ -20,7 +20,7 @@ pub returns : goal.returns
 returns g c =
     let s = c.self.inside.slots in
     let t = c.set_row.new.slots in
-    let es = c.self.inside.order.entries in
+    let es = c.self.inside.order in
     let row = c.args.row in
     let named = c.self.invariant.named in
     let has = λ (key : Key) (e : get c.args.self.now.slots key ≡ Some c.args.number). ap (λ (k : Kept). get k.slots key) c.self.view_is ∙ e in

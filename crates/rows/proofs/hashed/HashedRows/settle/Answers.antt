@@ -13,8 +13,8 @@ use Rattle.rows.proofs.hashed.HashedRows.settle.Goals.{After-drop_slot}
 
 -- the number in the order is the hashed one, so the slot and the number that went are those that the order had
 dropped : (g : Over) (c : After-drop_slot g)
-    → (let was = c.self.inside in let now = c.drop_slot.new in let drops = number_to_drop was.slots (number_for was.order.entries c.args.key.now)
-    in DropsSlot was.slots now.slots drops × Unnumbers (number_for was.order.entries) (number_for now.order.entries) c.args.key.now drops
+    → (let was = c.self.inside in let now = c.drop_slot.new in let drops = number_to_drop was.slots (number_for was.order c.args.key.now)
+    in DropsSlot was.slots now.slots drops × Unnumbers (number_for was.order) (number_for now.order) c.args.key.now drops
     × Unnumbers (hash.get (eq_by_cmp key_cmp) was.numbers) (hash.get (eq_by_cmp key_cmp) now.numbers) c.args.key.now drops)
 dropped g c =
     let was = c.self.inside in
@@ -22,7 +22,7 @@ dropped g c =
     let key = c.args.key.now in
     let told = c.drop_slot.ensures in
     subst (λ (number : Option ℕ).
-    DropsSlot was.slots now.slots (number_to_drop was.slots number) × Unnumbers (number_for was.order.entries) (number_for now.order.entries) key (number_to_drop was.slots number)
+    DropsSlot was.slots now.slots (number_to_drop was.slots number) × Unnumbers (number_for was.order) (number_for now.order) key (number_to_drop was.slots number)
     × Unnumbers (hash.get (eq_by_cmp key_cmp) was.numbers) (hash.get (eq_by_cmp key_cmp) now.numbers) key (number_to_drop was.slots number))
     (c.self.invariant.hashed key) (told.slots, told.order, told.hashed)
 
@@ -31,7 +31,7 @@ invariant_of-self g c =
     let was = c.self.inside in
     let now = c.drop_slot.new in
     let went = dropped g (goal.at.invariant_of-self g c).After-drop_slot in
-    found_after_settle was.numbers now.numbers was.order.entries now.order.entries was.slots now.slots c.args.key.now c.self.invariant went.0 went.1 went.2
+    found_after_settle was.numbers now.numbers was.order now.order was.slots now.slots c.args.key.now c.self.invariant went.0 went.1 went.2
 
 pub returns : goal.returns
 returns g c =
@@ -41,9 +41,9 @@ returns g c =
     let went = dropped g (goal.at.returns g c).After-drop_slot in
     record {
       rows =
-          settled_rows was.numbers now.numbers was.order.entries now.order.entries was.slots now.slots key c.self.invariant went.0 went.1
+          settled_rows was.numbers now.numbers was.order now.order was.slots now.slots key c.self.invariant went.0 went.1
           ∙ ap (λ (k : Kept). k.rows) c.self.view_is;
       slots =
-          settled_numbers was.numbers now.numbers was.order.entries now.order.entries was.slots now.slots key c.self.invariant went.0 went.1
+          settled_numbers was.numbers now.numbers was.order now.order was.slots now.slots key c.self.invariant went.0 went.1
           ∙ ap (λ (k : Kept). if is_some (get k.rows key) then k.slots else remove k.slots key) c.self.view_is;
     }
