@@ -1,5 +1,5 @@
 -- The search for a key that clashes, against what is taken.
-use Rattle.std.specs.Prelude.{◌≡◌, ℕ, suc, ◌+◌, ◌-◌, ◌<◌, ◌≤◌, Bool, true, false, not, if◌then◌else◌, List, [], ◌∷◌, Option, Some, None, length, drop, slice_get, unwrap_or, refl, is_some, IfSome}
+use Rattle.std.specs.Prelude.{◌≡◌, ℕ, suc, ◌+◌, ◌-◌, ◌<◌, ◌≤◌, Bool, true, false, not, if◌then◌else◌, List, [], ◌∷◌, Option, Some, None, length, drop, slice_get, unwrap_or, refl, is_some}
 use Rattle.std.proofs.Common.{zero, sym, ◌∙◌, ap, true≢false, inl, inr, arith, drop-cons, add-one}
 use Rattle.std.specs.Ordering.{eq_by_cmp}
 use Rattle.std.specs.FinMap.{get, remove}
@@ -18,8 +18,6 @@ use Rattle.model.specs.TakenLemmas.{taken_by_row, row_of_taken}
 use Rattle.model.specs.ValidLemmas.{part_remove}
 use Rattle.rows.specs.KeyLemmas.{same_key}
 use Rattle.indexes.specs.Content.{unique_columns}
-use Rattle.change.specs.declared.outcome.OldRow.{OldRow}
-use Rattle.change.specs.Clashing.{without, KeepsValues}
 use Rattle.change.specs.EditsLemmas.{place_in_table}
 
 -- ---- all rows but one
@@ -127,11 +125,10 @@ pub not_found : {X : Type 0} (found : Option X) (b : Bool) → is_some found ≡
 not_found found b tells is = sym tells ∙ ap is_some is
 
 -- none of all rows has them, so none of the rest
-pub free_without : (rows : Rows) (table : ℕ) (cs : List ℕ) (values : Option Key) (stood : Option OldRow) → are_taken_unless_null rows table cs values ≡ false
-    → are_taken_unless_null (without rows table stood) table cs values ≡ false
-free_without rows table cs values None free = free
-free_without rows table cs None (Some old) free = refl
-free_without rows table cs (Some values) (Some old) free = free_in_rest rows table cs values old.key.now free
+pub free_without : (rows : Rows) (table : ℕ) (cs : List ℕ) (values : Option Key) (key : Key) → are_taken_unless_null rows table cs values ≡ false
+    → are_taken_unless_null (remove rows (table, key)) table cs values ≡ false
+free_without rows table cs None key free = refl
+free_without rows table cs (Some values) key free = free_in_rest rows table cs values key free
 
 -- where two rows have the same values, these are the values of each
 have_values : (old new : Option Key) → both_have old new ≡ true → (values : Key) × (old ≡ Some values) × (new ≡ Some values)
@@ -141,16 +138,15 @@ have_values (Some found) (Some values) both = (values, ap Some (tells_apart key_
 
 -- a row that keeps the values of the one that it takes the place of finds nobody else with them
 pub kept_is_free : (schema : Schema) (rows : Rows) → IsValid schema rows → (table number : ℕ) → (1 ≤ number) × (number ≤ length (keys_at schema table).uniques)
-    → (stood : Option OldRow) → IfSome stood (λ s. get rows (table, s.key.now) ≡ Some s.row.now)
-    → (row : Row) → KeepsValues (unique_columns schema table number) stood row
-    → are_taken_unless_null (without rows table stood) table (unique_columns schema table number) (values_in (unique_columns schema table number) row) ≡ false
-kept_is_free schema rows valid table number within None at row keeps = absurd keeps
-kept_is_free schema rows valid table number within (Some old) at row keeps =
+    → (key : Key) (old row : Row) → get rows (table, key) ≡ Some old
+    → both_have (values_in (unique_columns schema table number) old) (values_in (unique_columns schema table number) row) ≡ true
+    → are_taken_unless_null (remove rows (table, key)) table (unique_columns schema table number) (values_in (unique_columns schema table number) row) ≡ false
+kept_is_free schema rows valid table number within key old row at keeps =
     let columns = unique_columns schema table number in
-    let has = have_values (values_in columns old.row.now) (values_in columns row) keeps in
-    ap (are_taken_unless_null (remove rows (table, old.key.now)) table columns) has.2
-    ∙ taken_in_rest schema rows valid table number has.0 old.key.now old.key.now old.row.now within at has.1
-    ∙ ap not (same_key old.key.now)
+    let has = have_values (values_in columns old) (values_in columns row) keeps in
+    ap (are_taken_unless_null (remove rows (table, key)) table columns) has.2
+    ∙ taken_in_rest schema rows valid table number has.0 key key old within at has.1
+    ∙ ap not (same_key key)
 
 -- ---- the row at a key, but for one
 

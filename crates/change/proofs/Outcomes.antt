@@ -15,7 +15,7 @@ use Rattle.model.specs.Effect.{Edits, one_edit, Done, Skip, Clashes, Unique, row
 use Rattle.model.specs.EditLemmas.{same_edits, same_place, place_is, place_cases, get_insert_same, get_insert_other, get_remove_same, get_remove_other, get_edit, get_one_edit, overlay_one, overlay_two, rows_under_one, rows_under_two}
 use Rattle.model.specs.EffectLemmas.{row_outcome_free, effect_skipped, effect_of, inverse_of, back_of_inverse}
 use Rattle.model.specs.Footprint.{footprint}
-use Rattle.indexes.specs.Content.{Content, KeepsCells}
+use Rattle.indexes.specs.Content.{Content, KeepsCells, least_taken}
 use Rattle.change.specs.Applied.{IsSound, IsDone, AnswersOutcome}
 use Rattle.change.specs.Leaving.{Leaves}
 use Rattle.change.specs.declared.outcome.Applied.TheVariants.{Done as DoneWith, Skipped}
@@ -114,6 +114,15 @@ module _ (old new : Content) (table : ℕ) (key copy : Key) (row : Row) (same : 
       (λ cell is. kept cell (sound.room table copy row at_copy cell is)) kept
 
 -- ---- a row comes into its table
+
+none_least : (stands : Option Row) (first : Option ℕ) → (if is_some stands then Some 0 else first) ≡ None → (stands ≡ None) × (first ≡ None)
+none_least None first none = (refl, none)
+none_least (Some row) first none = absurd cc
+
+-- where no key is taken, no row stands at its key, and none has its unique values
+pub none_taken : (schema : Schema) (rows : Rows) (table : ℕ) (row : Row) (key : Key) → least_taken schema rows table key row ≡ None
+    → (get rows (table, key) ≡ None) × (first_taken rows table row 1 (keys_at schema table).uniques ≡ None)
+none_taken schema rows table row key = none_least (get rows (table, key)) (first_taken rows table row 1 (keys_at schema table).uniques)
 
 module _ (old new : Content) (table : ℕ) (row : Row) (key copy : Key) (same : copy ≡ key) (valid : IsValid old.schema old.rows) (known : table < length old.schema)
     (own : key_of old.schema table row ≡ Some key) (free : get old.rows (table, key) ≡ None)

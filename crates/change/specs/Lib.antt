@@ -5,7 +5,6 @@ pub mod EditsLemmas
 pub mod InverseLemmas
 pub mod Applied
 pub mod Leaving
-pub mod Clashing
 pub mod Altered
 pub mod Footprint
 pub mod Reading

@@ -5,17 +5,16 @@ ghost use Rattle.model.specs.declared.change.Change.TheVariants.{Put, Set, Remov
 ghost use Rattle.model.specs.Rows.{IsValid, keys_at, values_in};
 ghost use Rattle.model.specs.Effect.{first_taken, are_taken_unless_null, patch_row, outcome, effect, inverse};
 ghost use Rattle.indexes.specs.Content.{KeepsCells, unique_columns};
-ghost use Rattle.model.specs.Footprint.{footprint};
+ghost use Rattle.model.specs.Footprint.{footprint, both_have};
 ghost use Rattle.change.specs.Altered.{cells_altered};
 ghost use Rattle.change.specs.Inverse.{edits_of, CanPutBack};
 ghost use Rattle.model.specs.Named.{NamesTables};
 ghost use Rattle.change.specs.Applied.{AnswersOutcome, IsSound, IfDone, room_after};
 ghost use Rattle.change.specs.Leaving.{Leaves};
-ghost use Rattle.change.specs.Clashing.{without, KeepsValues};
 
 use crate::inverse::{Inverse, MovedKeys, Wiped, unwipe_all};
 use crate::reading::{PatchedRow, has_same};
-use indexes::Tables;
+use indexes::{Refused, Tables};
 use model::{Change, Key, OutOfMemory, Patch, Row, TableId};
 use rows::RowView;
 use std::alloc::{AllocError, Global};
@@ -95,18 +94,15 @@ fn put(t: &mut Tables, table: TableId, row: &Row) -> Result<Applied, Clash>
     let Some(key) = t.key_of(table, row)? else {
         return Err(Clash::NullKey { table });
     };
-    if t.get(table, &key).is_some() {
-        return Err(Clash::Unique { table, key: 0 });
-    }
-    if let Some(number) = first_clash(t, table, row, None) {
-        return Err(Clash::Unique { table, key: number });
-    }
     let stands_at = key.copy()?;
-    t.put(table, key, row.copy()?)?;
-    Ok(Applied::Done(Inverse::Take {
-        table,
-        key: stands_at,
-    }))
+    match t.put(table, key, row.copy()?) {
+        Ok(()) => Ok(Applied::Done(Inverse::Take {
+            table,
+            key: stands_at,
+        })),
+        Err(Refused::Taken(key)) => Err(Clash::Unique { table, key }),
+        Err(Refused::OutOfMemory) => Err(Clash::OutOfMemory),
+    }
 }
 
 /// The row at a key is patched; one that isn't there is skipped.
@@ -131,7 +127,7 @@ fn set(
     if is_key_held(t, table, &new_key, key) {
         return Err(Clash::Unique { table, key: 0 });
     }
-    if let Some(number) = first_clash(t, table, &row, Some(OldRow { key, row: &old })) {
+    if let Some(number) = first_clash(t, table, &row, OldRow { key, row: &old }) {
         return Err(Clash::Unique { table, key: number });
     }
     let stood_at = key.copy()?;
@@ -216,15 +212,15 @@ struct OldRow<'a> {
 }
 
 /// The least unique key in which the row agrees with another than the one that it takes the place of.
-fn first_clash(t: &Tables, table: TableId, row: &Row, stood: Option<OldRow<'_>>) -> Option<usize>
+fn first_clash(t: &Tables, table: TableId, row: &Row, old: OldRow<'_>) -> Option<usize>
     requires known { table < length t.now.schema }
     requires sound { IsSound t.now }
-    requires stands { IfSome stood (λ s. get t.now.rows (table, s.key.now) ≡ Some s.row.now) }
-    ensures { result ≡ first_taken (without t.now.rows table stood.entry) table row.now 1 (keys_at t.now.schema table).uniques }
+    requires stands { get t.now.rows (table, old.key.now) ≡ Some old.row.now }
+    ensures { result ≡ first_taken (remove t.now.rows (table, old.entry.key.now)) table row.now 1 (keys_at t.now.schema table).uniques }
 {
     for index in 0..t.unique_count(table) {
         let number = index + 1;
-        if has_duplicate(t, table, number, row, stood) {
+        if has_duplicate(t, table, number, row, old) {
             return Some(number);
         }
     }
@@ -246,40 +242,32 @@ fn has_duplicate(
     table: TableId,
     number: usize,
     row: &Row,
-    stood: Option<OldRow<'_>>,
+    old: OldRow<'_>,
 ) -> bool
     requires known { table < length t.now.schema }
     requires sound { IsSound t.now }
     requires number { (1 ≤ number) × (number ≤ length (keys_at t.now.schema table).uniques) }
-    requires stands { IfSome stood (λ s. get t.now.rows (table, s.key.now) ≡ Some s.row.now) }
-    ensures { result ≡ are_taken_unless_null (without t.now.rows table stood.entry) table (unique_columns t.now.schema table number) (values_in (unique_columns t.now.schema table number) row.now) }
+    requires stands { get t.now.rows (table, old.key.now) ≡ Some old.row.now }
+    ensures { result ≡ are_taken_unless_null (remove t.now.rows (table, old.entry.key.now)) table (unique_columns t.now.schema table number) (values_in (unique_columns t.now.schema table number) row.now) }
 {
-    if keeps_values(t.unique_columns(table, number), stood, row) {
+    if keeps_values(t.unique_columns(table, number), old, row) {
         return false;
     }
     match t.find_duplicate(table, number, row) {
         None => false,
-        Some(holder) => match stood {
-            None => true,
-            Some(old) => *holder != *old.key,
-        },
+        Some(holder) => *holder != *old.key,
     }
 }
 
 /// Whether a row has the values in these columns of the one that it takes the place of, none of them
 /// null.
-fn keeps_values(columns: &[usize], stood: Option<OldRow<'_>>, row: &Row) -> bool
-    ensures { result ≡ true → KeepsValues columns.now stood.entry row.now }
+fn keeps_values(columns: &[usize], old: OldRow<'_>, row: &Row) -> bool
+    ensures { result ≡ both_have (values_in columns.now old.entry.row.now) (values_in columns.now row.now) }
 {
-    match stood {
-        None => false,
-        Some(old) => {
-            let row = RowView::of_row(row);
-            has_same(
-                columns,
-                PatchedRow::of_row(old.row),
-                PatchedRow::of_row(&row),
-            )
-        }
-    }
+    let row = RowView::of_row(row);
+    has_same(
+        columns,
+        PatchedRow::of_row(old.row),
+        PatchedRow::of_row(&row),
+    )
 }

@@ -1,6 +1,7 @@
 -- Entries after one of them came or changed.
 use Rattle.std.specs.Prelude.{◌≡◌, ℕ, true, false, List, [], ◌∷◌, Option, Some, None, refl, IsSome, is_some}
 use Rattle.std.proofs.Common.{sym, ◌∙◌, ap, subst, inl, inr}
+use Rattle.std.specs.Option.{unwrap_or}
 use Rattle.model.specs.declared.value.Value.{Value}
 use Rattle.model.specs.declared.key.Key.{Key}
 use Rattle.model.specs.declared.row.Row.{Row}
@@ -34,11 +35,16 @@ held_by_present columns row entries has is = ap (held_by entries) is ∙ ap (hel
 pub held_by_none : (columns : List ℕ) (row : Row) (entries : Entries) → is_some (values_in columns row) ≡ false → held_by entries (values_in columns row) ≡ None
 held_by_none columns row entries none = ap (held_by entries) (none_of_false (values_in columns row) none)
 
-pub entry_added : (old new : Entries) (values : Key) → entry_at old values ≡ None → entry_at new values ≡ Some None
-    → SameApart values old new → KeepsEntries old new
-entry_added old new values absent here beside = record {
+pub some_or : {X : Type 0} (o : Option X) (x : X) → is_some o ≡ true → o ≡ Some (unwrap_or o x)
+some_or None x e = absurd cc
+some_or (Some y) x e = refl
+
+-- an entry came or was written anew, with the number that it had, or with none where it came
+pub entry_kept : (old new : Entries) (values : Key) (number : Option ℕ) → entry_at new values ≡ Some number
+    → SameApart values old new → number_in (entry_at old values) ≡ number → KeepsEntries old new
+entry_kept old new values number here beside had = record {
   numbers = λ other. elim (one_or_other values other) [
-    | inl same ↦ subst (λ (v : Key). held new v ≡ held old v) same (ap number_in here ∙ ap number_in (sym absent))
+    | inl same ↦ subst (λ (v : Key). held new v ≡ held old v) same (ap number_in here ∙ sym had)
     | inr apart ↦ ap number_in (beside other apart)
   ];
   entries = λ other some. elim (one_or_other values other) [

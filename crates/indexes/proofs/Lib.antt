@@ -5,6 +5,7 @@ pub mod Patterns
 pub mod Indexing
 pub mod Steps
 pub mod Tabling
+pub mod Taken
 pub mod Settled
 pub mod Copying
 pub mod Gather

@@ -1,9 +1,10 @@
 -- One table among all as callers see them: what it needs of a requirement, and what its change does.
-use Rattle.std.specs.Prelude.{◌≡◌, ◌≢◌, ℕ, suc, ◌<◌, true, false, List, [], ◌∷◌, ◌++◌, length, map, Option, Some, None, refl, slice_get, slice_set, slice_index_or, IsSome, is_some, IfSome, IfNone, Result, OnOk, OnErr}
-use Rattle.std.proofs.Common.{zero, sym, ◌∙◌, ap, subst, arith}
+use Rattle.std.specs.Prelude.{◌≡◌, ◌≢◌, ℕ, suc, ◌+◌, ◌<◌, Bool, true, false, if◌then◌else◌, List, [], ◌∷◌, ◌++◌, length, map, Option, Some, None, refl, slice_get, slice_set, slice_index_or, IsSome, is_some, IfSome, IfNone, Result, Ok, Err, OnOk, OnErr}
+use Rattle.std.proofs.Common.{zero, sym, ◌∙◌, ap, subst, arith, inl, inr}
 use Rattle.std.specs.List.{Contains, AllByRecursion}
 use Rattle.std.specs.Borrow.{Bor}
 use Rattle.std.specs.FinMap.{FinMap, get, insert, remove, empty, from_entries, entries, values, len-empty, len-entries}
+use Rattle.std.proofs.lemmas.Bool.{cases_Bool}
 use Rattle.std.proofs.lemmas.Option.{slice_get-get_or}
 use Rattle.std.proofs.lemmas.Result.{on_ok_weaker, on_err_weaker}
 use Rattle.model.specs.declared.key.Key.{Key}
@@ -15,13 +16,17 @@ use Rattle.model.specs.Rows.{Rows, TableKeys, place_cmp, values_in, key_of, keys
 use Rattle.model.specs.Cells.{cells_of, table_of}
 use Rattle.model.specs.Effect.{first_taken, are_taken_unless_null}
 use Rattle.model.specs.TableRows.{rows_of_table}
-use Rattle.model.specs.TakenLemmas.{taken_by_row, row_of_taken}
-use Rattle.indexes.specs.Table.{Spot, TableContent, spots_of, KeepsSpots, NoClash, HasValues, IsDuplicate, IsSound, unique_at, cell_at, cells_in}
-use Rattle.indexes.specs.Content.{Content, KeepsCells, HasRoom, unique_columns, IsTable, SameElsewhere, SameRoomElsewhere}
+use Rattle.model.specs.TakenLemmas.{taken_by_row, row_of_taken, first_taken_free}
+use Rattle.indexes.specs.declared.refused.Refused.{Refused}
+use Rattle.indexes.specs.declared.refused.Refused.TheVariants.{Taken, OutOfMemory}
+use Rattle.indexes.specs.Refused.{Tells}
+use Rattle.indexes.specs.Table.{Spot, TableContent, spots_of, KeepsSpots, NoClash, HasValues, IsDuplicate, IsTaken, TellsTaken, IsSound, unique_at, cell_at, cells_in}
+use Rattle.indexes.specs.Content.{Content, least_taken, KeepsCells, HasRoom, unique_columns, IsTable, SameElsewhere, SameRoomElsewhere}
 use Rattle.indexes.specs.Gathered.{placed, rows_of, cells_from, schema_of, gathered, AllSound, IsNew}
 use Rattle.indexes.proofs.Elements.{contains_elem, elem_contains, elem_map}
 use Rattle.indexes.proofs.Gather.{sound_after, get_is, keys_is, get_without, set_there, rows_inserted, rows_removed, rows_replaced, rows_same, get_there, get_elsewhere, no_clash, schema_after, table_at, valid, TableAt}
 use Rattle.indexes.proofs.Tabling.{Finds}
+use Rattle.indexes.proofs.Taken.{first_taken_at}
 use Rattle.indexes.proofs.Walking.{rows_of_table-gathered}
 use Rattle.indexes.proofs.Cells.{cells_are, cell_stays, has_room, room_has, room_after, room_fewer, room_elsewhere, room_of_table, room_of_new}
 
@@ -72,7 +77,7 @@ module _ (ts : List TableContent) (seen : Content) (v : gathered ts ≡ seen) (i
   pub own_room : (row : Record) → HasRoom seen.room seen.schema i row → KeepsSpots (spots_of t.keys row) t.room
   own_room row e = has_room ts i t row at (subst (λ (s : Content). HasRoom s.room s.schema i row) (sym v) e)
 
-  -- what the table asks of a row that comes, where it is asked of the row among all
+  -- what the table asks of a row that comes back, where it is asked of the row among all
   pub may_come : (row : Record) (key : Key) → key_of seen.schema i row ≡ Some key → get seen.rows (i, key) ≡ None
       → first_taken seen.rows i row 1 (keys_at seen.schema i).uniques ≡ None
       → record { own_key : values_in t.keys.primary row ≡ Some key; free : get t.rows key ≡ None; unique : NoClash t.keys t.rows row }
@@ -152,6 +157,53 @@ module _ (ts : List TableContent) (seen : Content) (v : gathered ts ≡ seen) (i
             × (duplicate : Record) × (get seen.rows (i, key.now) ≡ Some duplicate) × (values_in (unique_columns seen.schema i number) duplicate ≡ Some values));
       }
   sought_duplicate number row r told = record { taken = taken_duplicate number row r told.found told.missed; key = duplicate_found number row r told.found }
+
+  module _ (key : Key) (row : Record) where
+    unique_at_seen : (j : ℕ) (columns : List ℕ) → slice_get (keys_at seen.schema i).uniques j ≡ Some columns → slice_get t.keys.uniques j ≡ Some columns
+    unique_at_seen j columns at = ap (λ (k : TableKeys). slice_get k.uniques j) (sym seen_keys) ∙ at
+
+    free_values : (columns : List ℕ) → ((other values : Key) → values_in columns row ≡ Some values → ¬ HasValues t.rows columns other values)
+        → (found : Option Key) → values_in columns row ≡ found → are_taken_unless_null seen.rows i columns found ≡ false
+    free_values columns none None is = refl
+    free_values columns none (Some values) is = elim (cases_Bool (are_taken seen.rows i columns values)) [
+      | inl taken ↦ let r = row_of_taken seen.rows i columns values taken in absurd (none r.key values is (r.row, sym (seen_get r.key) ∙ r.at, r.has))
+      | inr free ↦ free
+    ]
+
+    is_free : (j : ℕ) (columns : List ℕ) → slice_get (keys_at seen.schema i).uniques j ≡ Some columns → ¬ IsTaken t.keys t.rows key row (suc j)
+        → are_taken_unless_null seen.rows i columns (values_in columns row) ≡ false
+    is_free j columns at not_taken =
+        free_values columns (λ other values has there. not_taken (columns, unique_at_seen j columns at, other, (values, has, there))) (values_in columns row) refl
+
+    abbrev uniques : List (List ℕ)
+    uniques = (keys_at seen.schema i).uniques
+
+    by_key : (stands : Bool) → is_some (get t.rows key) ≡ stands → least_taken seen.schema seen.rows i key row ≡ (if stands then Some 0 else first_taken seen.rows i row 1 uniques)
+    by_key stands is = ap (λ b. if b then Some 0 else first_taken seen.rows i row 1 uniques) (ap is_some (seen_get key) ∙ is)
+
+    not_some : ¬ IsTaken t.keys t.rows key row 0 → is_some (get t.rows key) ≡ false
+    not_some none = elim (cases_Bool (is_some (get t.rows key))) [
+      | inl stands ↦ absurd (none stands)
+      | inr absent ↦ absent
+    ]
+
+    least_behind : (k : ℕ) → IsTaken t.keys t.rows key row (suc k) → ((less : ℕ) → less < suc k → ¬ IsTaken t.keys t.rows key row less)
+        → least_taken seen.schema seen.rows i key row ≡ Some (suc k)
+    least_behind k taken less =
+        let duplicate = taken.3 in
+        let at : slice_get uniques k ≡ Some taken.0 = ap (λ (keys : TableKeys). slice_get keys.uniques k) seen_keys ∙ taken.1 in
+        let e : 1 + k ≡ suc k = omega arith in
+        by_key false (not_some (less 0 (omega arith)))
+        ∙ first_taken_at seen.rows i row 1 uniques k taken.0 at
+        (ap (are_taken_unless_null seen.rows i taken.0) duplicate.1 ∙ taken_by_row seen.rows i taken.0 duplicate.0 taken.2 duplicate.2.0 (seen_get taken.2 ∙ duplicate.2.1) duplicate.2.2)
+        (λ j before l there. is_free j before there (less (suc j) (omega arith))) ∙ ap Some e
+
+    -- which key an answer names, among all tables
+    pub told_taken : {T : Type 0} (r : Result T Refused) → TellsTaken t.keys t.rows key row r → Tells (least_taken seen.schema seen.rows i key row) r
+    told_taken (Ok done) none = by_key false (not_some (none 0)) ∙ first_taken_free seen.rows i row 1 uniques (λ j columns at. is_free j columns at (none (suc j)))
+    told_taken (Err (Taken zero)) told = by_key true told.0
+    told_taken (Err (Taken (suc k))) told = least_behind k told.0 told.1
+    told_taken (Err OutOfMemory) told = tt
 
   pub is_table : IsTable seen.rows i t.rows
   is_table key = seen_get key

@@ -1,6 +1,6 @@
 -- A step at each index of a table, one more of them done.
-use Rattle.std.specs.Prelude.{◌≡◌, ◌≢◌, ℕ, ◌+◌, ◌<◌, ◌≤◌, List, Option, Some, None, length, refl, ◌⊎◌, slice_index_or, slice_set, take, drop, ◌++◌, Result, Ok, Err, OnErr, is_err, true}
-use Rattle.std.proofs.Common.{sym, ◌∙◌, ap, subst, inl, inr, arith}
+use Rattle.std.specs.Prelude.{◌≡◌, ◌≢◌, ℕ, suc, ◌+◌, ◌<◌, ◌≤◌, List, ◌∷◌, Option, Some, None, length, refl, ◌⊎◌, slice_index_or, slice_set, take, drop, ◌++◌, is_some, Bool, true, false, if◌then◌else◌}
+use Rattle.std.proofs.Common.{zero, sym, ◌∙◌, ap, subst, inl, inr, arith}
 use Rattle.std.specs.Global.{Vec}
 use Rattle.std.proofs.lemmas.List.{get_or-set_same, get_or-set_other, take_at}
 use Rattle.std.proofs.Math.ListN.{length-set}
@@ -9,8 +9,8 @@ use Rattle.indexes.specs.declared.unique.Unique.{Unique}
 use Rattle.model.specs.declared.key.Key.{Key}
 use Rattle.model.specs.declared.row.Row.{Row}
 use Rattle.model.specs.Rows.{values_in}
-use Rattle.indexes.specs.Unique.{entry_at, number_in, with_number, KeepsSlots, Sets, Puts, MayPut, IsUnused, EachIsFree, EachStep}
-use Rattle.indexes.proofs.Entries.{sets_keep}
+use Rattle.indexes.specs.Unique.{entry_at, held, held_by, number_in, with_number, KeepsSlots, Sets, Puts, is_used, EachStep}
+use Rattle.indexes.proofs.Entries.{sets_keep, none_of_false}
 use Rattle.indexes.proofs.Indexing.{has_or_not}
 
 before_or_after : (k i : ℕ) → (k < i + 1) ⊎ (i < k)
@@ -79,58 +79,43 @@ all_kept = all_stepped KeepsSlots itself
 
 -- ---- numbers put, and taken away again
 
-put_is_may : (row : Row) (number : ℕ) (u v : Unique) → Puts row number u v → MayPut row u v
-put_is_may row number u v put = record { columns = put.columns; entries = record { beside = put.entries.beside; entries = put.entries.entries } }
+-- the first index takes a step, and each of the others does
+pub step_before : (Step : Unique → Unique → Type 0) (u v : Unique) (us vs : List Unique) → Step u v → EachStep Step us vs → EachStep Step (u ∷ us) (v ∷ vs)
+step_before Step u v us vs first rest = record { long = ap suc rest.long; each = by_place }
+  where
+    by_place : (k : ℕ) (d : Unique) → k < suc (length us) → Step (slice_index_or (u ∷ us) k d) (slice_index_or (v ∷ vs) k d)
+    by_place zero d l = first
+    by_place (suc k) d l = rest.each k d (omega arith)
 
-kept_is_may : (row : Row) (u v : Unique) → KeepsSlots u v → MayPut row u v
-kept_is_may row u v kept = record { columns = kept.columns; entries = record { beside = λ values differs. kept.entries.numbers values; entries = kept.entries.entries } }
-
-pub some_put : (row : Row) (number : ℕ) (olds now : List Unique) (i : ℕ) (within : i < length now) (left : (k : ℕ) (d : Unique) → i ≤ k → slice_index_or now k d ≡ slice_index_or olds k d)
-    (item new : Unique) → ((k : ℕ) (d : Unique) → k < i → Puts row number (slice_index_or olds k d) (slice_index_or now k d)) → KeepsSlots (slice_index_or now i item) new
-    → length now ≡ length olds → EachStep (MayPut row) olds (slice_set now i new)
-some_put row number olds now i within left item new done step long =
-    all_stepped (MayPut row) (λ u. kept_is_may row u u (itself u)) olds now i within left item new
-    (λ k d lt. put_is_may row number (slice_index_or olds k d) (slice_index_or now k d) (done k d lt)) (kept_is_may row (slice_index_or now i item) new step) long
+-- where no key is told, it is not used
+pub not_told : (used : Bool) (key : ℕ) → (if used then Some key else None) ≡ None → used ≡ false
+not_told true key e = absurd cc
+not_told false key e = refl
 
 emptied : (o : Option (Option ℕ)) → number_in (with_number None o) ≡ None
 emptied None = refl
 emptied (Some number) = refl
 
-taken_away : (row : Row) (u v w : Unique) → IsUnused row u → MayPut row u v → Sets row None v w → KeepsSlots u w
-taken_away row u v w free may sets =
-    let columns_is : v.columns ≡ u.columns = may.columns in
+-- a number that came where none was is taken away again
+pub taken_away : (row : Row) (number : ℕ) (u v w : Unique) → is_used row u ≡ false → Puts row number u v → Sets row None v w → KeepsSlots u w
+taken_away row number u v w unused puts sets =
+    let columns_is : v.columns ≡ u.columns = puts.columns in
     let here : (values : Key) → values_in u.columns row ≡ Some values → entry_at w.entries values ≡ with_number None (entry_at v.entries values) =
     λ values has. sets.entries.here values (ap (λ cs. values_in cs row) columns_is ∙ has) in
     let beside : (values : Key) → values_in u.columns row ≢ Some values → entry_at w.entries values ≡ entry_at v.entries values =
     λ values differs. sets.entries.beside values (λ has. differs (ap (λ cs. values_in cs row) (sym columns_is) ∙ has)) in
+    let free : (values : Key) → values_in u.columns row ≡ Some values → held u.entries values ≡ None =
+    λ values has. none_of_false (held u.entries values) (ap (λ o. is_some (held_by u.entries o)) (sym has) ∙ unused) in
     record {
-      columns = sets.columns ∙ may.columns;
+      columns = sets.columns ∙ puts.columns;
       entries = record {
         numbers = λ values. elim (has_or_not (values_in u.columns row) values) [
           | inl has ↦ ap number_in (here values has) ∙ emptied (entry_at v.entries values) ∙ sym (free values has)
-          | inr has_not ↦ ap number_in (beside values has_not) ∙ may.entries.beside values has_not
+          | inr has_not ↦ ap number_in (beside values has_not) ∙ puts.entries.beside values has_not
         ];
-        entries = λ values some. sets_keep v.columns row None v.entries w.entries sets.entries values (may.entries.entries values some);
+        entries = λ values some. sets_keep v.columns row None v.entries w.entries sets.entries values (puts.entries.entries values some);
       };
     }
-
-pub on_any_err : {T E : Type 0} (r : Result T E) (P : Type 0) → P → OnErr r P
-on_any_err (Ok x) P p = tt
-on_any_err (Err e) P p = p
-
--- what holds of a refusal holds where there is one
-pub of_err : {T E P : Type 0} (r : Result T E) → is_err r ≡ true → OnErr r P → P
-of_err (Ok x) e p = absurd cc
-of_err (Err y) e p = p
-
--- what was put is taken away again
-pub all_taken_away : (row : Row) (us vs ws : List Unique) → EachIsFree row us → EachStep (MayPut row) us vs → EachStep (Sets row None) vs ws → EachStep KeepsSlots us ws
-all_taken_away row us vs ws free may sets = record {
-  long = sets.long ∙ may.long;
-  each = λ k d lt.
-      let within : k < length vs = let e = may.long in omega arith in
-      taken_away row (slice_index_or us k d) (slice_index_or vs k d) (slice_index_or ws k d) (free k d lt) (may.each k d lt) (sets.each k d within);
-}
 
 -- ---- a slice of all of a vector
 

@@ -38,7 +38,7 @@ pub entries_after_set : (row : Row) (number : Option ℕ) (us vs : List Unique) 
     → (k : ℕ) (d : Unique) → k < length us → (values : Key) → IsSome (entry_at (slice_index_or us k d).entries values) → IsSome (entry_at (slice_index_or vs k d).entries values)
 entries_after_set row number us vs steps k d l values some = sets_keep _ row number _ _ (steps.each k d l).entries values some
 
-first_of : (us : List Unique) (i : ℕ) → i < length us → Unique
+pub first_of : (us : List Unique) (i : ℕ) → i < length us → Unique
 first_of [] i l = absurd (omega arith)
 first_of (u ∷ us) i l = u
 

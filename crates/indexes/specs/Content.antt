@@ -1,17 +1,19 @@
 -- All tables as their callers see them: the keys' columns, the rows, and the room.
 --     KeepsCells, HasRoom      no cell goes; there is room for a row
 --     unique_columns      the columns of a unique key, by its number from 1
+--     least_taken      the least key in which a row that comes agrees with another
 --     IsTable, SameElsewhere, SameRoomElsewhere      a table's rows by themselves; the other tables stay as they were
 --     IsEmptyCell, ReleasesCell      no row fills a cell; such a cell goes from the room
-use Rattle.std.specs.Prelude.{◌≡◌, ◌≢◌, ℕ, ◌-◌, List, [], Some, unwrap_or, slice_get}
+use Rattle.std.specs.Prelude.{◌≡◌, ◌≢◌, ℕ, ◌-◌, List, [], Option, Some, if◌then◌else◌, unwrap_or, slice_get}
 use Rattle.std.specs.List.{Contains}
-use Rattle.std.specs.FinMap.{FinMap, get}
+use Rattle.std.specs.FinMap.{FinMap, get, contains_key}
 use Rattle.model.specs.declared.key.Key.{Key}
 use Rattle.model.specs.declared.row.Row.{Row as Record}
 use Rattle.model.specs.declared.cell.Cell.{Cell}
 use Rattle.model.specs.Key.{key_cmp}
 use Rattle.model.specs.Rows.{Rows, Schema, keys_at}
 use Rattle.model.specs.Cells.{cells_of, table_of}
+use Rattle.model.specs.Effect.{first_taken}
 
 -- all tables as their callers see them: the keys' columns, the rows, and the room
 pub record Content : Type 0 where
@@ -30,6 +32,11 @@ HasRoom room schema table row = KeepsCells (cells_of schema table row) room
 -- the columns of a table's unique key, by its number from 1
 abbrev pub unique_columns : Schema → ℕ → ℕ → List ℕ
 unique_columns schema table number = unwrap_or (slice_get (keys_at schema table).uniques (number - 1)) []
+
+-- the least key in which a row that comes to this key agrees with another of its table: 0 is the primary key
+abbrev pub least_taken : Schema → Rows → ℕ → Key → Record → Option ℕ
+least_taken schema rows table key row =
+    if contains_key rows (table, key) then Some 0 else first_taken rows table row 1 (keys_at schema table).uniques
 
 -- these are the table's rows, by their keys
 abbrev pub IsTable : Rows → ℕ → FinMap key_cmp Record → Type 0

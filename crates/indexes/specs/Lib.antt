@@ -1,4 +1,5 @@
 pub mod Columns
+pub mod Refused
 pub mod Unique
 pub mod Table
 pub mod Lazy

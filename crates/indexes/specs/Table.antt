@@ -1,10 +1,11 @@
 -- One table: its keys' columns, its rows, and its room.
 --     Spot      a key's number, 0 for the primary key, and values of it.        spots_of      those that a row fills
 --     cell_at, cells_in      a spot as a cell of a table with a number; all of a table's
+--     IsTaken, TellsTaken      a row agrees with one of the table in a key; which key an answer names
 --     IsOfSettled, IsFilled      what settling may give up; a row is there
 --     ReleasesSpot      a spot that no row fills goes from the room
 --     IsSound      rows stand at their own keys, no two agree in a unique key, and the room has what they fill
-use Rattle.std.specs.Prelude.{◌≡◌, ◌≢◌, ◌⊎◌, ℕ, suc, List, [], ◌∷◌, ◌++◌, ◌-◌, Option, Some, None, map, slice_get, unwrap_or}
+use Rattle.std.specs.Prelude.{◌≡◌, ◌≢◌, ◌⊎◌, ℕ, suc, ◌<◌, List, [], ◌∷◌, ◌++◌, ◌-◌, Option, Some, None, IsSome, Result, Ok, Err, map, slice_get, unwrap_or}
 use Rattle.std.specs.List.{Contains}
 use Rattle.std.proofs.Common.{zero}
 use Rattle.std.specs.FinMap as finite
@@ -15,6 +16,8 @@ use Rattle.model.specs.declared.cell.Cell.{Cell}
 use Rattle.model.specs.declared.cell.Cell.TheVariants.{Row, Uniq}
 use Rattle.model.specs.Key.{key_cmp}
 use Rattle.model.specs.Rows.{TableKeys, values_in}
+use Rattle.indexes.specs.declared.refused.Refused.{Refused}
+use Rattle.indexes.specs.declared.refused.Refused.TheVariants.{Taken, OutOfMemory}
 
 -- a key's number, 0 for the primary key and 1 upwards for the unique keys, and values of it
 abbrev pub Spot : Type 0
@@ -68,6 +71,17 @@ HasValues rows columns key values = (row : Record) × (finite.get rows key ≡ S
 -- the row at a key agrees with this one in these columns
 abbrev pub IsDuplicate : FinMap key_cmp Record → List ℕ → Key → Record → Type 0
 IsDuplicate rows columns key row = (values : Key) × (values_in columns row ≡ Some values) × HasValues rows columns key values
+
+-- a row that comes to this key agrees with one of the table in the key of this number, 0 the primary key
+abbrev pub IsTaken : TableKeys → FinMap key_cmp Record → Key → Record → ℕ → Type 0
+IsTaken keys rows key row zero = IsSome (finite.get rows key)
+IsTaken keys rows key row (suc i) = (columns : List ℕ) × (slice_get keys.uniques i ≡ Some columns) × (other : Key) × IsDuplicate rows columns other row
+
+-- an answer is done where no key is taken, and refused for the least that is; a want of memory tells nothing
+abbrev pub TellsTaken : {T : Type 0} → TableKeys → FinMap key_cmp Record → Key → Record → Result T Refused → Type 0
+TellsTaken keys rows key row (Ok done) = (number : ℕ) → ¬ IsTaken keys rows key row number
+TellsTaken keys rows key row (Err (Taken number)) = IsTaken keys rows key row number × ((less : ℕ) → less < number → ¬ IsTaken keys rows key row less)
+TellsTaken keys rows key row (Err OutOfMemory) = Unit {0}
 
 -- a row has the values of the one at a key in each unique key
 abbrev pub KeepsValues : TableContent → Key → Record → Type 0

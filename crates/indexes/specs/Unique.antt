@@ -3,7 +3,7 @@
 --     KeepsSlots, HasSlot      no number changes and no entry goes; there is an entry for the row's values
 --     Sets, Puts, Settles      the number at the row's values is set; it comes there; their entry is dropped if it has none
 --     DropsEntry, ReleasesValues      the entry for some values is dropped if it has no number
-use Rattle.std.specs.Prelude.{◌≡◌, ◌≢◌, ℕ, ◌<◌, false, List, [], length, Option, Some, None, IsSome, slice_index_or, map}
+use Rattle.std.specs.Prelude.{◌≡◌, ◌≢◌, ℕ, suc, ◌<◌, Bool, false, if◌then◌else◌, List, [], ◌∷◌, length, Option, Some, None, IsSome, is_some, slice_index_or, map}
 use Rattle.std.specs.Ordering.{eq_by_cmp}
 use Rattle.std.specs.HashMap as hash
 use Rattle.std.specs.HashMap.{HashMap}
@@ -65,11 +65,6 @@ pub record PutsEntry (columns : List ℕ) (row : Row) (number : ℕ) (old new : 
   pub beside : (values : Key) → values_in columns row ≢ Some values → held new values ≡ held old values
   pub entries : (values : Key) → IsSome (entry_at old values) → IsSome (entry_at new values)
 
--- a number may have come to the row's values, and that is all
-pub record MayPutEntry (columns : List ℕ) (row : Row) (old new : Entries) : Type 0 where
-  pub beside : (values : Key) → values_in columns row ≢ Some values → held new values ≡ held old values
-  pub entries : (values : Key) → IsSome (entry_at old values) → IsSome (entry_at new values)
-
 -- the entry for these values goes if it has no number, none comes, and nothing else changes
 pub record DropsEntry (values : Key) (old new : Entries) : Type 0 where
   pub gone : held old values ≡ None → entry_at new values ≡ None
@@ -105,14 +100,9 @@ pub record Puts (row : Row) (number : ℕ) (old new : Unique) : Type 0 where
   pub columns : new.columns ≡ old.columns
   pub entries : PutsEntry old.columns row number old.entries new.entries
 
--- a number may have come to the row's values in the index; no other changed, and no entry went
-pub record MayPut (row : Row) (old new : Unique) : Type 0 where
-  pub columns : new.columns ≡ old.columns
-  pub entries : MayPutEntry old.columns row old.entries new.entries
-
--- no number stands at the row's values
-abbrev pub IsUnused : Row → Unique → Type 0
-IsUnused row unique = (values : Key) → values_in unique.columns row ≡ Some values → held unique.entries values ≡ None
+-- a number stands at the row's values in the index
+abbrev pub is_used : Row → Unique → Bool
+is_used row unique = is_some (held_by unique.entries (values_in unique.columns row))
 
 -- the index's entry for the row's values goes if it has no number; nothing else changes
 pub record Settles (row : Row) (old new : Unique) : Type 0 where
@@ -139,9 +129,10 @@ EachHasSlot row uniques = (k : ℕ) (d : Unique) → k < length uniques → HasS
 abbrev pub EachAgrees : Row → Row → List Unique → Type 0
 EachAgrees row other uniques = (k : ℕ) (d : Unique) → k < length uniques → values_in (slice_index_or uniques k d).columns row ≡ values_in (slice_index_or uniques k d).columns other
 
--- no number stands at the row's values in any index
-abbrev pub EachIsFree : Row → List Unique → Type 0
-EachIsFree row uniques = (k : ℕ) (d : Unique) → k < length uniques → IsUnused row (slice_index_or uniques k d)
+-- the least of these unique keys, numbered from `key`, in whose index a number stands at the row's values
+abbrev pub first_used : Row → ℕ → List Unique → Option ℕ
+first_used row key [] = None
+first_used row key (u ∷ us) = if is_used row u then Some key else first_used row (suc key) us
 
 -- no values have an entry
 abbrev pub HasNone : Unique → Type 0

@@ -19,6 +19,7 @@
 //   lazy         one of them, made or not; `Contents`, what was moved out of one
 //   table        `Table`, one that is made
 //   unique       the index of a unique key
+//   refused      why a row does not come into its table
 //   kept_values  what an entry of an index keeps: a row, in which its values lie
 //   sought       what an index is asked for: values as they lie in a row
 //   seed         what the hashes of indexes begin with
@@ -26,6 +27,7 @@
 pub mod columns;
 mod kept_values;
 mod lazy;
+mod refused;
 pub mod seed;
 mod sought;
 pub mod table;
@@ -33,6 +35,7 @@ pub mod tables;
 mod unique;
 
 pub use lazy::Contents;
+pub use refused::Refused;
 pub use seed::Seed;
 pub use table::Table;
 pub use tables::Tables;

@@ -6,9 +6,10 @@ ghost use Rattle.std.specs.List.{AllByRecursion, Contains};
 ghost use Rattle.model.specs.Rows.{values_in, keys_of};
 ghost use Rattle.indexes.specs.Unique.{HasNone, columns_of};
 ghost use Rattle.model.specs.declared.key.Key.{Key as AnyKey};
-ghost use Rattle.indexes.specs.Table.{Spot, IsSound, IsOfSettled, IsFilled, ReleasesSpot, HasValues, IsDuplicate, KeepsValues, NoClash, KeepsSpots, spots_of, unique_at};
+ghost use Rattle.indexes.specs.Table.{Spot, IsSound, IsOfSettled, IsFilled, ReleasesSpot, HasValues, IsDuplicate, KeepsValues, NoClash, KeepsSpots, spots_of, unique_at, TellsTaken};
 
 use crate::columns::key_of;
+use crate::refused::Refused;
 use crate::seed::Seed;
 use crate::unique::{
     Unique, agree_in_each, copy_each, copy_numbers, make_room_in_each, put_each, reserve_each,
@@ -247,19 +248,22 @@ impl Table {
         }
     }
 
-    /// A row comes into the table. A refusal changes no row.
-    pub fn put(&mut self, key: &Key, row: Row) -> Result<(), OutOfMemory>
-        requires own_key { values_in self.old.keys.primary row ≡ Some key.now }
-        requires free { finite.get self.old.rows key.now ≡ None }
-        requires unique { NoClash self.old.keys self.old.rows row }
+    /// A row comes into the table. Where it agrees with another in a key, the least such key is named.
+    /// A refusal changes no row.
+    pub fn put(&mut self, key: &Key, row: Row) -> Result<(), Refused>
+        requires { values_in self.old.keys.primary row ≡ Some key.now }
         ensures keys { self.new.keys ≡ self.old.keys }
         ensures ok { OnOk result (self.new.rows ≡ finite.insert self.old.rows key.now row) }
         ensures err { OnErr result (self.new.rows ≡ self.old.rows) }
+        ensures told { TellsTaken self.old.keys self.old.rows key.now row result }
         ensures kept { KeepsSpots self.old.room self.new.room }
         ensures room { OnOk result (KeepsSpots (spots_of self.new.keys row) self.new.room) }
         ensures sound { IsSound self.new }
     {
         let number = self.rows.reserve(key)?;
+        if self.rows.row_at(number).is_some() {
+            return Err(Refused::Taken(0));
+        }
         put_each(&mut self.uniques, &row, number)?;
         self.rows.replace_at(number, row);
         Ok(())

@@ -11,9 +11,11 @@ ghost use Rattle.model.specs.Rows.{IsValid, keys_at, keys_of, key_of, values_in,
 ghost use Rattle.model.specs.TableRows.{rows_of_table};
 ghost use Rattle.model.specs.Effect.{first_taken, are_taken_unless_null};
 ghost use Rattle.indexes.specs.Table.{cells_in};
-ghost use Rattle.indexes.specs.Content.{KeepsCells, HasRoom, unique_columns, IsTable, SameElsewhere, SameRoomElsewhere, ReleasesCell};
+ghost use Rattle.indexes.specs.Refused.{Tells};
+ghost use Rattle.indexes.specs.Content.{least_taken, KeepsCells, HasRoom, unique_columns, IsTable, SameElsewhere, SameRoomElsewhere, ReleasesCell};
 
 use crate::lazy::{Contents, LazyTable};
+use crate::refused::Refused;
 use crate::seed::Seed;
 use catalog::Catalog;
 use model::{Cell, Key, OutOfMemory, Row, TableDef};
@@ -206,15 +208,15 @@ impl Tables {
         table.make_room(additional)
     }
 
-    /// A row comes into its table. A refusal changes no row.
-    pub fn put(&mut self, table: usize, key: Key, row: Row) -> Result<(), OutOfMemory>
+    /// A row comes into its table. Where it agrees with another in a key, the least such key is named.
+    /// A refusal changes no row.
+    pub fn put(&mut self, table: usize, key: Key, row: Row) -> Result<(), Refused>
         requires known { table < length self.old.schema }
         requires own_key { key_of self.old.schema table row ≡ Some key }
-        requires free { finite.get self.old.rows (table, key) ≡ None }
-        requires unique { first_taken self.old.rows table row 1 (keys_at self.old.schema table).uniques ≡ None }
         ensures schema { self.new.schema ≡ self.old.schema }
         ensures ok { OnOk result (self.new.rows ≡ finite.insert self.old.rows (table, key) row) }
         ensures err { OnErr result (self.new.rows ≡ self.old.rows) }
+        ensures told { Tells (least_taken self.old.schema self.old.rows table key row) result }
 
         // No cell goes from the room, and those of the row are in it.
         ensures kept { KeepsCells self.old.room self.new.room }

@@ -1,13 +1,16 @@
 // The index of a unique key.
-ghost use Rattle.std.specs.Prelude.{◌≡◌, map, IfOk, OnOk, OnErr, IsSome, None, true, false};
+ghost use Rattle.std.specs.Prelude.{◌≡◌, ◌+◌, ◌<◌, ◌^◌, not, map, length, IfOk, OnOk, OnErr, IsSome, is_some, if◌then◌else◌, Some, None, true, false};
+ghost use Rattle.std.specs.Option.{unwrap_or};
 ghost use Rattle.std.specs.Ordering.{eq_by_cmp};
 ghost use Rattle.model.specs.Rows.{values_in};
 ghost use Rattle.indexes.specs.Columns.{present};
 ghost use Rattle.model.specs.Key.{key_cmp};
-ghost use Rattle.indexes.specs.Unique.{plain, HasNone, held, held_by, entry_at, with_number, SameApart, KeepsEntries, HasEntry, SetsEntry, PutsEntry, DropsEntry, SettlesEntry, KeepsSlots, HasSlot, Sets, Puts, MayPut, Settles, ReleasesValues, EachStep, EachHasSlot, EachAgrees, EachIsFree};
+ghost use Rattle.indexes.specs.Unique.{plain, HasNone, held, held_by, entry_at, with_number, SameApart, KeepsEntries, HasEntry, SetsEntry, PutsEntry, DropsEntry, SettlesEntry, KeepsSlots, HasSlot, Sets, Puts, Settles, ReleasesValues, EachStep, EachHasSlot, EachAgrees, is_used, first_used};
+ghost use Rattle.indexes.specs.Refused.{Tells};
 
 use crate::columns::{agree, has_values};
 use crate::kept_values::{KeptValues, SharedColumns};
+use crate::refused::Refused;
 use crate::seed::Seed;
 use crate::sought::Sought;
 use model::{Key, OutOfMemory, Row};
@@ -77,12 +80,14 @@ impl Unique {
         set_entry(self.columns.as_slice(), &mut self.entries, row, number);
     }
 
-    // Puts a number at a row's values, if it has them all, with an entry for it if there is none.
-    fn put(&mut self, row: &Row, number: SlotNumber) -> Result<(), OutOfMemory>
+    // Puts a number at a row's values, if it has them all, with an entry for it if there is none. Where
+    // a number is there, it stays, and the answer names this key.
+    fn put(&mut self, row: &Row, number: SlotNumber, key: usize) -> Result<(), Refused>
         ensures ok { OnOk result (Puts row.now number self.old self.new) }
         ensures err { OnErr result (KeepsSlots self.old self.new) }
+        ensures told { Tells (if is_used row.now self.old then Some key else None) result }
     {
-        put_entry(&self.columns, &mut self.entries, row, number)
+        put_entry(&self.columns, &mut self.entries, row, number, key)
     }
 
     // Makes room for so many more entries.
@@ -192,40 +197,36 @@ fn set_all(uniques: &mut [Unique], row: &Row, number: Option<SlotNumber>)
     }
 }
 
-// A number at a row's values in each index, where none is. Refused for memory, no number stands there.
+// A number at a row's values in each index, where none is. Where one is in some index, the answer
+// names the least such key, by its number from 1; refused for it or for memory, no number comes.
 pub(crate) fn put_each(
     uniques: &mut Vec<Unique>,
     row: &Row,
     number: SlotNumber,
-) -> Result<(), OutOfMemory>
-    requires { EachIsFree row.now uniques.old.items }
+) -> Result<(), Refused>
     ensures ok { OnOk result (EachStep (Puts row.now number) uniques.old.items uniques.new.items) }
     ensures err { OnErr result (EachStep KeepsSlots uniques.old.items uniques.new.items) }
+    ensures told { Tells (first_used row.now 1 uniques.old.items) result }
 {
-    put_all(uniques.as_mut_slice(), row, number)
+    put_all(uniques.as_mut_slice(), row, number, 1)
 }
 
-fn put_all(uniques: &mut [Unique], row: &Row, number: SlotNumber) -> Result<(), OutOfMemory>
-    requires { EachIsFree row.now uniques.old }
+// The same, of keys that are numbered from `key`.
+fn put_all(uniques: &mut [Unique], row: &Row, number: SlotNumber, key: usize) -> Result<(), Refused>
+    requires { key + length uniques.old < 2 ^ 64 }
     ensures ok { OnOk result (EachStep (Puts row.now number) uniques.old uniques.new) }
     ensures err { OnErr result (EachStep KeepsSlots uniques.old uniques.new) }
+    ensures told { Tells (first_used row.now key uniques.old) result }
 {
-    if put_some(uniques, row, number).is_err() {
-        set_all(uniques, row, None);
-        return Err(OutOfMemory);
+    let Some((unique, rest)) = uniques.split_first_mut() else {
+        return Ok(());
+    };
+    unique.put(row, number, key)?;
+    let put = put_all(rest, row, number, key + 1);
+    if put.is_err() {
+        unique.set(row, None);
     }
-    Ok(())
-}
-
-// The same; refused for memory, it leaves the numbers that it has put.
-fn put_some(uniques: &mut [Unique], row: &Row, number: SlotNumber) -> Result<(), OutOfMemory>
-    ensures ok { OnOk result (EachStep (Puts row.now number) uniques.old uniques.new) }
-    ensures err { OnErr result (EachStep (MayPut row.now) uniques.old uniques.new) }
-{
-    for unique in uniques.iter_mut() {
-        unique.put(row, number)?;
-    }
-    Ok(())
+    put
 }
 
 // In each index, drops the entry for a row's values if it has no number.
@@ -300,20 +301,44 @@ fn add_entry(
     Ok(())
 }
 
-// Where there is an entry, it keeps the row that it has.
 fn put_entry(
     columns: &SharedColumns,
     entries: &mut HashMap<KeptValues, Option<SlotNumber>, Seed>,
     row: &Row,
     number: SlotNumber,
-) -> Result<(), OutOfMemory>
+    key: usize,
+) -> Result<(), Refused>
     ensures ok { OnOk result (PutsEntry columns.now row.now number entries.old entries.new) }
     ensures err { OnErr result (KeepsEntries entries.old entries.new) }
+    ensures told { Tells (if is_some (held_by entries.old (values_in columns.now row.now)) then Some key else None) result }
 {
     if let Some(values) = KeptValues::from_row(columns, row)? {
-        entries.insert(values, Some(number))?;
+        if !fill_entry(entries, values, number)? {
+            return Err(Refused::Taken(key));
+        }
     }
     Ok(())
+}
+
+// A number in the entry for some values, which comes if there is none. The answer is whether it came:
+// one that is there stays. Where there is an entry, it keeps the row that it has. The values are hashed
+// once.
+fn fill_entry(
+    entries: &mut HashMap<KeptValues, Option<SlotNumber>, Seed>,
+    values: KeptValues,
+    number: SlotNumber,
+) -> Result<bool, OutOfMemory>
+    ensures here { OnOk result (entry_at entries.new values ≡ Some (Some (unwrap_or (held entries.old values) number))) }
+    ensures beside { SameApart values entries.old entries.new }
+    ensures came { IfOk result (λ came. is_some (held entries.old values) ≡ not came) }
+    ensures err { OnErr result (KeepsEntries entries.old entries.new) }
+{
+    let entry = entries.entry(values)?.or_insert(None);
+    if entry.is_some() {
+        return Ok(false);
+    }
+    *entry = Some(number);
+    Ok(true)
 }
 
 fn set_entry(

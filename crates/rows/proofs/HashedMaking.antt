@@ -12,13 +12,13 @@ use Rattle.model.specs.declared.key.Key.{Key}
 use Rattle.model.specs.declared.row.Row.{Row}
 use Rattle.model.specs.Key.{key_cmp}
 use Rattle.rows.specs.KeyedSlot.{KeyedSlot}
-use Rattle.rows.specs.Hashed.{number_for, seen, keys_in, IsFound, AddsSlot, DropsSlot, number_to_drop, Renumbers, SameNumbers, Unnumbers, SetsRow}
+use Rattle.rows.specs.Hashed.{number_for, seen, keys_in, IsFound, DropsSlot, number_to_drop, Unnumbers, SetsRow, SameKeys, GivesNumber}
 use Rattle.rows.specs.Ordered.{IsNamed}
-use Rattle.rows.specs.Slots.{found, rows_in, numbers_in, number_of_empty, with_row, with_row_at, SameBeside}
-use Rattle.rows.proofs.HashedSlots.{add_beside, add_here, add_name, same_beside, same_found, same_names, drop_beside, drop_here, drop_others, drop_name, set_beside, set_here, set_keys}
+use Rattle.rows.specs.Slots.{found, row_at, number_at, rows_in, numbers_in, number_of_empty, with_row, with_row_at, SameBeside}
+use Rattle.rows.proofs.HashedSlots.{get-numbers, add_beside, add_here, add_name, same_beside, same_found, same_names, drop_beside, drop_here, drop_others, drop_name, set_beside, set_here, set_keys}
 use Rattle.rows.proofs.Making.{IsMade, MakesSlot, made_slot}
 use Rattle.rows.proofs.Names.{named_again, named_after_settle}
-use Rattle.rows.proofs.Slots.{found-none}
+use Rattle.rows.proofs.Slots.{rows_in-same, numbers_in-same}
 use Rattle.rows.proofs.Slots as slots_by_key
 
 module _ {S : Type 0} (before after : HashMap Key ℕ S) (es fs : List (Key × ℕ)) (s t : Slab KeyedSlot) (key : Key) (was : IsFound before es s) where
@@ -32,23 +32,39 @@ module _ {S : Type 0} (before after : HashMap Key ℕ S) (es fs : List (Key × �
     both : IsFound after fs t × MakesSlot (seen s es) (seen t fs) (keys_in t) key r
     both = (record { named = making.named; hashed = hashed }, making)
 
-  -- a slot was made, or refused, and the hashes find the same numbers
-  pub slot_made : {E : Type 0} (r : Result ℕ E) → get (numbers_in (seen s es)) key ≡ None
-      → IfOk r (λ n. AddsSlot s t n key)
-      → IfOk r (λ n. Renumbers (number_for es) (number_for fs) key (Some n))
-      → IfOk r (λ n. Renumbers (hash.get (eq_by_cmp key_cmp) before) (hash.get (eq_by_cmp key_cmp) after) key (Some n))
-      → OnErr r ((n : ℕ) → slab.get t n ≡ slab.get s n)
-      → OnErr r (SameNumbers (number_for es) (number_for fs))
-      → OnErr r (SameNumbers (hash.get (eq_by_cmp key_cmp) before) (hash.get (eq_by_cmp key_cmp) after))
+  -- nothing changed
+  kept_same : {E : Type 0} (r : Result ℕ E) → SameKeys before after es fs s t → IfOk r (λ n. get (numbers_in (seen s es)) key ≡ Some n)
       → IsFound after fs t × MakesSlot (seen s es) (seen t fs) (keys_in t) key r
-  slot_made (Ok n) absent adds order hashes same_slots same_order same_hashes =
-      both (Ok n) absent (add_beside s t es fs key n was.named adds order)
-      (add_here s t es fs key n was.named adds order, add_name s t es fs key n was.named adds order) tt
-      (λ q. hashes q ∙ ap (cond (eq_by_cmp key_cmp key q) (Some n)) (was.hashed q) ∙ sym (order q))
-  slot_made (Err e) absent adds order hashes same_slots same_order same_hashes =
-      both (Err e) absent (same_beside s t es fs key same_slots same_order) tt
-      (same_found s t es fs key same_slots same_order key ∙ found-none (seen s es) key absent, same_names s t es fs key same_slots same_order)
-      (λ q. same_hashes q ∙ was.hashed q ∙ sym (same_order q))
+  kept_same r same told =
+      let at = same_found s t es fs key same.slots same.order key in
+      let beside = same_beside s t es fs key same.slots same.order in
+      let numbers = numbers_in-same (seen s es) (seen t fs) key beside (ap number_at at) in
+      let named = subst (λ (m : FinMap key_cmp ℕ). IsNamed m (keys_in t)) (sym numbers) (named_again (numbers_in (seen s es)) (keys_in s) (keys_in t) was.named (same_names s t es fs key same.slots same.order)) in (
+        record { named = named; hashed = λ q. same.hashed q ∙ was.hashed q ∙ sym (same.order q) },
+        record {
+          named = named;
+          rows = rows_in-same (seen s es) (seen t fs) key beside (ap row_at at);
+          slots = λ other n e. ap (λ (m : FinMap key_cmp ℕ). get m other) numbers ∙ e;
+          number = subst (λ (m : FinMap key_cmp ℕ). IfOk r (λ n. get m key ≡ Some n)) (sym numbers) told;
+        },
+      )
+
+  module _ {E : Type 0} where
+    -- by the number that was found before
+    by_found : (was_found : Option ℕ) → hash.get (eq_by_cmp key_cmp) before key ≡ was_found → (r : Result ℕ E)
+        → IfOk r (GivesNumber was_found before after es fs s t key) → OnErr r (SameKeys before after es fs s t)
+        → IsFound after fs t × MakesSlot (seen s es) (seen t fs) (keys_in t) key r
+    by_found was_found is (Err e) gives same = kept_same (Err e) same tt
+    by_found None is (Ok n) adds same =
+        both (Ok n) (get-numbers s es key ∙ sym (was.hashed key) ∙ is) (add_beside s t es fs key n was.named adds.slots adds.order)
+        (add_here s t es fs key n was.named adds.slots adds.order, add_name s t es fs key n was.named adds.slots adds.order) tt
+        (λ q. adds.hashed q ∙ ap (cond (eq_by_cmp key_cmp key q) (Some n)) (was.hashed q) ∙ sym (adds.order q))
+    by_found (Some m) is (Ok n) finds same = kept_same (Ok n) finds.1 (get-numbers s es key ∙ sym (was.hashed key) ∙ is ∙ ap Some (sym finds.0))
+
+    -- a slot was found or made, or memory was refused, and the hashes find the same numbers
+    pub slot_given : (r : Result ℕ E) → IfOk r (GivesNumber (hash.get (eq_by_cmp key_cmp) before key) before after es fs s t key) → OnErr r (SameKeys before after es fs s t)
+        → IsFound after fs t × MakesSlot (seen s es) (seen t fs) (keys_in t) key r
+    slot_given = by_found (hash.get (eq_by_cmp key_cmp) before key) refl
 
   hashed_dropped : (dropped : Option ℕ) → Unnumbers (number_for es) (number_for fs) key dropped
       → Unnumbers (hash.get (eq_by_cmp key_cmp) before) (hash.get (eq_by_cmp key_cmp) after) key dropped

@@ -81,6 +81,23 @@ pub record AddsSlot (old new : Slab KeyedSlot) (number : ℕ) (key : Key) : Type
   pub here : slab.get new number ≡ Some (record { key = key; row = None })
   pub beside : (other : ℕ) → other ≢ number → slab.get new other ≡ slab.get old other
 
+-- no key has another number than before, and no slot changed
+pub record SameKeys {S : Type 0} (before after : HashMap Key ℕ S) (es fs : List (Key × ℕ)) (old new : Slab KeyedSlot) : Type 0 where
+  pub slots : (number : ℕ) → slab.get new number ≡ slab.get old number
+  pub order : SameNumbers (number_for es) (number_for fs)
+  pub hashed : SameNumbers (hash.get (eq_by_cmp key_cmp) before) (hash.get (eq_by_cmp key_cmp) after)
+
+-- a key has the number of an empty slot that was made for it, and nothing else changed
+pub record AddsKey {S : Type 0} (before after : HashMap Key ℕ S) (es fs : List (Key × ℕ)) (old new : Slab KeyedSlot) (key : Key) (number : ℕ) : Type 0 where
+  pub slots : AddsSlot old new number key
+  pub order : Renumbers (number_for es) (number_for fs) key (Some number)
+  pub hashed : Renumbers (hash.get (eq_by_cmp key_cmp) before) (hash.get (eq_by_cmp key_cmp) after) key (Some number)
+
+-- a key has this number: of a slot that was made where none was found, or else the one that was found
+abbrev pub GivesNumber : {S : Type 0} → Option ℕ → HashMap Key ℕ S → HashMap Key ℕ S → List (Key × ℕ) → List (Key × ℕ) → Slab KeyedSlot → Slab KeyedSlot → Key → ℕ → Type 0
+GivesNumber None before after es fs old new key number = AddsKey before after es fs old new key number
+GivesNumber (Some found) before after es fs old new key number = (number ≡ found) × SameKeys before after es fs old new
+
 -- a slot of a number was dropped, if there is one, and nothing else changed
 pub record DropsSlot (old new : Slab KeyedSlot) (number : Option ℕ) : Type 0 where
   pub here : (n : ℕ) → number ≡ Some n → slab.get new n ≡ None

@@ -9,7 +9,7 @@ ghost use Rattle.slab.specs.Slab.{SameValues};
 ghost use Rattle.model.specs.Key.{key_cmp};
 ghost use Rattle.model.specs.declared.key.Key.{Key as Values};
 ghost use Rattle.rows.specs.Kept.{HasNumber, KeepsSlots, IsNumbered, IsSlotted};
-ghost use Rattle.rows.specs.Hashed.{row_for, row_of, key_of, number_for, number_to_drop, SetsRow, AddsSlot, DropsSlot, Renumbers, SameNumbers, Unnumbers};
+ghost use Rattle.rows.specs.Hashed.{row_for, row_of, key_of, number_for, number_to_drop, SetsRow, AddsSlot, DropsSlot, Renumbers, SameNumbers, Unnumbers, SameKeys, GivesNumber};
 ghost use Rattle.rows.specs.Slots.{with_row};
 
 use crate::key_order::KeyOrder;
@@ -20,6 +20,7 @@ use model::{Key, OutOfMemory, Row};
 use slab::Slab;
 use std::alloc::{AllocError, Global};
 use std::collections::HashMap;
+use std::collections::hash_map::Entry;
 use std::hash::{BuildHasher, BuildHasherDefault, FoldHasher};
 use std::marker::Model;
 use std::mem;
@@ -219,21 +220,7 @@ impl<H: BuildHasher + Drop> HashedRows<H> {
         ensures ok { IfOk result (λ number. map.get self.new.slots key.now ≡ Some number) }
         ensures numbered { IsNumbered self.new.slots }
     {
-        match self.slot(key) {
-            Some(number) => Ok(number),
-            None => self.make_slot(key),
-        }
-    }
-
-    // The slot of a key that has none.
-    fn make_slot(&mut self, key: &Key) -> Result<SlotNumber, OutOfMemory>
-        requires { map.get self.old.slots key.now ≡ None }
-        ensures rows { self.new.rows ≡ self.old.rows }
-        ensures slots { KeepsSlots self.old.slots self.new.slots }
-        ensures ok { IfOk result (λ number. map.get self.new.slots key.now ≡ Some number) }
-        ensures numbered { IsNumbered self.new.slots }
-    {
-        add_slot(&mut self.numbers, &mut self.order, &mut self.slots, key)
+        find_or_add(&mut self.numbers, &mut self.order, &mut self.slots, key)
     }
 
     /// Makes room for so many more slots: making them moves none that is there. A refusal changes no
@@ -368,9 +355,35 @@ fn set_row(slots: &mut Slab<HashedSlot>, number: SlotNumber, row: Option<Row>) -
     }
 }
 
-// An empty slot for a key that has none. The answer is its number, which no slot had.
-fn add_slot<H: BuildHasher + Drop>(
+// The number of a key's slot; where it has none, of an empty one that is made. The key is hashed once.
+fn find_or_add<H: BuildHasher + Drop>(
     numbers: &mut HashMap<Key, SlotNumber, H>,
+    order: &mut KeyOrder,
+    slots: &mut Slab<HashedSlot>,
+    key: &Key,
+) -> Result<SlotNumber, OutOfMemory>
+    requires { number_for order.old key.now ≡ hash.get (eq_by_cmp key_cmp) numbers.old key.now }
+    ensures ok { IfOk result (GivesNumber (hash.get (eq_by_cmp key_cmp) numbers.old key.now) numbers.old numbers.new order.old order.new slots.old slots.new key.now) }
+    ensures err { OnErr result (SameKeys numbers.old numbers.new order.old order.new slots.old slots.new) }
+{
+    match numbers.entry(key.copy()?)? {
+        Entry::Occupied(entry) => Ok(*entry.get()),
+        Entry::Vacant(entry) => match add_slot(order, slots, key) {
+            Ok(number) => {
+                entry.insert(number);
+                Ok(number)
+            }
+            Err(e) => {
+                // The map is given back, as the proof wants it.
+                entry.into_key();
+                Err(e)
+            }
+        },
+    }
+}
+
+// An empty slot for a key that has none. The answer is its number, which no slot had.
+fn add_slot(
     order: &mut KeyOrder,
     slots: &mut Slab<HashedSlot>,
     key: &Key,
@@ -378,20 +391,14 @@ fn add_slot<H: BuildHasher + Drop>(
     requires { number_for order.old key.now ≡ None }
     ensures slots { IfOk result (λ number. AddsSlot slots.old slots.new number key.now) }
     ensures order { IfOk result (λ number. Renumbers (number_for order.old) (number_for order.new) key.now (Some number)) }
-    ensures hashed { IfOk result (λ number. Renumbers (hash.get (eq_by_cmp key_cmp) numbers.old) (hash.get (eq_by_cmp key_cmp) numbers.new) key.now (Some number)) }
     ensures same_slots { OnErr result ((number : ℕ) → slab.get slots.new number ≡ slab.get slots.old number) }
     ensures same_order { OnErr result (SameNumbers (number_for order.old) (number_for order.new)) }
-    ensures same_hashed { OnErr result (SameNumbers (hash.get (eq_by_cmp key_cmp) numbers.old) (hash.get (eq_by_cmp key_cmp) numbers.new)) }
 {
     let own = key.copy()?;
-    let name = key.copy()?;
     let slot = HashedSlot::of_key(key.copy()?);
-    numbers.reserve(1)?;
     slots.reserve(1)?;
     let number = next_number(slots)?;
     order.insert(own, number)?;
-    // There is room for it, so it is not refused.
-    let _stood = numbers.insert(name, number);
     slots.insert_reserved(slot);
     Ok(number)
 }
