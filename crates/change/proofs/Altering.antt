@@ -8,7 +8,7 @@ use Rattle.model.specs.declared.row.Row.{Row as Record}
 use Rattle.model.specs.declared.cell.Cell.{Cell}
 use Rattle.model.specs.declared.cell.Cell.TheVariants.{Row, Whole}
 use Rattle.model.specs.declared.change.Change.TheVariants.{Put, Set, Remove, Wipe}
-use Rattle.model.specs.declared.change.ColumnPatch.{ColumnPatch}
+use Rattle.model.specs.declared.patch.ColumnPatch.{ColumnPatch}
 use Rattle.model.specs.ExactLemmas.{key_cmp_exact}
 use Rattle.std.proofs.lemmas.Map.Views.{tells_apart}
 use Rattle.model.specs.Rows.{Rows, Schema, keys_at, key_of, is_key}

@@ -197,10 +197,15 @@ fn wipe(alloc: Global, t: &mut Tables, tables: &[TableId]) -> Result<Applied, Cl
     Ok(Applied::Done(Inverse::Unwipe { wiped }))
 }
 
-/// The row after an update. A column past the patch's end is kept.
+/// The row after an update. A column past the patch's end is kept; an update of all columns has the row.
 fn patched_row(alloc: Global, old: &RowView<'_>, patch: &Patch) -> Result<Row, OutOfMemory>
     ensures { IfOk result (λ row. row ≡ patch_row patch.now old.now) }
 {
+    if let Some(row) = patch.whole_row()?
+        && row.len() == old.len()
+    {
+        return Ok(row);
+    }
     PatchedRow::new(old, patch).to_row(alloc)
 }
 
@@ -237,13 +242,7 @@ fn is_key_held(t: &Tables, table: TableId, key: &Key, except: &Key) -> bool
 
 /// Whether the row agrees in a unique key with another than the one that it takes the place of.
 /// Values that it keeps of that nobody else has, and they aren't looked up.
-fn has_duplicate(
-    t: &Tables,
-    table: TableId,
-    number: usize,
-    row: &Row,
-    old: OldRow<'_>,
-) -> bool
+fn has_duplicate(t: &Tables, table: TableId, number: usize, row: &Row, old: OldRow<'_>) -> bool
     requires known { table < length t.now.schema }
     requires sound { IsSound t.now }
     requires number { (1 ≤ number) × (number ≤ length (keys_at t.now.schema table).uniques) }

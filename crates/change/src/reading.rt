@@ -4,14 +4,15 @@ ghost use Rattle.std.specs.Option.{option_map};
 ghost use Rattle.model.specs.Rows.{is_key, value_at, values_in};
 ghost use Rattle.model.specs.Effect.{patch_row};
 ghost use Rattle.model.specs.Footprint.{both_have};
+ghost use Rattle.model.specs.Patch.{read_column, column_at};
 ghost use Rattle.model.specs.ValueRef.{read_value};
 ghost use Rattle.indexes.specs.Columns.{present};
 ghost use Rattle.model.specs.Hashing.{hash_of, hash_value as hashed_value};
-ghost use Rattle.change.specs.Reading.{read_row};
+ghost use Rattle.change.specs.Reading.{patch_read, read_row};
 
 use indexes::columns::{ReadRow, compare_key, has_values};
 use model::hashing::{hash_number, hash_text};
-use model::{ColumnPatch, Key, OutOfMemory, Patch, Row, RowBuilder, ValueRef};
+use model::{ColumnPatchRef, Key, OutOfMemory, Patch, Row, RowBuilder, ValueRef};
 use rows::RowView;
 use std::alloc::Global;
 
@@ -19,7 +20,7 @@ use std::alloc::Global;
 #[derive(Clone, Copy, Debug)]
 pub struct PatchedRow<'a> {
     row: &'a RowView<'a>,
-    patch: &'a [ColumnPatch],
+    patch: Option<&'a Patch>,
 }
 
 impl<'a> PatchedRow<'a> {
@@ -27,7 +28,7 @@ impl<'a> PatchedRow<'a> {
     pub fn of_row(row: &'a RowView<'a>) -> PatchedRow<'a>
         ensures { read_row result ≡ row.now }
     {
-        PatchedRow { row, patch: &[] }
+        PatchedRow { row, patch: None }
     }
 
     /// The row as the patch leaves it.
@@ -36,7 +37,7 @@ impl<'a> PatchedRow<'a> {
     {
         PatchedRow {
             row,
-            patch: patch.columns(),
+            patch: Some(patch),
         }
     }
 
@@ -69,13 +70,20 @@ impl<'a> PatchedRow<'a> {
         if number >= self.row.len() {
             return None;
         }
-        if number >= self.patch.len() {
-            return self.row.column(number);
+        match self.patched(number) {
+            ColumnPatchRef::Keep => self.row.column(number),
+            ColumnPatchRef::Null => None,
+            ColumnPatchRef::Value(value) => Some(value),
         }
-        match &self.patch[number] {
-            ColumnPatch::Keep => self.row.column(number),
-            ColumnPatch::Null => None,
-            ColumnPatch::Value(value) => Some(ValueRef::of(value)),
+    }
+
+    // What the patch does to a column, from 0.
+    fn patched(self, number: usize) -> ColumnPatchRef<'a>
+        ensures { read_column result ≡ column_at (patch_read self.entry.patch) number }
+    {
+        match self.patch {
+            None => ColumnPatchRef::Keep,
+            Some(patch) => patch.column(number),
         }
     }
 }

@@ -13,7 +13,7 @@ use Rattle.model.specs.declared.key.Key.{Key}
 use Rattle.model.specs.declared.row.Row.{Row as Record}
 use Rattle.model.specs.declared.change.Change.{Change}
 use Rattle.model.specs.declared.change.Change.TheVariants.{Put, Set, Remove, Wipe}
-use Rattle.model.specs.declared.change.ColumnPatch.{ColumnPatch}
+use Rattle.model.specs.declared.patch.ColumnPatch.{ColumnPatch}
 use Rattle.model.specs.declared.cell.Cell.{Cell}
 use Rattle.model.specs.declared.cell.Cell.TheVariants.{Row, Uniq, Whole}
 use Rattle.model.specs.Rows.{Rows, Schema, keys_at, values_in, key_of, is_key}

@@ -7,8 +7,8 @@ use Rattle.std.specs.Prelude.{ℕ, pos, if◌then◌else◌, List, [], ◌∷◌
 use Rattle.std.specs.Int.{w64, cast_signed}
 use Rattle.model.specs.declared.value.Value.{Value}
 use Rattle.model.specs.declared.value.Value.TheVariants.{Int, Text, Bool}
-use Rattle.model.specs.declared.change.ColumnPatch.{ColumnPatch}
-use Rattle.model.specs.declared.change.ColumnPatch.TheVariants as patch
+use Rattle.model.specs.declared.patch.ColumnPatch.{ColumnPatch}
+use Rattle.model.specs.declared.patch.ColumnPatch.TheVariants as patch
 use Rattle.model.specs.declared.change.Change.{Change}
 use Rattle.model.specs.declared.change.Change.TheVariants.{Put, Set, Remove, Wipe}
 use Rattle.world.specs.World.{Entry}

@@ -94,7 +94,7 @@ fn push_change<'a>(
             push_statement(&find(tables, *table)?.insert, values, made)
         }
         Change::Set { table, key, patch } => {
-            push_patch(patch.columns(), &mut values)?;
+            push_patch(patch, &mut values)?;
             push_key(key.values(), &mut values)?;
             push_statement(&find(tables, *table)?.update, values, made)
         }

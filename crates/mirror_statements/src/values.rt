@@ -2,13 +2,13 @@
 ghost use Rattle.std.specs.Prelude.{◌≡◌, ◌++◌, ◌∷◌, [], map, OnOk};
 ghost use Rattle.std.specs.Option.{option_map};
 ghost use Rattle.model.specs.KeyCode.{values_lent};
+ghost use Rattle.model.specs.Patch.{read_column};
 ghost use Rattle.model.specs.ValueRef.{read_value};
 ghost use Rattle.sqlite.specs.Values.{bound, bound_value};
 ghost use Rattle.sqlite_value.specs.Value.{owned};
-ghost use Rattle.sqlite_value.specs.declared.value.ValueRef.TheVariants as sql_ref;
 ghost use Rattle.mirror_statements.specs.Asked.{sql_column, sql_value, sql_patch, patch_values};
 
-use model::{ColumnPatch, KeyValues, OutOfMemory, Row, Value, ValueRef};
+use model::{ColumnPatchRef, KeyValues, OutOfMemory, Patch, Row, Value, ValueRef};
 use sqlite::types::ValueRef as SqlRef;
 
 // A column's value; null where there is none, and a truth as a number.
@@ -57,27 +57,24 @@ fn push_values<'a>(values: &'a [Value], into: &mut Vec<SqlRef<'a>>) -> Result<()
 }
 
 /// Appends what an update does to each column: whether it writes it, and what.
-pub fn push_patch<'a>(
-    columns: &'a [ColumnPatch],
-    into: &mut Vec<SqlRef<'a>>,
-) -> Result<(), OutOfMemory>
-    ensures { OnOk result (bound into.new.items ≡ bound into.old.items ++ patch_values columns.now) }
+pub fn push_patch<'a>(patch: &'a Patch, into: &mut Vec<SqlRef<'a>>) -> Result<(), OutOfMemory>
+    ensures { OnOk result (bound into.new.items ≡ bound into.old.items ++ patch_values patch.now) }
 {
-    for column in columns {
-        let (writes, value) = sql_patch(column);
-        into.push(SqlRef::Int(writes))?;
+    for number in 0..patch.len() {
+        let (writes, value) = sql_patch(patch.column(number));
+        into.push(writes)?;
         into.push(value)?;
     }
     Ok(())
 }
 
 // What an update does to a column: 1 and the value where it writes one, else 0.
-fn sql_patch<'a>(column: &'a ColumnPatch) -> (i64, SqlRef<'a>)
-    ensures { bound (sql_ref.Int result.0 ∷ result.1 ∷ []) ≡ sql_patch column.now }
+fn sql_patch<'a>(column: ColumnPatchRef<'a>) -> (SqlRef<'a>, SqlRef<'a>)
+    ensures { bound (result.0 ∷ result.1 ∷ []) ≡ sql_patch (read_column column.entry) }
 {
     match column {
-        ColumnPatch::Keep => (0, SqlRef::Null),
-        ColumnPatch::Null => (1, SqlRef::Null),
-        ColumnPatch::Value(value) => (1, sql_column(Some(ValueRef::of(value)))),
+        ColumnPatchRef::Keep => (SqlRef::Int(0), SqlRef::Null),
+        ColumnPatchRef::Null => (SqlRef::Int(1), SqlRef::Null),
+        ColumnPatchRef::Value(value) => (SqlRef::Int(1), sql_column(Some(value))),
     }
 }

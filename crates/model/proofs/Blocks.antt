@@ -1,5 +1,5 @@
--- The block of a row: cuts one behind another, and what is read of a block that was put together.
-use Rattle.std.specs.Prelude.{◌≡◌, ℕ, zero, suc, ◌+◌, ◌-◌, ◌*◌, ◌≤◌, ◌<◌, List, [], ◌∷◌, ◌++◌, map, length, take, drop, slice_index, IsUtf8, refl}
+-- The block of columns: cuts one behind another, and what is read of a block that was put together.
+use Rattle.std.specs.Prelude.{◌≡◌, ℕ, zero, suc, ◌+◌, ◌-◌, ◌*◌, ◌≤◌, ◌<◌, Some, List, [], ◌∷◌, ◌++◌, map, length, take, drop, slice_get, slice_index, IsUtf8, refl}
 use Rattle.std.specs.Int.{w32, w64, byte_worth, sum_through, from_le_bytes, to_le_bytes}
 use Rattle.std.proofs.Common.{arith, sym, ◌∙◌, ap, subst, length-append, length-drop, append_assoc}
 use Rattle.std.proofs.Math.ListN.{get_or-append}
@@ -7,8 +7,7 @@ use Rattle.std.proofs.Math.Seq.{drop-drop, drop-append_seam, take-append_seam, t
 use Rattle.std.proofs.lemmas.List.{drop-append-le, length-map}
 use Rattle.std.proofs.lemmas.Nat.{from_le_bytes-to_le_bytes_4}
 use Rattle.model.specs.declared.packed.Cut.{Cut}
-use Rattle.model.specs.Packed.{value_in, IsCut, AreCuts, cut_as, cut_of, cuts_of, HasCuts, columns_in, cuts_at, texts_in, cuts_in, row_in, IsPacked}
-use Rattle.model.specs.Rows.{value_at}
+use Rattle.model.specs.Packed.{column_in, IsCut, AreCuts, cut_as, cut_of, cuts_of, HasCuts, columns_in, cuts_at, texts_in, cuts_in, patch_in, IsPacked}
 
 same_word : (f g : ℕ → ℕ) (k : ℕ) → ((i : ℕ) → i ≤ k → f i ≡ g i) → sum_through (λ i. byte_worth i (f i)) k ≡ sum_through (λ i. byte_worth i (g i)) k
 same_word f g zero same = ap (byte_worth 0) (same 0 (omega arith))
@@ -55,15 +54,15 @@ cut_is texts (suc n) zero bytes within all = all.0
 cut_is texts (suc n) (suc i) bytes within all =
     subst (λ (rest : List ℕ). IsCut texts (cut_of rest)) (later i bytes) (cut_is texts n i (drop 9 bytes) (omega arith) all.1)
 
--- its value is that of its column
-pub cut_value : (texts : List ℕ) (n i : ℕ) (bytes : List ℕ) → i < n → value_in texts (cut_of (drop (9 * i) bytes)) ≡ value_at (map (value_in texts) (cuts_of n bytes)) i
-cut_value texts zero i bytes within = absurd (omega arith)
-cut_value texts (suc n) zero bytes within = refl
-cut_value texts (suc n) (suc i) bytes within =
-    ap (λ (rest : List ℕ). value_in texts (cut_of rest)) (sym (later i bytes)) ∙ cut_value texts n i (drop 9 bytes) (omega arith)
+-- what it does is done to its column
+pub cut_column : (texts : List ℕ) (n i : ℕ) (bytes : List ℕ) → i < n → slice_get (map (column_in texts) (cuts_of n bytes)) i ≡ Some (column_in texts (cut_of (drop (9 * i) bytes)))
+cut_column texts zero i bytes within = absurd (omega arith)
+cut_column texts (suc n) zero bytes within = refl
+cut_column texts (suc n) (suc i) bytes within =
+    cut_column texts n i (drop 9 bytes) (omega arith) ∙ ap (λ (rest : List ℕ). Some (column_in texts (cut_of rest))) (later i bytes)
 
-pub count_values : (block : List ℕ) → length (row_in block) ≡ columns_in block
-count_values block = length-map (cuts_in block) (value_in (texts_in block)) ∙ count_cuts (columns_in block) (drop (cuts_at block) block)
+pub count_columns : (block : List ℕ) → length (patch_in block) ≡ columns_in block
+count_columns block = length-map (cuts_in block) (column_in (texts_in block)) ∙ count_cuts (columns_in block) (drop (cuts_at block) block)
 
 -- what lies behind a place of the block, as it is cut out of it
 pub from_place : (block : List ℕ) (i k : ℕ) → take (length block - (i + 9 * k)) (drop (i + 9 * k) block) ≡ drop (9 * k) (drop i block)
@@ -71,7 +70,7 @@ from_place block i k =
     ap (λ (n : ℕ). take n (drop (i + 9 * k) block)) (sym (length-drop (i + 9 * k) block)) ∙ take-length (drop (i + 9 * k) block)
     ∙ sym (drop-drop (9 * k) i block)
 
--- A block of texts, so many cuts and their number is that of a row.
+-- A block of texts, so many cuts and their number is one of columns.
 module _ (texts cuts : List ℕ) (n : ℕ) (has : HasCuts texts n cuts) where
   abbrev pub whole : List ℕ
   whole = (texts ++ cuts) ++ to_le_bytes w32 n
@@ -101,8 +100,8 @@ module _ (texts cuts : List ℕ) (n : ℕ) (has : HasCuts texts n cuts) where
       let behind : drop (cuts_at whole) whole ≡ cuts ++ to_le_bytes w32 n = ap (λ (i : ℕ). drop i whole) start ∙ ap (drop (length texts)) split ∙ drop-append_seam texts (cuts ++ to_le_bytes w32 n) in
       ap (λ (k : ℕ). cuts_of k (drop (cuts_at whole) whole)) count ∙ ap (cuts_of n) behind ∙ cuts_first n cuts (to_le_bytes w32 n) (omega (arith, has.1))
 
-  pub packed_values : row_in whole ≡ map (value_in texts) (cuts_of n cuts)
-  packed_values = ap (λ (t : List ℕ). map (value_in t) (cuts_in whole)) same_texts ∙ ap (map (value_in texts)) same_cuts
+  pub packed_columns : patch_in whole ≡ map (column_in texts) (cuts_of n cuts)
+  packed_columns = ap (λ (t : List ℕ). map (column_in t) (cuts_in whole)) same_texts ∙ ap (map (column_in texts)) same_cuts
 
   pub is_packed : IsUtf8 texts → IsPacked whole
   is_packed utf8 = (

@@ -9,13 +9,12 @@ use Rattle.std.specs.Prelude.{◌≡◌, ◌⊎◌, ℕ, suc, ◌==◌, Bool, fa
 use Rattle.std.specs.List.{list_any}
 use Rattle.std.specs.FinMap as map
 use Rattle.std.specs.FinMap.{FinMap}
-use Rattle.model.specs.declared.value.Value.{Value}
 use Rattle.model.specs.declared.key.Key.{Key}
 use Rattle.model.specs.declared.row.Row.{Row}
 use Rattle.model.specs.declared.change.Change.{Change}
 use Rattle.model.specs.declared.change.Change.TheVariants.{Put, Set, Remove, Wipe}
-use Rattle.model.specs.declared.change.ColumnPatch.{ColumnPatch}
-use Rattle.model.specs.declared.change.ColumnPatch.TheVariants.{Keep, Null, Value as Becomes}
+use Rattle.model.specs.declared.patch.ColumnPatch.{ColumnPatch}
+use Rattle.model.specs.Patch.{patch_value}
 use Rattle.model.specs.Rows.{Place, place_cmp, Rows, Schema, keys_at, values_in, key_of, are_taken}
 
 -- ---- edits
@@ -91,12 +90,6 @@ row_outcome_at schema rows edits table row (Some key) =
 -- a row comes into its table, after these edits
 abbrev pub row_outcome : Schema → Rows → Edits → ℕ → Row → Outcome
 row_outcome schema rows edits table row = row_outcome_at schema rows edits table row (key_of schema table row)
-
--- a column after an update
-abbrev pub patch_value : ColumnPatch → Option Value → Option Value
-patch_value Keep old = old
-patch_value Null old = None
-patch_value (Becomes new) old = Some new
 
 -- a row after an update; a column past the patch's end is kept
 abbrev pub patch_row : List ColumnPatch → Row → Row

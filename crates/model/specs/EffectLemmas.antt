@@ -13,7 +13,7 @@ use Rattle.model.specs.declared.row.Row.{Row}
 use Rattle.model.specs.declared.key.Key.{Key}
 use Rattle.model.specs.declared.change.Change.{Change}
 use Rattle.model.specs.declared.change.Change.TheVariants.{Put, Set, Remove, Wipe}
-use Rattle.model.specs.declared.change.ColumnPatch.{ColumnPatch}
+use Rattle.model.specs.declared.patch.ColumnPatch.{ColumnPatch}
 use Rattle.model.specs.Rows.{Place, Rows, Schema, place_cmp, place_cmp_total, keys_at, key_of, IsValid, is_place}
 use Rattle.model.specs.Effect.{Edits, overlay, rows_under, one_edit, Outcome, Done, Skip, Clashes, ClashCause, Unique, first_taken, unless_taken, row_outcome_at, row_outcome, patch_row, set_outcome, remove_outcome, is_wiped, row_cleared, wipe_edits, outcome, edits_of, effect, inverse, back, serial, inverses, all_back, AreApart}
 use Rattle.model.specs.EditLemmas.{place_is, get_overlay, get_rows_under, was_at, restored, overlay_apart, overlay_empty, overlay_more, overlay_one, rows_under_none}

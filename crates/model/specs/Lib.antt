@@ -3,6 +3,7 @@ pub mod MappedLemmas
 pub mod Value
 pub mod ValueRef
 pub mod Packed
+pub mod Patch
 pub mod Key
 pub mod KeyCode
 pub mod Definition

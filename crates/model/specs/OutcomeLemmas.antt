@@ -8,7 +8,7 @@ use Rattle.model.specs.declared.row.Row.{Row}
 use Rattle.model.specs.declared.key.Key.{Key}
 use Rattle.model.specs.declared.change.Change.{Change}
 use Rattle.model.specs.declared.change.Change.TheVariants.{Put, Set, Remove, Wipe}
-use Rattle.model.specs.declared.change.ColumnPatch.{ColumnPatch}
+use Rattle.model.specs.declared.patch.ColumnPatch.{ColumnPatch}
 use Rattle.model.specs.Rows.{Rows, Schema, keys_at, key_of}
 use Rattle.model.specs.Effect.{Edits, overlay, one_edit, Outcome, Done, Skip, Clashes, ClashCause, Unique, first_taken, unless_taken, row_outcome_at, row_outcome, patch_row, set_outcome, remove_outcome, wipe_edits, outcome}
 use Rattle.model.specs.EditLemmas.{overlay_one, overlay_two}

@@ -4,10 +4,9 @@ ghost use Rattle.std.specs.Prelude.{◌≡◌, IfOk};
 use crate::TableId;
 use crate::key::Key;
 use crate::memory::OutOfMemory;
+use crate::patch::Patch;
 use crate::row::Row;
-use crate::value::Value;
 use std::marker::Model;
-use std::sync::ArcSlice;
 
 /// A change of tables, as a row message of the publisher asks for it.
 #[derive(Debug, Drop)]
@@ -57,62 +56,6 @@ impl Change {
                 tables: tables.copy()?,
             }),
         }
-    }
-}
-
-/// What an update does to a column.
-#[derive(Clone, Debug, Drop)]
-pub enum ColumnPatch {
-    /// The column stays as it is: it was not published, or its long value was not sent again.
-    Keep,
-    /// The column becomes null.
-    Null,
-    /// The column gets this value.
-    Value(Value),
-}
-
-/// What an update does to each column, in the table's column order. A clause sees the list of it.
-///
-/// Copies of a patch share what it does.
-#[derive(Debug, Drop)]
-pub struct Patch {
-    columns: ArcSlice<ColumnPatch>,
-}
-
-impl Model for Patch {
-    ghost use Rattle.std.specs.Arc.{arc_slice_items};
-    ghost use Rattle.std.specs.Prelude.{List};
-    ghost use Rattle.model.specs.declared.change.ColumnPatch.{ColumnPatch};
-
-    ghost Value = { List ColumnPatch };
-
-    ghost view = { λ p. arc_slice_items p.columns };
-}
-
-impl Patch {
-    /// The patch with these columns.
-    pub fn from_columns(columns: Vec<ColumnPatch>) -> Result<Patch, OutOfMemory>
-        ensures { IfOk result (λ p. p ≡ columns.items) }
-    {
-        Ok(Patch {
-            columns: ArcSlice::from_vec(columns)?,
-        })
-    }
-
-    /// What it does to each column.
-    pub fn columns(&self) -> &[ColumnPatch]
-        ensures { result.now ≡ self.now }
-    {
-        self.columns.as_slice()
-    }
-
-    /// An equal patch.
-    pub fn copy(&self) -> Result<Patch, OutOfMemory>
-        ensures { IfOk result (λ p. p ≡ self.now) }
-    {
-        Ok(Patch {
-            columns: self.columns.clone()?,
-        })
     }
 }
 

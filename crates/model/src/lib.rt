@@ -11,7 +11,8 @@
 //   specs/Types          each type of columns: how a value is read and printed
 //   specs/Value, Key     the order of values and of keys
 //   specs/ValueRef       a value as it is read
-//   specs/Packed         how a row lies in one block of memory
+//   specs/Packed         how columns lie in one block of memory
+//   specs/Patch          what an update does to each column
 //   specs/Definition     what a table's definition says
 //   specs/Rows           all rows of all tables as one finite map; valid rows
 //   specs/Effect         what a change does, and what takes it back
@@ -37,12 +38,14 @@
 pub mod cell;
 pub mod cell_laws;
 pub mod change;
+pub(crate) mod columns;
 pub mod hashing;
 pub mod item;
 pub mod key;
 pub mod laws;
 pub mod memory;
 pub(crate) mod packed;
+pub mod patch;
 pub mod row;
 pub mod table_def;
 pub mod types;
@@ -50,10 +53,11 @@ pub mod value;
 pub mod value_ref;
 
 pub use cell::Cell;
-pub use change::{Change, ColumnPatch, Patch, TableIds};
+pub use change::{Change, TableIds};
 pub use item::{CommitInfo, Item, Lsn, MOST_OPEN, Xid};
 pub use key::{Key, KeyValues};
 pub use memory::OutOfMemory;
+pub use patch::{ColumnPatch, ColumnPatchRef, Patch, PatchBuilder};
 pub use row::{Row, RowBuilder};
 pub use table_def::{Column, ColumnType, KeyColumns, TableDef};
 pub use types::text::KeptText;

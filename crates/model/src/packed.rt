@@ -1,21 +1,22 @@
-// How a row lies in one block of memory: its texts one behind another, then a cut for each column, and
-// how many columns there are.
+// How columns lie in one block of memory: their texts one behind another, then a cut for each column,
+// and how many there are.
 ghost use Rattle.std.specs.Prelude.{◌≡◌, ◌+◌, ◌*◌, ◌≤◌, ◌<◌, length};
-ghost use Rattle.std.specs.Option.{option_map};
-ghost use Rattle.model.specs.Rows.{value_at};
-ghost use Rattle.model.specs.ValueRef.{read_value};
-ghost use Rattle.model.specs.Packed.{value_in, IsCut, cut_of, columns_in, cuts_at, texts_in, row_in, IsPacked};
+ghost use Rattle.model.specs.Packed.{column_in, IsCut, cut_of, columns_in, cuts_at, texts_in, patch_in, IsPacked};
+ghost use Rattle.model.specs.Patch.{read_column, column_at};
 
+use crate::patch::ColumnPatchRef;
 use crate::value_ref::ValueRef;
 use std::str;
 
-// What a column holds: a number or a truth lies here, a text from one byte of the texts to another.
+// What is done to a column: it becomes null, or gets a number or a truth, which lies here, or a text,
+// which goes from one byte of the texts to another, or is kept.
 #[derive(Clone, Copy, Debug)]
 pub(crate) enum Cut {
     Null,
     Int(i64),
     Text(u32, u32),
     Bool(bool),
+    Kept,
 }
 
 // How many bytes a cut has: a word, and which kind it is.
@@ -34,6 +35,8 @@ const TRUE: u8 = 3;
 
 const FALSE: u8 = 4;
 
+const KEPT: u8 = 5;
+
 impl Cut {
     // Its bytes.
     pub(crate) fn to_bytes(self) -> [u8; CUT_LEN]
@@ -46,6 +49,7 @@ impl Cut {
             Cut::Text(start, end) => (u64::from(end) * (1 << 32) + u64::from(start), TEXT),
             Cut::Bool(true) => (0, TRUE),
             Cut::Bool(false) => (0, FALSE),
+            Cut::Kept => (0, KEPT),
         };
         let [a, b, c, d, e, f, g, h] = word.to_le_bytes();
         [a, b, c, d, e, f, g, h, kind]
@@ -63,12 +67,14 @@ impl Cut {
             NULL => Cut::Null,
             INT => Cut::Int(word.cast_signed()),
             TEXT => Cut::Text((word % (1 << 32)) as u32, (word / (1 << 32)) as u32),
-            kind => Cut::Bool(kind == TRUE),
+            TRUE => Cut::Bool(true),
+            FALSE => Cut::Bool(false),
+            _ => Cut::Kept,
         }
     }
 }
 
-// How many columns the row of a block has.
+// How many columns a block has.
 pub(crate) fn columns(block: &[u8]) -> usize
     requires { IsPacked block.now }
     ensures { result ≡ columns_in block.now }
@@ -86,18 +92,20 @@ fn cuts_start(block: &[u8]) -> usize
     block.len() - COUNT_LEN - CUT_LEN * columns(block)
 }
 
-// The value in a column of a block, from 0.
-pub(crate) fn column(block: &[u8], number: usize) -> Option<ValueRef<'_>>
+// What is done to a column of a block, from 0.
+pub(crate) fn column(block: &[u8], number: usize) -> ColumnPatchRef<'_>
     requires packed { IsPacked block.now }
-    requires within { number < length (row_in block.now) }
-    ensures { option_map read_value result ≡ value_at (row_in block.now) number }
+    requires within { number < length (patch_in block.now) }
+    ensures { read_column result ≡ column_at (patch_in block.now) number }
 {
-    match cut_at(block, number) {
-        Cut::Null => None,
-        Cut::Int(value) => Some(ValueRef::Int(value)),
-        Cut::Text(from, to) => Some(ValueRef::Text(&texts(block)[from as usize..to as usize])),
-        Cut::Bool(truth) => Some(ValueRef::Bool(truth)),
-    }
+    let value = match cut_at(block, number) {
+        Cut::Null => return ColumnPatchRef::Null,
+        Cut::Int(value) => ValueRef::Int(value),
+        Cut::Text(from, to) => ValueRef::Text(&texts(block)[from as usize..to as usize]),
+        Cut::Bool(truth) => ValueRef::Bool(truth),
+        Cut::Kept => return ColumnPatchRef::Keep,
+    };
+    ColumnPatchRef::Value(value)
 }
 
 // The cut of a column, from 0.
@@ -105,7 +113,7 @@ fn cut_at(block: &[u8], number: usize) -> Cut
     requires packed { IsPacked block.now }
     requires within { number < columns_in block.now }
     ensures is { IsCut (texts_in block.now) result }
-    ensures value { value_in (texts_in block.now) result ≡ value_at (row_in block.now) number }
+    ensures column { column_in (texts_in block.now) result ≡ column_at (patch_in block.now) number }
 {
     let start = cuts_start(block);
     Cut::from_bytes(&block[start + CUT_LEN * number..])

@@ -13,8 +13,8 @@ use Rattle.messages.specs.declared.row.RowMessage.TheVariants.{Insert, Update, D
 use Rattle.model.specs.declared.value.Value.{Value}
 use Rattle.model.specs.declared.change.Change.{Change}
 use Rattle.model.specs.declared.change.Change.TheVariants.{Put, Set, Remove}
-use Rattle.model.specs.declared.change.ColumnPatch.{ColumnPatch}
-use Rattle.model.specs.declared.change.ColumnPatch.TheVariants.{Keep, Null as BecomesNull, Value as Becomes}
+use Rattle.model.specs.declared.patch.ColumnPatch.{ColumnPatch}
+use Rattle.model.specs.declared.patch.ColumnPatch.TheVariants.{Keep, Null as BecomesNull, Value as Becomes}
 use Rattle.model.specs.MappedLemmas.{mapped}
 use Rattle.model.specs.Types.{value_of, value_spelled}
 use Rattle.catalog.specs.First.{IsFirst, IsRefusedFirst}

@@ -10,7 +10,7 @@ use Rattle.model.specs.declared.table_def.Column.{Column as TableColumn}
 use Rattle.model.specs.declared.value.Value.{Value}
 use Rattle.model.specs.declared.change.Change.{Change}
 use Rattle.model.specs.declared.change.Change.TheVariants.{Put, Set, Remove}
-use Rattle.model.specs.declared.change.ColumnPatch.{ColumnPatch}
+use Rattle.model.specs.declared.patch.ColumnPatch.{ColumnPatch}
 use Rattle.relcache.specs.declared.fault.RelFault.{RelFault}
 use Rattle.relcache.specs.declared.fault.RelFault.TheVariants.{UnknownRelation, TableMissing, ColumnMissing, ColumnCount, KeyNotSent, BadValue}
 use Rattle.relcache.specs.declared.mapping.Field.{Field}

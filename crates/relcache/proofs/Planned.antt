@@ -4,7 +4,7 @@ use Rattle.std.specs.Option.{ok_or}
 use Rattle.messages.specs.declared.tuple.Column.{Column}
 use Rattle.model.specs.declared.value.Value.{Value}
 use Rattle.model.specs.declared.change.Change.TheVariants.{Put, Set}
-use Rattle.model.specs.declared.change.ColumnPatch.{ColumnPatch}
+use Rattle.model.specs.declared.patch.ColumnPatch.{ColumnPatch}
 use Rattle.relcache.specs.declared.fault.RelFault.{RelFault}
 use Rattle.relcache.specs.declared.fault.RelFault.TheVariants.{BadValue, KeyNotSent}
 use Rattle.relcache.specs.declared.mapping.Field.{Field}

@@ -13,8 +13,8 @@ use Rattle.model.specs.declared.table_def.Column.{Column}
 use Rattle.model.specs.declared.value.Value.{Value}
 use Rattle.model.specs.declared.change.Change.{Change}
 use Rattle.model.specs.declared.change.Change.TheVariants.{Put, Set, Remove}
-use Rattle.model.specs.declared.change.ColumnPatch.{ColumnPatch}
-use Rattle.model.specs.declared.change.ColumnPatch.TheVariants.{Keep, Null as BecomesNull, Value as Becomes}
+use Rattle.model.specs.declared.patch.ColumnPatch.{ColumnPatch}
+use Rattle.model.specs.declared.patch.ColumnPatch.TheVariants.{Keep, Null as BecomesNull, Value as Becomes}
 use Rattle.model.specs.Definition.{Definition}
 use Rattle.model.specs.Types.{Spells}
 use Rattle.relcache.specs.declared.fault.RelFault.{RelFault}

@@ -1,7 +1,7 @@
 // What the columns of a tuple make: a row, a patch, a key.
 
 ghost use Rattle.std.specs.Prelude.{◌≡◌, option_and_then, ok_or, slice_get};
-ghost use Rattle.relcache.specs.Answer.{Answers, AnswersRead};
+ghost use Rattle.relcache.specs.Answer.{Answers, AnswersPatch, AnswersRead};
 ghost use Rattle.relcache.specs.Planning as spec;
 ghost use Rattle.relcache.specs.declared.fault.RelFault.TheVariants.{BadValue};
 
@@ -9,7 +9,9 @@ use crate::fault::RelFault;
 use crate::mapping::{ColumnSource, Field, Mapping};
 use crate::values::{sent_patch, sent_value};
 use messages::{Column, Tuple};
-use model::{ColumnPatch, ColumnType, Key, Patch, Row, RowBuilder, Value, ValueRef};
+use model::{
+    ColumnPatchRef, ColumnType, Key, Patch, PatchBuilder, Row, RowBuilder, Value, ValueRef,
+};
 use std::alloc::Global;
 
 /// The value of a field; `None` is null.
@@ -23,11 +25,11 @@ fn field_value<'a>(tuple: &'a [Column], field: &Field) -> Result<Option<ValueRef
 }
 
 /// What an update does to a field.
-fn field_patch(alloc: Global, tuple: &[Column], field: &Field) -> Result<ColumnPatch, RelFault>
-    ensures { Answers result (ok_or (spec.field_patch tuple.now field.now) BadValue) }
+fn field_patch<'a>(tuple: &'a [Column], field: &Field) -> Result<ColumnPatchRef<'a>, RelFault>
+    ensures { AnswersPatch result (ok_or (spec.field_patch tuple.now field.now) BadValue) }
 {
     match tuple.get(field.place) {
-        Some(column) => sent_patch(alloc, field.kind, column),
+        Some(column) => sent_patch(field.kind, column),
         None => Err(RelFault::BadValue),
     }
 }
@@ -46,16 +48,15 @@ fn column_value<'a>(
 }
 
 /// A column of an updated row.
-fn column_patch(
-    alloc: Global,
-    tuple: &[Column],
+fn column_patch<'a>(
+    tuple: &'a [Column],
     source: &ColumnSource,
-) -> Result<ColumnPatch, RelFault>
-    ensures { Answers result (ok_or (spec.column_patch tuple.now source.now) BadValue) }
+) -> Result<ColumnPatchRef<'a>, RelFault>
+    ensures { AnswersPatch result (ok_or (spec.column_patch tuple.now source.now) BadValue) }
 {
     match source {
-        ColumnSource::Sent(field) => field_patch(alloc, tuple, field),
-        ColumnSource::Default(_) => Ok(ColumnPatch::Keep),
+        ColumnSource::Sent(field) => field_patch(tuple, field),
+        ColumnSource::Default(_) => Ok(ColumnPatchRef::Keep),
     }
 }
 
@@ -100,16 +101,27 @@ fn sent_len(column: Option<&Column>) -> usize {
     }
 }
 
+/// How many bytes the texts have that are sent, or the greatest number where they are more.
+fn sent_text_len(sources: &[ColumnSource], tuple: &[Column]) -> usize {
+    let mut len: usize = 0;
+    for source in sources {
+        if let ColumnSource::Sent(_) = source {
+            len = len.saturating_add(source_text_len(source, tuple));
+        }
+    }
+    len
+}
+
 /// The patch of an update.
 pub(crate) fn patch_of(alloc: Global, m: &Mapping, tuple: &Tuple) -> Result<Patch, RelFault>
     ensures { Answers result (ok_or (spec.patch_of m.now tuple.now) BadValue) }
 {
     let (sources, tuple) = (m.columns(), tuple.columns());
-    let mut columns = Vec::with_capacity(alloc, sources.len())?;
+    let mut patch = PatchBuilder::with_room(alloc, sources.len(), sent_text_len(sources, tuple))?;
     for source in sources {
-        columns.push(column_patch(alloc, tuple, source)?)?;
+        patch.push(column_patch(tuple, source)?)?;
     }
-    Ok(Patch::from_columns(columns)?)
+    Ok(patch.finish()?)
 }
 
 /// The key that a row is looked up by. A bad value anywhere in it goes before a null.

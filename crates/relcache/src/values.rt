@@ -1,15 +1,14 @@
 // What a tuple's column tells: the value of its text form.
 
 ghost use Rattle.std.specs.Prelude.{◌≡◌, ok_or};
-ghost use Rattle.relcache.specs.Answer.{Answers, AnswersRead};
+ghost use Rattle.relcache.specs.Answer.{AnswersPatch, AnswersRead};
 ghost use Rattle.relcache.specs.Planning as planning;
 ghost use Rattle.relcache.specs.declared.fault.RelFault.TheVariants.{BadValue};
 
 use crate::fault::RelFault;
 use messages::Column;
 use model::types::read_value;
-use model::{ColumnPatch, ColumnType, ValueRef};
-use std::alloc::Global;
+use model::{ColumnPatchRef, ColumnType, ValueRef};
 
 /// The value of a column that must be sent; `None` is null. A text is lent.
 pub(crate) fn sent_value(
@@ -28,19 +27,15 @@ pub(crate) fn sent_value(
     }
 }
 
-/// What an update does to a column. A text is copied.
-pub(crate) fn sent_patch(
-    alloc: Global,
-    kind: ColumnType,
-    column: &Column,
-) -> Result<ColumnPatch, RelFault>
-    ensures { Answers result (ok_or (planning.sent_patch kind column.now) BadValue) }
+/// What an update does to a column. A text is lent.
+pub(crate) fn sent_patch(kind: ColumnType, column: &Column) -> Result<ColumnPatchRef<'_>, RelFault>
+    ensures { AnswersPatch result (ok_or (planning.sent_patch kind column.now) BadValue) }
 {
     match column {
-        Column::Null => Ok(ColumnPatch::Null),
-        Column::Unchanged => Ok(ColumnPatch::Keep),
+        Column::Null => Ok(ColumnPatchRef::Null),
+        Column::Unchanged => Ok(ColumnPatchRef::Keep),
         Column::Text(text) => match read_value(kind, text.as_str()) {
-            Some(value) => Ok(ColumnPatch::Value(value.to_value(alloc)?)),
+            Some(value) => Ok(ColumnPatchRef::Value(value)),
             None => Err(RelFault::BadValue),
         },
     }

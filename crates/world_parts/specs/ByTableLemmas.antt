@@ -19,7 +19,7 @@ use Rattle.model.specs.declared.cell.Cell.{Cell}
 use Rattle.model.specs.declared.cell.Cell.TheVariants.{Whole}
 use Rattle.model.specs.declared.change.Change.{Change}
 use Rattle.model.specs.declared.change.Change.TheVariants.{Put, Set, Remove, Wipe}
-use Rattle.model.specs.declared.change.ColumnPatch.{ColumnPatch}
+use Rattle.model.specs.declared.patch.ColumnPatch.{ColumnPatch}
 use Rattle.model.specs.Rows.{Place, Rows, Schema, place_cmp, place_cmp_total, is_place, keys_at, values_in, key_of, is_key, IsValid}
 use Rattle.model.specs.TableRows.{is_in_table, rows_of_table}
 use Rattle.model.specs.Cells.{table_of, overlaps, row_cell, unique_cell, unique_cells}

@@ -4,7 +4,7 @@ use leader::{
     Change, Changes, End, Entry, Key, KeyValues, Lsn, OutOfMemory, Outcome, RowView, Tables, Value,
     ValueRef, Xid,
 };
-use model::{ColumnPatch, KeptText, TableId};
+use model::{ColumnPatchRef, KeptText, Patch, TableId};
 use std::alloc::Global;
 use std::fmt::Display;
 use std::test::Fail;
@@ -203,7 +203,7 @@ fn is_change(change: &Change, message: &Message) -> bool {
                 patch,
             },
             Message::Update(_, new),
-        ) => { is_key(new.0, key) && is_patch(new, patch.columns()) }
+        ) => { is_key(new.0, key) && is_patch(new, patch) }
         (
             Change::Set {
                 table: ACCOUNTS,
@@ -211,7 +211,7 @@ fn is_change(change: &Change, message: &Message) -> bool {
                 patch,
             },
             Message::UpdateAt(_, _, old, new),
-        ) => { is_key(old.0, key) && is_patch(new, patch.columns()) }
+        ) => { is_key(old.0, key) && is_patch(new, patch) }
         (
             Change::Remove {
                 table: ACCOUNTS,
@@ -224,19 +224,17 @@ fn is_change(change: &Change, message: &Message) -> bool {
     }
 }
 
-fn is_patch(tuple: Tuple, columns: &[ColumnPatch]) -> bool {
-    match columns {
-        [id, email, note] => {
-            is_patched(tuple.0, id) && is_patched(tuple.1, email) && is_patched(tuple.2, note)
-        }
-        _ => false,
-    }
+fn is_patch(tuple: Tuple, patch: &Patch) -> bool {
+    patch.len() == 3
+        && is_patched(tuple.0, patch.column(0))
+        && is_patched(tuple.1, patch.column(1))
+        && is_patched(tuple.2, patch.column(2))
 }
 
-fn is_patched(column: Column, patch: &ColumnPatch) -> bool {
+fn is_patched(column: Column, patch: ColumnPatchRef<'_>) -> bool {
     match patch {
-        ColumnPatch::Keep => matches!(column, Column::Kept),
-        ColumnPatch::Null => matches!(column, Column::Null),
-        ColumnPatch::Value(value) => is_value(column, Some(ValueRef::of(value))),
+        ColumnPatchRef::Keep => matches!(column, Column::Kept),
+        ColumnPatchRef::Null => matches!(column, Column::Null),
+        ColumnPatchRef::Value(value) => is_value(column, Some(value)),
     }
 }

@@ -70,9 +70,9 @@ const ROWS: &str = "\
 49000040014e0002740000000161740000000131 Ok(Item(900, Change { sub: 900, change: Put { table: 0, row: [Some(Int(1)), Some(Text(\"a\")), Some(Text(\"x\"))] } }))\n\
 # An update keeps what is not sent, and has its key from the old tuple, or the new one.\n\
 52000040017075626c6963006163636f756e7473006400020169640000000019ffffffff00656d61696c0000000019ffffffff Ok(Nothing)\n\
-55000040014b00027400000001316e4e000274000000013975 Ok(Item(900, Change { sub: 900, change: Set { table: 0, key: Key { values: Int(1) }, patch: Patch { columns: [Value(Int(9)), Keep, Keep] } } }))\n\
-55000040014e00027400000001376e Ok(Item(900, Change { sub: 900, change: Set { table: 0, key: Key { values: Int(7) }, patch: Patch { columns: [Value(Int(7)), Null, Keep] } } }))\n\
-55000040014e000274000000013175 Ok(Item(900, Change { sub: 900, change: Set { table: 0, key: Key { values: Int(1) }, patch: Patch { columns: [Value(Int(1)), Keep, Keep] } } }))\n\
+55000040014b00027400000001316e4e000274000000013975 Ok(Item(900, Change { sub: 900, change: Set { table: 0, key: Key { values: Int(1) }, patch: [Value(Int(9)), Keep, Keep] } }))\n\
+55000040014e00027400000001376e Ok(Item(900, Change { sub: 900, change: Set { table: 0, key: Key { values: Int(7) }, patch: [Value(Int(7)), Null, Keep] } }))\n\
+55000040014e000274000000013175 Ok(Item(900, Change { sub: 900, change: Set { table: 0, key: Key { values: Int(1) }, patch: [Value(Int(1)), Keep, Keep] } }))\n\
 # A bad value in three columns; no int; an unchanged key; a null in the key; an unchanged value that is inserted.\n\
 55000040014e00037400000001716e6e Err(Rel(ColumnCount))\n\
 55000040014e00027400000001716e Err(Rel(BadValue))\n\

@@ -4,5 +4,5 @@ use Rattle.sqlite.specs.Values.{bound}
 use Rattle.mirror_statements.specs.Asked.{sql_patch}
 use Rattle.mirror_statements.proofs.values.push_patch.Given as goal
 
-abbrev pub invariant-loop-column : goal.invariant-loop-column
-invariant-loop-column l = bound l.into.items ≡ bound l.fn.into.items ++ flat_map sql_patch (take l.column-index l.columns)
+abbrev pub invariant-loop-number : goal.invariant-loop-number
+invariant-loop-number l = bound l.into.items ≡ bound l.fn.into.items ++ flat_map sql_patch (take l.number l.patch)

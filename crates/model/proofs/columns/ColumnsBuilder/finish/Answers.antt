@@ -2,9 +2,9 @@ use Rattle.std.proofs.Common.{◌≡◌, ◌∙◌, sym, ap, subst, ◌++◌, Li
 use Rattle.std.specs.Arc.{arc_slice_items}
 use Rattle.std.specs.Prelude.{string_bytes}
 use Rattle.std.proofs.lemmas.Str.{IsUtf8-string_bytes}
-use Rattle.model.specs.Packed.{row_in, IsPacked}
-use Rattle.model.proofs.Blocks.{whole, is_packed, packed_values}
-use Rattle.model.proofs.row.RowBuilder.finish.Goals as goal
+use Rattle.model.specs.Packed.{patch_in, IsPacked}
+use Rattle.model.proofs.Blocks.{whole, is_packed, packed_columns}
+use Rattle.model.proofs.columns.ColumnsBuilder.finish.Goals as goal
 
 -- the block is the texts, the cuts and their number
 built : (c : goal.In_ok-from_vec) → arc_slice_items c.in_ok-from_vec.field-0 ≡ whole (string_bytes c.self.inside.texts) c.self.inside.cuts.items c.self.inside.columns c.self.invariant
@@ -18,4 +18,4 @@ pub invariant_of-result : goal.invariant_of-result
 invariant_of-result c = subst (λ (block : List ℕ). IsPacked block) (sym (built c)) (is_packed _ _ _ c.self.invariant (IsUtf8-string_bytes c.self.inside.texts))
 
 pub returns : goal.returns
-returns c = ap row_in (built c.before) ∙ packed_values _ _ _ c.self.invariant ∙ c.self.view_is
+returns c = ap patch_in (built c.before) ∙ packed_columns _ _ _ c.self.invariant ∙ c.self.view_is

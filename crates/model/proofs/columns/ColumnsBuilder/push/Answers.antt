@@ -1,10 +1,10 @@
 use Rattle.std.proofs.Common.{◌≡◌, ◌∙◌, sym, ap, subst, arith, suc, ◌+◌, ◌++◌, ◌∷◌, [], map, length, length-append, List, ℕ}
 use Rattle.std.specs.Prelude.{string_bytes}
 use Rattle.model.specs.declared.packed.Cut.{Cut}
-use Rattle.model.specs.Packed.{value_in, AreCuts, cuts_of}
+use Rattle.model.specs.Packed.{column_in, AreCuts, cuts_of}
 use Rattle.model.proofs.Blocks.{cut_more}
-use Rattle.model.proofs.Cuts.{all_kept, values_kept, one_more, value_more}
-use Rattle.model.proofs.row.RowBuilder.push.Goals as goal
+use Rattle.model.proofs.Cuts.{all_kept, columns_kept, one_more, column_more}
+use Rattle.model.proofs.columns.ColumnsBuilder.push.Goals as goal
 
 -- the bytes have one cut more
 more : (c : goal.After-self-1) → cuts_of c.in-Some.columns c.extend_from_slice.new.self.items ≡ cuts_of c.self.inside.columns c.self.inside.cuts.items ++ c.in_ok-cut.cut ∷ []
@@ -26,6 +26,6 @@ pub returns : goal.returns
 returns c =
     let texts = string_bytes c.add_cut.new.texts in
     let cuts = cuts_of c.self.inside.columns c.self.inside.cuts.items in
-    ap (map (value_in texts)) (more c) ∙ value_more texts cuts c.in_ok-cut.cut
-    ∙ ap (λ vs. vs ++ value_in texts c.in_ok-cut.cut ∷ []) (values_kept _ texts cuts c.add_cut.ensures.kept c.self.invariant.2 ∙ c.self.view_is)
+    ap (map (column_in texts)) (more c) ∙ column_more texts cuts c.in_ok-cut.cut
+    ∙ ap (λ vs. vs ++ column_in texts c.in_ok-cut.cut ∷ []) (columns_kept _ texts cuts c.add_cut.ensures.kept c.self.invariant.2 ∙ c.self.view_is)
     ∙ ap (λ v. c.args.self.now ++ v ∷ []) c.in_ok-cut.ensures.ok.1
