@@ -29,8 +29,11 @@ pub enum ColumnPatch {
 /// What an update does to a column, as it is read. A text is lent.
 #[derive(Clone, Copy, Debug)]
 pub enum ColumnPatchRef<'a> {
+    /// The column stays as it is.
     Keep,
+    /// The column becomes null.
     Null,
+    /// The column gets this value.
     Value(ValueRef<'a>),
 }
 
