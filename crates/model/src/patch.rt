@@ -1,5 +1,5 @@
 // What an update does to a row.
-ghost use Rattle.std.specs.Prelude.{◌≡◌, ◌∷◌, ◌++◌, [], None, length, IfOk, OnOk};
+ghost use Rattle.std.specs.Prelude.{◌≡◌, ◌∷◌, ◌++◌, [], None, false, length, IfOk, OnOk};
 ghost use Rattle.std.specs.List.{list_any};
 ghost use Rattle.std.specs.Option.{option_map};
 ghost use Rattle.model.specs.Patch.{read_column, column_at, patch_value, is_kept, all_given};
@@ -51,7 +51,8 @@ impl<'a> ColumnPatchRef<'a> {
 
     /// The column becomes this; `None` is null.
     pub fn of_value(value: Option<ValueRef<'a>>) -> ColumnPatchRef<'a>
-        ensures { patch_value (read_column result) None ≡ option_map read_value value.entry }
+        ensures given { is_kept (read_column result) ≡ false }
+        ensures value { patch_value (read_column result) None ≡ option_map read_value value.entry }
     {
         match value {
             None => ColumnPatchRef::Null,
