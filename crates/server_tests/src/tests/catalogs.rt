@@ -110,23 +110,29 @@ fn an_old_server_and_a_publication_that_is_not_there(rt: HostRuntime) -> Result<
     Ok(())
 }
 
+fn assert_plain(alloc: Global, toml: &str) -> Result<(), Fail> {
+    let mut want = String::from_str(alloc, ODD)?;
+    want.push_str(CATALOG)?;
+    assert_same(toml, want.as_str(), "plain")?;
+    assert_holds(toml::table_from_str(alloc, toml).is_ok(), "plain")
+}
+
+/// Asserts that names in notes are shown, and that there is one of each of five columns, five keys, two
+/// tables of the first three, the filter, and the last table.
+fn assert_notes(notes: &[String]) -> Result<(), Fail> {
+    let is_shown = notes
+        .iter()
+        .any(|note| note.as_str().find("odd \"\\\\u000A").is_some());
+    assert_holds(is_shown, "shown")?;
+    assert_same(notes.len(), 15, "notes")
+}
+
 #[test]
 fn what_is_kept_and_what_is_left_out(rt: HostRuntime) -> Result<(), Fail> {
     let answers = asked(rt.alloc(), &SHOP)??;
     let plain = print(rt.alloc(), &answers, false)?;
-    let mut want = String::from_str(rt.alloc(), ODD)?;
-    want.push_str(CATALOG)?;
-    assert_same(plain.toml.as_str(), want.as_str(), "plain")?;
-    // Names in them are shown.
-    let is_shown = plain
-        .notes
-        .iter()
-        .any(|note| note.as_str().find("odd \"\\\\u000A").is_some());
-    assert_holds(is_shown, "shown")?;
-    // Five columns, five keys, two tables of the first three, the filter, and the last table.
-    assert_same(plain.notes.len(), 15, "notes")?;
-    let toml = plain.toml.as_str();
-    assert_holds(toml::table_from_str(rt.alloc(), toml).is_ok(), "plain")
+    assert_plain(rt.alloc(), plain.toml.as_str())?;
+    assert_notes(plain.notes.as_slice())
 }
 
 /// What stands in the catalog where columns of other types are kept as text, and what doesn't.
@@ -137,15 +143,20 @@ static PARTS: [(&str, bool); 4] = [
     ("[\"email\"], [\"price\"]]", true),
 ];
 
+fn assert_parts(toml: &str) -> Result<(), Fail> {
+    for (part, want) in &PARTS {
+        assert_same(toml.find(*part).is_some(), *want, *part)?;
+    }
+    Ok(())
+}
+
 #[test]
 fn what_is_kept_as_text(rt: HostRuntime) -> Result<(), Fail> {
     let answers = asked(rt.alloc(), &SHOP)??;
     let printed = print(rt.alloc(), &answers, true)?;
-    let toml = printed.toml.as_str();
-    for (part, want) in &PARTS {
-        assert_same(toml.find(*part).is_some(), *want, *part)?;
-    }
-    assert_holds(toml::table_from_str(rt.alloc(), toml).is_ok(), "as text")
+    assert_parts(printed.toml.as_str())?;
+    let read = toml::table_from_str(rt.alloc(), printed.toml.as_str());
+    assert_holds(read.is_ok(), "as text")
 }
 
 /// What has just the tables and columns that are kept. Its first name has characters that SQL or a terminal
@@ -232,6 +243,19 @@ fn fitted(alloc: Global, entry: &str) -> Result<String, Fail> {
     )?)
 }
 
+/// Asserts that the statement is this one, or that there is none.
+fn assert_fitted(
+    alloc: Global,
+    statement: Option<&str>,
+    entry: Option<&str>,
+    case: usize,
+) -> Result<(), Fail> {
+    match entry {
+        Some(entry) => assert_same(statement, Some(fitted(alloc, entry)?.as_str()), case),
+        None => assert_same(statement, None, case),
+    }
+}
+
 /// Whether a note says that no publication fits.
 fn is_named(notes: &[String]) -> bool {
     notes.iter().any(|note| note.as_str().find("CREATE PUBLICATION lacks it").is_some())
@@ -242,11 +266,7 @@ fn a_table_that_no_publication_fits_is_named(rt: HostRuntime) -> Result<(), Fail
     for (case, (answers, entry)) in FITTED.iter().enumerate() {
         let answers = asked(rt.alloc(), answers)??;
         let printed = print(rt.alloc(), &answers, false)?;
-        let want = match entry {
-            Some(entry) => Some(fitted(rt.alloc(), *entry)?),
-            None => None,
-        };
-        assert_same(printed.statement.as_deref(), want.as_deref(), case)?;
+        assert_fitted(rt.alloc(), printed.statement.as_deref(), *entry, case)?;
         assert_same(is_named(printed.notes.as_slice()), entry.is_none(), case)?;
     }
     Ok(())

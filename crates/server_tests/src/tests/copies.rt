@@ -96,31 +96,42 @@ fn spell_answers(alloc: Global) -> Result<Vec<u8>, Fail> {
     Ok(input)
 }
 
-#[test]
-fn rows_that_are_there_are_a_transaction(rt: HostRuntime) -> Result<(), Fail> {
-    let input = spell_answers(rt.alloc())?;
-    let mut sent = Vec::new(rt.alloc());
-    let mut put = Vec::new(rt.alloc());
+/// Copies the rows of a server that answers so: what it was asked, and the frames.
+fn copied(alloc: Global, sent: &mut Vec<u8>, put: &mut Vec<u8>) -> Result<Relayed, Fail> {
+    let input = spell_answers(alloc)?;
     let mut relayed = Relayed::NOTHING;
-    let mut connection = connect(input.as_slice(), 50, Behind::Close, &mut sent)?;
-    let mut frames = Frames(&mut put);
-    copy_rows(&mut connection, "p", 16, &mut frames, &mut relayed)?;
-    drop(frames);
-    drop(connection);
-    let want = spell(rt.alloc(), &[&COPIED])?;
-    assert_same(put.as_slice(), want.as_slice(), "copied")?;
+    let mut connection = connect(input.as_slice(), 50, Behind::Close, sent)?;
+    copy_rows(&mut connection, "p", 16, &mut Frames(put), &mut relayed)?;
+    Ok(relayed)
+}
+
+fn assert_copied(alloc: Global, put: &[u8], relayed: Relayed) -> Result<(), Fail> {
+    let want = spell(alloc, &[&COPIED])?;
+    assert_same(put, want.as_slice(), "copied")?;
     let all = Relayed {
         frames: COPIED.len() as u64,
         bytes: want.len() as u64,
         position: 16,
         committed: 16,
     };
-    assert_same(relayed, all, "relayed")?;
-    let asked = String::from_utf8_lossy(rt.alloc(), sent.as_slice())?;
+    assert_same(relayed, all, "relayed")
+}
+
+fn assert_asked(alloc: Global, sent: &[u8]) -> Result<(), Fail> {
+    let asked = String::from_utf8_lossy(alloc, sent)?;
     for copy in &COPIES {
         assert_holds(asked.as_str().find(*copy).is_some(), *copy)?;
     }
     Ok(())
+}
+
+#[test]
+fn rows_that_are_there_are_a_transaction(rt: HostRuntime) -> Result<(), Fail> {
+    let mut sent = Vec::new(rt.alloc());
+    let mut put = Vec::new(rt.alloc());
+    let relayed = copied(rt.alloc(), &mut sent, &mut put)?;
+    assert_copied(rt.alloc(), put.as_slice(), relayed)?;
+    assert_asked(rt.alloc(), sent.as_slice())
 }
 
 /// What a captured file has behind its title: a transaction, and streamed ones, of which one commits, one
@@ -222,24 +233,39 @@ fn edge_at(count: usize) -> (usize, &'static [u32], u64) {
     last
 }
 
+/// The title, and these messages.
+fn captured(alloc: Global) -> Result<Vec<u8>, Fail> {
+    let mut file = TITLE.to_vec(alloc)?;
+    file.extend_from_slice(spell(alloc, &[&CAPTURED])?.as_slice())?;
+    Ok(file)
+}
+
+/// Asserts that a file is kept up to its last edge.
+fn assert_kept(alloc: Global, file: &[u8]) -> Result<(), Fail> {
+    let (kept, is_copied) = read_kept(alloc, file, TITLE, b"")?;
+    let (length, open, committed) = edge_at(file.len());
+    assert_same(kept.length, length as u64, file.len())?;
+    assert_same(kept.open.as_slice(), open, file.len())?;
+    assert_same((kept.committed, is_copied), (committed, false), file.len())
+}
+
+/// Asserts that nothing is kept of what stands behind the last edge.
+fn assert_tail(alloc: Global, file: &[u8], tail: &[u8]) -> Result<(), Fail> {
+    let mut longer = file.to_vec(alloc)?;
+    longer.extend_from_slice(tail)?;
+    let (kept, is_copied) = read_kept(alloc, longer.as_slice(), b"", TITLE)?;
+    let last = EDGES[EDGES.len() - 1].0 as u64;
+    assert_same((kept.length, is_copied), (last, true), tail.len())
+}
+
 #[test]
 fn a_file_that_is_cut_anywhere_is_kept_to_an_edge(rt: HostRuntime) -> Result<(), Fail> {
-    let mut file = TITLE.to_vec(rt.alloc())?;
-    file.extend_from_slice(spell(rt.alloc(), &[&CAPTURED])?.as_slice())?;
+    let file = captured(rt.alloc())?;
     for count in TITLE.len()..=file.len() {
-        let bytes = file.as_slice().get(..count).unwrap_or(&[]);
-        let (kept, is_copied) = read_kept(rt.alloc(), bytes, TITLE, b"")?;
-        let (length, open, committed) = edge_at(count);
-        assert_same(kept.length, length as u64, count)?;
-        assert_same(kept.open.as_slice(), open, count)?;
-        assert_same((kept.committed, is_copied), (committed, false), count)?;
+        assert_kept(rt.alloc(), file.as_slice().get(..count).unwrap_or(&[]))?;
     }
-    for (case, tail) in TAILS.iter().enumerate() {
-        let mut file = file.clone()?;
-        file.extend_from_slice(*tail)?;
-        let (kept, is_copied) = read_kept(rt.alloc(), file.as_slice(), b"", TITLE)?;
-        let last = EDGES[EDGES.len() - 1].0 as u64;
-        assert_same((kept.length, is_copied), (last, true), case)?;
+    for tail in &TAILS {
+        assert_tail(rt.alloc(), file.as_slice(), *tail)?;
     }
     Ok(())
 }

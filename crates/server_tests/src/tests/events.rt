@@ -180,17 +180,27 @@ fn tell_once<R: Net<Stream = TcpStream> + Clock + RandomSource + Eprint>(
 }
 
 /// What a server is asked where a line is due.
-fn asked<R>(alloc: Global, rt: &R, at: &At, said: &[Vec<u8>]) -> Result<Vec<u8>, Fail>
+fn asked<R>(alloc: Global, rt: &R, at: &At) -> Result<Vec<u8>, Fail>
 where
     R: Threads + Net<Stream = TcpStream> + Clock + RandomSource + Eprint + Sync,
 {
+    let said = [spell_words(alloc, &(&[SYSTEM], &[]))?];
+    let words: &[Vec<u8>] = &said;
     let (heard, answer) = thread::join(
         rt,
-        move || tell(alloc, &at.listener, said),
+        move || tell(alloc, &at.listener, words),
         move || tell_once(alloc, rt, &at.server, 0),
     );
     assert_holds(answer?, "goes on")?;
     Ok(heard?)
+}
+
+/// Asserts that what a server heard has the question.
+fn assert_asked(alloc: Global, heard: &[u8]) -> Result<(), Fail> {
+    let want = spell(alloc, &[&[(b'Q', b"IDENTIFY_SYSTEM\0")]])?;
+    let text = String::from_utf8_lossy(alloc, heard)?;
+    let wanted = String::from_utf8_lossy(alloc, want.as_slice())?;
+    assert_holds(text.as_str().find(wanted.as_str()).is_some(), "asked")
 }
 
 #[test]
@@ -198,12 +208,8 @@ fn the_end_of_the_log_is_asked_where_a_line_is_due(rt: HostRuntime) -> Result<()
     let at = At::new(&rt, "events")?;
     // Nobody asks yet: there is no answer.
     assert_holds(tell_once(rt.alloc(), &rt, &at.server, 60_000)?, "goes on")?;
-    let said = [spell_words(rt.alloc(), &(&[SYSTEM], &[]))?];
-    let heard = asked(rt.alloc(), &rt, &at, &said)?;
-    let want = spell(rt.alloc(), &[&[(b'Q', b"IDENTIFY_SYSTEM\0")]])?;
-    let text = String::from_utf8_lossy(rt.alloc(), heard.as_slice())?;
-    let wanted = String::from_utf8_lossy(rt.alloc(), want.as_slice())?;
-    assert_holds(text.as_str().find(wanted.as_str()).is_some(), "asked")?;
+    let heard = asked(rt.alloc(), &rt, &at)?;
+    assert_asked(rt.alloc(), heard.as_slice())?;
     fs::remove_file(&rt, at.socket.as_str())?;
     Ok(())
 }

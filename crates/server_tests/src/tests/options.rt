@@ -106,10 +106,9 @@ fn a_place_is_two_halves(rt: HostRuntime) -> Result<(), Fail> {
     assert_same(found, (Some(0x1_0000_002a), Some(7000)), "bounds")
 }
 
-/// The server of options for the port and how to log in, and of variables for the host, TLS, the password,
-/// other ways to log in and who is logged in.
-fn chosen(alloc: Global) -> Result<Server, Fail> {
-    let variables = Variables {
+/// Variables for the host, TLS, the password, other ways to log in and who is logged in.
+fn set_variables(alloc: Global) -> Result<Variables, Fail> {
+    Ok(Variables {
         parts: Parts {
             host: Some(String::from_str(alloc, "db.example")?),
             ways: Some(Ways::NONE),
@@ -120,12 +119,17 @@ fn chosen(alloc: Global) -> Result<Server, Fail> {
             text: String::from_str(alloc, "secret")?,
         }),
         login: Some(String::from_str(alloc, "carol")?),
-    };
+    })
+}
+
+/// The server of options for the port and how to log in, and of these variables.
+fn chosen(alloc: Global) -> Result<Server, Fail> {
     let line = "publisher catalog --publication p --port 5433 --require-auth md5 --allow-cleartext";
     let words = words(alloc, line)?;
     let options = publisher_command::parse(alloc, words.as_slice())
         .ok()
         .ok_or("refused")?;
+    let variables = set_variables(alloc)?;
     Ok(publisher_command::choose_server(alloc, &options, &variables)?.ok_or("no user")?)
 }
 
@@ -138,10 +142,10 @@ const MD5: Ways = Ways {
 #[test]
 fn options_go_before_variables(rt: HostRuntime) -> Result<(), Fail> {
     let server = chosen(rt.alloc())?;
-    assert_same(server.host.as_str(), "db.example", "host")?;
-    assert_same(server.port.as_str(), "5433", "port")?;
-    assert_same(server.user.as_str(), "carol", "user")?;
-    assert_same(server.database.as_str(), "carol", "database")?;
+    let place = (server.host.as_str(), server.port.as_str());
+    assert_same(place, ("db.example", "5433"), "host and port")?;
+    let names = (server.user.as_str(), server.database.as_str());
+    assert_same(names, ("carol", "carol"), "user and database")?;
     assert_same(server.ways, MD5, "ways")?;
     assert_holds(server.tls && server.clear_text, "TLS and clear text")?;
     let password = server.password.as_ref().ok_or("no password")?;

@@ -231,17 +231,37 @@ static CASES: [Case; 19] = [
 
 /// What a server says on a connection.
 pub fn spell_words(alloc: Global, words: &Words) -> Result<Vec<u8>, Fail> {
-    let mut out = Vec::new(alloc);
-    out.extend_from_slice(WELCOME)?;
     let (rows, messages) = words;
-    for row in *rows {
-        if !row.is_empty() {
-            say_row(&mut out, *row)?;
-        }
-        say(&mut out, b'Z', b"I")?;
-    }
+    let mut out = WELCOME.to_vec(alloc)?;
+    say_answers(&mut out, *rows)?;
     out.extend_from_slice(spell(alloc, &[*messages])?.as_slice())?;
     Ok(out)
+}
+
+/// The answer to one question after another, of one row or none.
+fn say_answers(out: &mut Vec<u8>, rows: &[&str]) -> Result<(), Fail> {
+    for row in rows {
+        if !row.is_empty() {
+            say_row(out, *row)?;
+        }
+        say(out, b'Z', b"I")?;
+    }
+    Ok(())
+}
+
+/// What it says on one connection after another.
+pub fn spell_each(alloc: Global, connections: &[Words]) -> Result<Vec<Vec<u8>>, Fail> {
+    let mut said = Vec::new(alloc);
+    for words in connections {
+        said.push(spell_words(alloc, words)?)?;
+    }
+    Ok(said)
+}
+
+/// Asserts that a server heard this question.
+pub fn assert_asked(alloc: Global, heard: &[u8], want: &str, number: usize) -> Result<(), Fail> {
+    let text = String::from_utf8_lossy(alloc, heard)?;
+    assert_holds(text.as_str().find(want).is_some(), number)
 }
 
 /// Says this on one connection after another, and answers what was heard on the last.
@@ -268,16 +288,18 @@ pub struct Place {
 impl Place {
     /// A run that failed may have left its files there: this one's have names of its own.
     pub fn new(rt: &HostRuntime, test: &str) -> Result<Place, Fail> {
-        let alloc = rt.alloc();
         let folder = env::temp_dir(rt)?;
-        let folder = folder.as_str();
-        let port = format!(in alloc; "{test}-{}", process::id(rt.process()))?;
-        let socket = format!(in alloc; "{folder}/.s.PGSQL.{port}")?;
+        let port = format!(in rt.alloc(); "{test}-{}", process::id(rt.process()))?;
+        Place::at(rt, folder.as_str(), port.as_str())
+    }
+
+    fn at(rt: &HostRuntime, folder: &str, port: &str) -> Result<Place, Fail> {
+        let socket = format!(in rt.alloc(); "{folder}/.s.PGSQL.{port}")?;
         Ok(Place {
-            server: server_at(alloc, folder, port.as_str())?,
+            server: server_at(rt.alloc(), folder, port)?,
             listener: UnixListener::bind(rt, socket.as_str())?,
             socket,
-            file: format!(in alloc; "{folder}/stream-{port}")?,
+            file: format!(in rt.alloc(); "{folder}/stream-{port}")?,
         })
     }
 
@@ -308,8 +330,7 @@ fn run_case<'a, R>(
     alloc: Global,
     rt: &'a R,
     place: &'a Place,
-    case: Case,
-    said: &'a [Vec<u8>],
+    case: &Case,
 ) -> Result<(String, Vec<u8>), Fail>
 where
     R: Threads
@@ -319,6 +340,9 @@ where
         + Files<File = File>
         + Eprint,
 {
+    let said = spell_each(alloc, case.words)?;
+    let words = said.as_slice();
+    let serves = case.serves;
     let asked = place.subscription(case.creates, case.copies);
     let path = place.file.as_str();
     let destination = if case.appends {
@@ -328,9 +352,9 @@ where
     };
     let (heard, answer) = thread::join(
         rt,
-        move || tell(alloc, &place.listener, said),
+        move || tell(alloc, &place.listener, words),
         move || {
-            if case.serves {
+            if serves {
                 serve(alloc, rt, &asked, &ANYWHERE)
             } else {
                 capture(alloc, rt, &asked, destination, Bounds::NONE)
@@ -404,16 +428,11 @@ fn assert_file(rt: &HostRuntime, place: &Place, case: &Case, number: usize) -> R
 fn slots_and_files_of_commands(rt: HostRuntime) -> Result<(), Fail> {
     let place = Place::new(&rt, "slots")?;
     for (number, case) in CASES.iter().enumerate() {
-        let mut said = Vec::new(rt.alloc());
-        for words in case.words {
-            said.push(spell_words(rt.alloc(), words)?)?;
-        }
         leave_file(&rt, &place, &case.left)?;
         let _other = hold_file(&rt, &place, case)?;
-        let (name, heard) = run_case(rt.alloc(), &rt, &place, *case, said.as_slice())?;
+        let (name, heard) = run_case(rt.alloc(), &rt, &place, case)?;
         assert_same(name.as_str(), case.fault, number)?;
-        let text = String::from_utf8_lossy(rt.alloc(), heard.as_slice())?;
-        assert_holds(text.as_str().find(case.asked).is_some(), number)?;
+        assert_asked(rt.alloc(), heard.as_slice(), case.asked, number)?;
         assert_file(&rt, &place, case, number)?;
     }
     leave_file(&rt, &place, &None)?;

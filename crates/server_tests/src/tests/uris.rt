@@ -94,15 +94,24 @@ fn modes_that_ask_for_tls(rt: HostRuntime) -> Result<(), Fail> {
     Ok(())
 }
 
-/// The server of these words and no variables but who is logged in.
-fn server_of(alloc: Global, database: &str) -> Result<Option<Server>, Fail> {
+/// The words of a command for this database.
+fn words_for(alloc: Global, database: &str) -> Result<Vec<String>, Fail> {
     let line = format!(in alloc; "publisher catalog --publication p --port 1 --dbname {database}")?;
-    let words = words(alloc, line.as_str())?;
-    let variables = Variables {
+    words(alloc, line.as_str())
+}
+
+/// No variables but who is logged in.
+fn logged_in(alloc: Global) -> Result<Variables, Fail> {
+    Ok(Variables {
         parts: NOTHING_SAID,
         password: None,
         login: Some(String::from_str(alloc, "carol")?),
-    };
+    })
+}
+
+/// The server of both, unless the command is refused.
+fn server_of(alloc: Global, database: &str) -> Result<Option<Server>, Fail> {
+    let words = words_for(alloc, database)?;
     let Ok(options) = parse(alloc, words.as_slice()) else {
         return Ok(None);
     };
@@ -110,6 +119,7 @@ fn server_of(alloc: Global, database: &str) -> Result<Option<Server>, Fail> {
         matches!(options.job, Job::Catalog { .. }),
         "another command",
     )?;
+    let variables = logged_in(alloc)?;
     Ok(choose_server(alloc, &options, &variables)?)
 }
 
@@ -197,23 +207,31 @@ static FILE_MODES: [(u32, bool); 5] = [
     (0o620, false),
 ];
 
+/// Where a password file of this test may lie.
+fn passfile(rt: &HostRuntime) -> Result<String, Fail> {
+    let folder = env::temp_dir(rt)?;
+    let number = process::id(rt.process());
+    Ok(format!(in rt.alloc(); "{}/passfile-{number}", folder.as_str())?)
+}
+
 #[test]
 fn a_password_file_is_its_owners_alone(rt: HostRuntime) -> Result<(), Fail> {
-    let folder = env::temp_dir(&rt)?;
-    let folder = folder.as_str();
-    let number = process::id(rt.process());
-    let path = format!(in rt.alloc(); "{folder}/passfile-{number}")?;
-    let path = path.as_str();
-    fs::write(&rt, path, b"*:*:*:*:secret")?;
+    let path = passfile(&rt)?;
+    fs::write(&rt, path.as_str(), b"*:*:*:*:secret")?;
     for (mode, want) in &FILE_MODES {
-        fs::set_permissions(&rt, path, Permissions::from_mode(*mode))?;
-        let found = read_passfile(rt.alloc(), &rt, path)?;
+        fs::set_permissions(&rt, path.as_str(), Permissions::from_mode(*mode))?;
+        let found = read_passfile(rt.alloc(), &rt, path.as_str())?;
         assert_same(found.is_empty(), !*want, *mode)?;
     }
-    fs::remove_file(&rt, path)?;
-    assert_holds(read_passfile(rt.alloc(), &rt, path)?.is_empty(), "no file")?;
-    // What can't be read: of the second the first byte is none of this process.
-    for path in [folder, "/proc/self/mem"] {
+    fs::remove_file(&rt, path.as_str())?;
+    let found = read_passfile(rt.alloc(), &rt, path.as_str())?;
+    assert_holds(found.is_empty(), "no file")
+}
+
+/// What can't be read has no passwords: of the second the first byte is none of this process.
+#[test]
+fn a_password_file_that_cannot_be_read(rt: HostRuntime) -> Result<(), Fail> {
+    for path in ["/", "/proc/self/mem"] {
         assert_holds(read_passfile(rt.alloc(), &rt, path)?.is_empty(), path)?;
     }
     Ok(())
