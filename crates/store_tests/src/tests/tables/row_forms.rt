@@ -140,23 +140,40 @@ fn are_alike<A: RowStore, B: RowStore>(one: &A, other: &B, count: usize) -> bool
     others.next().is_none() && found == count
 }
 
-#[test]
-fn both_forms_undo_alike_to_each_mark(rt: HostRuntime) -> Result<(), Fail> {
-    let alloc = rt.alloc();
-    let mut ordered = OrderedRows::new(alloc);
-    let mut of_ordered = run_changes(alloc, &mut ordered)?;
-    let mut hashed: HashedRows = HashedRows::new(alloc);
-    let mut of_hashed = run_changes(alloc, &mut hashed)?;
-    let all = PUTS + REMOVES + 1;
-    assert_holds(
-        are_alike(&ordered, &hashed, 0) && of_ordered.len() == all,
-        "all changes",
-    )?;
+/// A store, and what takes its changes back.
+#[derive(Drop)]
+struct Played<S: RowStore> {
+    store: S,
+    undos: Vec<Undo<S>>,
+}
+
+/// An empty store once all changes were made.
+fn changed<S: RowStore>(alloc: Global, mut store: S) -> Result<Played<S>, OutOfMemory> {
+    let undos = run_changes(alloc, &mut store)?;
+    Ok(Played { store, undos })
+}
+
+/// At each mark they have the same rows.
+fn undo_alike<A: RowStore, B: RowStore>(
+    one: &mut Played<A>,
+    other: &mut Played<B>,
+) -> Result<(), Fail> {
     for back in 0..(PUTS + REMOVES) / APART + 1 {
         let mark = PUTS + REMOVES - back * APART;
-        undo_to(&mut ordered, &mut of_ordered, mark);
-        undo_to(&mut hashed, &mut of_hashed, mark);
-        assert_holds(are_alike(&ordered, &hashed, count_after(mark)), mark)?;
+        undo_to(&mut one.store, &mut one.undos, mark);
+        undo_to(&mut other.store, &mut other.undos, mark);
+        let is_alike = are_alike(&one.store, &other.store, count_after(mark));
+        assert_holds(is_alike, mark)?;
     }
     Ok(())
+}
+
+#[test]
+fn both_forms_undo_alike_to_each_mark(rt: HostRuntime) -> Result<(), Fail> {
+    let mut ordered = changed(rt.alloc(), OrderedRows::new(rt.alloc()))?;
+    let mut hashed = changed::<HashedRows>(rt.alloc(), HashedRows::new(rt.alloc()))?;
+    let is_alike = are_alike(&ordered.store, &hashed.store, 0);
+    let all = PUTS + REMOVES + 1;
+    assert_holds(is_alike && ordered.undos.len() == all, "all changes")?;
+    undo_alike(&mut ordered, &mut hashed)
 }

@@ -1,10 +1,11 @@
 // That the calls succeed with ample memory, and that all forms of a store answer alike.
+use crate::tests::asserts::{assert_holds, assert_same};
 use model::{KeptText, Key, OutOfMemory, Row, Value, ValueRef};
 use rows::{HashedRows, OrderedRows, RowStore};
 use std::alloc::Global;
 use std::collections::hash_map::RandomState;
 use std::fmt::Write;
-use std::process::Abort;
+use std::hash::BuildHasher;
 use std::test::Fail;
 
 /// A row of a number, a text of it, a truth and a null.
@@ -50,19 +51,30 @@ fn take_rows<S: RowStore>(alloc: Global, store: &mut S, count: i64) -> Result<()
     Ok(())
 }
 
-/// All rows in key order, and which of some keys have a slot.
-fn show<S: RowStore>(alloc: Global, store: &S) -> Result<String, OutOfMemory> {
-    let mut out = String::new(alloc);
+/// All rows in key order.
+fn show_rows<S: RowStore>(store: &S, out: &mut String) -> Result<(), OutOfMemory> {
     for row in store.walk() {
         let row = row.to_row()?;
         write!(out, "{row:?}\n")?;
     }
+    Ok(())
+}
+
+/// Which of some keys have a row, and a slot.
+fn show_keys<S: RowStore>(alloc: Global, store: &S, out: &mut String) -> Result<(), OutOfMemory> {
     for number in 0..12 {
         let key = key(alloc, number)?;
         let has_row = store.get(&key).is_some();
         let has_slot = store.slot(&key).is_some();
         write!(out, "{number}: {has_row} {has_slot}\n")?;
     }
+    Ok(())
+}
+
+fn show<S: RowStore>(alloc: Global, store: &S) -> Result<String, OutOfMemory> {
+    let mut out = String::new(alloc);
+    show_rows(store, &mut out)?;
+    show_keys(alloc, store, &mut out)?;
     Ok(out)
 }
 
@@ -77,40 +89,55 @@ fn run<S: RowStore>(alloc: Global, store: &mut S) -> Result<String, OutOfMemory>
     Ok(out)
 }
 
-#[test]
-fn all_stores_answer_alike(rt: HostRuntime) -> Result<(), Fail> {
-    let alloc = rt.alloc();
-    let ordered = run(alloc, &mut OrderedRows::new(alloc))?;
-    let mut fixed: HashedRows = HashedRows::new(alloc);
-    let hashed = run(alloc, &mut fixed)?;
-    assert!(rt; ordered.as_str() == hashed.as_str());
-    let mut seeded: HashedRows<RandomState> = HashedRows::with_hasher(
-        alloc,
-        RandomState::new(&rt)?,
-    );
-    let others = run(alloc, &mut seeded)?;
-    assert!(rt; ordered.as_str() == others.as_str(), "whatever the hasher");
-    Ok(())
+/// The same of a store with a hasher.
+fn run_hashed<H: BuildHasher + Copy + Drop>(
+    alloc: Global,
+    hasher: H,
+) -> Result<String, OutOfMemory> {
+    run(alloc, &mut HashedRows::with_hasher(alloc, hasher))
 }
 
 #[test]
-fn a_row_gives_its_values_back(rt: HostRuntime) -> Result<(), Fail> {
-    let alloc = rt.alloc();
-    let texts = ["", "a", "\u{e4}\u{20ac}", "", "z"];
+fn all_stores_answer_alike(rt: HostRuntime) -> Result<(), Fail> {
+    let ordered = run(rt.alloc(), &mut OrderedRows::new(rt.alloc()))?;
+    let hashed = run::<HashedRows>(rt.alloc(), &mut HashedRows::new(rt.alloc()))?;
+    assert_same(&rt, hashed.as_str(), ordered.as_str(), "hashed");
+    let seeded = run_hashed(rt.alloc(), RandomState::new(&rt)?)?;
+    assert_same(
+        &rt,
+        seeded.as_str(),
+        ordered.as_str(),
+        "whatever the hasher",
+    );
+    Ok(())
+}
+
+const TEXTS: [&str; 5] = ["", "a", "\u{e4}\u{20ac}", "", "z"];
+
+/// A row of these, with a null behind each, and a number.
+fn row_of_texts(alloc: Global) -> Result<Row, OutOfMemory> {
     let mut values = Vec::new(alloc);
-    for text in texts {
+    for text in TEXTS {
         values.push(Some(Value::Text(KeptText::from_str(alloc, text)?)))?;
         values.push(None)?;
     }
     values.push(Some(Value::Int(i64::MIN)))?;
-    let row = Row::from_values(values)?.copy()?;
-    for number in 0..texts.len() {
-        assert!(rt;
-            matches!(row.get(2 * number), Some(ValueRef::Text(text)) if text == texts[number])
-        );
-        assert!(rt; row.get(2 * number + 1).is_none());
+    Row::from_values(values)
+}
+
+fn is_text(row: &Row, column: usize, want: &str) -> bool {
+    matches!(row.get(column), Some(ValueRef::Text(text)) if text == want)
+}
+
+#[test]
+fn a_row_gives_its_values_back(rt: HostRuntime) -> Result<(), Fail> {
+    let row = row_of_texts(rt.alloc())?.copy()?;
+    for number in 0..TEXTS.len() {
+        assert_holds(&rt, is_text(&row, 2 * number, TEXTS[number]), number);
+        assert_holds(&rt, row.get(2 * number + 1).is_none(), number);
     }
-    assert!(rt; matches!(row.get(10), Some(ValueRef::Int(i64::MIN))));
-    assert!(rt; row.len() == 11 && row.get(11).is_none());
+    let last = matches!(row.get(10), Some(ValueRef::Int(i64::MIN)));
+    assert_holds(&rt, last && row.len() == 11, "a number");
+    assert_holds(&rt, row.get(11).is_none(), "no more");
     Ok(())
 }

@@ -37,6 +37,20 @@ struct Answers {
     collected_last: Collected,
 }
 
+// Three items are given.
+fn give_three<N: StoreNames, L: OutboxNames>(
+    outbox: &mut Outbox<N, L>,
+    token: &mut Token<OutboxEvent>,
+) -> Result<(), OutOfMemory>
+    requires { token.old.name ≡ L.outbox outbox.old.worker }
+    ensures name { token.new.name ≡ token.old.name }
+    ensures worker { outbox.new.worker ≡ outbox.old.worker }
+{
+    outbox.give(token, WorkItem::new(Item::Touch(1)))?;
+    outbox.give(token, WorkItem::new(Item::Touch(2)))?;
+    outbox.give(token, WorkItem::new(Item::Touch(3)))
+}
+
 // Three items are given, one of them is done, and the worker is told to give up. Of the next
 // transaction there is just the commit.
 fn few_items<N: StoreNames, L: OutboxNames>(
@@ -52,9 +66,7 @@ fn few_items<N: StoreNames, L: OutboxNames>(
     requires given { kept.list ≡ [] }
 {
     let mut outbox = Outbox::<N, L>::new(alloc, 0, sender, kept);
-    outbox.give(&mut token, WorkItem::new(Item::Touch(1)))?;
-    outbox.give(&mut token, WorkItem::new(Item::Touch(2)))?;
-    outbox.give(&mut token, WorkItem::new(Item::Touch(3)))?;
+    give_three(&mut outbox, &mut token)?;
     let queued = outbox.queued_len();
     let first = number(taker.take());
     if taker.take().is_some() {

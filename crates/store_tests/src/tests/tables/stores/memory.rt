@@ -347,14 +347,24 @@ fn show_ended(
     Ok(())
 }
 
-/// All that can be told of a store: what it reads, who holds what, and what it ends with once some
-/// transactions are rolled back and committed and the others aborted.
+/// What a store reads, who holds what, and what it reads once some transactions are rolled back and
+/// committed and the others aborted.
+fn show_open(
+    rt: &impl Abort,
+    alloc: Global,
+    scene: &mut Scene,
+    out: &mut String,
+) -> Result<(), EngineFault> {
+    show_reads(rt, alloc, scene, out)?;
+    show_holds(rt, alloc, scene, out)?;
+    end_in_parts(rt, alloc, scene, out)
+}
+
+/// All that can be told of a store: that, and what it ends with.
 fn told(rt: &impl Abort, alloc: Global, scene: Scene) -> Result<String, EngineFault> {
     let mut scene = scene;
     let mut out = String::new(alloc);
-    show_reads(rt, alloc, &scene, &mut out)?;
-    show_holds(rt, alloc, &mut scene, &mut out)?;
-    end_in_parts(rt, alloc, &mut scene, &mut out)?;
+    show_open(rt, alloc, &mut scene, &mut out)?;
     show_ended(rt, alloc, scene, &mut out)?;
     Ok(out)
 }

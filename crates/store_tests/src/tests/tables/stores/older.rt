@@ -119,20 +119,35 @@ fn commit_all(rt: &impl Abort, alloc: Global, scene: &mut Scene) -> Result<Vec<S
     Ok(history)
 }
 
-#[test]
-fn each_position_has_the_rows_of_a_fold_forward(rt: HostRuntime) -> Result<(), Fail> {
-    let alloc = rt.alloc();
-    let mut scene = Scene::empty(&rt, alloc)?;
-    let history = commit_all(&rt, alloc, &mut scene)?;
-    has_each(&rt, alloc, &scene, history.as_slice())?;
+/// A transaction empties the table, and puts a row.
+fn empty_table(rt: &impl Abort, alloc: Global, scene: &mut Scene) -> Result<(), EngineFault> {
     scene.open(alloc, 900)?;
-    let emptied = scene.act(&rt, alloc, 900, 900, &Wipe(&[NAMES]))?;
-    assert_same(&rt, emptied, Acted::Done, "the table is emptied");
-    let put = scene.act(&rt, alloc, 900, 900, &Put(NAMES, ("c", "x", "n")))?;
-    assert_same(&rt, put, Acted::Done, "a row is put");
-    has_each(&rt, alloc, &scene, history.as_slice())?;
+    for call in [Wipe(&[NAMES]), Put(NAMES, ("c", "x", "n"))] {
+        let acted = scene.act(rt, alloc, 900, 900, &call)?;
+        assert_same(rt, acted, Acted::Done, &call);
+    }
+    Ok(())
+}
+
+/// The same while a transaction has emptied the table.
+fn has_each_beside(
+    rt: &impl Abort,
+    alloc: Global,
+    scene: &mut Scene,
+    history: &[String],
+) -> Result<(), EngineFault> {
+    has_each(rt, alloc, scene, history)?;
+    empty_table(rt, alloc, scene)?;
+    has_each(rt, alloc, scene, history)?;
     // Until then it was alone, and held nothing.
     scene.open(alloc, 901)?;
-    has_each(&rt, alloc, &scene, history.as_slice())?;
+    has_each(rt, alloc, scene, history)
+}
+
+#[test]
+fn each_position_has_the_rows_of_a_fold_forward(rt: HostRuntime) -> Result<(), Fail> {
+    let mut scene = Scene::empty(&rt, rt.alloc())?;
+    let history = commit_all(&rt, rt.alloc(), &mut scene)?;
+    has_each_beside(&rt, rt.alloc(), &mut scene, history.as_slice())?;
     Ok(())
 }

@@ -320,15 +320,21 @@ impl Scene {
     }
 }
 
-/// Tables with the accounts of `WORKED`, which a transaction put there.
-fn worked_tables(rt: &impl Abort, alloc: Global) -> Result<Tables, EngineFault> {
-    let mut scene = Scene::empty(rt, alloc)?;
+/// A transaction puts the accounts of `WORKED`.
+fn put_rows(rt: &impl Abort, alloc: Global, scene: &mut Scene) -> Result<(), EngineFault> {
     scene.open(alloc, 1)?;
     for row in ROWS {
         let acted = scene.act(rt, alloc, 1, 1, &Call::Put(ACCOUNTS, row))?;
         assert_same(rt, acted, Acted::Done, "a first row");
     }
     scene.commit(rt, 1);
+    Ok(())
+}
+
+/// Tables with these rows.
+fn worked_tables(rt: &impl Abort, alloc: Global) -> Result<Tables, EngineFault> {
+    let mut scene = Scene::empty(rt, alloc)?;
+    put_rows(rt, alloc, &mut scene)?;
     let (tables, _) = scene.close(rt);
     Ok(tables)
 }

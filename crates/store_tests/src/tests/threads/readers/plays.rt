@@ -1,5 +1,5 @@
 // What a reader is answered while transactions are open.
-ghost use Rattle.std.specs.Prelude.{◌≡◌, []};
+ghost use Rattle.std.specs.Prelude.{◌≡◌, [], IfOk};
 ghost use Rattle.model.specs.Named.{NamesTables};
 ghost use Rattle.origin.specs.Commits.{commits_of, loaded_of};
 
@@ -7,7 +7,7 @@ use super::scene::{Parts, Scene, Shared, remove, written};
 use super::watchers::{position, watch_in_two};
 use crate::tests::asserts::{assert_holds, assert_same};
 use crate::tests::threads::table::{TABLE, key, put};
-use engine::{EngineFault, SharedStore, StoreNames};
+use engine::{EngineFault, SharedStore, StoreNames, Ticket};
 use model::{Change, Key, Lsn, Xid};
 use origin::{Origin, Publisher};
 use snapshot::{ReadFault, Reader};
@@ -94,11 +94,35 @@ impl<N: StoreNames, R: Abort + Wait> Stage<'_, '_, N, R> {
         }
     }
 
+    // Both.
+    fn assert_reads(&mut self, rows: &str, each: &[(i64, &str)], case: &str) -> Result<(), Fail> {
+        self.assert_rows(rows, case)?;
+        self.assert_each_row(each)
+    }
+
+    // A transaction opens, and makes a change.
+    fn begin(&mut self, xid: Xid, change: &Change) -> Result<Ticket, Fail>
+        requires { NamesTables 1 change.now }
+        ensures { IfOk result (λ ticket. ticket.name ≡ N.tickets) }
+    {
+        let mut ticket = self.scene.open(self.rt, self.alloc, xid)?;
+        self.scene.act(self.rt, self.alloc, &mut ticket, change)?;
+        Ok(ticket)
+    }
+
+    // A transaction of one change that ends here.
+    fn commit_one(&mut self, xid: Xid, change: &Change, end: Lsn) -> Result<(), Fail>
+        requires { NamesTables 1 change.now }
+    {
+        let ticket = self.begin(xid, change)?;
+        self.scene.commit(self.rt, ticket, end);
+        Ok(())
+    }
+
     // A transaction puts two rows, and commits.
     fn read_the_first(&mut self) -> Result<(), Fail> {
-        let (one, two) = (put(self.alloc, 1, 10)?, put(self.alloc, 2, 20)?);
-        let mut first = self.scene.open(self.rt, self.alloc, 1)?;
-        self.scene.act(self.rt, self.alloc, &mut first, &one)?;
+        let two = put(self.alloc, 2, 20)?;
+        let mut first = self.begin(1, &put(self.alloc, 1, 10)?)?;
         self.scene.act(self.rt, self.alloc, &mut first, &two)?;
         self.assert_rows("", "while the first is open")?;
         self.scene.commit(self.rt, first, 16);
@@ -108,29 +132,13 @@ impl<N: StoreNames, R: Abort + Wait> Stage<'_, '_, N, R> {
     // Between the changes and the commits of two transactions.
     fn read_between(&mut self) -> Result<(), Fail> {
         self.read_the_first()?;
-        let (three, no_one) = (put(self.alloc, 3, 30)?, remove(self.alloc, 1)?);
-        let mut one = self.scene.open(self.rt, self.alloc, 700)?;
-        let mut other = self.scene.open(self.rt, self.alloc, 900)?;
-        self.scene.act(self.rt, self.alloc, &mut one, &three)?;
-        self.scene.act(self.rt, self.alloc, &mut other, &no_one)?;
-        self.assert_each_row(&[(3, ""), (1, "1|10")])?;
-        self.assert_rows("1|10 2|20", "while two are open")?;
+        let one = self.begin(700, &put(self.alloc, 3, 30)?)?;
+        let other = self.begin(900, &remove(self.alloc, 1)?)?;
+        self.assert_reads("1|10 2|20", &[(3, ""), (1, "1|10")], "while two are open")?;
         self.scene.commit(self.rt, other, 32);
-        self.assert_each_row(&[(1, ""), (3, "")])?;
-        self.assert_rows("2|20", "the other")?;
+        self.assert_reads("2|20", &[(1, ""), (3, "")], "the other")?;
         self.scene.commit(self.rt, one, 48);
-        self.assert_each_row(&[(3, "3|30")])?;
-        self.assert_rows("2|20 3|30", "all")
-    }
-
-    // A transaction of one change that ends here.
-    fn commit_one(&mut self, xid: Xid, change: &Change, end: Lsn) -> Result<(), Fail>
-        requires { NamesTables 1 change.now }
-    {
-        let mut ticket = self.scene.open(self.rt, self.alloc, xid)?;
-        self.scene.act(self.rt, self.alloc, &mut ticket, change)?;
-        self.scene.commit(self.rt, ticket, end);
-        Ok(())
+        self.assert_reads("2|20 3|30", &[(3, "3|30")], "all")
     }
 
     // Three transactions that commit.
@@ -142,9 +150,7 @@ impl<N: StoreNames, R: Abort + Wait> Stage<'_, '_, N, R> {
 
     // At each position of three commits, while another transaction is open.
     fn read_positions(&mut self) -> Result<(), Fail> {
-        let mut open = self.scene.open(self.rt, self.alloc, 900)?;
-        self.scene
-            .act(self.rt, self.alloc, &mut open, &put(self.alloc, 9, 90)?)?;
+        let open = self.begin(900, &put(self.alloc, 9, 90)?)?;
         self.commit_three()?;
         self.assert_rows_at(&[(0, ""), (16, "2|20"), (40, "1|10 2|20"), (64, "1|10")])?;
         self.assert_no_position();
