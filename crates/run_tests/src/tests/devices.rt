@@ -60,12 +60,23 @@ fn count_calls<R: Threads + Wait + Abort + Sync + Host>(
     Ok(1000)
 }
 
+// How many reads there are, and how many writes.
+fn count_both<R: Threads + Wait + Abort + Sync + Host>(
+    rt: &R,
+    alloc: Global,
+    parts: &[&[Message]],
+    name: &str,
+) -> Result<(u64, u64), OutOfMemory> {
+    let stream = Stream::of(alloc, parts)?;
+    let reads = count_calls(rt, alloc, stream.bytes(), true, name)?;
+    let writes = count_calls(rt, alloc, stream.bytes(), false, name)?;
+    Ok((reads, writes))
+}
+
 #[test]
 fn each_read_and_each_write_fails(rt: HostRuntime) -> Result<(), OutOfMemory> {
     for row in &ROWS {
-        let stream = Stream::of(rt.alloc(), row.parts)?;
-        let reads = count_calls(&rt, rt.alloc(), stream.bytes(), true, row.name)?;
-        let writes = count_calls(&rt, rt.alloc(), stream.bytes(), false, row.name)?;
+        let (reads, writes) = count_both(&rt, rt.alloc(), row.parts, row.name)?;
         assert!(rt; reads < 100 && writes < 10, "{}", row.name);
     }
     Ok(())
@@ -73,11 +84,8 @@ fn each_read_and_each_write_fails(rt: HostRuntime) -> Result<(), OutOfMemory> {
 
 #[test]
 fn each_read_and_each_write_of_a_real_stream_fails(rt: HostRuntime) -> Result<(), OutOfMemory> {
-    let stream = Stream::of(rt.alloc(), FEATURES)?;
-    let reads = count_calls(&rt, rt.alloc(), stream.bytes(), true, "reads")?;
-    let writes = count_calls(&rt, rt.alloc(), stream.bytes(), false, "writes")?;
-    assert!(rt; reads > 20 && reads < 100);
-    assert_eq!(rt; writes, 6);
+    let (reads, writes) = count_both(&rt, rt.alloc(), FEATURES, "a real stream")?;
+    assert!(rt; reads > 20 && reads < 100 && writes == 6);
     Ok(())
 }
 
