@@ -191,31 +191,50 @@ fn number<'a>(
 pub fn parse<'a>(alloc: Global, words: &'a [String]) -> Result<Options<'a>, Error> {
     let mut program = program(alloc)?;
     let given = program.try_get_matches_from_mut(words)?;
-    if let Some((option, text)) = first_with_sign(&given) {
-        let message = format!(in alloc;
-            "invalid value '{text}' for '--{option} <N>': only digits are allowed"
-        )?;
-        return Err(program.error(ErrorKind::ValueValidation, message.as_str())?);
+    if let Some((kind, message)) = first_fault(alloc, &given)? {
+        return Err(program.error(kind, message.as_str())?);
     }
-    if let Some((kind, text)) = wrong_in(&given) {
-        return Err(program.error(kind, text)?);
-    }
-    if let Some(text) = given.get_str("connect")
-        && !is_address(text)
-    {
-        let message = format!(in alloc;
-            "invalid value '{text}' for '--connect <A>': an address is HOST:PORT, as localhost:5500"
-        )?;
-        return Err(program.error(ErrorKind::ValueValidation, message.as_str())?);
-    }
-    match (given.get_str("stream"), given.get_str("connect")) {
-        (Some("-"), None) => Ok(options_of(Input::Stdin, &given)),
-        (Some(path), None) => Ok(options_of(Input::File(path), &given)),
-        (None, Some(address)) => Ok(options_of(Input::Connection(address), &given)),
-        _ => Err(program.error(
+    match input_of(&given) {
+        Some(input) => Ok(options_of(input, &given)),
+        None => Err(program.error(
             ErrorKind::MissingRequiredArgument,
             "one of --stream and --connect is wanted",
         )?),
+    }
+}
+
+/// The first fault of what was given, and what is told of it.
+fn first_fault(
+    alloc: Global,
+    given: &ArgMatches<'_>,
+) -> Result<Option<(ErrorKind, String)>, AllocError> {
+    if let Some((option, text)) = first_with_sign(given) {
+        let message = format!(in alloc;
+            "invalid value '{text}' for '--{option} <N>': only digits are allowed"
+        )?;
+        return Ok(Some((ErrorKind::ValueValidation, message)));
+    }
+    if let Some((kind, text)) = wrong_in(given) {
+        return Ok(Some((kind, String::from_str(alloc, text)?)));
+    }
+    match given.get_str("connect") {
+        Some(text) if !is_address(text) => {
+            let message = format!(in alloc;
+                "invalid value '{text}' for '--connect <A>': an address is HOST:PORT, as localhost:5500"
+            )?;
+            Ok(Some((ErrorKind::ValueValidation, message)))
+        }
+        _ => Ok(None),
+    }
+}
+
+/// Where the stream comes from, if one of both is given.
+fn input_of<'a>(given: &ArgMatches<'a>) -> Option<Input<'a>> {
+    match (given.get_str("stream"), given.get_str("connect")) {
+        (Some("-"), None) => Some(Input::Stdin),
+        (Some(path), None) => Some(Input::File(path)),
+        (None, Some(address)) => Some(Input::Connection(address)),
+        _ => None,
     }
 }
 

@@ -80,30 +80,33 @@ pub fn parse<'a>(alloc: Global, words: &'a [String]) -> Result<Options<'a>, Erro
     let Some((name, given)) = matches.subcommand() else {
         return Err(program.error(ErrorKind::MissingSubcommand, "a command is missing")?);
     };
+    match checked(alloc, given)? {
+        Ok(skip) => Ok(options_of(name == "replay", skip, given)),
+        Err(message) => Err(program.error(ErrorKind::ValueValidation, message.as_str())?),
+    }
+}
+
+/// The transaction to skip, 0 for none; or what is told of the first value that is refused.
+fn checked(alloc: Global, given: &ArgMatches<'_>) -> Result<Result<Lsn, String>, AllocError> {
     if let Some((option, text)) = first_with_sign(given) {
-        let message = format!(in alloc;
+        return Ok(Err(format!(in alloc;
             "invalid value '{text}' for '--{option} <N>': only digits are allowed"
-        )?;
-        return Err(program.error(ErrorKind::ValueValidation, message.as_str())?);
+        )?));
     }
     let skip = match skip_of(given) {
         Ok(skip) => skip,
         Err(text) => {
-            let message = format!(in alloc;
+            return Ok(Err(format!(in alloc;
                 "invalid value '{text}' for '--skip <LSN>': an LSN is written as 16/B374D848, and 0/0 is none"
-            )?;
-            return Err(program.error(ErrorKind::ValueValidation, message.as_str())?);
+            )?));
         }
     };
-    if let Some(text) = given.get_str("connect")
-        && !is_address(text)
-    {
-        let message = format!(in alloc;
+    match given.get_str("connect") {
+        Some(text) if !is_address(text) => Ok(Err(format!(in alloc;
             "invalid value '{text}' for '--connect <A>': an address is HOST:PORT, as localhost:5500"
-        )?;
-        return Err(program.error(ErrorKind::ValueValidation, message.as_str())?);
+        )?)),
+        _ => Ok(Ok(skip)),
     }
-    Ok(options_of(name == "replay", skip, given))
 }
 
 /// Whether a text is a host, which is not looked at, and the number of a port.
