@@ -78,12 +78,12 @@ where
         position,
         batch,
     } = *setting;
+    let gates = open_gates(alloc, config.workers)?;
     let (reached, publisher, loader) = Reached::new(alloc)?;
     let mut arrival = Arrival::new(&reached, publisher);
     arrival.reach(rt, position);
     let held = Held::new(rt, alloc, &reached, pace, loader, writer);
     let mut devices = Devices::new(reader, Resumed::new(alloc, held, position), clock);
-    let gates = open_gates(alloc, config.workers)?;
     let writer = CommitWriter::new(host, alloc, keep, between, arrival, position, batch);
     let watchers = only(alloc, writer)?;
     let (outcome, mut watchers) = run_on(
