@@ -96,7 +96,7 @@ fn spell_answers(alloc: Global) -> Result<Vec<u8>, Fail> {
     Ok(input)
 }
 
-/// Copies the rows of a server that answers so: what it was asked, and the frames.
+/// Copies the rows of a server that answers so. What it was asked goes to `sent`, the frames to `put`.
 fn copied(alloc: Global, sent: &mut Vec<u8>, put: &mut Vec<u8>) -> Result<Relayed, Fail> {
     let input = spell_answers(alloc)?;
     let mut relayed = Relayed::NOTHING;

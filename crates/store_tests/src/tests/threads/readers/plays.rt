@@ -94,7 +94,7 @@ impl<N: StoreNames, R: Abort + Wait> Stage<'_, '_, N, R> {
         }
     }
 
-    // Both.
+    // The rows of the table, and the row at each of these keys.
     fn assert_reads(&mut self, rows: &str, each: &[(i64, &str)], case: &str) -> Result<(), Fail> {
         self.assert_rows(rows, case)?;
         self.assert_each_row(each)
