@@ -3,9 +3,12 @@
 --     commits_seen, world_seen      the commits that it has seen; the world of these, with no transaction open
 --     positions_seen      where the log goes on behind the first so many of these, for each number of them
 --     SeesMore      it has seen all that it had seen, and maybe more
---     ReadsTable, ReadsAt      the rows of a table after all commits seen; after those up to a position
---     IsRefused, IsRefusedAt      why a read was refused, and what has been seen then
-use Rattle.std.specs.Prelude.{◌≡◌, ℕ, ◌<◌, ◌≤◌, List, ◌∷◌, Some, None, Ok, length, slice_get}
+--     ReadsTable, ReadsTables      the rows of a table after all commits seen; those of several
+--     rows_in      the rows of a table that were read
+--     ReadsAt      the rows of a table after the commits seen up to a position
+--     IsRefused, IsRefusedOf, IsRefusedAt      why a read was refused, and what has been seen then
+use Rattle.std.proofs.Common.{Vec, Global}
+use Rattle.std.specs.Prelude.{◌≡◌, ℕ, ◌<◌, ◌≤◌, List, ◌∷◌, All, Some, None, Ok, length, map, slice_get}
 use Rattle.std.specs.List.{Contains}
 use Rattle.std.specs.List.Sorted.{IsStrictlyIncreasing}
 use Rattle.std.specs.FinMap as finite
@@ -59,6 +62,14 @@ pub record SeesMore (old new : Sight) : Type 0 where
 abbrev pub ReadsTable : Sight → ℕ → List Row → Type 0
 ReadsTable s table rows = rows ≡ rows_of_table (world_seen s).committed table
 
+-- the rows of a table that were read
+abbrev pub rows_in : Vec Row Global → List Row
+rows_in rows = rows.items
+
+-- those of several, in the order in which they are named
+abbrev pub ReadsTables : Sight → List ℕ → List (List Row) → Type 0
+ReadsTables s tables rows = rows ≡ map (rows_of_table (world_seen s).committed) tables
+
 -- the rows of a table after the commits seen up to a position, in key order
 abbrev pub ReadsAt : Sight → ℕ → ℕ → List Row → Type 0
 ReadsAt s table position rows =
@@ -70,7 +81,13 @@ IsRefused old new table UnknownTable = (length old.schema ≤ table) × (new ≡
 IsRefused old new table PositionUnknown = ⊥
 IsRefused old new table OutOfMemory = (table < length old.schema) × (new ≡ old)
 
--- The same, or no commit that is seen now ends at the position.
+-- One of the tables isn't there, or memory was refused; nothing more was seen.
+abbrev pub IsRefusedOf : Sight → Sight → List ℕ → ReadFault → Type 0
+IsRefusedOf old new tables UnknownTable = ((table : ℕ) × Contains tables table × (length old.schema ≤ table)) × (new ≡ old)
+IsRefusedOf old new tables PositionUnknown = ⊥
+IsRefusedOf old new tables OutOfMemory = All (λ table. table < length old.schema) tables × (new ≡ old)
+
+-- The table isn't there, no commit that is seen now ends at the position, or memory was refused.
 abbrev pub IsRefusedAt : Sight → Sight → ℕ → ℕ → ReadFault → Type 0
 IsRefusedAt old new table position UnknownTable = (length old.schema ≤ table) × (new ≡ old)
 IsRefusedAt old new table position PositionUnknown =

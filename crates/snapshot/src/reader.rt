@@ -1,5 +1,6 @@
 // Whoever reads the committed rows while transactions are open.
 mod changes;
+mod several;
 
 ghost use Rattle.std.specs.Prelude.{◌≡◌, ◌<◌, ◌≤◌, IfOk, IfErr, OnOk, length};
 ghost use Rattle.world.specs.Steps.{ReadsCommitted};
@@ -179,7 +180,7 @@ impl<'a, N: StoreNames> Reader<'a, N> {
 }
 
 // The table is one of so many.
-fn check_table(table: TableId, tables: usize) -> Result<(), ReadFault>
+pub(crate) fn check_table(table: TableId, tables: usize) -> Result<(), ReadFault>
     ensures known { OnOk result (table < tables) }
     ensures unknown { IfErr result (λ fault. (fault ≡ UnknownTable) × (tables ≤ table)) }
 {

@@ -3,7 +3,7 @@ ghost use Rattle.std.specs.Prelude.{◌≡◌, [], IfOk};
 ghost use Rattle.model.specs.Named.{NamesTables};
 ghost use Rattle.origin.specs.Commits.{commits_of, loaded_of};
 
-use super::scene::{Parts, Scene, Shared, remove, written};
+use super::scene::{Parts, Scene, Shared, remove, written, written_each};
 use super::watchers::{position, watch_in_two};
 use crate::tests::asserts::{assert_holds, assert_same};
 use crate::tests::threads::table::{TABLE, key, put};
@@ -52,6 +52,12 @@ impl<N: StoreNames, R: Abort + Wait> Stage<'_, '_, N, R> {
         }
     }
 
+    // The rows of the table, asked for twice at once, as text.
+    fn rows_twice(&mut self) -> Result<String, Fail> {
+        let twice = self.reader.rows_of(self.rt, self.alloc, &[TABLE, TABLE])?;
+        Ok(written_each(self.alloc, twice.as_slice())?)
+    }
+
     // The rows at a position as text.
     fn rows_at(&mut self, position: Lsn) -> Result<String, Fail> {
         let rows = self.reader.rows_at(self.rt, self.alloc, TABLE, position)?;
@@ -81,6 +87,21 @@ impl<N: StoreNames, R: Abort + Wait> Stage<'_, '_, N, R> {
             assert_same(self.rt, read.as_str(), *rows, *position);
         }
         Ok(())
+    }
+
+    // The rows of the table, twice at once, are these.
+    fn assert_twice(&mut self, rows: &str, case: &str) -> Result<(), Fail> {
+        let read = self.rows_twice()?;
+        assert_same(self.rt, read.as_str(), rows, case);
+        Ok(())
+    }
+
+    // One of two tables isn't there.
+    fn assert_no_table(&mut self) {
+        let answer = self
+            .reader
+            .rows_of(self.rt, self.alloc, &[TABLE, TABLE + 1]);
+        assert_same(self.rt, answer.err(), Some(ReadFault::UnknownTable), TABLE);
     }
 
     // Where no commit ends.
@@ -138,7 +159,9 @@ impl<N: StoreNames, R: Abort + Wait> Stage<'_, '_, N, R> {
         self.scene.commit(self.rt, other, 32);
         self.assert_reads("2|20", &[(1, ""), (3, "")], "the other")?;
         self.scene.commit(self.rt, one, 48);
-        self.assert_reads("2|20 3|30", &[(3, "3|30")], "all")
+        self.assert_reads("2|20 3|30", &[(3, "3|30")], "all")?;
+        self.assert_no_table();
+        self.assert_twice("2|20 3|30 / 2|20 3|30 / ", "twice")
     }
 
     // Three transactions that commit.

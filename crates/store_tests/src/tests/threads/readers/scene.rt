@@ -185,6 +185,16 @@ pub(super) fn written(alloc: Global, rows: &[Row]) -> Result<String, OutOfMemory
     Ok(out)
 }
 
+/// The rows of each of several tables.
+pub(super) fn written_each(alloc: Global, tables: &[Vec<Row>]) -> Result<String, OutOfMemory> {
+    let mut out = String::new(alloc);
+    for rows in tables {
+        out.push_str(written(alloc, rows.as_slice())?.as_str())?;
+        out.push_str(" / ")?;
+    }
+    Ok(out)
+}
+
 fn write_row(out: &mut String, row: &Row) -> Result<(), OutOfMemory> {
     let mut between = "";
     for column in 0..row.len() {
