@@ -1,5 +1,5 @@
 -- What a look-up among the addresses says of the cells that transactions hold.
-use Rattle.std.specs.Prelude.{◌≡◌, ◌≢◌, ℕ, ◌+◌, ◌-◌, ◌<◌, ◌||◌, zero, suc, Bool, true, false, List, [], ◌∷◌, slice_get, Option, Some, None, refl, Contains, MatchOption}
+use Rattle.std.specs.Prelude.{◌≡◌, ◌≢◌, ℕ, ◌+◌, ◌-◌, ◌<◌, ◌||◌, zero, suc, Bool, true, false, List, [], ◌∷◌, slice_get, Option, Some, None, refl, Contains, MatchOption, IfSome, IfNone}
 use Rattle.std.proofs.Common.{sym, ◌∙◌, ap, subst, inl, inr, true≢false, arith, nat_lt}
 use Rattle.std.specs.Ordering.{eq_by_cmp}
 use Rattle.std.specs.List.{list_any}
@@ -11,13 +11,13 @@ use Rattle.model.specs.declared.cell.Cell.{Cell}
 use Rattle.model.specs.declared.cell.Cell.TheVariants.{Whole}
 use Rattle.model.specs.Cells.{table_of, overlaps}
 use Rattle.model.specs.CellOrder.{cell_cmp, cell_cmp_total, cell_cmp_exact}
-use Rattle.keyholds.specs.declared.addresses.Address.{Address}
-use Rattle.keyholds.specs.declared.addresses.Addresses.{Addresses}
+use Rattle.keyholds.specs.declared.address.Address.{Address}
+use Rattle.keyholds.specs.declared.address.Addresses.{Addresses}
 use Rattle.keyholds.specs.Counts.{count_in, SetsCount}
 use Rattle.keyholds.specs.Holds.{IsFreeCell, IsCellHeldBy}
 use Rattle.keyholds.specs.Addresses.{address_at, AreAddresses, IsAlone, IsHeldAt, TellsAt, AddsAddress, RemovesAddress}
 use Rattle.keyholds.proofs.Ties.{tied_self, updated_here, updated_beside, same_value}
-use Rattle.keyholds.proofs.Overlaps.{contains_at, at_contains, some_counted, none_counted_at, overlaps_itself, overlaps_whole, overlaps_above, overlap_cases}
+use Rattle.keyholds.proofs.Overlaps.{contains_at, at_contains, some_counted, none_counted_at, overlaps_itself, overlaps_whole, overlap_cases}
 
 module _ (held : ℕ → List Cell) (addresses : Addresses) (kept : AreAddresses held addresses) (xid : ℕ) where
   -- a table that no other has a cell in
@@ -25,21 +25,19 @@ module _ (held : ℕ → List Cell) (addresses : Addresses) (kept : AreAddresses
   whole_free table none other d apart has =
       none_counted_at (overlaps (Whole table)) (held other) (sym (kept.counted table other) ∙ none other apart) has.0 d (at_contains (held other) d has)
 
-  -- a cell in such a table
-  pub cell_free : (cell : Cell) → ((other : ℕ) → other ≢ xid → count_in addresses.counts.counts (table_of cell) other ≡ 0) → IsFreeCell held xid cell
-  cell_free cell none other d apart has = elim (overlaps cell d) as (λ b. overlaps cell d ≡ b → b ≡ false) [
-    | true ↦ λ e. absurd (true≢false (sym (overlaps_above cell d e) ∙ whole_free (table_of cell) none other d apart has))
-    | false ↦ λ e. refl
-  ] refl
-
   whole_held : (table other : ℕ) → other ≢ xid → 0 < count_in addresses.counts.counts table other → IsCellHeldBy held xid (Whole table) other
   whole_held table other apart some =
       let found = some_counted (overlaps (Whole table)) (held other) (subst (λ n. 0 < n) (kept.counted table other) some) in
       record { another = apart; its = found.0; holds = found.1; overlap = found.2 }
 
   -- a look-up for a whole table
-  pub answered_whole : (table : ℕ) (cell : Cell) → cell ≡ Whole table → (other : ℕ) → other ≢ xid → 0 < count_in addresses.counts.counts table other → IsCellHeldBy held xid cell other
-  answered_whole table cell is other apart some = subst (λ (c : Cell). IsCellHeldBy held xid c other) (sym is) (whole_held table other apart some)
+  pub answered_whole : (table : ℕ) (cell : Cell) → cell ≡ Whole table → (r : Option ℕ)
+      → IfSome r (λ other. (other ≢ xid) × (0 < count_in addresses.counts.counts table other))
+      → IfNone r ((other : ℕ) → other ≢ xid → count_in addresses.counts.counts table other ≡ 0)
+      → MatchOption r (IsFreeCell held xid cell) (IsCellHeldBy held xid cell)
+  answered_whole table cell is None found none = subst (λ (c : Cell). IsFreeCell held xid c) (sym is) (whole_free table none)
+  answered_whole table cell is (Some other) found none =
+      subst (λ (c : Cell). IsCellHeldBy held xid c other) (sym is) (whole_held table other found.0 found.1)
 
   -- another has a cell that overlaps it
   pub held_there : (cell its : Cell) (other : ℕ) → overlaps cell its ≡ true → IsHeldAt xid its addresses other → IsCellHeldBy held xid cell other

@@ -80,17 +80,30 @@ by_side m table xid below above other apart = elim (nat_lt other xid) as (λ b. 
 pub ended : {A X : Type 0} (shows : A → X) (r : Option A) (s t : List X) → r ≡ None → TakesFirst shows s r t → s ≡ []
 ended shows r s t is step = rest_all shows s t r is step
 
+-- after an insert of the first one, which may have been refused
+module _ (m n : BTreeMap (ℕ × ℕ) ℕ) (table xid : ℕ) where
+  one : ◌≢◌ {A = Option ℕ} (Some 1) (Some 0)
+  one e = let none : 1 ≡ 0 = ap (λ o. unwrap_or o 0) e in omega (arith, none)
+
+  pub first_counted : {A E : Type 0} (r : Result A E) → OnOk r (Updates pair_cmp m n (table, xid) (Some 1)) → OnErr r (n.entries ≡ m.entries) → ((key : ℕ × ℕ) → get pair_cmp m key ≢ Some 0) → (key : ℕ × ℕ) → get pair_cmp n key ≢ Some 0
+  first_counted (Ok x) step same there = stays_counted m n table xid (Some 1) step one there
+  first_counted (Err x) step same there = λ key e. there key (ap (lookup (is_at (pair_cmp key))) (sym same) ∙ e)
+
 module _ (m n : BTreeMap (ℕ × ℕ) ℕ) (table xid count : ℕ) (now : count ≡ count_in m table xid) where
+  pub first_count : count ≤ 0 → Updates pair_cmp m n (table, xid) (Some 1) → SetsCount table xid (count_in m table xid + 1) m n
+  first_count none step =
+      let first : 1 ≡ count_in m table xid + 1 = omega (arith, none, now) in
+      subst (λ k. SetsCount table xid k m n) first (sets_count m n table xid (Some 1) step)
+
   more : Some (count + 1) ≢ Some 0
   more e = let grows : count + 1 ≡ 0 = ap (λ o. unwrap_or o 0) e in omega (arith, grows)
 
-  -- after an insert of one more, which may have been refused
-  pub added_counted : {A E : Type 0} (r : Result A E) → OnOk r (Updates pair_cmp m n (table, xid) (Some (count + 1))) → OnErr r (n.entries ≡ m.entries) → ((key : ℕ × ℕ) → get pair_cmp m key ≢ Some 0) → (key : ℕ × ℕ) → get pair_cmp n key ≢ Some 0
-  added_counted (Ok x) step same there = stays_counted m n table xid (Some (count + 1)) step more there
-  added_counted (Err x) step same there = λ key e. there key (ap (lookup (is_at (pair_cmp key))) (sym same) ∙ e)
+  -- after one more came to others
+  pub raised_count : Updates pair_cmp m n (table, xid) (Some (count + 1)) → SetsCount table xid (count_in m table xid + 1) m n
+  raised_count step = subst (λ k. SetsCount table xid (k + 1) m n) now (sets_count m n table xid (Some (count + 1)) step)
 
-  pub added_count : Updates pair_cmp m n (table, xid) (Some (count + 1)) → SetsCount table xid (count_in m table xid + 1) m n
-  added_count step = subst (λ k. SetsCount table xid (k + 1) m n) now (sets_count m n table xid (Some (count + 1)) step)
+  pub raised_counted : Updates pair_cmp m n (table, xid) (Some (count + 1)) → ((key : ℕ × ℕ) → get pair_cmp m key ≢ Some 0) → (key : ℕ × ℕ) → get pair_cmp n key ≢ Some 0
+  raised_counted step there = stays_counted m n table xid (Some (count + 1)) step more there
 
   -- after one of several went
   pub lowered_count : Updates pair_cmp m n (table, xid) (Some (count - 1)) → SetsCount table xid (count_in m table xid - 1) m n

@@ -12,8 +12,8 @@ use Rattle.std.proofs.lemmas.Map.Views.{exact_unsigned_eq}
 use Rattle.model.specs.declared.cell.Cell.{Cell}
 use Rattle.model.specs.Cells.{table_of, overlaps}
 use Rattle.model.specs.CellOrder.{cell_cmp_total, cell_cmp_exact}
-use Rattle.keyholds.specs.declared.addresses.Address.{Address}
-use Rattle.keyholds.specs.declared.addresses.Addresses.{Addresses}
+use Rattle.keyholds.specs.declared.address.Address.{Address}
+use Rattle.keyholds.specs.declared.address.Addresses.{Addresses}
 use Rattle.keyholds.specs.Counts.{count_in}
 use Rattle.keyholds.specs.Holds.{IsFreeCell, AreDisjoint, ReleasesLast}
 use Rattle.keyholds.specs.Addresses.{address_at, AreAddresses, AddsAddress, RemovesAddress, SameAddresses, HasNoAddresses, count_of_table, with_cells}

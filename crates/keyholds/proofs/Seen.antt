@@ -7,7 +7,7 @@ use Rattle.std.specs.FinMap.{FinMap}
 use Rattle.std.specs.BTreeMap as tree
 use Rattle.std.specs.BTreeMap.{BTreeMap}
 use Rattle.model.specs.declared.cell.Cell.{Cell}
-use Rattle.keyholds.specs.declared.addresses.Addresses.{Addresses}
+use Rattle.keyholds.specs.declared.address.Addresses.{Addresses}
 use Rattle.keyholds.specs.Holds.{holds_of, cells_held, AreDisjoint, HasNoEmptyList, ReleasesLast}
 use Rattle.keyholds.specs.Lists.{lists_seen, listed, items_in, SetsList, SameLists}
 use Rattle.keyholds.specs.Addresses.{AreAddresses, with_cells}

@@ -20,8 +20,8 @@ use Rattle.std.proofs.lemmas.Map.Views.{IsSome-lookup_from_Contains, Contains-ke
 use Rattle.model.specs.declared.cell.Cell.{Cell}
 use Rattle.model.specs.Cells.{table_of}
 use Rattle.model.specs.CellOrder.{cell_cmp_total, cell_cmp_exact}
-use Rattle.keyholds.specs.declared.addresses.Address.{Address}
-use Rattle.keyholds.specs.declared.addresses.Addresses.{Addresses}
+use Rattle.keyholds.specs.declared.address.Address.{Address}
+use Rattle.keyholds.specs.declared.address.Addresses.{Addresses}
 use Rattle.keyholds.specs.Counts.{count_in}
 use Rattle.keyholds.specs.Holds.{holds_of, cells_held, has_cell, with_hold, with_holds, IsFreeCell}
 use Rattle.keyholds.specs.Lists.{lists_seen, listed, SetsList}

@@ -8,8 +8,8 @@ use Rattle.std.specs.Ordering.{eq_by_cmp}
 use Rattle.model.specs.declared.cell.Cell.{Cell}
 use Rattle.model.specs.Cells.{table_of}
 use Rattle.model.specs.CellOrder.{cell_cmp}
-use Rattle.keyholds.specs.declared.addresses.Address.{Address}
-use Rattle.keyholds.specs.declared.addresses.Addresses.{Addresses}
+use Rattle.keyholds.specs.declared.address.Address.{Address}
+use Rattle.keyholds.specs.declared.address.Addresses.{Addresses}
 use Rattle.keyholds.specs.Counts.{count_in, SetsCount, SameCounts}
 use Rattle.keyholds.specs.Holds.{AreDisjoint}
 

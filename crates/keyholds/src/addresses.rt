@@ -11,26 +11,13 @@ ghost use Rattle.keyholds.specs.Holds.{IsFreeCell, IsCellHeldBy};
 ghost use Rattle.keyholds.specs.Addresses.{address_at, AreAddresses, IsAlone, IsHeldAt, TellsAt, AddsAddress, RemovesAddress, SameAddresses, HasNoAddresses};
 
 use crate::Xid;
+use crate::address::{Address, Addresses};
 use crate::counts::Counts;
 use crate::hashed::{Asked, HashedCell};
 use crate::sought::SoughtCell;
 use model::{Cell, OutOfMemory};
 use std::alloc::Global;
 use std::collections::HashMap;
-
-/// Where a cell stands: whose it is, and where in the list of that transaction's cells.
-#[derive(Clone, Copy, Debug)]
-pub(crate) struct Address {
-    pub(crate) xid: Xid,
-    pub(crate) index: usize,
-}
-
-/// The address of each cell that is held, and how many each transaction holds in each table.
-#[derive(Debug, Drop)]
-pub(crate) struct Addresses {
-    pub(crate) addresses: HashMap<HashedCell, Address>,
-    pub(crate) counts: Counts,
-}
 
 impl Addresses {
     /// Nothing is held.
@@ -40,6 +27,7 @@ impl Addresses {
         Addresses {
             addresses: HashMap::new(alloc),
             counts: Counts::new(alloc),
+            had_whole: false,
         }
     }
 
@@ -47,6 +35,9 @@ impl Addresses {
     pub(crate) fn find<C: SoughtCell>(&self, cell: &C) -> Option<Address>
         ensures { result ≡ address_at self.now (C.cell cell.now) }
     {
+        if !self.had_whole && is_whole(cell) {
+            return None;
+        }
         self.addresses.get(Asked::of(cell)).copied()
     }
 
@@ -57,8 +48,9 @@ impl Addresses {
         ensures ok { OnOk result (AddsAddress cell address self.old self.new) }
         ensures err { OnErr result (SameAddresses self.old self.new) }
     {
-        let table = cell.table();
+        let (table, is_whole) = (cell.table(), is_whole(&cell));
         self.counts.add(table, address.xid)?;
+        self.had_whole = self.had_whole || is_whole;
         let cell = HashedCell::of(cell);
         if self.addresses.insert(cell, address).is_err() {
             self.counts.remove_one(table, address.xid);
@@ -81,11 +73,8 @@ impl Addresses {
             → MatchOption result (IsFreeCell held xid (C.cell cell.now)) (IsCellHeldBy held xid (C.cell cell.now)) }
     {
         let table = cell.table();
-        let Some(other) = self.counts.other(table, xid) else {
-            return None;
-        };
         if is_whole(cell) {
-            return Some(other);
+            return self.counts.other(table, xid);
         }
         match self.other_at(xid, cell) {
             Some(other) => Some(other),

@@ -34,7 +34,11 @@ impl Counts {
     {
         let key = (table, xid);
         let count = self.counts.get(&key).copied().unwrap_or(0);
-        self.counts.insert(key, count + 1)?;
+        if count > 0 {
+            set_count(&mut self.counts, &key, count + 1);
+        } else {
+            self.counts.insert(key, 1)?;
+        }
         Ok(())
     }
 

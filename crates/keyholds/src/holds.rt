@@ -12,7 +12,7 @@ ghost use Rattle.keyholds.specs.Addresses.{address_at, AreAddresses, with_cells,
 ghost use Rattle.keyholds.specs.Lists.{listed, SameLists, SetsList, HasRoom, AddsKeys};
 
 use crate::Xid;
-use crate::addresses::{Address, Addresses};
+use crate::address::{Address, Addresses};
 use crate::sought::SoughtCell;
 use model::{Cell, Key, OutOfMemory, TableId};
 use std::alloc::Global;

@@ -16,20 +16,22 @@
 //
 // Each cell that is held lies in a map of hashes with the transaction that holds it and its address
 // in that transaction's list, so a cell is looked up by a few reads, and so is the table that it lies
-// in as a whole. A second map counts the cells that each transaction holds in each table: who stands
-// before and who behind the asker there. Where nobody else holds a cell of a table, that map alone
-// answers. To let go takes a look-up for each cell that goes, and none where nobody else holds
-// anything. Room is made when a cell is taken: no other call takes memory but `keys_held`, which makes
-// a list of the keys at which places of a table are held.
+// in as a whole; until a table was held as a whole, none is looked for. A second map counts the cells
+// that each transaction holds in each table: who stands before and who behind one that asks for a
+// table as a whole. To let go takes a look-up for each cell that goes, and none where nobody else
+// holds anything. Room is made when a cell is taken: no other call takes memory but `keys_held`, which
+// makes a list of the keys at which places of a table are held.
 //
 //   counts      how many cells each transaction holds in each table
 //   hashed      cells with their hashes
+//   address     what is kept of where each cell stands
 //   addresses   where each cell that is held stands, and who holds one that overlaps
 //   sought      what stands for a cell that is looked for, so that nobody has to make one
 //   holds       `Holds`
 //   laws        what is held once cells are taken: as a set, from the front, and apart from others
 //
 // It stands on `model` for cells and their overlap.
+mod address;
 mod addresses;
 mod counts;
 mod hashed;

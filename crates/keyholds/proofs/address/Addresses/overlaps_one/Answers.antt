@@ -6,7 +6,7 @@ use Rattle.model.specs.Cells.{overlaps}
 use Rattle.keyholds.specs.Addresses.{TellsAt}
 use Rattle.keyholds.proofs.Addressing.{whole_or_not, no_whole, positive, whole_overlaps_one, held_overlaps_one, above_overlaps_one}
 use Rattle.keyholds.proofs.Overlaps.{overlaps_itself}
-use Rattle.keyholds.proofs.addresses.Addresses.overlaps_one.Goals as goal
+use Rattle.keyholds.proofs.address.Addresses.overlaps_one.Goals as goal
 
 pub returns-then-is_whole : goal.returns-then-is_whole
 returns-then-is_whole g c =
