@@ -281,6 +281,9 @@ impl<'a, N: StoreNames, L: RunNames, R: Wait, G: Gate + Drop> Transactions<'a, N
         ensures err { OnErr result (IsUndone (done_by ticket.old) (ChangeItem sub change.now) (done_by ticket.new)) }
         ensures end { IfErr result (IsStoreEnd (Some ticket.old.number)) }
     {
+        if self.try_change(ticket, sub, change)? {
+            return Ok(());
+        }
         for _ in self.rt.forever() {
             let key = self.shared.moved.prepare_wait();
             if self.try_change(ticket, sub, change)? {

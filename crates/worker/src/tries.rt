@@ -15,7 +15,15 @@ use engine::{Acted, EngineFault, SharedStore, StoreNames, Ticket};
 use model::Item;
 use ring::Taker;
 use std::alloc::Global;
-use std::sync::{Condvar, Mutex, Wait};
+use std::sync::{Condvar, Mutex, MutexGuard, Wait};
+use std::thread::Parker;
+use std::time::Duration;
+
+// How often the store's lock is tried again before it is waited for.
+const TRIES: usize = 100;
+
+// How long a worker naps between two tries, in microseconds.
+const NAP: u64 = 10;
 
 /// Does the item that was taken, under the store's lock. While another transaction holds a cell of it,
 /// it waits and tries again, unless it is doomed. It looks for the doom under the lock that it gives
@@ -40,7 +48,7 @@ pub fn try_until_done<N: StoreNames, G: Gate, R: Wait>(
     ensures why { IfErr result (λ ended. WasRefused N.schema N.start ended ticket.new.number ticket.new.list) }
 {
     let xid = ticket.xid();
-    let mut locked = store.lock(rt);
+    let mut locked = lock_store(rt, store);
     for _ in rt.forever() {
         let Some(item) = taker.take() else {
             unreachable!()
@@ -56,6 +64,22 @@ pub fn try_until_done<N: StoreNames, G: Gate, R: Wait>(
         locked = changed.wait(rt, locked);
     }
     unreachable!()
+}
+
+// Takes the store's lock. Whoever waits for a lock has it handed over, which costs two threads a switch for
+// each item; so a worker that finds it taken naps, and lets the others do some items meanwhile.
+fn lock_store<'a, N: StoreNames, R: Wait>(
+    rt: &R,
+    store: &'a Mutex<SharedStore<N>>,
+) -> MutexGuard<'a, SharedStore<N>> {
+    let parker = Parker::new();
+    for _ in 0..TRIES {
+        if let Some(locked) = store.try_lock() {
+            return locked;
+        }
+        parker.park_timeout(rt, Duration::from_micros(NAP));
+    }
+    store.lock(rt)
 }
 
 // Tries an item, and wakes those that wait where it stops the store or may let cells go.
