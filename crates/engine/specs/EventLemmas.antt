@@ -34,10 +34,11 @@ use Rattle.world.specs.World.{Past, OpenOnes, Stop, work, changes_in, work_behin
 use Rattle.world.specs.ListingLemmas.{xid_cases, got_same, got_other, same_by_xid}
 use Rattle.world.specs.Steps.{Fault, AlreadyOpen, TooManyOpen, Stopped, OutOfMemory, Acted, IsDone, IsSkipped, Held, Clashed, opened_with, done_with, committed_with, aborted_with}
 use Rattle.engine.specs.declared.events.Event.{Event}
-use Rattle.engine.specs.declared.events.Event.TheVariants.{Done, Wants, FoundStopped, FoundNoMemory}
+use Rattle.engine.specs.declared.events.Event.TheVariants.{Done, Wants, Adopted, FoundStopped, FoundNoMemory}
 use Rattle.engine.specs.declared.events.LineEvent.{LineEvent}
 use Rattle.engine.specs.declared.events.LineEvent.TheVariants.{Opened as WasOpened, Committed as WasCommitted, Aborted as WasAborted}
 use Rattle.engine.specs.Events.{after_event, opened_by, map_values, opened_in, past_of, commits_in, ends_in, world_of, refusal_events, events_of, touch_events}
+use Rattle.live_tables.specs.Adopting.{adopted_with}
 use Rattle.live_tables.specs.Answers.{after_act, after_touch}
 
 -- ---- a finite map whose values are altered
@@ -123,6 +124,13 @@ module _ (schema : Schema) (start : Rows) (line : List LineEvent) (lists : ListM
       ≡ done_with (world_of schema start line lists stopped) xid (opened_by events) item
   world_done stopped item =
       ap (λ (o : OpenOnes). record (world_of schema start line lists stopped) { opened = o }) (opened_event lists xid events (Done item))
+
+  -- the world once a subtransaction has adopted its transaction's last change
+  pub world_adopted : (stopped : Option Stop) (sub : ℕ)
+      → world_of schema start line (finite.insert lists xid (events ++ Adopted sub ∷ [])) stopped
+      ≡ adopted_with (world_of schema start line lists stopped) xid (opened_by events) sub
+  world_adopted stopped sub =
+      ap (λ (o : OpenOnes). record (world_of schema start line lists stopped) { opened = o }) (opened_event lists xid events (Adopted sub))
 
   -- the world once a call that was refused is in its transaction's list
   pub world_refused : (stopped later : Option Stop) (fault : Fault) → later ≡ stopped

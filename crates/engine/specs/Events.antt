@@ -15,11 +15,12 @@ use Rattle.model.specs.declared.change.Change as change_type
 use Rattle.model.specs.declared.item.Item.TheVariants.{Change, Touch}
 use Rattle.model.specs.Rows.{Rows, Schema}
 use Rattle.model.specs.Effect.{serial}
+use Rattle.savepoint.specs.Adopted.{adopted}
 use Rattle.tokens.specs.Lists.{ListMap}
 use Rattle.world.specs.World.{is_xid, Opened, Past, OpenOnes, Stop, World, changes_in}
 use Rattle.world.specs.Steps.{Fault, AlreadyOpen, TooManyOpen, Stopped, OutOfMemory, Acted, IsDone, IsSkipped, Held, Clashed}
 use Rattle.engine.specs.declared.events.Event.{Event}
-use Rattle.engine.specs.declared.events.Event.TheVariants.{Done, Wants, FoundStopped, FoundNoMemory}
+use Rattle.engine.specs.declared.events.Event.TheVariants.{Done, Wants, Adopted, FoundStopped, FoundNoMemory}
 use Rattle.engine.specs.declared.events.LineEvent.{LineEvent}
 use Rattle.engine.specs.declared.events.LineEvent.TheVariants.{Opened as WasOpened, Committed as WasCommitted, Aborted as WasAborted}
 
@@ -27,6 +28,7 @@ use Rattle.engine.specs.declared.events.LineEvent.TheVariants.{Opened as WasOpen
 abbrev pub after_event : Opened → Event → Opened
 after_event o (Done item) = record { items = o.items ++ item ∷ []; wants = None }
 after_event o (Wants sub change) = record o { wants = Some (sub, change) }
+after_event o (Adopted sub) = record { items = adopted sub o.items; wants = None }
 after_event o FoundStopped = o
 after_event o FoundNoMemory = o
 

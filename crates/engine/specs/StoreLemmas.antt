@@ -1,11 +1,12 @@
 -- What the type of a store keeps, once a call has altered its parts.
 --     is_kept      a transaction that is open in the world is one that is kept
 --     clash_there, stop_there      what a clash stopped stands for a world that it stopped; the caller is told so
---     absent_there, runs_there      what is not kept is not open there; what runs stands for a world that runs
+--     absent_there, runs_there, runs_here      what is not kept is not open there; what runs stands for a world that runs, and so the other way
 --     stands      so is the one of a list
 --     still_before, still_rising      what the journal's entries keep where they are the same
 --     store_grown      a transaction's list has more events
---     store_acted, store_touched, store_done      those of a call that tried a change, that named a subtransaction; an item
+--     store_acted, store_touched, store_done, store_adopted      those of a call that tried a change, that named a subtransaction; an
+--         item; its last change is another subtransaction's
 --     store_started      a store with nothing in its lists and no entries
 --     store_opened, store_ended      a transaction opens; one ends
 --     store_aborted, store_committed      it is aborted; it is committed, and the journal has its entry, for which there is room
@@ -41,19 +42,20 @@ use Rattle.world.specs.World.{Opened, Past, ByClash, World, starting, entry_of, 
 use Rattle.world.specs.ListingLemmas.{xid_cases, got_same, got_other}
 use Rattle.world.specs.Steps.{Fault, Acted, IsDone, IsSkipped, Held, Clashed, opened_with, done_with, committed_with, aborted_with}
 use Rattle.engine.specs.declared.events.Event.{Event}
-use Rattle.engine.specs.declared.events.Event.TheVariants.{Done}
+use Rattle.engine.specs.declared.events.Event.TheVariants.{Done, Adopted}
 use Rattle.engine.specs.declared.events.LineEvent.{LineEvent}
 use Rattle.engine.specs.declared.events.LineEvent.TheVariants.{Opened as WasOpened, Committed as WasCommitted, Aborted as WasAborted}
 use Rattle.engine.specs.declared.entry.Entry.{Entry}
 use Rattle.engine.specs.declared.store.Store.TheInside.{Inside}
 use Rattle.engine.specs.Events.{opened_by, opened_in, commits_in, ends_in, open_after, is_open_in, world_of, events_of, touch_events}
-use Rattle.engine.specs.EventLemmas.{get_values, values_empty, opened_stands, rise_more, ends_same, ends_more, world_done, world_acted, world_touched, world_opened, world_aborted, world_committed}
+use Rattle.engine.specs.EventLemmas.{get_values, values_empty, opened_stands, rise_more, ends_same, ends_more, world_done, world_adopted, world_acted, world_touched, world_opened, world_aborted, world_committed}
 use Rattle.engine.specs.Engine.{entry_in, start_in, world_in, AreTakenBack, edits_behind, Represents}
 use Rattle.engine.specs.EntryLemmas.{taken_back_more, rows_taken_back}
 use Rattle.live_tables.specs.declared.live_tables.Live.{Live}
 use Rattle.live_tables.specs.declared.live_tables.Stopped as stopped_type
 use Rattle.live_tables.specs.declared.live_tables.Stopped.TheVariants.{Clash as StoppedByClash, Held as StoppedByHold}
 use Rattle.live_tables.specs.declared.transaction.OpenTransaction.{OpenTransaction}
+use Rattle.live_tables.specs.Adopting.{adopted_with}
 use Rattle.live_tables.specs.Answers.{cause_of, stop_for, told_stop, after_act, after_touch, stop_of, TellsWhatStopped, HasCause}
 use Rattle.live_tables.specs.Journal.{rows_after}
 use Rattle.live_tables.specs.JournalLemmas.{entries_are_serial}
@@ -93,6 +95,18 @@ stop_there w l tied (StoppedByClash xid c clash) is =
     let told = clash_there w l tied xid c clash is in
     (c, told.0, told.1, told.2)
 stop_there w l tied (StoppedByHold waiter holder) is = sym tied.stopped ∙ ap told_stop is
+
+-- a store runs whose world does
+pub runs_here : (w : World) (l : Live) → LiveRepresents w l → w.stopped ≡ None → l.stopped ≡ None
+runs_here w l tied none = by l.stopped refl
+  where
+    never : (found : stopped_type.Stopped) → ¬ TellsWhatStopped (Some (stop_of found)) w.stopped
+    never (StoppedByClash xid c clash) told = not_none _ (sym none ∙ told.3)
+    never (StoppedByHold waiter holder) told = not_none _ (sym none ∙ told)
+
+    by : (found : Option stopped_type.Stopped) → l.stopped ≡ found → found ≡ None
+    by None at = refl
+    by (Some found) at = absurd (never found (stop_there w l tied found at))
 
 -- what is not kept is not open in the world
 pub absent_there : (w : World) (l : Live) → LiveRepresents w l → (xid : ℕ) → is_some (tree.get nat_cmp l.transactions xid) ≡ false → get w.opened xid ≡ None
@@ -206,6 +220,16 @@ module _ (s : Inside) (is : Represents s) (xid : ℕ) (events : List Event) (lis
       store_grown m b (Done item ∷ []) (done_with (world_in s) xid (opened_by events) item) schema book tied (same_len (world_in s).opened xid (opened_by events) _ stands)
       (ap (world_of s.live.tables.schema (start_in s) s.line.list (finite.insert s.book.lists xid (events ++ Done item ∷ []))) tied.stopped
       ∙ world_done s.live.tables.schema (start_in s) s.line.list s.book.lists xid events listed (told_stop s.live.stopped) item)
+
+  -- A subtransaction has adopted its transaction's last change.
+  pub store_adopted : (m : Live) (b : OpenLists Event) (sub : ℕ)
+      → m.tables.schema ≡ s.live.tables.schema → b ≡ with_list s.book xid (events ++ Adopted sub ∷ [])
+      → LiveRepresents (adopted_with (world_in s) xid (opened_by events) sub) m
+      → (world_in (with_parts s m b) ≡ adopted_with (world_in s) xid (opened_by events) sub) × Represents (with_parts s m b)
+  store_adopted m b sub schema book tied =
+      store_grown m b (Adopted sub ∷ []) (adopted_with (world_in s) xid (opened_by events) sub) schema book tied (same_len (world_in s).opened xid (opened_by events) _ stands)
+      (ap (world_of s.live.tables.schema (start_in s) s.line.list (finite.insert s.book.lists xid (events ++ Adopted sub ∷ []))) tied.stopped
+      ∙ world_adopted s.live.tables.schema (start_in s) s.line.list s.book.lists xid events listed (told_stop s.live.stopped) sub)
 
 -- ---- a new store
 

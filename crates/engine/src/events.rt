@@ -9,6 +9,8 @@ pub enum Event {
     Done(Item),
     /// A change of this subtransaction waits, or clashed.
     Wants { sub: Xid, change: Change },
+    /// Its last item, a change, became one of this subtransaction.
+    Adopted(Xid),
     /// An item of it was refused, since the store was stopped.
     FoundStopped,
     /// An item of it was refused for want of memory.

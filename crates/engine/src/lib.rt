@@ -18,6 +18,7 @@
 //   serial              `SerialStore`: a store whose transactions come one at a time
 //   open_work           the tables with the open work of such a store, and what takes it back
 //   shut                the end of a store in which transactions are still open
+//   as_part             what a store is asked beside that is a part of another
 //   tickets, events     `Ticket`, `Line`, `Seen`, and what they list
 //   entry               a committed transaction as the journal has it
 //   rows_after          what stood in a table before entries of the journal
@@ -35,6 +36,7 @@
 //
 // It stands on `live_tables` for the tables and the open transactions, on `world` for the definitions, on
 // `change`, `undo` and `indexes` for a store of one transaction at a time, and on `tokens`.
+mod as_part;
 mod entry;
 mod events;
 mod open_work;

@@ -479,7 +479,7 @@ fn touch_live(alloc: Global, live: &mut Live, xid: Xid, sub: Xid) -> Result<(), 
 }
 
 // Appends what a call that tried a change tells of its transaction.
-fn record_act(
+pub(crate) fn record_act(
     book: &mut Book<Event>,
     slip: &mut Slip<Event>,
     sub: Xid,

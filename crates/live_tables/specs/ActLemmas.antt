@@ -2,7 +2,7 @@
 --     has_stopped, runs      what stopped a store stopped its world
 --     free_again      what is free of a change is free of it again, once nothing came of it
 --     tied_done, tied_skipped, tied_taken      it is an item of its transaction
---     tied_waiting, tied_clash, tied_clashed      its transaction wants it
+--     tied_waiting, tied_waits, tied_clash, tied_clashed      its transaction wants it
 --     tied_refused      nothing came of it
 use Rattle.std.proofs.Common.{◌≡◌, ◌≢◌, ℕ, ◌⊎◌, ◌≤◌, ◌++◌, ◌∷◌, [], Bool, true, false, List, length, take, Option, Some, None, refl, sym, ap, subst, ◌∙◌, inl, inr, arith, length-append}
 use Rattle.std.specs.Prelude.{Ok, Err, ◌↔◌, IfSome, IsSome, ◌==◌, if◌then◌else◌}
@@ -31,6 +31,7 @@ use Rattle.keyholds.specs.Holds.{holds_of, cells_held, with_holds}
 use Rattle.savepoint.specs.Record.{Record}
 use Rattle.world.specs.World.{Opened, Stop, ByClash, World, IsHeldBy, IsFree}
 use Rattle.world.specs.Steps.{Acts, IsDone, IsSkipped, Held, Clashed, done_with, wanting}
+use Rattle.world.specs.FineLemmas.{fine_wanting}
 use Rattle.world.specs.ListingLemmas.{xid_cases, got_same, got_other, same_by_xid}
 use Rattle.world.specs.WorldLemmas.{footprint_live}
 use Rattle.live_tables.specs.declared.live_tables.Live.{Live}
@@ -44,6 +45,7 @@ use Rattle.live_tables.specs.Held.{AreHolds, HasHeldMarks}
 use Rattle.live_tables.specs.CallResults.{HasSameRows, HasTheSame}
 use Rattle.live_tables.specs.KeptRecords.{IsReady, Represents as RecordsRepresent, IsPutAt}
 use Rattle.live_tables.specs.Statements.{IsFreeLive}
+use Rattle.live_tables.specs.KeptLemmas.{kept_wanting}
 use Rattle.live_tables.specs.CallLemmas.{done_is_kept, skip_is_kept, held_is_kept, clash_is_kept, refusal_is_kept}
 use Rattle.live_tables.specs.HoldsLemmas.{holds_tell_the_world, taken_is_held, same_is_held}
 use Rattle.live_tables.specs.MarkedHoldsLemmas.{item_keeps_marks}
@@ -276,6 +278,15 @@ module _ (w : World) (l : Live) (tied : RepresentsByHolds w l) (xid : ℕ) (o : 
           held_is_kept l.tables.schema l.tables w (records_in l.transactions) tied.kept xid o is (runs w l tied running) sub c holder (held_live w l tied xid c holder found) n.tables left
           (records_in n.transactions) kept.record records_at same_wanting in
           (came.0, tied_wanting w.stopped (ap told_stop stops ∙ tied.stopped) (caused_still stops) came.1)
+
+      -- it waits with it, whoever is in its way
+      pub tied_waits : n.stopped ≡ l.stopped → RepresentsByHolds (wanting w xid o sub c) n
+      tied_waits stops =
+          let its = tied.kept.ready xid o is in
+          tied_wanting w.stopped (ap told_stop stops ∙ tied.stopped) (caused_still stops)
+          (kept_wanting l.tables.schema l.tables w (records_in l.transactions) tied.kept xid o is its.its its.tells its.can sub c w.stopped n.tables (records_in n.transactions) kept.record records_at
+          (fine_wanting l.tables.schema w tied.kept.fine xid o sub c is (runs w l tied running)) left.schema_is left.rows left.room
+          same_wanting.top same_wanting.survivors same_wanting.marks same_wanting.inverses same_wanting.named)
 
       -- it clashes
       pub tied_clash : (cause : ClashCause) → IsFreeOf l.tables.schema l.tables.rows (cells_held l.holds) xid c

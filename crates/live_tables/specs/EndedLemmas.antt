@@ -39,7 +39,7 @@ use Rattle.savepoint.specs.Savepoints.{mark_at}
 use Rattle.savepoint.specs.Record.{Record}
 use Rattle.world.specs.World.{Opened, Past, ByClash, World, starting, own_rows, holds}
 use Rattle.world.specs.Steps.{opened_with, done_with, aborted_with, committed_with}
-use Rattle.world.specs.FineLemmas.{fine_put, noted_put, gone_cases, holds_free, same_some}
+use Rattle.world.specs.FineLemmas.{fine_put, fine_same, gone_cases, same_some}
 use Rattle.world.specs.Fine.{IsFine}
 use Rattle.world.specs.ListingLemmas.{xid_cases}
 use Rattle.live_tables.specs.declared.live_tables.Live.{Live}
@@ -65,7 +65,7 @@ use Rattle.live_tables.specs.Transactions.{PutsTransaction, WritesTransaction, W
 counted : (old new items more most : ℕ) → old ≡ min items most → new ≡ min (old + 1) most → more ≡ items + 1 → new ≡ min more most
 counted old new items more most was is one_more = omega (arith, was, is, one_more)
 
-wants_none : (tables : ℕ) (wants : Option (ℕ × change_type.Change)) → wants ≡ None → IfSome wants (λ (w : ℕ × change_type.Change). NamesTables tables w.1)
+pub wants_none : (tables : ℕ) (wants : Option (ℕ × change_type.Change)) → wants ≡ None → IfSome wants (λ (w : ℕ × change_type.Change). NamesTables tables w.1)
 wants_none tables None none = tt
 wants_none tables (Some w) some = absurd (not_none w (sym some))
 
@@ -97,20 +97,8 @@ before_image_still held xid found same = record { here = ap (λ (f : Option Mark
 
 -- ---- a touch
 
--- a transaction that waits no more, and has the same work, also in a world that is stopped
-module _ (schema : Schema) (w : World) (fine : IsFine schema w) (xid : ℕ) (o : Opened) (is : get w.opened xid ≡ Some o) (sub : ℕ) where
-  abbrev touched : Opened
-  touched = record { items = o.items ++ Touch sub ∷ []; wants = None }
-
-  same_holds : holds schema w xid touched ≡ holds schema w xid o
-  same_holds = ap (held_cells schema w.committed) (work_with_touch xid sub o.items)
-
-  fine_touched : IsFine schema (done_with w xid o (Touch sub))
-  fine_touched =
-      fine_put schema w fine xid touched w.stopped
-      (subst (AreAccepted schema w.committed) (sym (work_with_touch xid sub o.items)) (fine.accepted xid o is))
-      (λ other p differs at. ap (λ (cells : List Cell). shares_cell cells (holds schema w other p)) same_holds ∙ holds_free schema w fine xid o is other p differs at)
-      (noted_put schema w fine xid o touched is refl (λ cells free. ap (shares_cell cells) same_holds ∙ free))
+fine_touched : (schema : Schema) (w : World) → IsFine schema w → (xid : ℕ) (o : Opened) → get w.opened xid ≡ Some o → (sub : ℕ) → IsFine schema (done_with w xid o (Touch sub))
+fine_touched schema w fine xid o is sub = fine_same schema w fine xid o (record { items = o.items ++ Touch sub ∷ []; wants = None }) is refl (work_with_touch xid sub o.items)
 
 module _ (w : World) (l : Live) (tied : RepresentsByHolds w l) (xid : ℕ) (o : Opened) (is : get w.opened xid ≡ Some o) (old kept : OpenTransaction) (n : Live)
     (writes : WritesTransaction xid old kept l.transactions n.transactions) where
@@ -141,7 +129,7 @@ module _ (w : World) (l : Live) (tied : RepresentsByHolds w l) (xid : ℕ) (o : 
       let cells = cells_held l.holds xid in
       let has = item_at xid old.record.top sub (Touch sub) [] old.record kept.record (length cells) tells.top (was_touched.item, was_touched.mark_held) in
       let item = has.0 in
-      tied_put w l tied xid o is old writes.at (touched schema w tied.kept.fine xid o is sub) w.stopped n kept (ap (λ (t : Content). t.schema) tables) writes.puts
+      tied_put w l tied xid o is old writes.at (record { items = o.items ++ Touch sub ∷ []; wants = None }) w.stopped n kept (ap (λ (t : Content). t.schema) tables) writes.puts
       (subst (λ (t : Content). RecordsRepresent schema t (done_with w xid o (Touch sub)) (records_in n.transactions)) (sym tables)
       (kept_touched schema l.tables w (records_in l.transactions) tied.kept xid o is old.record tells (its_can w l tied xid o is old writes.at)
       sub (records_in n.transactions) kept.record item.mark records_at

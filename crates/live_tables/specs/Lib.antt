@@ -45,3 +45,5 @@ pub mod MadeHoldsLemmas
 pub mod ByHoldsLemmas
 pub mod WouldHoldLemmas
 pub mod LoneLemmas
+pub mod Adopting
+pub mod AdoptingLemmas

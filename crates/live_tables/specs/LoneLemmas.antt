@@ -2,6 +2,7 @@
 -- would be.
 --     lone_free      nobody is in the way of a change
 --     lone_taken, lone_refused, lone_clashed      a change is done or skipped; nothing came of a call; a change clashes
+--     lone_waits      it waits with a change
 --     lone_touched, lone_back      an item of the top transaction that changes no row; a rollback, which finds no savepoint
 --     lone_aborted, lone_committed      it ends
 --     lone_opened, open_refused      one opens where none is open; it is refused
@@ -41,7 +42,7 @@ use Rattle.savepoint.specs.Record.{Record, with_mark_unless_top}
 use Rattle.keyholds.specs.Holds.{holds_of, cells_held, with_holds, IsFreeCell}
 use Rattle.world.specs.World.{Opened, World}
 use Rattle.world.specs.Live.{IsLive}
-use Rattle.world.specs.Steps.{StopsHeld, Acts, Acted, Fault, IsDone, IsSkipped, Held, Clashed, opened_with, done_with, aborted_with, committed_with}
+use Rattle.world.specs.Steps.{StopsHeld, Acts, Acted, Fault, IsDone, IsSkipped, Held, Clashed, opened_with, done_with, wanting, aborted_with, committed_with}
 use Rattle.world.specs.FineLemmas.{put_cases}
 use Rattle.world.specs.ListingLemmas.{xid_cases, got_same, got_other, gone_same, gone_other}
 use Rattle.live_tables.specs.declared.live_tables.Live.{Live}
@@ -58,10 +59,10 @@ use Rattle.live_tables.specs.ByHolds.{RepresentsByHolds, RepresentsWith}
 use Rattle.live_tables.specs.ByHoldsLemmas.{by_holds, from_holds, by_some, by_would, from_would, as_made, holds_none}
 use Rattle.live_tables.specs.WouldHoldLemmas.{would_take, would_cells, would_stand}
 use Rattle.live_tables.specs.BasicLemmas.{records_put, tied_by}
-use Rattle.live_tables.specs.ActLemmas.{tied_taken, tied_refused}
+use Rattle.live_tables.specs.ActLemmas.{tied_taken, tied_waits, tied_refused}
 use Rattle.live_tables.specs.EndedLemmas.{tied_opened, tied_alike, records_alike, tied_touched, tied_back, tied_aborted, tied_committed}
 use Rattle.live_tables.specs.CallResults.{HasSameRows, IsRolledBack, IsReleased, IsFresh, HasItem}
-use Rattle.live_tables.specs.Transactions.{PutsTransaction, WritesTransaction, WaitsNoMore, IsAsBefore, HasApplied, HasTouched}
+use Rattle.live_tables.specs.Transactions.{PutsTransaction, WritesTransaction, WantsChange, WaitsNoMore, IsAsBefore, HasApplied, HasTouched}
 
 all_free : (held : ℕ → List Cell) (xid : ℕ) → ((other : ℕ) → other ≢ xid → held other ≡ []) → (cells : List Cell) → All (IsFreeCell held xid) cells
 all_free held xid none [] = All-nil (IsFreeCell held xid)
@@ -299,6 +300,15 @@ module _ (w : World) (l : Live) (tied : Represents w l) (alone : l.made ≡ fals
         (named_put (subst (λ (items : List Item). All (NamesTables (length n.tables.schema)) (changes_of items)) (sym back.survivors)
         (names_left (NamesTables (length n.tables.schema)) old.record.top sub old.record.survivors (named_before xid old.record its_place))))
         none_still
+
+    -- it waits with a change
+    pub lone_waits : (sub : ℕ) (c : change_type.Change) → NamesTables (length l.tables.schema) c → l.stopped ≡ None → WantsChange sub c old kept → n.tables ≡ l.tables → n.stopped ≡ l.stopped
+        → Represents (wanting w xid o sub c) n
+    lone_waits sub c names running wants tables stops =
+        from_would (wanting w xid o sub c) n would
+        (tied_waits w (record l { holds = would }) stands xid o is old kept (record n { holds = would }) writes sub c names running wants tables refl stops)
+        still_alone (only_put (record o { wants = Some (sub, c) })) (unmarked_put (ap (λ (r : Record). r.marks) wants.record_is))
+        (named_put (named_as (ap (λ (r : Record). r.survivors) wants.record_is))) none_still
 
     -- an item that changes no row
     pub lone_touched : (sub mark : ℕ) → sub ≡ old.record.top → HasTouched sub mark old kept → n.tables ≡ l.tables → n.stopped ≡ l.stopped → Represents (done_with w xid o (Touch sub)) n

@@ -10,6 +10,7 @@
 --     WantsChange      a change is kept that it waits with, or that clashed
 --     HasHeldItem      a record has one more item, and its mark tells how much was held
 --     HasTaken      a transaction holds more cells, and no other's changed
+--     IsAdoptedRecord, IsAdopted      its last change became one of another subtransaction
 use Rattle.std.specs.Prelude.{◌≡◌, ◌≢◌, ◌↔◌, ◌⊎◌, ℕ, ◌+◌, ◌-◌, ◌^◌, ◌<◌, Bool, true, false, List, [], ◌∷◌, Option, Some, None, Err, length, min, take}
 use Rattle.std.specs.List.{Contains}
 use Rattle.std.specs.Ordering.{nat_cmp}
@@ -25,7 +26,9 @@ use Rattle.change.specs.Applied.{AnswersOutcome}
 use Rattle.change.specs.declared.inverse.Inverse.{Inverse}
 use Rattle.live_tables.specs.declared.transaction.OpenTransaction.{OpenTransaction}
 use Rattle.live_tables.specs.declared.transaction.Refused.{Refused}
-use Rattle.savepoint.specs.Record.{Record, with_mark_unless_top, HasMark, OthersAreNamed}
+use Rattle.savepoint.specs.Adopted.{adopted}
+use Rattle.savepoint.specs.Savepoints.{before_mark}
+use Rattle.savepoint.specs.Record.{Record, with_mark_unless_top, HasMark, OthersAreNamed, AllAreNamed}
 use Rattle.live_tables.specs.CallResults.{HasSameRows, IsApplied, HasItem, HasTheSame}
 
 -- it has done one item more, and waits no more
@@ -99,3 +102,17 @@ pub record HasTaken (xid : ℕ) (cells : List Cell) (old new : ℕ → List Cell
   pub front : take (length (old xid)) (new xid) ≡ old xid
   pub all : (cell : Cell) → Contains (new xid) cell ↔ (Contains (old xid) cell ⊎ Contains cells cell)
   pub beside : (other : ℕ) → other ≢ xid → new other ≡ old other
+
+-- the record of a transaction, once a subtransaction has adopted the last change, which was the one item of its own
+pub record IsAdoptedRecord (own sub : ℕ) (old new : Record) : Type 0 where
+  pub survivors : new.survivors ≡ adopted sub old.survivors
+  pub marks : new.marks ≡ before_mark own old.marks
+  pub named : AllAreNamed new
+  pub log : new.log ≡ old.log
+  pub top : new.top ≡ old.top
+
+-- and what is kept of it, which waits no more
+pub record IsAdopted (own sub : ℕ) (old new : OpenTransaction) : Type 0 where
+  pub record_is : IsAdoptedRecord own sub old.record new.record
+  pub wants : new.wants ≡ None
+  pub done : new.done ≡ old.done

@@ -11,16 +11,18 @@ ghost use Rattle.model.specs.Survivors.{survivors};
 ghost use Rattle.model.specs.Effect.{all_back, serial};
 ghost use Rattle.world.specs.World.{Opened, World, starting, work};
 ghost use Rattle.world.specs.Live.{IsListing, live_rows};
-ghost use Rattle.world.specs.Steps.{StopsHeld, opened_with, done_with, committed_with, aborted_with};
+ghost use Rattle.world.specs.Steps.{StopsHeld, opened_with, done_with, wanting, committed_with, aborted_with};
 ghost use Rattle.change.specs.Inverse.{edits_of};
 ghost use Rattle.keyholds.specs.Holds.{cells_held};
 ghost use Rattle.savepoint.specs.declared.mark.Mark.{Mark};
+ghost use Rattle.savepoint.specs.Adopted.{CanAdopt};
 ghost use Rattle.savepoint.specs.Savepoints.{mark_at};
 ghost use Rattle.savepoint.specs.Record.{Record};
 ghost use Rattle.undo.specs.Undo.{AreSettled};
 ghost use Rattle.undo.specs.Vacated.{AreVacated};
 ghost use Rattle.live_tables.specs.Released.{AreReleased};
 ghost use Rattle.live_tables.specs.Answers.{after_stop};
+ghost use Rattle.live_tables.specs.Adopting.{adopted_with};
 ghost use Rattle.live_tables.specs.Represents.{records_in, Represents};
 ghost use Rattle.live_tables.specs.Tried.{HasActed};
 
@@ -164,6 +166,35 @@ impl Live {
         if let Some(mark) = transaction.go_back(&mut self.tables, sub) {
             let_go(&mut self.tables, &mut self.holds, xid, mark.held);
         }
+    }
+
+    /// The last item of an open transaction, a change and the only one of its subtransaction, becomes one
+    /// of another, which has a savepoint or is the top transaction. It takes no memory.
+    pub fn adopt(&mut self, xid: Xid, own: Xid, sub: Xid)
+        requires { (w : World) × (o : Opened) × Represents w self.old × (finite.get w.opened xid ≡ Some o) × CanAdopt xid own sub o.items }
+        ensures tied { (w : World) (o : Opened) → Represents w self.old → finite.get w.opened xid ≡ Some o → CanAdopt xid own sub o.items
+            → Represents (adopted_with w xid o sub) self.new }
+        ensures schema { self.new.tables.schema ≡ self.old.tables.schema }
+    {
+        let Some(transaction) = self.transactions.get_mut(&xid) else {
+            unreachable!()
+        };
+        transaction.adopt(own, sub);
+    }
+
+    /// An open transaction of a store that isn't stopped waits with a change. It takes no memory.
+    pub fn wait_with(&mut self, xid: Xid, sub: Xid, change: Change)
+        requires names { NamesTables (length self.old.tables.schema) change }
+        requires running { self.old.stopped ≡ None }
+        requires tied { (w : World) × (o : Opened) × Represents w self.old × (finite.get w.opened xid ≡ Some o) }
+        ensures tied { (w : World) (o : Opened) → Represents w self.old → finite.get w.opened xid ≡ Some o
+            → Represents (wanting w xid o sub change) self.new }
+        ensures schema { self.new.tables.schema ≡ self.old.tables.schema }
+    {
+        let Some(transaction) = self.transactions.get_mut(&xid) else {
+            unreachable!()
+        };
+        transaction.wants = Some((sub, change));
     }
 
     /// An open transaction is gone, its changes undone and its cells let go, and given up where no row

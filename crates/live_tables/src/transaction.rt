@@ -1,12 +1,13 @@
 // What a store keeps of an open transaction.
-ghost use Rattle.std.specs.Prelude.{◌≡◌, ◌<◌, [], ◌∷◌, ◌++◌, None, IfOk, OnOk, OnErr, IfErr, length, option_to_list};
+ghost use Rattle.std.specs.Prelude.{◌≡◌, ◌≢◌, ◌<◌, [], ◌∷◌, ◌++◌, None, IfOk, OnOk, OnErr, IfErr, length, option_to_list};
 ghost use Rattle.model.specs.declared.item.Item.TheVariants.{Change as ChangeItem};
 ghost use Rattle.model.specs.Named.{NamesTables};
 ghost use Rattle.undo.specs.Undo.{CanUndo};
+ghost use Rattle.savepoint.specs.Adopted.{EndsAlone};
 ghost use Rattle.savepoint.specs.Savepoints.{mark_at};
 ghost use Rattle.savepoint.specs.Record.{HasMark, OthersAreNamed, AllAreNamed, inverses_since};
 ghost use Rattle.live_tables.specs.CallResults.{IsRolledBack, IsFresh};
-ghost use Rattle.live_tables.specs.Transactions.{WaitsNoMore, IsAsBefore, HasMadeRoom, HasApplied, HasRefused, HasTouched};
+ghost use Rattle.live_tables.specs.Transactions.{WaitsNoMore, IsAsBefore, HasMadeRoom, HasApplied, HasRefused, HasTouched, IsAdopted};
 
 use change::{Applied, Clash, Inverse, apply};
 use indexes::Tables;
@@ -138,5 +139,18 @@ impl OpenTransaction {
         self.wants = None;
         self.done = self.done.saturating_add(1);
         self.record.roll_back(tables, sub)
+    }
+
+    /// The last change, the only item of its subtransaction, becomes one of another. It takes no memory.
+    pub(crate) fn adopt(&mut self, own: Xid, sub: Xid)
+        requires last { EndsAlone own self.old.record.survivors }
+        requires below { own ≢ self.old.record.top }
+        requires apart { own ≢ sub }
+        requires noted { HasMark self.old.record sub }
+        requires named { AllAreNamed self.old.record }
+        ensures { IsAdopted own sub self.old self.new }
+    {
+        self.record.adopt(own, sub);
+        self.wants = None;
     }
 }

@@ -1,12 +1,14 @@
 // Who waits for whom, by the live tables and the cells that are held. All is read in place, and it
 // takes no memory.
-ghost use Rattle.std.specs.Prelude.{◌≡◌, ◌↔◌, ◌∷◌, [], ℕ, true, false, Some, IfSome, IfNone, IsTrue, All, is_some, length};
+ghost use Rattle.std.specs.Prelude.{◌≡◌, ◌≢◌, ◌↔◌, ◌∷◌, [], ℕ, true, false, Some, IfOk, IfSome, IfNone, IsTrue, All, is_some, length};
 ghost use Rattle.std.specs.Ordering.{nat_cmp};
 ghost use Rattle.std.specs.BTreeMap as tree;
 ghost use Rattle.std.specs.FinMap as finite;
 ghost use Rattle.model.specs.declared.change.Change.{Change as AnyChange};
 ghost use Rattle.model.specs.declared.cell.Cell.TheVariants.{Row as RowCell};
+ghost use Rattle.std.specs.List.{list_any};
 ghost use Rattle.model.specs.Named.{NamesTables};
+ghost use Rattle.model.specs.Survivors.{is_of, survivors};
 ghost use Rattle.model.specs.Footprint.{looked_up, footprint, shares_cell};
 ghost use Rattle.world.specs.World.{Opened, World};
 ghost use Rattle.world.specs.Steps.{StopsHeld};
@@ -22,7 +24,7 @@ use crate::live_tables::Live;
 use crate::transaction::OpenTransaction;
 use change::{CellRef, CellTest, any_cell};
 use keyholds::{Holds, SoughtCell, SoughtRow};
-use model::{Cell, Change, Key, TableId, Xid};
+use model::{Cell, Change, Key, OutOfMemory, TableId, Xid};
 use std::cmp::Ordering;
 
 /// A cell that is read in place, as the holds are asked for it.
@@ -88,6 +90,29 @@ impl Live {
         match self.transactions.get(&xid) {
             Some(transaction) => transaction.wants.is_some(),
             None => false,
+        }
+    }
+
+    /// Whether an item of an open transaction that no rollback has dropped names a subtransaction.
+    pub fn knows(&self, xid: Xid, sub: Xid) -> bool
+        ensures { sub ≢ xid → (w : World) (o : Opened) → Represents w self.now → finite.get w.opened xid ≡ Some o
+            → result ≡ list_any (is_of sub) (survivors xid o.items) }
+    {
+        match self.transactions.get(&xid) {
+            Some(transaction) => transaction.record.mark_of(sub).is_some(),
+            None => false,
+        }
+    }
+
+    /// The change that an open transaction waits with, or that clashed, and its subtransaction, as copies.
+    pub fn wanted(&self, xid: Xid) -> Result<Option<(Xid, Change)>, OutOfMemory>
+        ensures wants { IfOk result (λ wants. (w : World) (o : Opened) → Represents w self.now → finite.get w.opened xid ≡ Some o → wants ≡ o.wants) }
+        ensures named { IfOk result (λ wants. (w : World) (o : Opened) → Represents w self.now → finite.get w.opened xid ≡ Some o
+            → IfSome wants (λ (p : ℕ × AnyChange). NamesTables (length self.now.tables.schema) p.1)) }
+    {
+        match self.transactions.get(&xid) {
+            Some(transaction) => copy_wanted(&transaction.wants),
+            None => Ok(None),
         }
     }
 
@@ -163,6 +188,16 @@ impl Live {
             holder,
         };
         any_cell(&self.tables, change, &test)
+    }
+}
+
+// A copy of a change that a transaction may wait with.
+fn copy_wanted(wants: &Option<(Xid, Change)>) -> Result<Option<(Xid, Change)>, OutOfMemory>
+    ensures { IfOk result (λ copy. copy ≡ wants.now) }
+{
+    match wants {
+        Some((sub, change)) => Ok(Some((*sub, change.copy()?))),
+        None => Ok(None),
     }
 }
 

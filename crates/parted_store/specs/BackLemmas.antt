@@ -65,7 +65,7 @@ module _ (p : Part) (share : Share) where
   }
 
 -- put in once more at the same number
-inserted_again : (ones : OpenOnes) (xid : ℕ) (o p : Opened) → insert (insert ones xid o) xid p ≡ insert ones xid p
+pub inserted_again : (ones : OpenOnes) (xid : ℕ) (o p : Opened) → insert (insert ones xid o) xid p ≡ insert ones xid p
 inserted_again ones xid o p =
     same_by_xid (insert (insert ones xid o) xid p) (insert ones xid p) (λ q.
     elim (xid_cases q xid) [

@@ -16,13 +16,13 @@ use Rattle.parted_store.specs.Shares.{Share, Shares, share_of}
 -- ---- a list in which one element is another
 
 module _ (parts : List Part) (i : ℕ) (p q : Part) (at : slice_get parts i ≡ Some p) where
-  set_here : slice_get (slice_set parts i q) i ≡ Some q
+  pub set_here : slice_get (slice_set parts i q) i ≡ Some q
   set_here =
       let within : i < length parts = slice_get_within parts i p at in
       let longer : i < length (slice_set parts i q) = subst (λ n. i < n) (sym (length-set parts i q)) within in
       slice_get-get_or (slice_set parts i q) i q longer ∙ ap Some (get_or-set_same parts i q q within)
 
-  set_beside : (j : ℕ) → j ≢ i → slice_get (slice_set parts i q) j ≡ slice_get parts j
+  pub set_beside : (j : ℕ) → j ≢ i → slice_get (slice_set parts i q) j ≡ slice_get parts j
   set_beside j apart =
       elim (slice_get_cases parts j).1 [
         | inl within ↦

@@ -53,7 +53,7 @@ module _ (t : OpenTicket) (p : Part) (w : World) (has : HasTable w p) (at : HasT
   }
 
   -- the share's transaction is open in the part
-  stood_by : (share : Share) → share.number ≡ t.number → get p.store.world.opened share.number ≡ Some (opened_by share.list)
+  pub stood_by : (share : Share) → share.number ≡ t.number → get p.store.world.opened share.number ≡ Some (opened_by share.list)
       → get p.store.world.opened t.number ≡ Some (opened_by share.list)
   stood_by share number = subst (λ (n : ℕ). get p.store.world.opened n ≡ Some (opened_by share.list)) number
 

@@ -18,3 +18,9 @@ pub mod EndLemmas
 pub mod JournalLemmas
 pub mod KeptLemmas
 pub mod PlaceLemmas
+pub mod Truncating
+pub mod TruncatingLemmas
+pub mod TriedLemmas
+pub mod WaitingLemmas
+pub mod CutLemmas
+pub mod HasCutLemmas

@@ -92,7 +92,7 @@ pub fn act_in(
 }
 
 // The transaction waits in these parts no more, unless the change was refused.
-fn rest_each(
+pub(crate) fn rest_each(
     others: &mut [Part],
     shares: &mut Vec<Option<Share>>,
     xid: Xid,
@@ -110,7 +110,7 @@ fn rest_each(
 }
 
 // Keeps the change as an item that was done, or as what stopped the store.
-fn keep(
+pub(crate) fn keep(
     journal: &mut Journal,
     items: &mut Vec<Item>,
     xid: Xid,
@@ -131,7 +131,12 @@ fn keep(
 }
 
 // Lists what came of a change.
-fn tell(events: &mut Told<Event>, sub: Xid, c: &Change, answer: &Result<Acted, EngineFault>)
+pub(crate) fn tell(
+    events: &mut Told<Event>,
+    sub: Xid,
+    c: &Change,
+    answer: &Result<Acted, EngineFault>,
+)
     ensures { events.new ≡ events.old ++ events_of sub c.now (told answer.now) }
 {
     grow_act::<Brand>(events, sub, c, answer);

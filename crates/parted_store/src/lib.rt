@@ -19,6 +19,7 @@
 //   coming        an open transaction comes to a table
 //   acting        a change that is tried in the part of its table
 //   touching      an item that changes no row
+//   truncating    a truncate of several tables, tried in the part of each
 //   back          a rollback of a subtransaction, part by part
 //   ends          a commit and an abort, part by part
 //   entry         a committed transaction as the journal has it
@@ -41,6 +42,7 @@ mod shares;
 mod ticket;
 mod told;
 mod touching;
+mod truncating;
 
 pub use acting::act_in;
 pub use back::back_to_in;
@@ -50,3 +52,4 @@ pub use entry::Entry;
 pub use journal::{Journal, Line};
 pub use ticket::Ticket;
 pub use touching::touch_in;
+pub use truncating::truncate_in;

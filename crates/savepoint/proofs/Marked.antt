@@ -63,7 +63,7 @@ before_before {M} sub other (m ∷ marks) q e =
     (cases_Bool (m.0 == sub))
 
 -- a mark that isn't before another is the same, or stands behind it
-one_or_behind : {M : Type 0} (sub other : ℕ) (marks : List (ℕ × M)) (p q : M) → mark_at sub marks ≡ Some p → mark_at other marks ≡ Some q → mark_at other (before_mark sub marks) ≡ None
+pub one_or_behind : {M : Type 0} (sub other : ℕ) (marks : List (ℕ × M)) (p q : M) → mark_at sub marks ≡ Some p → mark_at other marks ≡ Some q → mark_at other (before_mark sub marks) ≡ None
     → (sub ≡ other) ⊎ (mark_at sub (before_mark other marks) ≡ Some p)
 one_or_behind sub other [] p q e f none = absurd cc
 one_or_behind {M} sub other (m ∷ marks) p q e f none =
@@ -92,7 +92,7 @@ before-named sub i items e = take_while-cons (λ (j : Item). not (is_of sub j)) 
 before-other : (sub : ℕ) (i : Item) (items : List Item) → is_of sub i ≡ false → before_savepoint sub (i ∷ items) ≡ i ∷ before_savepoint sub items
 before-other sub i items e = take_while-cons (λ (j : Item). not (is_of sub j)) i items ∙ rw e
 
-before-take : (sub n : ℕ) (items : List Item) → before_savepoint sub (take n items) ≡ take n (before_savepoint sub items)
+pub before-take : (sub n : ℕ) (items : List Item) → before_savepoint sub (take n items) ≡ take n (before_savepoint sub items)
 before-take sub zero items = grind (arith, common_steps)
 before-take sub (suc n) [] = refl
 before-take sub (suc n) (i ∷ items) =
@@ -147,7 +147,7 @@ names_one sub other (Touch named) e f = sym (eqb-true named sub e) ∙ eqb-true 
 names_one sub other (BackTo named) e f = absurd cc
 names_one sub other Last e f = absurd cc
 
-before-none : (sub : ℕ) (items : List Item) → list_any (is_of sub) items ≡ false → before_savepoint sub items ≡ items
+pub before-none : (sub : ℕ) (items : List Item) → list_any (is_of sub) items ≡ false → before_savepoint sub items ≡ items
 before-none sub [] none = refl
 before-none sub (i ∷ items) none =
     ⊎_elim
@@ -156,7 +156,7 @@ before-none sub (i ∷ items) none =
     (cases_Bool (is_of sub i))
 
 -- the items before the first of one are those before the first of another only if they are the same
-same_first : (sub other : ℕ) (items : List Item) → list_any (is_of sub) items ≡ true → before_savepoint sub items ≡ before_savepoint other items → sub ≡ other
+pub same_first : (sub other : ℕ) (items : List Item) → list_any (is_of sub) items ≡ true → before_savepoint sub items ≡ before_savepoint other items → sub ≡ other
 same_first sub other [] any same = absurd cc
 same_first sub other (i ∷ items) any same =
     ⊎_elim
@@ -172,6 +172,17 @@ same_first sub other (i ∷ items) any same =
     (cases_Bool (is_of other i)))
     (cases_Bool (is_of sub i))
 
+-- where an item names a subtransaction, not all come before its first
+pub never_whole : (sub : ℕ) (items : List Item) → list_any (is_of sub) items ≡ true → ¬ (before_savepoint sub items ≡ items)
+never_whole sub [] any whole = absurd cc
+never_whole sub (i ∷ items) any whole =
+    ⊎_elim
+    (λ named. let none = sym (before-named sub i items named) ∙ whole in cc)
+    (λ past.
+    never_whole sub items (rw past at any)
+    (same_rest i (before_savepoint sub items) items (sym (before-other sub i items past) ∙ whole)))
+    (cases_Bool (is_of sub i))
+
 -- none of a list's marks before a subtransaction's is its own
 unmarked_before : {M : Type 0} (sub : ℕ) (marks : List (ℕ × M)) → mark_at sub (before_mark sub marks) ≡ None
 unmarked_before sub [] = refl
@@ -181,7 +192,7 @@ unmarked_before {M} sub (m ∷ marks) =
     (λ past. ap (mark_at sub) (before_mark-other sub m marks past) ∙ mark_at-other sub m (before_mark sub marks) past ∙ unmarked_before sub marks)
     (cases_Bool (m.0 == sub))
 
-any-more : (sub : ℕ) (items more : List Item) → list_any (is_of sub) items ≡ true → list_any (is_of sub) (items ++ more) ≡ true
+pub any-more : (sub : ℕ) (items more : List Item) → list_any (is_of sub) items ≡ true → list_any (is_of sub) (items ++ more) ≡ true
 any-more sub [] more any = absurd cc
 any-more sub (i ∷ items) more any = ⊎_elim (λ named. rw named) (λ past. rw past (any-more sub items more (rw past at any))) (cases_Bool (is_of sub i))
 

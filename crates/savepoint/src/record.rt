@@ -12,6 +12,7 @@ ghost use Rattle.undo.specs.Undo.{content_undone, CanUndo, AreKnownAll, all_sett
 ghost use Rattle.undo.specs.Vacated.{AreVacated};
 ghost use Rattle.model.specs.declared.item.Item.TheVariants.{Change as ChangeItem, Touch, BackTo};
 ghost use Rattle.model.specs.Survivors.{before_savepoint, after_item};
+ghost use Rattle.savepoint.specs.Adopted.{adopted, EndsAlone};
 ghost use Rattle.savepoint.specs.Savepoints.{mark_at, before_mark};
 ghost use Rattle.savepoint.specs.Record.{with_mark_unless_top, HasMark, OthersAreNamed, AllAreNamed, inverses_since, inverses_before};
 
@@ -189,6 +190,28 @@ impl TxRecord {
         ensures top { self.new.top ≡ self.old.top }
     {
         self.survivors.push_reserved(Item::Touch(sub));
+    }
+
+    /// The last item, a change and the only one of its subtransaction, becomes one of another, which has a
+    /// savepoint or is the top transaction. The savepoint that it set is dropped (PostgreSQL manual: RELEASE
+    /// SAVEPOINT). It takes no memory.
+    pub fn adopt(&mut self, own: Xid, sub: Xid)
+        requires last { EndsAlone own self.old.survivors }
+        requires below { own ≢ self.old.top }
+        requires apart { own ≢ sub }
+        requires noted { HasMark self.old sub }
+        requires named { AllAreNamed self.old }
+        ensures survivors { self.new.survivors ≡ adopted sub self.old.survivors }
+        ensures marks { self.new.marks ≡ before_mark own self.old.marks }
+        ensures named { AllAreNamed self.new }
+        ensures log { self.new.log ≡ self.old.log }
+        ensures top { self.new.top ≡ self.old.top }
+    {
+        let Some(Item::Change { sub: _, change }) = self.survivors.pop() else {
+            unreachable!()
+        };
+        self.savepoints.cut(own);
+        self.survivors.push_reserved(Item::Change { sub, change });
     }
 
     /// The items that no rollback has dropped, in order.

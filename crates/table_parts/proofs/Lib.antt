@@ -1,2 +1,3 @@
 mod Lifting
 mod Until
+pub mod Attempts

@@ -12,10 +12,13 @@
 // to the first of the part's marks that it drops.
 //
 //   part      `Part`, and its calls
+//   several   what it is asked where a change is one of several tables
 //   entries   positions among its entries
 //
 // It stands on `engine` for a store, and on `world_parts` for the laws of parts.
 mod entries;
 pub mod part;
+mod several;
 
 pub use part::Part;
+pub use several::{Attempt, Attempted};

@@ -30,7 +30,7 @@ use std::marker::Model;
 #[derive(Debug, Drop)]
 pub struct Part {
     number: TableId,
-    store: Store,
+    pub(crate) store: Store,
     line: Line,
 }
 

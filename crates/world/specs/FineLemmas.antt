@@ -165,7 +165,7 @@ fine_with_touch schema w fine xid o sub is running =
     ∙ holds_free schema w fine xid o is other p differs at)
     (not_stopped schema (done_with w xid o (Touch sub)) running)
 
-fine_wanting : (schema : Schema) (w : World) → IsFine schema w → (xid : ℕ) (o : Opened) (sub : ℕ) (c : change_type.Change)
+pub fine_wanting : (schema : Schema) (w : World) → IsFine schema w → (xid : ℕ) (o : Opened) (sub : ℕ) (c : change_type.Change)
     → get w.opened xid ≡ Some o → w.stopped ≡ None
     → IsFine schema (wanting w xid o sub c)
 fine_wanting schema w fine xid o sub c is running =
@@ -265,6 +265,15 @@ module _ (schema : Schema) (w : World) (fine : IsFine schema w) (xid : ℕ) (o :
       (free_of_cut (holds schema w other p)
       (shares_either_way (holds schema w xid o) (holds schema w other p) (holds_free schema w fine xid o is other p differs at))))
       (noted_put schema w fine xid o cut is refl free_of_cut)
+
+-- a transaction that waits no more, and has the same work, also in a world that is stopped
+pub fine_same : (schema : Schema) (w : World) → IsFine schema w → (xid : ℕ) (o after : Opened) → get w.opened xid ≡ Some o → after.wants ≡ None
+    → work xid after ≡ work xid o → IsFine schema (record w { opened = finite.insert w.opened xid after })
+fine_same schema w fine xid o after is waits_not same =
+    let same_holds : holds schema w xid after ≡ holds schema w xid o = ap (held_cells schema w.committed) same in
+    fine_put schema w fine xid after w.stopped (subst (AreAccepted schema w.committed) (sym same) (fine.accepted xid o is))
+    (λ other p differs at. ap (λ cells. shares_cell cells (holds schema w other p)) same_holds ∙ holds_free schema w fine xid o is other p differs at)
+    (noted_put schema w fine xid o after is waits_not (λ cells free. ap (shares_cell cells) same_holds ∙ free))
 
 -- ---- once a transaction is gone
 

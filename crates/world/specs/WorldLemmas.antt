@@ -4,7 +4,7 @@
 --     live_valid, live_accepted      they are valid, and no change clashes on the way to them
 --     footprint_live, outcome_live, inverse_live      a change that meets no other's cell does on the live rows what it
 --         does on its own view
---     live_opened, live_acted, live_touched, live_wanting, live_cut, live_aborted, live_committed      after each call
+--     live_opened, live_acted, live_same, live_touched, live_wanting, live_cut, live_aborted, live_committed      after each call
 --     live_alone      with no transaction open they are the committed rows
 use Rattle.std.specs.Prelude.{◌≡◌, ◌≢◌, ℕ, List, [], ◌∷◌, ◌++◌, Option, Some, None, flat_map, length, refl, false}
 use Rattle.std.proofs.Common.{sym, ◌∙◌, ap, subst, inl, inr, append-nil, arith}
@@ -276,21 +276,24 @@ module _ (schema : Schema) (w : World) (fine : IsFine schema w) (rows : Rows) (l
         ∙ ap (λ cs. in_turn schema (serial schema w.committed cs) (others schema w fine xid o is))
         (sym (work_with_change xid sub o.items c)))
 
+    -- another record of it tells the same work
+    pub live_same : (after : Opened) (stopped : Option Stop) → work xid after ≡ work xid o
+        → IsFine schema (record w { opened = finite.insert w.opened xid after; stopped = stopped })
+        → IsLive schema (record w { opened = finite.insert w.opened xid after; stopped = stopped }) rows
+    live_same after stopped its_work fine_after =
+        live_put schema w fine xid o is after stopped fine_after rows
+        (live_is schema w fine xid o is rows live
+        ∙ ap (λ cs. in_turn schema (serial schema w.committed cs) (others schema w fine xid o is)) (sym its_work))
+
     pub live_touched : (sub : ℕ) → IsFine schema (done_with w xid o (Touch sub))
         → IsLive schema (done_with w xid o (Touch sub)) rows
     live_touched sub fine_after =
-        live_put schema w fine xid o is
-        (record { items = o.items ++ Touch sub ∷ []; wants = None }) w.stopped fine_after rows
-        (live_is schema w fine xid o is rows live
-        ∙ ap (λ cs. in_turn schema (serial schema w.committed cs) (others schema w fine xid o is))
-        (sym (work_with_touch xid sub o.items)))
+        live_same (record { items = o.items ++ Touch sub ∷ []; wants = None }) w.stopped (work_with_touch xid sub o.items) fine_after
 
     pub live_wanting : (sub : ℕ) (c : change_type.Change) (stopped : Option Stop)
         → IsFine schema (record (wanting w xid o sub c) { stopped = stopped })
         → IsLive schema (record (wanting w xid o sub c) { stopped = stopped }) rows
-    live_wanting sub c stopped fine_after =
-        live_put schema w fine xid o is (record o { wants = Some (sub, c) }) stopped fine_after rows
-        (live_is schema w fine xid o is rows live)
+    live_wanting sub c stopped fine_after = live_same (record o { wants = Some (sub, c) }) stopped refl fine_after
 
     -- the inverses of what a rollback drops, put back past all that others did, give the live rows of what is left
     pub live_cut : (sub : ℕ) (kept gone : List change_type.Change) → work xid o ≡ kept ++ gone

@@ -2,13 +2,14 @@
 --     told_put, told_put_beside      a transaction that is open otherwise, in both; in the world alone
 --     told_gone, told_gone_beside      it is gone from both; from the world alone
 --     opens_beside, opens_here      it opens in the world; in the part, at any time behind that
+--     waits_otherwise, still_here      it has done what it had, and waits otherwise, or as it did
 --     tried_here, tried_elsewhere      it tries a change of the table; of another
 --     touched_here, touched_beside      an item comes that changes no row
 --     rested_touched, rested_elsewhere      it waited here, and is told by a rollback to the top transaction that it waits no more
 --     back_told, back_rested, back_beside      a rollback that the part is told; one that drops nothing of the table
 --     back_each_told, back_nothing_told      one that it is told by each mark that is dropped; one to the top transaction
 --     ends_here, ends_beside, aborts_here, aborts_beside      it ends
-use Rattle.std.specs.Prelude.{◌≡◌, ◌≢◌, ℕ, ◌==◌, true, false, List, [], ◌∷◌, ◌++◌, map, None, Some, if◌then◌else◌, refl}
+use Rattle.std.specs.Prelude.{◌≡◌, ◌≢◌, ℕ, ◌==◌, true, false, List, [], ◌∷◌, ◌++◌, map, Option, None, Some, if◌then◌else◌, refl}
 use Rattle.std.proofs.Common.{sym, ◌∙◌, ap, subst, inl, inr, append-nil}
 use Rattle.std.specs.FinMap.{get, insert, remove}
 use Rattle.model.specs.declared.change.Change as change_type
@@ -21,13 +22,21 @@ use Rattle.model.specs.SurvivorLemmas.{survivors_with}
 use Rattle.model.specs.TakenLemmas.{same_number}
 use Rattle.world.specs.World.{Opened, World, OpenOnes}
 use Rattle.world.specs.Steps.{Acted, IsDone, IsSkipped, Held, Clashed, opened_with, done_with, committed_with, aborted_with}
-use Rattle.world.specs.ListingLemmas.{xid_cases, got_same, got_other, gone_same, gone_other}
+use Rattle.world.specs.ListingLemmas.{xid_cases, got_same, got_other, gone_same, gone_other, same_by_xid}
 use Rattle.world_parts.specs.ByTable.{change_at, changes_at}
 use Rattle.world_parts.specs.Parts.{wanted_by, wanted_if, after_tried, rested}
 use Rattle.world_parts.specs.Marks.{under, marked_at, items_at, mark_for, survivors_if, AreMarked, HasPart, AreDropped, CutsTo, CutsNothing}
 use Rattle.world_parts.specs.MarkLemmas.{works_told, no_work, told_with, told_beside, told_touch, back_here, back_nowhere, back_by_each}
 use Rattle.world_parts.specs.MoveLemmas.{part_as, part_put, put_beside, opened_beside, part_opened, part_tried, tried_beside, part_aborted, aborted_beside, part_committed, committed_beside}
 use Rattle.world_parts.specs.PartOfLemmas.{all_stay}
+
+-- what is there is put there again
+put_same : (ones : OpenOnes) (xid : ℕ) (o : Opened) → get ones xid ≡ Some o → insert ones xid o ≡ ones
+put_same ones xid o is = same_by_xid (insert ones xid o) ones (λ q.
+    elim (xid_cases q xid) [
+      | inl at ↦ ap (get (insert ones xid o)) at ∙ got_same ones xid o ∙ sym is ∙ sym (ap (get ones) at)
+      | inr apart ↦ got_other ones xid o q apart
+    ])
 
 -- the items of a transaction that survive are those that were told
 abbrev IsTold : ℕ → OpenOnes → OpenOnes → ℕ → Type 0
@@ -195,6 +204,21 @@ module _ (table : ℕ) (w part : World) (has : HasPart table w part) (xid : ℕ)
     (at : get w.opened xid ≡ Some o) (here : get part.opened xid ≡ Some p) where
   told_both : survivors xid p.items ≡ items_at table xid (survivors xid o.items)
   told_both = sym (ap (survivors_if xid) here) ∙ told_there table w part has xid o at
+
+  -- it has done what it had, and waits otherwise
+  pub waits_otherwise : (wants : Option (ℕ × change_type.Change)) (q : Opened) → survivors xid q.items ≡ survivors xid p.items
+      → wanted_by q.wants ≡ changes_at table (wanted_by wants)
+      → HasPart table (record w { opened = insert w.opened xid (record o { wants = wants }) }) (record part { opened = insert part.opened xid q })
+  waits_otherwise wants q same waits = moved_here table w part has xid (record o { wants = wants }) q (same ∙ told_both) waits
+
+  -- it has done what it had, and waits with what it waited with
+  pub still_here : (q : Opened) → survivors xid q.items ≡ survivors xid p.items → q.wants ≡ p.wants
+      → HasPart table w (record part { opened = insert part.opened xid q })
+  still_here q same waits =
+      subst (λ (ones : OpenOnes). HasPart table (record w { opened = ones }) (record part { opened = insert part.opened xid q }))
+      (put_same w.opened xid o at)
+      (waits_otherwise o.wants q same
+      (ap wanted_by waits ∙ ap wanted_if (sym here) ∙ has.0.wanted xid ∙ ap (λ open_one. changes_at table (wanted_if open_one)) at))
 
   -- it tries a change of the table, under the latest mark
   marked_here : (sub : ℕ) (c cut : change_type.Change) → change_at table c ≡ cut ∷ [] → (answer : Acted)

@@ -1,7 +1,7 @@
 // A change cut to its tables.
-ghost use Rattle.std.specs.Prelude.{◌≡◌, ℕ, List, [], ◌∷◌, true, None, IfOk, IfSome};
+ghost use Rattle.std.specs.Prelude.{◌≡◌, ℕ, [], ◌∷◌, None, IfOk, IfSome};
 ghost use Rattle.model.specs.declared.change.Change.TheVariants.{Wipe};
-ghost use Rattle.world_parts.specs.ByTable.{names_table, change_at, IsIn};
+ghost use Rattle.world_parts.specs.ByTable.{IsIn};
 
 use model::{Change, OutOfMemory, TableId, TableIds};
 use std::alloc::Global;
@@ -22,9 +22,9 @@ pub fn only_table(change: &Change) -> Option<TableId>
     }
 }
 
-/// What a truncate that names a table is in that table.
+/// What a truncate that names a table is in that table: one of it alone.
 pub fn truncate_of(alloc: Global, table: TableId) -> Result<Change, OutOfMemory>
-    ensures { IfOk result (λ c. (tables : List ℕ) → names_table tables table ≡ true → change_at table (Wipe tables) ≡ c ∷ []) }
+    ensures { IfOk result (λ c. c ≡ Wipe (table ∷ [])) }
 {
     let mut ids = Vec::new(alloc);
     ids.push(table)?;

@@ -1,0 +1,137 @@
+-- A truncate of several tables, which is tried in the part of each.
+--     CutsHere, HasEach      lent are the parts of its tables; the world has each of them
+--     Both      both shares are there, and this holds of them
+--     EachIs      each of the parts that are lent is in such a state, and no share of another table changed
+--     Zones      the first parts are in one state, the others in another
+--     Untouched, Attempts, Stands, Keeps, Waits      the states: nothing was tried; it was attempted, with what tells that; the
+--         transaction has done there what it had, and waits with what it waited with; it is done; the transaction waits with it
+--     cut_of      what the truncate is in a part
+--     CanWait, CanWaitEach      the truncate can wait in a part; in each
+--     IsHeldInOne, RefusesOne      another is in the way in one of the parts; one of them refuses
+--     RefusesTruncate, HasTruncated      why it is refused; what came of it in all parts
+use Rattle.std.specs.Prelude.{◌≡◌, ◌≢◌, ◌⊎◌, ℕ, ◌<◌, ◌≤◌, Bool, true, false, List, [], ◌∷◌, Option, Some, None, IsSome, IsSomeAnd, Result, Ok, Err, length, slice_get}
+use Rattle.std.specs.FinMap.{get, insert}
+use Rattle.model.specs.declared.change.Change.{Change}
+use Rattle.model.specs.declared.change.Change.TheVariants.{Wipe}
+use Rattle.model.specs.Footprint.{footprint}
+use Rattle.model.specs.Rows.{Schema}
+use Rattle.model.specs.Survivors.{survivors}
+use Rattle.world.specs.World.{World, own_rows, IsHeldBy}
+use Rattle.live_tables.specs.declared.answers.Acted.{Acted}
+use Rattle.live_tables.specs.declared.answers.Acted.TheVariants.{Done, Skipped, Held}
+use Rattle.live_tables.specs.declared.answers.EngineFault.{EngineFault}
+use Rattle.live_tables.specs.declared.answers.EngineFault.TheVariants.{AlreadyOpen, TooManyOpen, Clash, Stopped, OutOfMemory}
+use Rattle.world_parts.specs.ByTable.{names_table}
+use Rattle.world_parts.specs.Parts.{wanted_by}
+use Rattle.engine.specs.Events.{opened_by}
+use Rattle.table_parts.specs.Part.{Part}
+use Rattle.table_parts.specs.declared.several.Attempt.{Attempt}
+use Rattle.table_parts.specs.Several.{IsSameAs, IsAttempted, IsKept, RefusesAttempt}
+use Rattle.parted_store.specs.Lent.{HasTable}
+use Rattle.parted_store.specs.Shares.{Share, Shares, share_of}
+
+-- both shares are there, and this holds of them
+abbrev pub Both : (Share → Share → Type 0) → Option Share → Option Share → Type 0
+Both R None new = ⊥
+Both R (Some share) None = ⊥
+Both R (Some share) (Some new) = R share new
+
+-- Each of the parts is in this state, by its place, what it was with its share, and what it is. Each is of its table still, and
+-- the shares of other tables are what they were.
+pub record EachIs (Is : ℕ → Part → Option Share → Part → Option Share → Type 0) (start : List Part) (all : Shares) (parts : List Part) (shares : Shares) : Type 0 where
+  pub each : (j : ℕ) (p : Part) → slice_get start j ≡ Some p → IsSomeAnd (slice_get parts j) (λ q. Is j p (share_of all p.number) q (share_of shares p.number))
+  pub same : (j : ℕ) (p : Part) → slice_get start j ≡ Some p → IsSomeAnd (slice_get parts j) (λ q. IsSameAs p q)
+  pub long : length parts ≡ length start
+  pub kept : (table : ℕ) → ((j : ℕ) (p : Part) → slice_get start j ≡ Some p → p.number ≢ table) → share_of shares table ≡ share_of all table
+
+-- the parts before a place are in one state, the others in another
+abbrev pub Zones : ℕ → (ℕ → Part → Option Share → Part → Option Share → Type 0) → (ℕ → Part → Option Share → Part → Option Share → Type 0)
+    → ℕ → Part → Option Share → Part → Option Share → Type 0
+Zones place Is Others j p share q new = ((j < place) × Is j p share q new) ⊎ ((place ≤ j) × Others j p share q new)
+
+-- What a truncate is, lent the parts of its tables.
+pub record CutsHere (c : Change) (tables : List ℕ) (parts : List Part) : Type 0 where
+  pub is : c ≡ Wipe tables
+  pub each : (i : ℕ) (p : Part) → slice_get parts i ≡ Some p → names_table tables p.number ≡ true
+  pub all : (table : ℕ) → names_table tables table ≡ true → (i : ℕ) × (p : Part) × (slice_get parts i ≡ Some p) × (p.number ≡ table)
+
+-- the world has each of the parts, which have its keys
+abbrev pub HasEach : World → Schema → List Part → Type 0
+HasEach w schema parts = (i : ℕ) (p : Part) → slice_get parts i ≡ Some p → HasTable w p × (p.store.schema ≡ schema)
+
+-- ---- the states
+
+-- what the truncate is in the part
+abbrev pub cut_of : Part → Change
+cut_of p = Wipe (p.number ∷ [])
+
+-- nothing was tried
+abbrev pub Untouched : ℕ → Part → Option Share → Part → Option Share → Type 0
+Untouched j p share q new = (q ≡ p) × (new ≡ share)
+
+-- it was attempted, as is told at its place
+abbrev pub Attempts : ℕ → List Attempt → ℕ → Part → Option Share → Part → Option Share → Type 0
+Attempts mark tried j p share q new =
+    (a : Attempt) × (slice_get tried j ≡ Some a) × Both (λ s t. IsAttempted p s mark (cut_of p) a q t) share new
+
+-- The transaction has done what it had, and perhaps waits with what it waited with.
+pub record IsStill (waits : Bool) (p : Part) (share : Share) (q : Part) (new : Share) : Type 0 where
+  pub stood : get p.store.world.opened share.number ≡ Some (opened_by share.list)
+  pub world : q.store.world ≡ record p.store.world { opened = insert p.store.world.opened share.number (opened_by new.list) }
+  pub items : survivors share.number (opened_by new.list).items ≡ survivors share.number (opened_by share.list).items
+  pub wants : waits ≡ true → (opened_by new.list).wants ≡ (opened_by share.list).wants
+  pub name : new.name ≡ share.name
+  pub number : new.number ≡ share.number
+  pub same : IsSameAs p q
+
+-- it has, or nothing was tried
+abbrev pub Stands : Bool → ℕ → Part → Option Share → Part → Option Share → Type 0
+Stands waits j p share q new = Untouched j p share q new ⊎ Both (λ s t. IsStill waits p s q t) share new
+
+-- it is done
+abbrev pub Keeps : ℕ → ℕ → Part → Option Share → Part → Option Share → Type 0
+Keeps mark j p share q new = Both (λ s t. IsKept p s mark (cut_of p) q t) share new
+
+-- the transaction has done what it had, and waits with the truncate
+abbrev pub Waits : ℕ → Part → Option Share → Part → Option Share → Type 0
+Waits j p share q new =
+    Both (λ s t. IsStill false p s q t × (wanted_by (opened_by t.list).wants ≡ cut_of p ∷ [])) share new
+
+-- ---- what came of it
+
+-- another transaction is in the way of the truncate in one of the parts
+abbrev pub IsHeldInOne : List Part → Shares → ℕ → Type 0
+IsHeldInOne parts all holder =
+    (i : ℕ) × (p : Part) × (share : Share) × (slice_get parts i ≡ Some p) × (share_of all p.number ≡ Some share)
+    × (p.store.world.stopped ≡ None)
+    × IsHeldBy p.store.schema p.store.world share.number (footprint p.store.schema (own_rows p.store.schema p.store.world share.number (opened_by share.list)) (cut_of p)) holder
+
+-- one of the parts refuses it so
+abbrev pub RefusesOne : List Part → EngineFault → Type 0
+RefusesOne parts fault = (i : ℕ) × (p : Part) × (slice_get parts i ≡ Some p) × RefusesAttempt p fault
+
+-- A part in which the truncate can wait: the transaction has a share there, its table is there, and it runs.
+pub record CanWait (all : Shares) (p : Part) : Type 0 where
+  pub share : IsSome (share_of all p.number)
+  pub known : p.number < length p.store.schema
+  pub runs : p.store.world.stopped ≡ None
+
+-- so it is of each
+abbrev pub CanWaitEach : List Part → Shares → Type 0
+CanWaitEach parts all = (i : ℕ) (p : Part) → slice_get parts i ≡ Some p → CanWait all p
+
+-- Why the truncate was refused: one of the parts is stopped, or memory was refused.
+abbrev pub RefusesTruncate : List Part → EngineFault → Type 0
+RefusesTruncate parts Stopped = (i : ℕ) × (p : Part) × (slice_get parts i ≡ Some p) × IsSome p.store.world.stopped
+RefusesTruncate parts OutOfMemory = Unit {0}
+RefusesTruncate parts AlreadyOpen = ⊥
+RefusesTruncate parts TooManyOpen = ⊥
+RefusesTruncate parts (Clash clash) = ⊥
+
+-- What came of it in all parts: it is done in each; another is in the way in one, and in each the transaction waits with it;
+-- it is refused, and each part is left.
+abbrev pub HasTruncated : ℕ → List Part → Shares → Result Acted EngineFault → List Part → Shares → Type 0
+HasTruncated mark start all (Ok Done) parts shares = EachIs (Keeps mark) start all parts shares
+HasTruncated mark start all (Ok (Held holder)) parts shares = IsHeldInOne start all holder × EachIs Waits start all parts shares
+HasTruncated mark start all (Ok Skipped) parts shares = ⊥
+HasTruncated mark start all (Err fault) parts shares = RefusesTruncate start fault × EachIs (Stands true) start all parts shares
