@@ -16,4 +16,6 @@ pub mod PartOfLemmas
 pub mod ToldLemmas
 pub mod LineLemmas
 pub mod ReachedLemmas
+pub mod TwiceLemmas
+pub mod StepLemmas
 pub mod FineLemmas

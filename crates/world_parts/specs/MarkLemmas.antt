@@ -102,7 +102,7 @@ marked_both table (m ∷ ms) more =
 
 -- ---- the marks of what stands before a savepoint, and of what stands behind it
 
-or_true : (a b : Bool) → b ≡ true → (a || b) ≡ true
+pub or_true : (a b : Bool) → b ≡ true → (a || b) ≡ true
 or_true true b e = refl
 or_true false b e = e
 

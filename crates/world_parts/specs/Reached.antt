@@ -1,10 +1,11 @@
 -- What parts of a world are reached by parts of steps.
 --     PartStep, PartReaches      what a call does to a table's part; such calls one after another
 --     IsReachedByParts      a world of which each part is reached so
+--     HasReachedPart      the part of a table is a world that calls reach
 use Rattle.std.specs.Prelude.{ℕ}
 use Rattle.model.specs.Rows.{Rows, Schema}
 use Rattle.world.specs.World.{World, starting}
-use Rattle.world.specs.Steps.{Step}
+use Rattle.world.specs.Steps.{Step, Reaches}
 use Rattle.world_parts.specs.ByTable.{rows_at}
 use Rattle.world_parts.specs.Lines.{HasLine}
 use Rattle.world_parts.specs.Marks.{HasPart}
@@ -27,3 +28,8 @@ pub record IsReachedByParts (schema : Schema) (start : Rows) (w : World) : Type 
   pub parts : (table : ℕ)
       → (part : World) × HasPart table w part × HasLine table w part
       × PartReaches schema table (starting (rows_at table start)) part
+
+-- The part of the table is a world that calls of its own reach, from the table's start rows.
+abbrev pub HasReachedPart : Schema → Rows → World → ℕ → Type 0
+HasReachedPart schema start w table =
+    (part : World) × HasPart table w part × HasLine table w part × Reaches schema (starting (rows_at table start)) part

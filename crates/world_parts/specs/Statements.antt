@@ -21,10 +21,10 @@ use Rattle.world.specs.Steps.{Acted, IsDone, Held, Acts, Step, Reaches, opened_w
 use Rattle.world.specs.Live.{IsListing, live_rows}
 use Rattle.world.specs.Fine.{StillClashes, IsFine}
 use Rattle.world_parts.specs.ByTable.{names_table, rows_at, change_at, changes_at, IsIn, AreOf}
-use Rattle.world_parts.specs.Parts.{wanted_if, IsPartOf, after_tried, rested}
+use Rattle.world_parts.specs.Parts.{wanted_by, wanted_if, IsPartOf, after_tried, rested}
 use Rattle.world_parts.specs.Marks.{marked_at, under, items_at, mark_for, kept_by, survivors_if, IsFirstDropped, AreKept, AreDropped, HasPart, CutsTo, CutsNothing}
 use Rattle.world_parts.specs.Lines.{HasLine, KeepsLine, IsCommit, rows_until}
-use Rattle.world_parts.specs.Reached.{IsReachedByParts}
+use Rattle.world_parts.specs.Reached.{PartStep, IsReachedByParts, HasReachedPart}
 
 -- ---- rows and changes by their table
 
@@ -91,6 +91,16 @@ LiveInPart =
     (schema : Schema) (table : ℕ) (w part : World) → IsPartOf table w part → (key : Key) (row : Option Row)
     → ((listing : List (ℕ × Opened)) → IsListing part listing → row ≡ get (live_rows schema part listing) (table, key))
     → (listing : List (ℕ × Opened)) → IsListing w listing → row ≡ get (live_rows schema w listing) (table, key)
+
+-- a part of a part is one of the world, with its line
+abbrev pub PartOfPart : Type 0
+PartOfPart =
+    (table : ℕ) (w part other : World) → HasPart table w part × HasLine table w part → HasPart table part other × HasLine table part other
+    → HasPart table w other × HasLine table w other
+
+-- and a part is its own
+abbrev pub PartOfItself : Type 0
+PartOfItself = (table : ℕ) (w part : World) → HasPart table w part → HasPart table part part
 
 -- ---- what a part is behind each call
 
@@ -186,6 +196,39 @@ RowsUntilInPart =
 abbrev pub ReachedByParts : Type 0
 ReachedByParts =
     (schema : Schema) (start : Rows) (w : World) → Reaches schema (starting start) w → IsReachedByParts schema start w
+
+-- so it is where each part is reached by calls of its own
+abbrev pub ReachedOfEach : Type 0
+ReachedOfEach =
+    (schema : Schema) (start : Rows) (w : World) → ((table : ℕ) → HasReachedPart schema start w table)
+    → IsReachedByParts schema start w
+
+-- Whatever world has the part, with the transaction open so: once this has become of it, the other is its part.
+abbrev pub Behind : ℕ → World → ℕ → Opened → (World → World) → World → Type 0
+Behind table part xid o becomes new =
+    (w : World) → HasPart table w part → HasLine table w part → get w.opened xid ≡ Some o
+    → HasPart table (becomes w) new × HasLine table (becomes w) new
+
+-- The part, which is its own, has of the transaction what was told to the table of one that is open so.
+pub record HasOpen (table : ℕ) (part : World) (xid : ℕ) (o : Opened) : Type 0 where
+  pub own : HasPart table part part
+  pub starts : part.start ≡ rows_at table part.start
+  pub told : survivors_if xid (get part.opened xid) ≡ items_at table xid (survivors xid o.items)
+  pub wants : wanted_if (get part.opened xid) ≡ changes_at table (wanted_by o.wants)
+
+-- a truncate of several leads on in the part of one, where nobody else holds anything of that, whatever is in the others
+abbrev pub TruncateLeads : Type 0
+TruncateLeads =
+    (schema : Schema) (table : ℕ) (part new : World) (xid : ℕ) (o : Opened) → HasOpen table part xid o → (sub : ℕ) (tables : List ℕ)
+    → IsFree schema part xid (Whole table ∷ []) → Behind table part xid o (λ w. done_with w xid o (Change sub (Wipe tables))) new
+    → PartStep schema table part new
+
+-- and where its transaction waits with it, since another is in the way in another table
+abbrev pub WaitingLeads : Type 0
+WaitingLeads =
+    (schema : Schema) (table : ℕ) (part new : World) (xid : ℕ) (o : Opened) → HasOpen table part xid o → (sub : ℕ) (tables : List ℕ)
+    → (at : ℕ) → (at == table) ≡ false → names_table tables at ≡ true
+    → Behind table part xid o (λ w. wanting w xid o sub (Wipe tables)) new → PartStep schema table part new
 
 -- ---- savepoints
 

@@ -3,6 +3,7 @@
 --     told_gone, told_gone_beside      it is gone from both; from the world alone
 --     opens_beside, opens_here      it opens in the world; in the part, at any time behind that
 --     waits_otherwise, still_here      it has done what it had, and waits otherwise, or as it did
+--     moved_here, moved_beside      an open transaction is open otherwise, in both; in the world alone
 --     tried_here, tried_elsewhere      it tries a change of the table; of another
 --     touched_here, touched_beside      an item comes that changes no row
 --     rested_touched, rested_elsewhere      it waited here, and is told by a rollback to the top transaction that it waits no more
@@ -130,14 +131,14 @@ module _ (table top sub : ℕ) (items : List Item) where
 
 module _ (table : ℕ) (w part : World) (has : HasPart table w part) (xid : ℕ) where
   -- it is open otherwise, in both
-  moved_here : (o p : Opened) → survivors xid p.items ≡ items_at table xid (survivors xid o.items)
+  pub moved_here : (o p : Opened) → survivors xid p.items ≡ items_at table xid (survivors xid o.items)
       → wanted_by p.wants ≡ changes_at table (wanted_by o.wants)
       → HasPart table (record w { opened = insert w.opened xid o }) (record part { opened = insert part.opened xid p })
   moved_here o p told wants =
       (part_put table w part has.0 xid o p (works_told table xid (Some p) (survivors xid o.items) told) wants, told_put table w part has.1 xid o p told)
 
   -- or in the world alone
-  moved_beside : (o : Opened) → survivors_if xid (get part.opened xid) ≡ items_at table xid (survivors xid o.items)
+  pub moved_beside : (o : Opened) → survivors_if xid (get part.opened xid) ≡ items_at table xid (survivors xid o.items)
       → wanted_if (get part.opened xid) ≡ changes_at table (wanted_by o.wants)
       → HasPart table (record w { opened = insert w.opened xid o }) part
   moved_beside o told wants =

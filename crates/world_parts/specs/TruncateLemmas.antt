@@ -1,4 +1,5 @@
 -- A truncate of several tables, by the parts of each.
+--     shares_of_named      a cell of a table that is named overlaps where the whole table does
 --     wipe_free, wipe_held      its tables are free where each is in its part, and held where one is
 --     wipe_lifts, wait_lifts      so it is done, or held
 use Rattle.std.specs.Prelude.{◌≡◌, ℕ, ◌==◌, Bool, true, false, ◌||◌, List, [], ◌∷◌, map, None, Ok, refl}
@@ -36,7 +37,7 @@ wipe_free schema w xid (table ∷ tables) all =
     (wipe_free schema w xid tables all.1)
 
 -- one of these cells overlaps where that of a table among them does
-shares_of_named : (table : ℕ) (others : List Cell) → list_any (overlaps (Whole table)) others ≡ true → (tables : List ℕ)
+pub shares_of_named : (table : ℕ) (others : List Cell) → list_any (overlaps (Whole table)) others ≡ true → (tables : List ℕ)
     → names_table tables table ≡ true → shares_cell (map Whole tables) others ≡ true
 shares_of_named table others is [] named = absurd (true≢false (sym named))
 shares_of_named table others is (first ∷ tables) named =

@@ -1,6 +1,6 @@
 // The laws of parts. Each function does nothing: its contract is a law, and the check of this crate
 // proves it.
-ghost use Rattle.world_parts.specs.Statements.{RowsByTable, WalkedByTable, ValidByTable, SerialByTable, HeldByTable, HasEachPart, TriedInPart, TruncatedByParts, LiveInPart, PartAfterOpen, PartAfterTry, PartAfterTouch, PartAfterRollback, PartAfterCommit, PartAfterAbort, LineBegins, LineAfterCommit, LineAfterStep, LineStays, RowsUntilInPart, ReachedByParts, ChangesAreTold, RollbackByTable, RollbackByMarks, PartIsFine, FineByParts};
+ghost use Rattle.world_parts.specs.Statements.{RowsByTable, WalkedByTable, ValidByTable, SerialByTable, HeldByTable, HasEachPart, PartOfPart, PartOfItself, TriedInPart, TruncatedByParts, LiveInPart, PartAfterOpen, PartAfterTry, PartAfterTouch, PartAfterRollback, PartAfterCommit, PartAfterAbort, LineBegins, LineAfterCommit, LineAfterStep, LineStays, RowsUntilInPart, ReachedByParts, ReachedOfEach, TruncateLeads, WaitingLeads, ChangesAreTold, RollbackByTable, RollbackByMarks, PartIsFine, FineByParts};
 
 /// Rows that agree in each table are the same.
 pub fn rows_by_table()
@@ -30,6 +30,16 @@ pub fn held_by_table()
 /// Every world has a part of each table, which has its line.
 pub fn has_each_part()
     ensures { HasEachPart }
+{}
+
+/// A part of a part is one of the world.
+pub fn part_of_part()
+    ensures { PartOfPart }
+{}
+
+/// A part is its own.
+pub fn part_of_itself()
+    ensures { PartOfItself }
 {}
 
 /// A change of a table comes to in the world what it comes to in the part.
@@ -105,6 +115,21 @@ pub fn rows_until_in_part()
 /// What calls lead to is, table by table, what they are in the parts lead to.
 pub fn reached_by_parts()
     ensures { ReachedByParts }
+{}
+
+/// So it is where each part is reached by calls of its own.
+pub fn reached_of_each()
+    ensures { ReachedOfEach }
+{}
+
+/// A truncate of several leads on in the part of one of its tables, where nobody else holds anything of that.
+pub fn truncate_leads()
+    ensures { TruncateLeads }
+{}
+
+/// So it does where its transaction waits with it.
+pub fn waiting_leads()
+    ensures { WaitingLeads }
 {}
 
 /// A change is told to its tables under the latest mark.
