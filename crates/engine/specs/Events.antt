@@ -7,6 +7,7 @@
 --     world_of      the world that start, line, lists and stop tell
 --     refusal_events, events_of, touch_events      what a call appends to its transaction's list: one that was refused,
 --         one that tried a change, one that named a subtransaction
+--     tried_events      one that tried a change, where a clash is told alone
 use Rattle.std.specs.Prelude.{ℕ, Bool, true, false, List, [], ◌∷◌, ◌++◌, Option, Some, None, Result, Ok, Err, map, fold, flat_map, if◌then◌else◌}
 use Rattle.std.specs.Ordering.{nat_cmp}
 use Rattle.std.specs.FinMap as finite
@@ -19,6 +20,10 @@ use Rattle.savepoint.specs.Adopted.{adopted}
 use Rattle.tokens.specs.Lists.{ListMap}
 use Rattle.world.specs.World.{is_xid, Opened, Past, OpenOnes, Stop, World, changes_in}
 use Rattle.world.specs.Steps.{Fault, AlreadyOpen, TooManyOpen, Stopped, OutOfMemory, Acted, IsDone, IsSkipped, Held, Clashed}
+use Rattle.live_tables.specs.declared.answers.EngineFault.{EngineFault}
+use Rattle.live_tables.specs.declared.answers.Verdict.{Verdict}
+use Rattle.live_tables.specs.declared.answers.Verdict.TheVariants.{Acted as ActedVerdict, Clashes}
+use Rattle.live_tables.specs.Answers.{told, told_fault}
 use Rattle.engine.specs.declared.events.Event.{Event}
 use Rattle.engine.specs.declared.events.Event.TheVariants.{Done, Wants, Adopted, FoundStopped, FoundNoMemory}
 use Rattle.engine.specs.declared.events.LineEvent.{LineEvent}
@@ -92,6 +97,12 @@ events_of sub c (Ok IsSkipped) = Done (Change sub c) ∷ []
 events_of sub c (Ok (Held holder)) = Wants sub c ∷ []
 events_of sub c (Ok (Clashed cause)) = Wants sub c ∷ []
 events_of sub c (Err fault) = refusal_events fault
+
+-- what a call that tried a change appends to it, where a clash is told alone
+abbrev pub tried_events : ℕ → change_type.Change → Result Verdict EngineFault → List Event
+tried_events sub c (Ok (ActedVerdict acted)) = events_of sub c (told (Ok acted))
+tried_events sub c (Ok (Clashes clash)) = []
+tried_events sub c (Err fault) = refusal_events (told_fault fault)
 
 -- what a call that named a subtransaction appends to it, by what came of it
 abbrev pub touch_events : ℕ → Result (Unit {0}) Fault → List Event

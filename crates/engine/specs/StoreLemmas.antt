@@ -5,7 +5,7 @@
 --     stands      so is the one of a list
 --     still_before, still_rising      what the journal's entries keep where they are the same
 --     store_grown      a transaction's list has more events
---     store_acted, store_touched, store_done, store_adopted      those of a call that tried a change, that named a subtransaction; an
+--     store_acted, store_tried, store_touched, store_done, store_adopted      those of a call that tried a change, that named a subtransaction; an
 --         item; its last change is another subtransaction's
 --     store_started      a store with nothing in its lists and no entries
 --     store_opened, store_ended      a transaction opens; one ends
@@ -40,14 +40,14 @@ use Rattle.tokens.specs.Lists.{ListMap, OpenLists, with_list, without_list}
 use Rattle.world.specs.World as told_entry
 use Rattle.world.specs.World.{Opened, Past, ByClash, World, starting, entry_of, journal, work, changes_in, is_xid}
 use Rattle.world.specs.ListingLemmas.{xid_cases, got_same, got_other}
-use Rattle.world.specs.Steps.{Fault, Acted, IsDone, IsSkipped, Held, Clashed, opened_with, done_with, committed_with, aborted_with}
+use Rattle.world.specs.Steps.{Fault, AlreadyOpen, Acted, IsDone, IsSkipped, Held, Clashed, opened_with, done_with, committed_with, aborted_with}
 use Rattle.engine.specs.declared.events.Event.{Event}
 use Rattle.engine.specs.declared.events.Event.TheVariants.{Done, Adopted}
 use Rattle.engine.specs.declared.events.LineEvent.{LineEvent}
 use Rattle.engine.specs.declared.events.LineEvent.TheVariants.{Opened as WasOpened, Committed as WasCommitted, Aborted as WasAborted}
 use Rattle.engine.specs.declared.entry.Entry.{Entry}
 use Rattle.engine.specs.declared.store.Store.TheInside.{Inside}
-use Rattle.engine.specs.Events.{opened_by, opened_in, commits_in, ends_in, open_after, is_open_in, world_of, events_of, touch_events}
+use Rattle.engine.specs.Events.{opened_by, opened_in, commits_in, ends_in, open_after, is_open_in, world_of, events_of, tried_events, touch_events}
 use Rattle.engine.specs.EventLemmas.{get_values, values_empty, opened_stands, rise_more, ends_same, ends_more, world_done, world_adopted, world_acted, world_touched, world_opened, world_aborted, world_committed}
 use Rattle.engine.specs.Engine.{entry_in, start_in, world_in, AreTakenBack, edits_behind, Represents}
 use Rattle.engine.specs.EntryLemmas.{taken_back_more, rows_taken_back}
@@ -55,11 +55,15 @@ use Rattle.live_tables.specs.declared.live_tables.Live.{Live}
 use Rattle.live_tables.specs.declared.live_tables.Stopped as stopped_type
 use Rattle.live_tables.specs.declared.live_tables.Stopped.TheVariants.{Clash as StoppedByClash, Held as StoppedByHold}
 use Rattle.live_tables.specs.declared.transaction.OpenTransaction.{OpenTransaction}
+use Rattle.live_tables.specs.declared.answers.EngineFault.{EngineFault}
+use Rattle.live_tables.specs.declared.answers.Verdict.{Verdict}
+use Rattle.live_tables.specs.declared.answers.Verdict.TheVariants.{Acted as ActedVerdict, Clashes}
 use Rattle.live_tables.specs.Adopting.{adopted_with}
-use Rattle.live_tables.specs.Answers.{cause_of, stop_for, told_stop, after_act, after_touch, stop_of, TellsWhatStopped, HasCause}
+use Rattle.live_tables.specs.Answers.{cause_of, stop_for, told, told_fault, told_stop, after_act, after_touch, stop_of, TellsWhatStopped, HasCause}
 use Rattle.live_tables.specs.Journal.{rows_after}
 use Rattle.live_tables.specs.JournalLemmas.{entries_are_serial}
 use Rattle.live_tables.specs.Represents.{Represents as LiveRepresents}
+use Rattle.live_tables.specs.Tried.{after_try}
 
 -- a record that is there is kept of a transaction
 kept_there : (found : Option OpenTransaction) (r : Record) → option_map (λ (k : OpenTransaction). k.record) found ≡ Some r → IsSome found
@@ -190,6 +194,15 @@ module _ (s : Inside) (is : Represents s) (xid : ℕ) (events : List Event) (lis
   store_acted m b sub c answer schema book tied =
       store_grown m b (events_of sub c answer) (after_act (world_in s) xid (opened_by events) sub c answer) schema book tied (act_count sub c answer)
       (world_acted s.live.tables.schema (start_in s) s.line.list s.book.lists xid events listed (told_stop s.live.stopped) (told_stop m.stopped) sub c answer tied.stopped)
+
+  -- the same, where a clash is told alone, which alters nothing
+  pub store_tried : (m : Live) (b : OpenLists Event) (sub : ℕ) (c : change_type.Change) (answer : Result Verdict EngineFault)
+      → m.tables.schema ≡ s.live.tables.schema → b ≡ with_list s.book xid (events ++ tried_events sub c answer)
+      → LiveRepresents (after_try (world_in s) xid (opened_by events) sub c answer) m
+      → (world_in (with_parts s m b) ≡ after_try (world_in s) xid (opened_by events) sub c answer) × Represents (with_parts s m b)
+  store_tried m b sub c (Ok (ActedVerdict acted)) = store_acted m b sub c (told (Ok acted))
+  store_tried m b sub c (Ok (Clashes clash)) = store_acted m b sub c (Err AlreadyOpen)
+  store_tried m b sub c (Err fault) = store_acted m b sub c (Err (told_fault fault))
 
   -- a call that named a subtransaction stops nothing
   touch_runs : (sub : ℕ) (answer : Result (Unit {0}) Fault) → (after_touch (world_in s) xid (opened_by events) sub answer).stopped ≡ (world_in s).stopped

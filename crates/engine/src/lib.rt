@@ -49,8 +49,8 @@ mod tickets;
 
 pub use entry::{Changes, ChangesIter, Entry};
 pub use events::{Event, LineEvent};
-pub use live_tables::{Acted, EngineFault, NotSettled, Stop};
+pub use live_tables::{Acted, EngineFault, NotSettled, Stop, Verdict};
 pub use serial::SerialStore;
 pub use shared::{SharedStore, StoreNames};
-pub use store::Store;
+pub use store::{Store, stop_of};
 pub use tickets::{Line, Seen, Ticket};

@@ -418,8 +418,8 @@ pub(crate) fn record_start(alloc: Global, tables: &Tables) -> Result<Kept<Tables
     Ok(kept)
 }
 
-// What stopped the live part, as a caller is told it.
-fn stop_of(stopped: &Stopped) -> Stop
+/// What stopped a store, as a caller is told it.
+pub fn stop_of(stopped: &Stopped) -> Stop
     ensures { result ≡ stop_of stopped.now }
 {
     match stopped {

@@ -2,7 +2,8 @@
 --     has_stopped, runs      what stopped a store stopped its world
 --     free_again      what is free of a change is free of it again, once nothing came of it
 --     tied_done, tied_skipped, tied_taken      it is an item of its transaction
---     tied_waiting, tied_waits, tied_clash, tied_clashed      its transaction wants it
+--     after_refusal, refusal_caused, refusal_told      a change that clashed, or for which memory was refused
+--     tied_waiting, tied_waits, tied_stops      its transaction wants it
 --     tied_refused      nothing came of it
 use Rattle.std.proofs.Common.{◌≡◌, ◌≢◌, ℕ, ◌⊎◌, ◌≤◌, ◌++◌, ◌∷◌, [], Bool, true, false, List, length, take, Option, Some, None, refl, sym, ap, subst, ◌∙◌, inl, inr, arith, length-append}
 use Rattle.std.specs.Prelude.{Ok, Err, ◌↔◌, IfSome, IsSome, ◌==◌, if◌then◌else◌}
@@ -30,8 +31,8 @@ use Rattle.indexes.specs.Content.{Content}
 use Rattle.keyholds.specs.Holds.{holds_of, cells_held, with_holds}
 use Rattle.savepoint.specs.Record.{Record}
 use Rattle.world.specs.World.{Opened, Stop, ByClash, World, IsHeldBy, IsFree}
-use Rattle.world.specs.Steps.{Acts, IsDone, IsSkipped, Held, Clashed, done_with, wanting}
-use Rattle.world.specs.FineLemmas.{fine_wanting}
+use Rattle.world.specs.Steps.{Acts, IsClashing, IsDone, IsSkipped, Held, Clashed, acts, done_with, wanting}
+use Rattle.world.specs.FineLemmas.{fine_step, fine_wanting}
 use Rattle.world.specs.ListingLemmas.{xid_cases, got_same, got_other, same_by_xid}
 use Rattle.world.specs.WorldLemmas.{footprint_live}
 use Rattle.live_tables.specs.declared.live_tables.Live.{Live}
@@ -39,14 +40,15 @@ use Rattle.live_tables.specs.declared.live_tables.Stopped as stopped_type
 use Rattle.live_tables.specs.declared.live_tables.Stopped.TheVariants.{Clash as StoppedByClash, Held as StoppedByHold}
 use Rattle.live_tables.specs.declared.before_image.BeforeImage.{BeforeImage}
 use Rattle.live_tables.specs.declared.transaction.OpenTransaction.{OpenTransaction}
-use Rattle.live_tables.specs.Answers.{cause_of, told_clash, told_stop, after_act, HasCause}
+use Rattle.live_tables.specs.Answers.{cause_of, told_stop, stop_for, HasCause, verdict_of, TellsVerdict}
+use Rattle.live_tables.specs.Tried.{HasClash, Tries, after_try}
 use Rattle.live_tables.specs.Cells.{IsFreeOf, IsHeldIn}
 use Rattle.live_tables.specs.Held.{AreHolds, HasHeldMarks}
 use Rattle.live_tables.specs.CallResults.{HasSameRows, HasTheSame}
 use Rattle.live_tables.specs.KeptRecords.{IsReady, Represents as RecordsRepresent, IsPutAt}
 use Rattle.live_tables.specs.Statements.{IsFreeLive}
 use Rattle.live_tables.specs.KeptLemmas.{kept_wanting}
-use Rattle.live_tables.specs.CallLemmas.{done_is_kept, skip_is_kept, held_is_kept, clash_is_kept, refusal_is_kept}
+use Rattle.live_tables.specs.CallLemmas.{done_is_kept, skip_is_kept, held_is_kept, clash_on_view, refusal_is_kept}
 use Rattle.live_tables.specs.HoldsLemmas.{holds_tell_the_world, taken_is_held, same_is_held}
 use Rattle.live_tables.specs.MarkedHoldsLemmas.{item_keeps_marks}
 use Rattle.live_tables.specs.MarksLemmas.{marks_same}
@@ -108,6 +110,36 @@ module _ (w : World) (l : Live) (tied : RepresentsByHolds w l) where
               (holds_tell_the_world l.tables.schema w (cells_held l.holds) tied.holds xid (footprint l.tables.schema l.tables.rows c)).1 holder all.1,
             )
       ]
+
+-- ---- what a refusal comes to
+
+-- the world is the same
+pub after_refusal : (w : World) (xid : ℕ) (o : Opened) (sub : ℕ) (c : change_type.Change) (clash : clash_type.Clash) → after_try w xid o sub c (verdict_of clash) ≡ w
+after_refusal w xid o sub c (UniqueClash table key) = refl
+after_refusal w xid o sub c (NullKeyClash table) = refl
+after_refusal w xid o sub c NoMemoryClash = refl
+
+pub refusal_caused : (clash : clash_type.Clash) → TellsVerdict (verdict_of clash)
+refusal_caused (UniqueClash table key) = refl
+refusal_caused (NullKeyClash table) = refl
+refusal_caused NoMemoryClash = tt
+
+module _ (w : World) (l : Live) (tied : RepresentsByHolds w l) (xid : ℕ) (o : Opened) (is : get w.opened xid ≡ Some o) (sub : ℕ) (c : change_type.Change)
+    (running : l.stopped ≡ None) (free : IsFreeOf l.tables.schema l.tables.rows (cells_held l.holds) xid c) where
+  clash_told : (clash : clash_type.Clash) (cause : ClashCause) → cause_of clash ≡ Some cause → outcome l.tables.schema l.tables.rows c ≡ Clashes cause
+      → (w.stopped ≡ None) × HasClash l.tables.schema w xid o c clash × (w ≡ w)
+  clash_told clash cause caused clashes = (
+    runs w l tied running,
+    (cause, caused, clash_on_view l.tables.schema l.tables w (records_in l.transactions) tied.kept xid o is c cause (free_live w l tied xid c free) clashes),
+    refl,
+  )
+
+  -- it clashes in the world, or memory was refused
+  pub refusal_told : (clash : clash_type.Clash) → AnswersOutcome (outcome l.tables.schema l.tables.rows c) (Err clash)
+      → Tries l.tables.schema w xid o sub c (verdict_of clash) (after_try w xid o sub c (verdict_of clash))
+  refusal_told (UniqueClash table key) clashes = clash_told (UniqueClash table key) (Unique table key) refl clashes
+  refusal_told (NullKeyClash table) clashes = clash_told (NullKeyClash table) (NullKey table) refl clashes
+  refusal_told NoMemoryClash clashes = (runs w l tied running, refl)
 
 module _ (w : World) (l : Live) (tied : RepresentsByHolds w l) (xid : ℕ) (o : Opened) (is : get w.opened xid ≡ Some o) (old kept : OpenTransaction) (n : Live)
     (writes : WritesTransaction xid old kept l.transactions n.transactions) where
@@ -288,28 +320,18 @@ module _ (w : World) (l : Live) (tied : RepresentsByHolds w l) (xid : ℕ) (o : 
           (fine_wanting l.tables.schema w tied.kept.fine xid o sub c is (runs w l tied running)) left.schema_is left.rows left.room
           same_wanting.top same_wanting.survivors same_wanting.marks same_wanting.inverses same_wanting.named)
 
-      -- it clashes
-      pub tied_clash : (cause : ClashCause) → IsFreeOf l.tables.schema l.tables.rows (cells_held l.holds) xid c
-          → outcome l.tables.schema l.tables.rows c ≡ Clashes cause → told_stop n.stopped ≡ Some (ByClash xid c cause) → IfSome n.stopped HasCause
-          → Acts l.tables.schema w xid o sub c (Ok (Clashed cause)) (record (wanting w xid o sub c) { stopped = Some (ByClash xid c cause) })
-          × RepresentsByHolds (record (wanting w xid o sub c) { stopped = Some (ByClash xid c cause) }) n
-      tied_clash cause free clashes stops caused =
-          let came =
-          clash_is_kept l.tables.schema l.tables w (records_in l.transactions) tied.kept xid o is (runs w l tied running) sub c cause (free_live w l tied xid c free) clashes n.tables left
-          (records_in n.transactions) kept.record records_at same_wanting in
-          (came.0, tied_wanting (Some (ByClash xid c cause)) stops caused came.1)
-
-      stopped_by : (clash : clash_type.Clash) → IsSome (cause_of clash) → n.stopped ≡ Some (StoppedByClash xid c clash) → IfSome n.stopped HasCause
-      stopped_by clash caused stops = subst (λ (found : Option stopped_type.Stopped). IfSome found HasCause) (sym stops) caused
-
-      -- the same, as the clash is told
-      pub tied_clashed : (clash : clash_type.Clash) → clash ≢ NoMemoryClash → AnswersOutcome (outcome l.tables.schema l.tables.rows c) (Err clash)
-          → IsFreeOf l.tables.schema l.tables.rows (cells_held l.holds) xid c → n.stopped ≡ Some (StoppedByClash xid c clash)
-          → Acts l.tables.schema w xid o sub c (told_clash (cause_of clash)) (after_act w xid o sub c (told_clash (cause_of clash)))
-          × RepresentsByHolds (after_act w xid o sub c (told_clash (cause_of clash))) n
-      tied_clashed (UniqueClash table key) clashed clashes free stops = tied_clash (Unique table key) free clashes (ap told_stop stops) (stopped_by (UniqueClash table key) refl stops)
-      tied_clashed (NullKeyClash table) clashed clashes free stops = tied_clash (NullKey table) free clashes (ap told_stop stops) (stopped_by (NullKeyClash table) refl stops)
-      tied_clashed NoMemoryClash clashed clashes free stops = absurd (clashed refl)
+      -- it clashes, and stops the store
+      pub tied_stops : (clash : clash_type.Clash) (cause : ClashCause) → cause_of clash ≡ Some cause → IsClashing l.tables.schema w xid o c cause
+          → n.stopped ≡ Some (StoppedByClash xid c clash) → RepresentsByHolds (record (wanting w xid o sub c) { stopped = Some (ByClash xid c cause) }) n
+      tied_stops clash cause caused clashing stops =
+          let its = tied.kept.ready xid o is in
+          let stopped : World = record (wanting w xid o sub c) { stopped = Some (ByClash xid c cause) } in
+          tied_wanting (Some (ByClash xid c cause)) (ap told_stop stops ∙ ap (stop_for xid c) caused)
+          (subst (λ (found : Option stopped_type.Stopped). IfSome found HasCause) (sym stops) (subst (λ (told : Option ClashCause). IsSome told) (sym caused) refl))
+          (kept_wanting l.tables.schema l.tables w (records_in l.transactions) tied.kept xid o is its.its its.tells its.can sub c (Some (ByClash xid c cause)) n.tables
+          (records_in n.transactions) kept.record records_at
+          (fine_step l.tables.schema w stopped tied.kept.fine (acts xid o sub c (Ok (Clashed cause)) stopped is (runs w l tied running, clashing.0, clashing.1, refl)))
+          left.schema_is left.rows left.room same_wanting.top same_wanting.survivors same_wanting.marks same_wanting.inverses same_wanting.named)
 
   -- ---- nothing came of it
 

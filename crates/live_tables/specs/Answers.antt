@@ -9,6 +9,7 @@
 --     stop_of, TellsWhatStopped      what the caller is told of it
 --     HasCause      it was not want of memory
 --     TellsCause, IsNoClash      nor is that told as a clash; a fault that is no clash
+--     verdict_of, TellsVerdict      what a change that clashed comes to; a clash that is told has a cause, and no fault is one
 use Rattle.std.specs.Prelude.{◌≡◌, ℕ, Option, Some, None, IsSome, Result, Ok, Err}
 use Rattle.model.specs.declared.change.Change as change_type
 use Rattle.model.specs.declared.item.Item.TheVariants.{Change, Touch}
@@ -21,6 +22,8 @@ use Rattle.live_tables.specs.declared.answers.Acted as acted_type
 use Rattle.live_tables.specs.declared.answers.Acted.TheVariants.{Done as DoneAnswer, Skipped as SkippedAnswer, Held as HeldAnswer}
 use Rattle.live_tables.specs.declared.answers.EngineFault as fault_type
 use Rattle.live_tables.specs.declared.answers.EngineFault.TheVariants.{AlreadyOpen as AlreadyOpenFault, TooManyOpen as TooManyOpenFault, Clash as ClashFault, Stopped as StoppedFault, OutOfMemory as NoMemory}
+use Rattle.live_tables.specs.declared.answers.Verdict as verdict_type
+use Rattle.live_tables.specs.declared.answers.Verdict.TheVariants.{Acted as ActedVerdict, Clashes as ClashVerdict}
 use Rattle.live_tables.specs.declared.answers.Stop as stop_type
 use Rattle.live_tables.specs.declared.answers.Stop.TheVariants.{Clash as ClashStop, Held as HeldStop}
 use Rattle.live_tables.specs.declared.live_tables.Stopped as stopped_type
@@ -128,3 +131,15 @@ IsNoClash AlreadyOpenFault = Unit {0}
 IsNoClash TooManyOpenFault = Unit {0}
 IsNoClash StoppedFault = Unit {0}
 IsNoClash NoMemory = Unit {0}
+
+-- what a change comes to that clashed, or for which memory was refused
+abbrev pub verdict_of : clash_type.Clash → Result verdict_type.Verdict fault_type.EngineFault
+verdict_of (UniqueClash table key) = Ok (ClashVerdict (UniqueClash table key))
+verdict_of (NullKeyClash table) = Ok (ClashVerdict (NullKeyClash table))
+verdict_of NoMemoryClash = Err NoMemory
+
+-- a clash that is told has a cause, and no fault is a clash
+abbrev pub TellsVerdict : Result verdict_type.Verdict fault_type.EngineFault → Type 0
+TellsVerdict (Ok (ActedVerdict acted)) = Unit {0}
+TellsVerdict (Ok (ClashVerdict clash)) = IsSome (cause_of clash)
+TellsVerdict (Err fault) = IsNoClash fault

@@ -7,7 +7,7 @@ use Rattle.model.specs.declared.change.Change as change_type
 use Rattle.model.specs.declared.cell.Cell.{Cell}
 use Rattle.model.specs.declared.item.Item.TheVariants.{Touch}
 use Rattle.model.specs.Rows.{Rows, Schema}
-use Rattle.model.specs.Effect.{Outcome, Done, Skip, Clashes, Edits, outcome}
+use Rattle.model.specs.Effect.{ClashCause, Outcome, Done, Skip, Clashes, Edits, outcome}
 use Rattle.model.specs.Footprint.{looked_up, footprint}
 use Rattle.model.specs.FootprintLemmas.{looked_up_meets}
 use Rattle.model.specs.ValidLemmas.{not_none}
@@ -19,7 +19,7 @@ use Rattle.undo.specs.Undo.{CanUndo, AreKnownAll}
 use Rattle.undo.specs.UndoLemmas.{schema_undone}
 use Rattle.world.specs.World.{Opened, Stop, ByClash, ByHold, World, starting, own_rows, holds, IsHeldBy, IsFree}
 use Rattle.world.specs.Live.{Reordered, same}
-use Rattle.world.specs.Steps.{Held, Clashed, opened_with, done_with, wanting, opens, acts, touches, stops_held}
+use Rattle.world.specs.Steps.{Held, Clashed, IsClashing, opened_with, done_with, wanting, opens, acts, touches, stops_held}
 use Rattle.world.specs.FineLemmas.{fine_start, fine_step}
 use Rattle.world.specs.Fine.{IsFine}
 use Rattle.world.specs.WorldLemmas.{no_entries, live_by, live_alone, footprint_live, outcome_live}
@@ -100,15 +100,20 @@ held_is_kept schema t w records kept xid o is running sub c holder held new left
           left.schema_is left.rows left.room has.top has.survivors has.marks has.inverses has.named,
     )
 
+-- a change that clashes on the live rows, and of which nobody else holds a cell, clashes on its own view
+pub clash_on_view : (schema : Schema) (t : Content) (w : World) (records : Records) → Represents schema t w records → (xid : ℕ) (o : Opened) → get w.opened xid ≡ Some o
+    → (c : change_type.Change) (cause : ClashCause) → IsFreeLive schema t w xid c → outcome schema t.rows c ≡ Clashes cause → IsClashing schema w xid o c cause
+clash_on_view schema t w records kept xid o is c cause free clashes =
+    (own_free schema t w records kept xid o is c free, sym (own_outcome schema t w records kept xid o is c free) ∙ clashes)
+
 pub clash_is_kept : ClashIsKept
 clash_is_kept schema t w records kept xid o is running sub c cause free clashes new left after s put has =
     let ready = kept.ready xid o is in
-    let own = own_free schema t w records kept xid o is c free in
-    let came = sym (own_outcome schema t w records kept xid o is c free) ∙ clashes in
+    let own = clash_on_view schema t w records kept xid o is c cause free clashes in
     let stopped : World = record (wanting w xid o sub c) { stopped = Some (ByClash xid c cause) } in (
-      (running, own, came, refl),
+      (running, own.0, own.1, refl),
       kept_wanting schema t w records kept xid o is ready.its ready.tells ready.can sub c (Some (ByClash xid c cause)) new after s put
-          (fine_step schema w stopped kept.fine (acts xid o sub c (Ok (Clashed cause)) stopped is (running, own, came, refl)))
+          (fine_step schema w stopped kept.fine (acts xid o sub c (Ok (Clashed cause)) stopped is (running, own.0, own.1, refl)))
           left.schema_is left.rows left.room has.top has.survivors has.marks has.inverses has.named,
     )
 

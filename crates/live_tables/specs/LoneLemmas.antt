@@ -1,7 +1,7 @@
 -- A store whose one transaction is alone and holds nothing, through its calls: it represents its world by the holds that there
 -- would be.
 --     lone_free      nobody is in the way of a change
---     lone_taken, lone_refused, lone_clashed      a change is done or skipped; nothing came of a call; a change clashes
+--     lone_taken, lone_refused, lone_stops      a change is done or skipped; nothing came of a call; a change clashes
 --     lone_waits      it waits with a change
 --     lone_touched, lone_back      an item of the top transaction that changes no row; a rollback, which finds no savepoint
 --     lone_aborted, lone_committed      it ends
@@ -9,7 +9,7 @@
 --     none_open      none is, where the map has none
 --     lone_not_stuck      it waits for nobody
 use Rattle.std.proofs.Common.{◌≡◌, ◌≢◌, ℕ, ◌+◌, ◌==◌, Bool, true, false, cond, List, [], ◌∷◌, ◌++◌, length, map, Option, Some, None, refl, sym, ap, subst, ◌∙◌, inl, inr, arith}
-use Rattle.std.specs.Prelude.{Result, Ok, Err, All, not, if◌then◌else◌, unwrap_or, option_map, take_while}
+use Rattle.std.specs.Prelude.{Ok, All, not, if◌then◌else◌, unwrap_or, option_map, take_while}
 use Rattle.std.specs.List.{Contains}
 use Rattle.std.specs.Ordering.{nat_cmp}
 use Rattle.std.specs.BTreeMap as tree
@@ -25,7 +25,8 @@ use Rattle.model.specs.declared.item.Item.{Item}
 use Rattle.model.specs.declared.item.Item.TheVariants.{Change, Touch, BackTo, Last}
 use Rattle.model.specs.declared.item.CommitInfo.{CommitInfo}
 use Rattle.model.specs.Rows.{Schema}
-use Rattle.model.specs.Effect.{all_back}
+use Rattle.model.specs.Effect.{ClashCause, all_back}
+use Rattle.change.specs.declared.outcome.Clash.{Clash}
 use Rattle.model.specs.ValidLemmas.{not_none}
 use Rattle.model.specs.Named.{NamesTables}
 use Rattle.model.specs.Survivors.{is_of, before_savepoint, changes_of, after_item}
@@ -40,15 +41,16 @@ use Rattle.savepoint.specs.declared.mark.Mark.{Mark}
 use Rattle.savepoint.specs.Savepoints.{mark_at, with_mark, before_mark}
 use Rattle.savepoint.specs.Record.{Record, with_mark_unless_top}
 use Rattle.keyholds.specs.Holds.{holds_of, cells_held, with_holds, IsFreeCell}
-use Rattle.world.specs.World.{Opened, World}
+use Rattle.world.specs.World.{Opened, ByClash, World}
 use Rattle.world.specs.Live.{IsLive}
-use Rattle.world.specs.Steps.{StopsHeld, Acts, Acted, Fault, IsDone, IsSkipped, Held, Clashed, opened_with, done_with, wanting, aborted_with, committed_with}
+use Rattle.world.specs.Steps.{StopsHeld, Acts, IsClashing, IsDone, IsSkipped, opened_with, done_with, wanting, aborted_with, committed_with}
 use Rattle.world.specs.FineLemmas.{put_cases}
 use Rattle.world.specs.ListingLemmas.{xid_cases, got_same, got_other, gone_same, gone_other}
 use Rattle.live_tables.specs.declared.live_tables.Live.{Live}
 use Rattle.live_tables.specs.declared.before_image.BeforeImage.{BeforeImage}
 use Rattle.live_tables.specs.declared.transaction.OpenTransaction.{OpenTransaction}
-use Rattle.live_tables.specs.Answers.{after_act}
+use Rattle.live_tables.specs.declared.live_tables.Stopped.TheVariants.{Clash as StoppedByClash}
+use Rattle.live_tables.specs.Answers.{cause_of}
 use Rattle.live_tables.specs.Cells.{IsFreeOf}
 use Rattle.live_tables.specs.Waits.{WaitsForNobody, not_open, not_waiting}
 use Rattle.live_tables.specs.WaitLemmas.{stop_is_refused}
@@ -59,7 +61,7 @@ use Rattle.live_tables.specs.ByHolds.{RepresentsByHolds, RepresentsWith}
 use Rattle.live_tables.specs.ByHoldsLemmas.{by_holds, from_holds, by_some, by_would, from_would, as_made, holds_none}
 use Rattle.live_tables.specs.WouldHoldLemmas.{would_take, would_cells, would_stand}
 use Rattle.live_tables.specs.BasicLemmas.{records_put, tied_by}
-use Rattle.live_tables.specs.ActLemmas.{tied_taken, tied_waits, tied_refused}
+use Rattle.live_tables.specs.ActLemmas.{tied_taken, tied_waits, tied_stops, tied_refused}
 use Rattle.live_tables.specs.EndedLemmas.{tied_opened, tied_alike, records_alike, tied_touched, tied_back, tied_aborted, tied_committed}
 use Rattle.live_tables.specs.CallResults.{HasSameRows, IsRolledBack, IsReleased, IsFresh, HasItem}
 use Rattle.live_tables.specs.Transactions.{PutsTransaction, WritesTransaction, WantsChange, WaitsNoMore, IsAsBefore, HasApplied, HasTouched}
@@ -175,15 +177,6 @@ module _ (w : World) (l : Live) (tied : Represents w l) (alone : l.made ≡ fals
             | inr there ↦ (tied.lone alone).only xid other o x is there.1
           ]
 
-  -- the world after a call that tried a change
-  only_after : (sub : ℕ) (c : change_type.Change) (answer : Result Acted Fault) (a b : ℕ) (p q : Opened) → get (after_act w xid o sub c answer).opened a ≡ Some p
-      → get (after_act w xid o sub c answer).opened b ≡ Some q → b ≡ a
-  only_after sub c (Ok IsDone) = only_put (record { items = o.items ++ Change sub c ∷ []; wants = None })
-  only_after sub c (Ok IsSkipped) = only_put (record { items = o.items ++ Change sub c ∷ []; wants = None })
-  only_after sub c (Ok (Held holder)) = only_put (record o { wants = Some (sub, c) })
-  only_after sub c (Ok (Clashed cause)) = only_put (record o { wants = Some (sub, c) })
-  only_after sub c (Err fault) = (tied.lone alone).only
-
   module _ (old kept : OpenTransaction) (n : Live) (writes : WritesTransaction xid old kept l.transactions n.transactions)
       (holds : n.holds ≡ l.holds) (still : n.made ≡ l.made) (schema : n.tables.schema ≡ l.tables.schema) where
     still_alone : n.made ≡ false
@@ -277,17 +270,6 @@ module _ (w : World) (l : Live) (tied : Represents w l) (alone : l.made ≡ fals
         from_would w n would (left_stands left before stops) still_alone (tied.lone alone).only (unmarked_put before.record_same.marks) (named_put (named_as before.record_same.survivors))
         none_still
 
-    -- a change clashes, or was refused for memory: the store then, whose records are those of this one
-    pub lone_clashed : IsAsBefore old kept → (sub : ℕ) (c : change_type.Change) (answer : Result Acted Fault) (m : Live) → RepresentsWith would (after_act w xid o sub c answer) m
-        → m.made ≡ n.made → m.holds ≡ n.holds → m.tables.schema ≡ n.tables.schema → ((other : ℕ) → records_in m.transactions other ≡ records_in n.transactions other)
-        → Represents (after_act w xid o sub c answer) m
-    lone_clashed before sub c answer m later made same schemas records =
-        from_would (after_act w xid o sub c answer) m would later (made ∙ still_alone) (only_after sub c answer)
-        (λ other r at. unmarked_put before.record_same.marks other r (sym (records other) ∙ at))
-        (λ other r at.
-        subst (λ (s : Schema). All (NamesTables (length s)) (changes_of r.survivors)) (sym schemas) (named_put (named_as before.record_same.survivors) other r (sym (records other) ∙ at)))
-        (λ other. ap (λ (held : LiveHolds). holds_of held other) same ∙ none_still other)
-
     -- a rollback finds no savepoint, and undoes nothing
     pub lone_back : (sub : ℕ) → WaitsNoMore old kept → IsRolledBack l.tables.schema l.tables n.tables sub old.record kept.record → n.stopped ≡ l.stopped
         → Represents (done_with w xid o (BackTo sub)) n
@@ -307,6 +289,16 @@ module _ (w : World) (l : Live) (tied : Represents w l) (alone : l.made ≡ fals
     lone_waits sub c names running wants tables stops =
         from_would (wanting w xid o sub c) n would
         (tied_waits w (record l { holds = would }) stands xid o is old kept (record n { holds = would }) writes sub c names running wants tables refl stops)
+        still_alone (only_put (record o { wants = Some (sub, c) })) (unmarked_put (ap (λ (r : Record). r.marks) wants.record_is))
+        (named_put (named_as (ap (λ (r : Record). r.survivors) wants.record_is))) none_still
+
+    -- a change clashes, and stops the store
+    pub lone_stops : (sub : ℕ) (c : change_type.Change) → NamesTables (length l.tables.schema) c → l.stopped ≡ None → WantsChange sub c old kept → n.tables ≡ l.tables
+        → (clash : Clash) (cause : ClashCause) → cause_of clash ≡ Some cause → IsClashing l.tables.schema w xid o c cause → n.stopped ≡ Some (StoppedByClash xid c clash)
+        → Represents (record (wanting w xid o sub c) { stopped = Some (ByClash xid c cause) }) n
+    lone_stops sub c names running wants tables clash cause caused clashing stops =
+        from_would (record (wanting w xid o sub c) { stopped = Some (ByClash xid c cause) }) n would
+        (tied_stops w (record l { holds = would }) stands xid o is old kept (record n { holds = would }) writes sub c names running wants tables refl clash cause caused clashing stops)
         still_alone (only_put (record o { wants = Some (sub, c) })) (unmarked_put (ap (λ (r : Record). r.marks) wants.record_is))
         (named_put (named_as (ap (λ (r : Record). r.survivors) wants.record_is))) none_still
 

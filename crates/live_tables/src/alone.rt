@@ -16,9 +16,9 @@ ghost use Rattle.savepoint.specs.Record.{Record};
 ghost use Rattle.undo.specs.Vacated.{AreVacated};
 ghost use Rattle.live_tables.specs.Merged.{or_row};
 ghost use Rattle.live_tables.specs.Represents.{records_in, Represents};
-ghost use Rattle.live_tables.specs.Tried.{HasActed};
+ghost use Rattle.live_tables.specs.Tried.{HasTried};
 
-use crate::answers::{Acted, EngineFault};
+use crate::answers::{Acted, EngineFault, Verdict};
 use crate::live_tables::Live;
 use crate::transaction::OpenTransaction;
 use model::{Change, Key, OutOfMemory, Row, TableId, Xid};
@@ -41,27 +41,27 @@ impl Live {
         Ok(())
     }
 
-    // The same as `act`, by the transaction itself.
-    pub(crate) fn act_alone(
+    // The same as `try_change`, by the transaction itself.
+    pub(crate) fn try_alone(
         &mut self,
         alloc: Global,
         xid: Xid,
         c: &Change,
-    ) -> Result<Acted, EngineFault>
+    ) -> Result<Verdict, EngineFault>
         requires names { NamesTables (length self.old.tables.schema) c.now }
         requires running { self.old.stopped ≡ None }
         requires alone { self.old.made ≡ false }
         requires tied { (w : World) × (o : Opened) × Represents w self.old × (finite.get w.opened xid ≡ Some o) }
-        ensures { HasActed self.old self.new xid xid c.now result }
+        ensures { HasTried self.old self.new xid xid c.now result }
     {
         let change = c.copy()?;
         let Some(transaction) = self.transactions.get_mut(&xid) else {
             unreachable!()
         };
         match transaction.apply(alloc, &mut self.tables, xid, change, 0) {
-            Ok(true) => Ok(Acted::Done),
-            Ok(false) => Ok(Acted::Skipped),
-            Err(refused) => self.refuse(xid, xid, refused),
+            Ok(true) => Ok(Verdict::Acted(Acted::Done)),
+            Ok(false) => Ok(Verdict::Acted(Acted::Skipped)),
+            Err(refused) => refused.verdict(),
         }
     }
 

@@ -15,6 +15,15 @@ pub enum Acted {
     Held(Xid),
 }
 
+/// What comes of a change that is tried, where a clash alters nothing.
+#[derive(Clone, Copy, Debug, PartialEq, Eq)]
+pub enum Verdict {
+    /// It was done or skipped, or another transaction holds a cell of it.
+    Acted(Acted),
+    /// It clashes on its transaction's own view, and nobody else holds a cell of it. Nothing was changed.
+    Clashes(Clash),
+}
+
 /// Why a call was refused. Tables, holds and items are as they were.
 #[derive(Clone, Copy, Debug, PartialEq, Eq, Error)]
 pub enum EngineFault {

@@ -1,16 +1,14 @@
 // The calls of a store whose holds are made.
-ghost use Rattle.std.specs.Prelude.{◌≡◌, ◌<◌, ℕ, None, Ok, Err, IsSome, OnOk, OnErr, length, slice_get};
+ghost use Rattle.std.specs.Prelude.{◌≡◌, ◌<◌, ℕ, None, Ok, IsSome, OnOk, OnErr, length, slice_get};
 ghost use Rattle.std.specs.Ordering.{nat_cmp};
 ghost use Rattle.std.specs.Result.{result_ok};
 ghost use Rattle.std.specs.BTreeMap as tree;
 ghost use Rattle.std.specs.FinMap as finite;
 ghost use Rattle.model.specs.declared.item.Item.TheVariants.{Touch};
 ghost use Rattle.model.specs.Named.{NamesTables};
-ghost use Rattle.model.specs.Effect.{outcome};
 ghost use Rattle.model.specs.Footprint.{footprint};
 ghost use Rattle.world.specs.World.{Opened, World};
 ghost use Rattle.world.specs.Steps.{StopsHeld, Acts, Held as WasHeld, opened_with, done_with, wanting, aborted_with};
-ghost use Rattle.change.specs.Applied.{AnswersOutcome};
 ghost use Rattle.change.specs.declared.inverse.Inverse.{Inverse};
 ghost use Rattle.change.specs.Inverse.{row_by_inverse};
 ghost use Rattle.keyholds.specs.Holds.{cells_held};
@@ -18,20 +16,18 @@ ghost use Rattle.savepoint.specs.Record.{Record};
 ghost use Rattle.live_tables.specs.Cells.{IsFreeOf, IsHeldIn};
 ghost use Rattle.live_tables.specs.Released.{AreReleased};
 ghost use Rattle.live_tables.specs.Answers.{after_stop};
-ghost use Rattle.live_tables.specs.BeforeImages.{LiveHolds};
 ghost use Rattle.live_tables.specs.Represents.{records_in};
-ghost use Rattle.live_tables.specs.ByHolds.{RepresentsByHolds, RepresentsWith};
-ghost use Rattle.live_tables.specs.Tried.{HasActedBy};
+ghost use Rattle.live_tables.specs.ByHolds.{RepresentsByHolds};
+ghost use Rattle.live_tables.specs.Tried.{HasTriedBy};
 ghost use Rattle.live_tables.specs.declared.transaction.OpenTransaction.{OpenTransaction};
 
-use crate::answers::{Acted, EngineFault, NotSettled};
+use crate::answers::{Acted, EngineFault, NotSettled, Verdict};
 use crate::before_image::{CommittedRow, find_committed, with_before_images};
 use crate::cells::{Found, find_cells};
 use crate::let_go::let_go;
 use crate::live_tables::{Live, Stopped};
 use crate::row_source::RowSource;
-use crate::transaction::{OpenTransaction, Refused};
-use change::Clash;
+use crate::transaction::OpenTransaction;
 use model::{Cell, Change, Key, OutOfMemory, Row, TableId, Xid};
 use rows::RowView;
 use savepoint::TxRecord;
@@ -59,27 +55,27 @@ impl Live {
         Ok(())
     }
 
-    // The same as `act`, where the store isn't stopped.
-    pub(crate) fn act_by_holds(
+    // The same as `try_change`, where the store isn't stopped.
+    pub(crate) fn try_by_holds(
         &mut self,
         alloc: Global,
         xid: Xid,
         sub: Xid,
         c: &Change,
-    ) -> Result<Acted, EngineFault>
+    ) -> Result<Verdict, EngineFault>
         requires names { NamesTables (length self.old.tables.schema) c.now }
         requires running { self.old.stopped ≡ None }
         requires tied { (w : World) × (o : Opened) × RepresentsByHolds w self.old × (finite.get w.opened xid ≡ Some o) }
-        ensures acted { HasActedBy RepresentsByHolds self.old self.new xid sub c.now result }
+        ensures tried { HasTriedBy RepresentsByHolds self.old self.new xid sub c.now result }
         ensures made { self.new.made ≡ self.old.made }
     {
         let change = c.copy()?;
         match find_cells(alloc, &self.tables, &self.holds, xid, c)? {
             Found::Held(holder) => {
                 self.wait(xid, sub, change, holder);
-                Ok(Acted::Held(holder))
+                Ok(Verdict::Acted(Acted::Held(holder)))
             }
-            Found::Free(cells) => self.act_on_free(alloc, xid, Tried { sub, change, cells }),
+            Found::Free(cells) => self.try_on_free(alloc, xid, Tried { sub, change, cells }),
         }
     }
 
@@ -104,14 +100,14 @@ impl Live {
     }
 
     // Tries a change that nobody is in the way of.
-    fn act_on_free(&mut self, alloc: Global, xid: Xid, tried: Tried) -> Result<Acted, EngineFault>
+    fn try_on_free(&mut self, alloc: Global, xid: Xid, tried: Tried) -> Result<Verdict, EngineFault>
         requires names { NamesTables (length self.old.tables.schema) tried.change }
         requires tied { (w : World) × (o : Opened) × RepresentsByHolds w self.old × (finite.get w.opened xid ≡ Some o) }
         requires there { IsSome (tree.get nat_cmp self.old.transactions xid) }
         requires running { self.old.stopped ≡ None }
         requires free { IsFreeOf self.old.tables.schema self.old.tables.rows (cells_held self.old.holds) xid tried.change }
         requires cells { tried.cells.items ≡ footprint self.old.tables.schema self.old.tables.rows tried.change }
-        ensures acted { HasActedBy RepresentsByHolds self.old self.new xid tried.sub tried.change result }
+        ensures tried { HasTriedBy RepresentsByHolds self.old self.new xid tried.sub tried.change result }
         ensures made { self.new.made ≡ self.old.made }
     {
         let Tried { sub, change, cells } = tried;
@@ -129,11 +125,11 @@ impl Live {
             unreachable!()
         };
         match transaction.apply(alloc, &mut self.tables, sub, change, mark) {
-            Ok(true) => Ok(Acted::Done),
-            Ok(false) => Ok(Acted::Skipped),
+            Ok(true) => Ok(Verdict::Acted(Acted::Done)),
+            Ok(false) => Ok(Verdict::Acted(Acted::Skipped)),
             Err(refused) => {
                 self.holds.release_since(xid, mark);
-                self.refuse(xid, sub, refused)
+                refused.verdict()
             }
         }
     }
@@ -146,41 +142,6 @@ impl Live {
             Some(transaction) => transaction.record.inverse_count(),
             None => 0,
         }
-    }
-
-    // A change was refused: a clash stops the store, and its transaction wants the change. It is said for
-    // whatever is held, or would be.
-    pub(crate) fn refuse(
-        &mut self,
-        xid: Xid,
-        sub: Xid,
-        refused: Refused,
-    ) -> Result<Acted, EngineFault>
-        requires names { NamesTables (length self.old.tables.schema) refused.change }
-        requires there { IsSome (tree.get nat_cmp self.old.transactions xid) }
-        requires running { self.old.stopped ≡ None }
-        requires clash { AnswersOutcome (outcome self.old.tables.schema self.old.tables.rows refused.change) (Err refused.clash) }
-        ensures acted { (held : LiveHolds) → IsFreeOf self.old.tables.schema self.old.tables.rows (cells_held held) xid refused.change
-            → HasActedBy (RepresentsWith held) self.old self.new xid sub refused.change result }
-        ensures holds { self.new.holds ≡ self.old.holds }
-        ensures made { self.new.made ≡ self.old.made }
-        ensures records { (other : ℕ) → records_in self.new.transactions other ≡ records_in self.old.transactions other }
-    {
-        let Refused { clash, change } = refused;
-        if clash == Clash::OutOfMemory {
-            return Err(EngineFault::OutOfMemory);
-        }
-        let stopped = Stopped::Clash {
-            xid,
-            change: change.copy()?,
-            clash,
-        };
-        let Some(transaction) = self.transactions.get_mut(&xid) else {
-            unreachable!()
-        };
-        transaction.wants = Some((sub, change));
-        self.stopped = Some(stopped);
-        Err(EngineFault::Clash(clash))
     }
 
     // The same as `touch`.

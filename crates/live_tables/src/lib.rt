@@ -96,6 +96,6 @@ mod shut;
 mod transaction;
 mod waits;
 
-pub use answers::{Acted, EngineFault, NotSettled, Stop};
+pub use answers::{Acted, EngineFault, NotSettled, Stop, Verdict};
 pub use live_tables::{Live, Stopped};
 pub use transaction::OpenTransaction;

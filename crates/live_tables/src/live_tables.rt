@@ -1,5 +1,5 @@
 // The live tables, with what all open transactions did in them.
-ghost use Rattle.std.specs.Prelude.{◌≡◌, ◌<◌, ℕ, List, true, false, Some, None, OnOk, OnErr, length, map};
+ghost use Rattle.std.specs.Prelude.{◌≡◌, ◌<◌, ℕ, List, true, false, Some, None, IsSome, OnOk, OnErr, length, map};
 ghost use Rattle.std.specs.Ordering.{nat_cmp};
 ghost use Rattle.std.specs.Result.{result_ok};
 ghost use Rattle.std.specs.BTreeMap as tree;
@@ -21,12 +21,12 @@ ghost use Rattle.savepoint.specs.Record.{Record};
 ghost use Rattle.undo.specs.Undo.{AreSettled};
 ghost use Rattle.undo.specs.Vacated.{AreVacated};
 ghost use Rattle.live_tables.specs.Released.{AreReleased};
-ghost use Rattle.live_tables.specs.Answers.{after_stop};
+ghost use Rattle.live_tables.specs.Answers.{cause_of, after_stop};
 ghost use Rattle.live_tables.specs.Adopting.{adopted_with};
 ghost use Rattle.live_tables.specs.Represents.{records_in, Represents};
-ghost use Rattle.live_tables.specs.Tried.{HasActed};
+ghost use Rattle.live_tables.specs.Tried.{HasTried, HasStopped, HasActed};
 
-use crate::answers::{Acted, EngineFault, NotSettled};
+use crate::answers::{Acted, EngineFault, NotSettled, Verdict};
 use crate::before_image::BeforeImage;
 use crate::let_go::let_go;
 use crate::transaction::OpenTransaction;
@@ -117,17 +117,64 @@ impl Live {
         requires tied { (w : World) × (o : Opened) × Represents w self.old × (finite.get w.opened xid ≡ Some o) }
         ensures { HasActed self.old self.new xid sub c.now result }
     {
+        match self.try_change(alloc, xid, sub, c)? {
+            Verdict::Acted(acted) => Ok(acted),
+            Verdict::Clashes(clash) => self.stop_by_clash(xid, sub, c, clash),
+        }
+    }
+
+    /// The same, where a change that clashes alters nothing: it is told alone.
+    pub fn try_change(
+        &mut self,
+        alloc: Global,
+        xid: Xid,
+        sub: Xid,
+        c: &Change,
+    ) -> Result<Verdict, EngineFault>
+        requires names { NamesTables (length self.old.tables.schema) c.now }
+        requires tied { (w : World) × (o : Opened) × Represents w self.old × (finite.get w.opened xid ≡ Some o) }
+        ensures { HasTried self.old self.new xid sub c.now result }
+    {
         if self.stopped.is_some() {
             return Err(EngineFault::Stopped);
         }
         if self.made {
-            return self.act_by_holds(alloc, xid, sub, c);
+            return self.try_by_holds(alloc, xid, sub, c);
         }
         if sub == xid {
-            return self.act_alone(alloc, xid, c);
+            return self.try_alone(alloc, xid, c);
         }
         self.make(alloc)?;
-        self.act_by_holds(alloc, xid, sub, c)
+        self.try_by_holds(alloc, xid, sub, c)
+    }
+
+    // A change of an open transaction, which clashes, stops the store, and its transaction wants it. Refused
+    // for memory, nothing changes.
+    fn stop_by_clash(
+        &mut self,
+        xid: Xid,
+        sub: Xid,
+        c: &Change,
+        clash: Clash,
+    ) -> Result<Acted, EngineFault>
+        requires names { NamesTables (length self.old.tables.schema) c.now }
+        requires tied { (w : World) × (o : Opened) × Represents w self.old × (finite.get w.opened xid ≡ Some o) }
+        requires running { self.old.stopped ≡ None }
+        requires cause { IsSome (cause_of clash) }
+        ensures { HasStopped self.old self.new xid sub c.now clash result }
+    {
+        let change = c.copy()?;
+        let stopped = Stopped::Clash {
+            xid,
+            change: c.copy()?,
+            clash,
+        };
+        let Some(transaction) = self.transactions.get_mut(&xid) else {
+            unreachable!()
+        };
+        transaction.wants = Some((sub, change));
+        self.stopped = Some(stopped);
+        Err(EngineFault::Clash(clash))
     }
 
     /// A subtransaction of an open transaction is named by an item that changes no row. Refused,

@@ -6,9 +6,11 @@ ghost use Rattle.undo.specs.Undo.{CanUndo};
 ghost use Rattle.savepoint.specs.Adopted.{EndsAlone};
 ghost use Rattle.savepoint.specs.Savepoints.{mark_at};
 ghost use Rattle.savepoint.specs.Record.{HasMark, OthersAreNamed, AllAreNamed, inverses_since};
+ghost use Rattle.live_tables.specs.Answers.{verdict_of};
 ghost use Rattle.live_tables.specs.CallResults.{IsRolledBack, IsFresh};
 ghost use Rattle.live_tables.specs.Transactions.{WaitsNoMore, IsAsBefore, HasMadeRoom, HasApplied, HasRefused, HasTouched, IsAdopted};
 
+use crate::answers::{EngineFault, Verdict};
 use change::{Applied, Clash, Inverse, apply};
 use indexes::Tables;
 use model::{Change, OutOfMemory, Xid};
@@ -28,8 +30,21 @@ pub struct OpenTransaction {
 /// Why a change was not done, and the change.
 #[derive(Drop)]
 pub(crate) struct Refused {
-    pub(crate) clash: Clash,
-    pub(crate) change: Change,
+    clash: Clash,
+    change: Change,
+}
+
+impl Refused {
+    /// What it comes to: memory was refused, or the change clashes.
+    pub(crate) fn verdict(self) -> Result<Verdict, EngineFault>
+        ensures { result ≡ verdict_of self.clash }
+    {
+        let Refused { clash, change: _ } = self;
+        match clash {
+            Clash::OutOfMemory => Err(EngineFault::OutOfMemory),
+            Clash::Unique { .. } | Clash::NullKey { .. } => Ok(Verdict::Clashes(clash)),
+        }
+    }
 }
 
 impl OpenTransaction {

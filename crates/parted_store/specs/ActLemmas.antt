@@ -1,35 +1,49 @@
 -- What a change that is tried in the part of its table comes to in a world that has the part.
---     act_step, act_part, act_heard      it is the step; the world behind it has the new part, which has heard of each stop of it
+--     part_stopped, table_running      a part is one whatever stopped its world
+--     try_step, try_part      it is the step; the world behind it has the new part
+--     clash_part      it clashes, and stops the world
 --     act_line      it leaves start and commits
 --     in_no_other      it is nothing in other tables
 --     opened_acted, ticket_acted, items_acted      its ticket, and the items that it has done
 --     none_acted, shares_acted      the ticket's shares
-use Rattle.std.specs.Prelude.{◌≡◌, ◌≢◌, ℕ, ◌==◌, Bool, false, ◌||◌, List, [], ◌∷◌, ◌++◌, fold, Option, Some, None, IsSome, Result, Ok, Err, refl}
+--     tried_there, wants_there      its share of the part
+use Rattle.std.specs.Prelude.{◌≡◌, ◌≢◌, ℕ, ◌==◌, Bool, false, ◌||◌, List, [], ◌∷◌, ◌++◌, fold, Option, Some, None, IfErr, Result, Ok, Err, refl}
 use Rattle.std.proofs.Common.{sym, ◌∙◌, ap, subst, inl, inr, ne_eqb, append-nil}
 use Rattle.std.proofs.lemmas.Grind.{fold-append}
 use Rattle.std.specs.FinMap.{get}
 use Rattle.model.specs.declared.change.Change as change_type
 use Rattle.model.specs.declared.change.Change.TheVariants.{Put, Set, Remove, Wipe}
 use Rattle.model.specs.declared.item.Item.TheVariants.{Change}
+use Rattle.model.specs.Effect.{ClashCause}
 use Rattle.model.specs.Rows.{Schema}
 use Rattle.model.specs.Survivors.{survivors}
 use Rattle.model.specs.SurvivorLemmas.{survivors_with, work_with_change}
-use Rattle.world.specs.World.{Opened, World, work}
-use Rattle.world.specs.Steps.{Fault, AlreadyOpen, TooManyOpen, Stopped, OutOfMemory, Acted, IsDone, IsSkipped, Held, Clashed, Acts}
+use Rattle.world.specs.World.{Opened, Stop, ByClash, World, work}
+use Rattle.world.specs.Steps.{Fault, Acted, IsDone, IsSkipped, Held, Clashed, Acts, wanting}
+use Rattle.world.specs.FineLemmas.{refused_stays}
 use Rattle.world.specs.ListingLemmas.{xid_cases, got_same}
-use Rattle.live_tables.specs.Answers.{after_act}
+use Rattle.live_tables.specs.declared.answers.Acted.{Acted as AnyActed}
+use Rattle.live_tables.specs.declared.answers.Acted.TheVariants.{Done, Skipped, Held as HeldBy}
+use Rattle.live_tables.specs.declared.answers.EngineFault.{EngineFault}
+use Rattle.live_tables.specs.declared.answers.EngineFault.TheVariants.{OutOfMemory as NoMemory}
+use Rattle.live_tables.specs.declared.answers.Verdict.{Verdict}
+use Rattle.live_tables.specs.declared.answers.Verdict.TheVariants.{Acted as ActedVerdict, Clashes}
+use Rattle.live_tables.specs.Answers.{told, told_fault, after_act}
+use Rattle.live_tables.specs.Tried.{Tries, after_try}
 use Rattle.engine.specs.declared.events.Event.{Event}
-use Rattle.engine.specs.Events.{after_event, opened_by, events_of}
+use Rattle.engine.specs.declared.events.Event.TheVariants.{Wants}
+use Rattle.engine.specs.Events.{after_event, opened_by, events_of, tried_events}
 use Rattle.engine.specs.EventLemmas.{opened_refused}
 use Rattle.world_parts.specs.ByTable.{only_if, change_at, changes_at, IsIn, names_table}
 use Rattle.world_parts.specs.ByTableLemmas.{InTable, puts, sets, removes, wipes, in_view, turned, changes_with}
 use Rattle.world_parts.specs.Lines.{KeepsLine}
-use Rattle.world_parts.specs.Marks.{mark_for, HasPart}
+use Rattle.world_parts.specs.Marks.{mark_for, items_at, survivors_if, HasPart}
 use Rattle.world_parts.specs.Parts.{after_tried}
 use Rattle.world_parts.specs.PartLemmas.{acts_lifts}
-use Rattle.world_parts.specs.ToldLemmas.{tried_here}
-use Rattle.parted_store.specs.Acting.{items_of}
-use Rattle.parted_store.specs.Lent.{IsShare}
+use Rattle.world_parts.specs.ToldLemmas.{tried_here, moved_here}
+use Rattle.parted_store.specs.Acting.{running, as_told, items_of}
+use Rattle.parted_store.specs.Lent.{HasTable, IsShare}
+use Rattle.table_parts.specs.Part.{Part}
 use Rattle.parted_store.specs.Shares.{Share, Shares, share_of}
 
 -- a change of one table is nothing in another
@@ -47,19 +61,37 @@ nothing_in table other _ wipes not =
 pub in_no_other : (table other : ℕ) (c : change_type.Change) → IsIn table c → other ≢ table → change_at other c ≡ []
 in_no_other table other c inside apart = nothing_in table other c (in_view table c inside) (turned table other ∙ ne_eqb other table apart)
 
+-- a part is one whatever stopped its world
+pub part_stopped : (table : ℕ) (w part : World) (stopped : Option Stop) → HasPart table w part → HasPart table (record w { stopped = stopped }) part
+part_stopped table w part stopped has = (record { committed = has.0.committed; work = has.0.work; wanted = has.0.wanted }, has.1)
+
+part_running : (table : ℕ) (w part : World) → HasPart table w part → HasPart table (running w) part
+part_running table w part has = part_stopped table w part None has
+
+pub table_running : (w : World) (p : Part) → HasTable w p → HasTable (running w) p
+table_running w p has = record { is = part_running p.number w p.store.world has.is; line = record { start = has.line.start; line = has.line.line } }
+
 module _ (schema : Schema) (table : ℕ) (w part : World) (has : HasPart table w part) (xid : ℕ) (o p : Opened)
     (at : get w.opened xid ≡ Some o) (here : get part.opened xid ≡ Some p) (c : change_type.Change) (inside : IsIn table c) where
-  -- the step in the part is one of the world
-  pub act_step : (IsSome part.stopped → IsSome w.stopped) → w.stopped ≡ None → (sub mark : ℕ) (answer : Result Acted Fault) (new : World)
-      → Acts schema part xid p mark c answer new → Acts schema w xid o sub c answer (after_act w xid o sub c answer)
-  act_step heard runs sub mark (Ok IsDone) new acts = acts_lifts schema table w part has.0 xid o p at here c inside runs sub mark IsDone new acts
-  act_step heard runs sub mark (Ok IsSkipped) new acts = acts_lifts schema table w part has.0 xid o p at here c inside runs sub mark IsSkipped new acts
-  act_step heard runs sub mark (Ok (Held holder)) new acts = acts_lifts schema table w part has.0 xid o p at here c inside runs sub mark (Held holder) new acts
-  act_step heard runs sub mark (Ok (Clashed cause)) new acts = acts_lifts schema table w part has.0 xid o p at here c inside runs sub mark (Clashed cause) new acts
-  act_step heard runs sub mark (Err AlreadyOpen) new acts = absurd acts
-  act_step heard runs sub mark (Err TooManyOpen) new acts = absurd acts
-  act_step heard runs sub mark (Err Stopped) new acts = (heard acts.0, refl)
-  act_step heard runs sub mark (Err OutOfMemory) new acts = (runs, refl)
+  -- what it comes to in the part it comes to in the world, as though nothing had stopped that
+  acted_step : (sub mark : ℕ) (acted : AnyActed) (new : World) → Acts schema part xid p mark c (told (Ok acted)) new
+      → Acts schema (running w) xid o sub c (told (Ok acted)) (after_act (running w) xid o sub c (told (Ok acted)))
+  acted_step sub mark Done new acts = acts_lifts schema table (running w) part (part_running table w part has).0 xid o p at here c inside refl sub mark IsDone new acts
+  acted_step sub mark Skipped new acts = acts_lifts schema table (running w) part (part_running table w part has).0 xid o p at here c inside refl sub mark IsSkipped new acts
+  acted_step sub mark (HeldBy holder) new acts =
+      acts_lifts schema table (running w) part (part_running table w part has).0 xid o p at here c inside refl sub mark (Held holder) new acts
+
+  pub try_step : (sub mark : ℕ) (answer : Result Verdict EngineFault) (new : World) → IfErr answer (λ (fault : EngineFault). fault ≡ NoMemory)
+      → Tries schema part xid p mark c answer new → Tries schema (running w) xid o sub c answer (after_try (running w) xid o sub c answer)
+  try_step sub mark (Ok (ActedVerdict acted)) new fault tries = acted_step sub mark acted new tries
+  try_step sub mark (Ok (Clashes clash)) new fault tries =
+      let found = tries.1 in
+      let acts =
+      acts_lifts schema table (running w) part (part_running table w part has).0 xid o p at here c inside refl sub mark (Clashed found.0)
+      (record (wanting part xid p mark c) { stopped = Some (ByClash xid c found.0) }) (tries.0, found.2.0, found.2.1, refl) in
+      (refl, (found.0, found.1, (acts.1, acts.2)), refl)
+  try_step sub mark (Err fault) new is tries =
+      subst (λ (f : EngineFault). Tries schema (running w) xid o sub c (Err f) (running w)) (sym is) (refl, refl)
 
   -- the world behind it has the new part
   new_part : (sub mark : ℕ) → mark ≡ mark_for xid sub (survivors xid o.items) → (answer : Acted) (new : World)
@@ -68,29 +100,27 @@ module _ (schema : Schema) (table : ℕ) (w part : World) (has : HasPart table w
       subst (HasPart table (after_tried w xid o sub c answer)) (sym (left ∙ ap (λ (m : ℕ). after_tried part xid p m c answer) is))
       (tried_here table w part has xid o p at here sub c c answer inside)
 
-  pub act_part : (sub mark : ℕ) → mark ≡ mark_for xid sub (survivors xid o.items) → (answer : Result Acted Fault) (new : World)
-      → Acts schema part xid p mark c answer new → HasPart table (after_act w xid o sub c answer) new
-  act_part sub mark is (Ok IsDone) new acts = new_part sub mark is IsDone new acts.3
-  act_part sub mark is (Ok IsSkipped) new acts = new_part sub mark is IsSkipped new acts.3
-  act_part sub mark is (Ok (Held holder)) new acts = new_part sub mark is (Held holder) new acts.2
-  act_part sub mark is (Ok (Clashed cause)) new acts = new_part sub mark is (Clashed cause) new acts.3
-  act_part sub mark is (Err AlreadyOpen) new acts = absurd acts
-  act_part sub mark is (Err TooManyOpen) new acts = absurd acts
-  act_part sub mark is (Err Stopped) new acts = subst (HasPart table w) (sym acts.1) has
-  act_part sub mark is (Err OutOfMemory) new acts = subst (HasPart table w) (sym acts.1) has
+  acted_part : (sub mark : ℕ) → mark ≡ mark_for xid sub (survivors xid o.items) → (acted : AnyActed) (new : World)
+      → Acts schema part xid p mark c (told (Ok acted)) new → HasPart table (after_act w xid o sub c (told (Ok acted))) new
+  acted_part sub mark is Done new acts = new_part sub mark is IsDone new acts.3
+  acted_part sub mark is Skipped new acts = new_part sub mark is IsSkipped new acts.3
+  acted_part sub mark is (HeldBy holder) new acts = new_part sub mark is (Held holder) new acts.2
 
--- a part that is stopped is one of a world that is
-pub act_heard : (schema : Schema) (w part : World) (xid : ℕ) (o p : Opened) (c : change_type.Change) → (IsSome part.stopped → IsSome w.stopped)
-    → (sub mark : ℕ) (answer : Result Acted Fault) (new : World) → Acts schema part xid p mark c answer new
-    → IsSome new.stopped → IsSome (after_act w xid o sub c answer).stopped
-act_heard schema w part xid o p c heard sub mark (Ok IsDone) new acts is = heard (subst (λ (v : World). IsSome v.stopped) acts.3 is)
-act_heard schema w part xid o p c heard sub mark (Ok IsSkipped) new acts is = heard (subst (λ (v : World). IsSome v.stopped) acts.3 is)
-act_heard schema w part xid o p c heard sub mark (Ok (Held holder)) new acts is = heard (subst (λ (v : World). IsSome v.stopped) acts.2 is)
-act_heard schema w part xid o p c heard sub mark (Ok (Clashed cause)) new acts is = refl
-act_heard schema w part xid o p c heard sub mark (Err AlreadyOpen) new acts is = absurd acts
-act_heard schema w part xid o p c heard sub mark (Err TooManyOpen) new acts is = absurd acts
-act_heard schema w part xid o p c heard sub mark (Err Stopped) new acts is = heard (subst (λ (v : World). IsSome v.stopped) acts.1 is)
-act_heard schema w part xid o p c heard sub mark (Err OutOfMemory) new acts is = heard (subst (λ (v : World). IsSome v.stopped) acts.1 is)
+  pub try_part : (sub mark : ℕ) → mark ≡ mark_for xid sub (survivors xid o.items) → (answer : Result Verdict EngineFault) (new : World)
+      → Tries schema part xid p mark c answer new → HasPart table (after_act w xid o sub c (as_told answer)) new
+  try_part sub mark is (Ok (ActedVerdict acted)) new tries = acted_part sub mark is acted new tries
+  try_part sub mark is (Ok (Clashes clash)) new tries = subst (HasPart table w) (sym tries.2) has
+  try_part sub mark is (Err fault) new tries = subst (HasPart table w) (sym (refused_stays part new (told_fault fault) tries)) has
+
+  -- it clashes, and stops the world: the part is told that its transaction wants it
+  pub clash_part : (sub mark : ℕ) (cause : ClashCause) (new : World) → new ≡ wanting part xid p mark c
+      → HasPart table (after_act w xid o sub c (Ok (Clashed cause))) new
+  clash_part sub mark cause new is =
+      part_stopped table (wanting w xid o sub c) new (Some (ByClash xid c cause))
+      (subst (HasPart table (wanting w xid o sub c)) (sym is)
+      (moved_here table w part has xid (record o { wants = Some (sub, c) }) (record p { wants = Some (mark, c) })
+      (sym (ap (survivors_if xid) here) ∙ has.1 xid ∙ ap (λ open_one. items_at table xid (survivors_if xid open_one)) at)
+      (sym (append-nil (change_at table c) ∙ inside))))
 
 -- it leaves start and commits
 pub act_line : (w : World) (xid : ℕ) (o : Opened) (sub : ℕ) (c : change_type.Change) (answer : Result Acted Fault)
@@ -168,3 +198,30 @@ module _ (xid sub : ℕ) (events : List Event) (c : change_type.Change) where
       by : other ≢ table → (found : Option Share) → IsShare xid (opened_by events) other found → IsShare xid (later answer) other found
       by apart None none = none_acted other (in_no_other table other c inside apart) none answer
       by apart (Some mine) number_is = number_is
+
+-- ---- its share
+
+-- a share tells what its transaction did in the part, still
+pub tried_there : (part : World) (before : Share) (mark : ℕ) (c : change_type.Change) → get part.opened before.number ≡ Some (opened_by before.list)
+    → (answer : Result Verdict EngineFault) (new : World) → new ≡ after_try part before.number (opened_by before.list) mark c answer
+    → (share : Share) → share ≡ record before { list = before.list ++ tried_events mark c answer }
+    → get new.opened share.number ≡ Some (opened_by share.list)
+tried_there part before mark c stood answer new led share is =
+    subst (λ (w : World). get w.opened share.number ≡ Some (opened_by share.list)) (sym led)
+    (subst (λ (s : Share). get (after_try part before.number (opened_by before.list) mark c answer).opened s.number ≡ Some (opened_by s.list)) (sym is) (by answer))
+  where
+    by : (a : Result Verdict EngineFault)
+        → get (after_try part before.number (opened_by before.list) mark c a).opened before.number ≡ Some (opened_by (before.list ++ tried_events mark c a))
+    by (Ok (ActedVerdict acted)) = ticket_acted before.number mark before.list c part stood (told (Ok acted))
+    by (Ok (Clashes clash)) = stood ∙ ap (λ (list : List Event). Some (opened_by list)) (sym (append-nil before.list))
+    by (Err fault) = stood ∙ ap Some (sym (opened_refused before.list (told_fault fault)))
+
+-- so it does where its transaction is made to want a change
+pub wants_there : (part : World) (before : Share) (mark : ℕ) (c : change_type.Change) → get part.opened before.number ≡ Some (opened_by before.list)
+    → (new : World) → new ≡ wanting part before.number (opened_by before.list) mark c
+    → (share : Share) → share ≡ record before { list = before.list ++ Wants mark c ∷ [] }
+    → get new.opened share.number ≡ Some (opened_by share.list)
+wants_there part before mark c stood new led share is =
+    subst (λ (w : World). get w.opened share.number ≡ Some (opened_by share.list)) (sym led)
+    (subst (λ (s : Share). get (wanting part before.number (opened_by before.list) mark c).opened s.number ≡ Some (opened_by s.list)) (sym is)
+    (ticket_acted before.number mark before.list c part stood (Ok (Held 0))))

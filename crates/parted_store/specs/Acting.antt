@@ -1,27 +1,36 @@
 -- A change that is tried in the part of its table.
---     IsLent      the world has the part, the journal's part and the ticket that a call is lent
+--     running      a world as though nothing had stopped it
+--     as_told      what came of a change in the words of the world, where a clash alters nothing
 --     is_done, items_of      whether the transaction has done it; the item that it has done
---     stop_after      what has stopped the store behind it
 --     Rests      the parts of other tables and their shares behind it
 --     IsActed      a part of another table in every world in which it was, once the ticket's transaction has tried it
-use Rattle.std.specs.Prelude.{◌≡◌, ℕ, Bool, true, false, List, [], ◌∷◌, length, Option, Some, Result, Ok, Err}
+use Rattle.std.specs.Prelude.{◌≡◌, ℕ, Bool, true, false, List, [], ◌∷◌, length, Option, Some, None, Result, Ok, Err}
 use Rattle.model.specs.declared.change.Change as change_type
 use Rattle.model.specs.declared.item.Item.{Item}
 use Rattle.model.specs.declared.item.Item.TheVariants.{Change}
-use Rattle.world.specs.World.{World, Stop, ByClash}
-use Rattle.world.specs.Steps.{Fault, Acted, IsDone, IsSkipped, Held, Clashed}
-use Rattle.live_tables.specs.Answers.{after_act}
+use Rattle.world.specs.World.{World}
+use Rattle.world.specs.Steps.{Fault, AlreadyOpen, Acted, IsDone, IsSkipped, Held, Clashed}
+use Rattle.live_tables.specs.declared.answers.EngineFault.{EngineFault}
+use Rattle.live_tables.specs.declared.answers.Verdict.{Verdict}
+use Rattle.live_tables.specs.declared.answers.Verdict.TheVariants.{Acted as ActedVerdict, Clashes}
+use Rattle.live_tables.specs.Answers.{told, told_fault, after_act}
 use Rattle.engine.specs.Events.{opened_by}
 use Rattle.table_parts.specs.Part.{Part}
 use Rattle.parted_store.specs.Back.{BacksShare}
 use Rattle.parted_store.specs.EachPart.{Progress}
-use Rattle.parted_store.specs.Journal.{JournalPart}
-use Rattle.parted_store.specs.Lent.{OpenTicket, HasTable, HasJournal, HasTicket}
+use Rattle.parted_store.specs.Lent.{OpenTicket, HasTable, HasTicket}
 use Rattle.parted_store.specs.Shares.{Shares}
 
--- the world has what a call is lent
-abbrev pub IsLent : World → Part → JournalPart → OpenTicket → Type 0
-IsLent w p j t = HasTable w p × HasJournal w j × HasTicket w t
+-- The world as though nothing had stopped it. Who tries a change in the part of its table doesn't ask what stopped the store.
+abbrev pub running : World → World
+running w = record w { stopped = None }
+
+-- What came of a change in the words of the world. A change that clashes alters nothing, and is told by no event: so it is
+-- one that was refused.
+abbrev pub as_told : Result Verdict EngineFault → Result Acted Fault
+as_told (Ok (ActedVerdict acted)) = told (Ok acted)
+as_told (Ok (Clashes clash)) = Err AlreadyOpen
+as_told (Err fault) = Err (told_fault fault)
 
 -- whether the transaction has done it
 abbrev pub is_done : Result Acted Fault → Bool
@@ -38,14 +47,6 @@ items_of sub c (Ok IsSkipped) = Change sub c ∷ []
 items_of sub c (Ok (Held holder)) = []
 items_of sub c (Ok (Clashed cause)) = []
 items_of sub c (Err fault) = []
-
--- what has stopped the store behind it
-abbrev pub stop_after : ℕ → change_type.Change → Result Acted Fault → Option Stop → Option Stop
-stop_after xid c (Ok IsDone) was = was
-stop_after xid c (Ok IsSkipped) was = was
-stop_after xid c (Ok (Held holder)) was = was
-stop_after xid c (Ok (Clashed cause)) was = Some (ByClash xid c cause)
-stop_after xid c (Err fault) was = was
 
 -- the parts of other tables and their shares behind it: the transaction waits there no more, unless it was refused
 abbrev pub Rests : ℕ → Result Acted Fault → List Part → Shares → List Part → Shares → Type 0

@@ -194,15 +194,14 @@ module _ (p : Part) (xid : ℕ) (share : Share) (number : share.number ≡ xid) 
       ∙ ap (λ (n : ℕ). record p.store.world { opened = insert p.store.world.opened n (opened_by (share.list ++ backs_to (mark ∷ marks))) }) number
       ∙ ap (λ (o : Opened). record p.store.world { opened = insert p.store.world.opened xid o }) (opened_behind share.list mark marks)
 
-  -- a world that has it so, and the line that it had, has the part, where it has heard of its stops
-  pub has_back : (now : World) → (IsSome p.store.world.stopped → IsSome now.stopped) → HasLine p.number now p.store.world
+  -- a world that has it so, and the line that it had, has the part
+  pub has_back : (now : World) → HasLine p.number now p.store.world
       → HasPart p.number now (back_world p xid share mark marks) → HasTable now q
-  has_back now heard line has = record {
+  has_back now line has = record {
     is = subst (λ (n : ℕ). HasPart n now q.store.world) (sym is.same.number) (subst (HasPart p.number now) (sym world_is) has);
     line =
         subst (λ (n : ℕ). HasLine n now q.store.world) (sym is.same.number)
         (subst (HasLine p.number now) (sym world_is) (record { start = line.start; line = line.line }));
-    heard = λ stopped. heard (subst (λ (v : World). IsSome v.stopped) is.world stopped);
   }
 
 -- a rollback drops none of these behind the subtransaction's own, where it is the top transaction; else just these
@@ -240,7 +239,6 @@ module _ (t : OpenTicket) (sub : ℕ) (marks : List ℕ) (drops : Drops t.number
         (cuts_nothing p.number t.number sub (survivors t.number (opened_by t.events).items) none.0)
         (no_wants_here t p w has at none.1);
     line = line_now;
-    heard = has.heard;
   }
 
   part_behind : (share : Share) → get p.store.world.opened t.number ≡ Some (opened_by share.list)
@@ -259,7 +257,7 @@ module _ (t : OpenTicket) (sub : ℕ) (marks : List ℕ) (drops : Drops t.number
   rolled_by None none q new did = subst (HasTable now) (sym did.0) (nothing_rolled none)
   rolled_by (Some share) number q None did = absurd did
   rolled_by (Some share) number q (Some new) did =
-      has_back p t.number share number sub marks q new did now has.heard line_now (part_behind share (stood_there p t.number share number sub marks q new did))
+      has_back p t.number share number sub marks q new did now line_now (part_behind share (stood_there p t.number share number sub marks q new did))
 
 -- ---- the part itself
 

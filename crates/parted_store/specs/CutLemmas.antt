@@ -36,12 +36,10 @@ use Rattle.parted_store.specs.Truncating.{CutsHere, HasEach, IsStill, cut_of}
 module _ (t : OpenTicket) (sub : ℕ) (c : change_type.Change) (p : Part) (its : change_at p.number c ≡ cut_of p ∷ [])
     (w : World) (has : HasTable w p) (at : HasTicket w t) (share : Share) (number : share.number ≡ t.number) where
   -- a part with the same line, in a world with the same start and commits
-  as_before : (now : World) (q : Part) → IsSameAs p q → HasLine p.number now q.store.world → HasPart p.number now q.store.world
-      → (IsSome q.store.world.stopped → IsSome now.stopped) → HasTable now q
-  as_before now q same line is heard = record {
+  as_before : (now : World) (q : Part) → IsSameAs p q → HasLine p.number now q.store.world → HasPart p.number now q.store.world → HasTable now q
+  as_before now q same line is = record {
     is = subst (λ (n : ℕ). HasPart n now q.store.world) (sym same.number) is;
     line = subst (λ (n : ℕ). HasLine n now q.store.world) (sym same.number) line;
-    heard = heard;
   }
 
   -- it is done there, under the latest mark
@@ -54,7 +52,6 @@ module _ (t : OpenTicket) (sub : ℕ) (c : change_type.Change) (p : Part) (its :
       (sym (did.acts.3 ∙ (λ i. done_with p.store.world (number i) (opened_by share.list) (Change (mark_is i) (cut_of p)))))
       (tried_here p.number w p.store.world has.is t.number (opened_by t.events) (opened_by share.list) at
       (stood_by t p w has at share number did.stood) sub c (cut_of p) IsDone its))
-      (λ is. has.heard (subst (λ (v : World). IsSome v.stopped) did.acts.3 is))
 
   module _ (q : Part) (new : Share) (waits : Bool) (still : IsStill waits p share q new) where
     -- its world, by the number of the ticket
@@ -63,9 +60,6 @@ module _ (t : OpenTicket) (sub : ℕ) (c : change_type.Change) (p : Part) (its :
 
     still_items : survivors t.number (opened_by new.list).items ≡ survivors t.number (opened_by share.list).items
     still_items = subst (λ (n : ℕ). survivors n (opened_by new.list).items ≡ survivors n (opened_by share.list).items) number still.items
-
-    still_heard : IsSome q.store.world.stopped → IsSome w.stopped
-    still_heard is = has.heard (subst (λ (v : World). IsSome v.stopped) still.world is)
 
     -- its transaction waits there with the truncate
     pub waiting_part : wanted_by (opened_by new.list).wants ≡ cut_of p ∷ [] → HasTable (wanting w t.number (opened_by t.events) sub c) q
@@ -76,7 +70,6 @@ module _ (t : OpenTicket) (sub : ℕ) (c : change_type.Change) (p : Part) (its :
         (waits_otherwise p.number w p.store.world has.is t.number (opened_by t.events) (opened_by share.list) at
         (stood_by t p w has at share number still.stood) (Some (sub, c)) (opened_by new.list) still_items
         (with_it ∙ sym its ∙ sym (append-nil (change_at p.number c)))))
-        still_heard
 
     -- it is left
     pub left_part : waits ≡ true → HasTable w q
@@ -86,7 +79,6 @@ module _ (t : OpenTicket) (sub : ℕ) (c : change_type.Change) (p : Part) (its :
         (subst (HasPart p.number w) (sym still_world)
         (still_here p.number w p.store.world has.is t.number (opened_by t.events) (opened_by share.list) at
         (stood_by t p w has at share number still.stood) (opened_by new.list) still_items (still.wants as_it_did)))
-        still_heard
 
 -- ---- the step of the world
 

@@ -3,7 +3,7 @@
 --     Covers, BelongEach      they are those of the shares; each share is a ticket of its part
 --     WaitsAmong      a transaction waits with no change of a table beside them
 --     Progress      the first of them have done so, and the others are as they were
-use Rattle.std.specs.Prelude.{◌≡◌, ◌≢◌, ℕ, ◌<◌, ◌≤◌, List, [], Option, Some, IsSomeAnd, slice_get}
+use Rattle.std.specs.Prelude.{◌≡◌, ◌≢◌, ℕ, ◌<◌, ◌≤◌, List, [], Option, Some, IsSomeAnd, length, slice_get}
 use Rattle.world.specs.World.{Opened}
 use Rattle.world_parts.specs.ByTable.{changes_at}
 use Rattle.world_parts.specs.Parts.{wanted_by}
@@ -37,5 +37,6 @@ WaitsAmong parts o = (table : ℕ) → IsBeside parts table → changes_at table
 pub record Progress (does : Part → Option Share → Part → Option Share → Type 0) (start : List Part) (all : Shares) (parts : List Part) (shares : Shares) (i : ℕ) : Type 0 where
   pub done : (j : ℕ) (p : Part) → j < i → slice_get start j ≡ Some p → IsSomeAnd (slice_get parts j) (λ q. does p (share_of all p.number) q (share_of shares p.number))
   pub left : (j : ℕ) → i ≤ j → slice_get parts j ≡ slice_get start j
+  pub long : length parts ≡ length start
   pub kept : (table : ℕ) → ((j : ℕ) (p : Part) → j < i → slice_get start j ≡ Some p → p.number ≢ table)
       → share_of shares table ≡ share_of all table

@@ -38,6 +38,7 @@ pub no_progress : (does : Part → Option Share → Part → Option Share → Ty
 no_progress does start all = record {
   done = λ j p below at. absurd (omega (arith, below));
   left = λ j above. refl;
+  long = refl;
   kept = λ table none. refl;
 }
 
@@ -68,6 +69,7 @@ module _ (does : Part → Option Share → Part → Option Share → Type 0) (st
     left = λ j above.
         let beside : j ≢ i = λ e. absurd (omega (arith, e, above)) in
         set_beside parts i p q at j beside ∙ so_far.left j (omega (arith, above));
+    long = length-set parts i q ∙ so_far.long;
     kept = λ table none.
         others table (λ e. none i p (omega arith) at_start (sym e))
         ∙ so_far.kept table (λ j r below there. none j r (omega (arith, below)) there);

@@ -42,14 +42,12 @@ module _ (t : OpenTicket) (p : Part) (w : World) (has : HasTable w p) (at : HasT
     is = ends_beside p.number w p.store.world has.is t.number (opened_by t.events) at schema info (no_items_here none) (no_wants_here none.1);
     line =
         line_beside schema p.number w p.store.world has.is has.line t.number (opened_by t.events) at info (no_items_here none);
-    heard = has.heard;
   }
 
   pub aborts_nothing : IsShare t.number (opened_by t.events) p.number None → HasTable (aborted_with w t.number) p
   aborts_nothing none = record {
     is = aborts_beside p.number w p.store.world has.is t.number (no_items_here none) (no_wants_here none.1);
     line = record { start = has.line.start; line = has.line.line };
-    heard = has.heard;
   }
 
   -- the share's transaction is open in the part
@@ -73,7 +71,6 @@ module _ (t : OpenTicket) (p : Part) (w : World) (has : HasTable w p) (at : HasT
         (sym (did.1 ∙ ap (λ (n : ℕ). committed_with p.store.schema p.store.world n (opened_by share.list) info) number))
         (line_here p.store.schema p.number w p.store.world has.is has.line t.number (opened_by t.events) at info (opened_by share.list)
         (stood_by share number did.0)));
-    heard = λ is. has.heard (subst (λ (v : World). IsSome v.stopped) did.1 is);
   }
 
   pub aborted_by : (share : Option Share) → IsShare t.number (opened_by t.events) p.number share
@@ -88,7 +85,6 @@ module _ (t : OpenTicket) (p : Part) (w : World) (has : HasTable w p) (at : HasT
     line =
         subst (λ (n : ℕ). HasLine n (aborted_with w t.number) q.store.world) (sym did.1.number)
         (subst (HasLine p.number (aborted_with w t.number)) (sym did.0) (record { start = has.line.start; line = has.line.line }));
-    heard = λ is. has.heard (subst (λ (v : World). IsSome v.stopped) did.0 is);
   }
 
 -- ---- the part itself

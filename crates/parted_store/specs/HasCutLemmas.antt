@@ -2,9 +2,11 @@
 --     same_again      a share that is still one, twice over
 --     shares_left      other shares are what they were
 --     share_cut, shares_kept      each share is still one of its part and number
+--     long_truncated      as many parts are there
+--     free_truncated      where it is done nobody else has anything in a part
 --     part_cut, acts_cut      each part in the world behind it, and the step of the world
 --     share_needed      the ticket has the shares that it needs
-use Rattle.std.specs.Prelude.{◌≡◌, ◌≢◌, ◌⊎◌, ℕ, zero, suc, Bool, true, false, List, [], ◌∷◌, ◌++◌, Option, Some, None, IsSomeAnd, is_some, slice_get, Result, Ok, Err, refl}
+use Rattle.std.specs.Prelude.{◌≡◌, ◌≢◌, ◌⊎◌, ℕ, zero, suc, Bool, true, false, List, [], ◌∷◌, ◌++◌, Option, Some, None, IsSomeAnd, is_some, length, slice_get, Result, Ok, Err, refl}
 use Rattle.std.proofs.Common.{sym, ◌∙◌, ap, subst, inl, inr}
 use Rattle.std.proofs.lemmas.Bool.{false≢true}
 use Rattle.std.proofs.lemmas.Option.{same_Some}
@@ -14,18 +16,19 @@ use Rattle.model.specs.declared.cell.Cell.TheVariants.{Whole}
 use Rattle.model.specs.Rows.{Schema}
 use Rattle.model.specs.Survivors.{survivors}
 use Rattle.world.specs.World.{Opened, World, IsFree, IsHeldBy}
-use Rattle.world.specs.Steps.{Acts}
-use Rattle.live_tables.specs.declared.answers.Acted.{Acted}
 use Rattle.live_tables.specs.declared.answers.Acted.TheVariants.{Done, Skipped, Held}
 use Rattle.live_tables.specs.declared.answers.EngineFault.{EngineFault}
-use Rattle.live_tables.specs.declared.answers.EngineFault.TheVariants.{AlreadyOpen, TooManyOpen, Clash, Stopped, OutOfMemory}
+use Rattle.live_tables.specs.declared.answers.Verdict.{Verdict}
+use Rattle.live_tables.specs.declared.answers.Verdict.TheVariants.{Acted as ActedVerdict, Clashes}
 use Rattle.live_tables.specs.Answers.{told, after_act}
+use Rattle.live_tables.specs.Tried.{Tries, after_try}
+use Rattle.parted_store.specs.Acting.{running, as_told}
 use Rattle.engine.specs.declared.events.Event.{Event}
 use Rattle.engine.specs.Events.{opened_by, events_of}
 use Rattle.world_parts.specs.ByTable.{change_at}
 use Rattle.world_parts.specs.Marks.{mark_for}
 use Rattle.table_parts.specs.Part.{Part}
-use Rattle.parted_store.specs.ActLemmas.{none_acted}
+use Rattle.parted_store.specs.ActLemmas.{none_acted, table_running}
 use Rattle.parted_store.specs.Back.{IsSameShare, KeepsShares}
 use Rattle.parted_store.specs.CutLemmas.{kept_part, waiting_part, left_part, free_there, held_there, cut_here, cut_done, cut_held}
 use Rattle.parted_store.specs.EachPart.{IsBeside}
@@ -87,27 +90,29 @@ table_among (first ∷ parts) table =
 
 module _ (mark : ℕ) (start : List Part) (all : Shares) (parts : List Part) (shares : Shares) where
   -- other shares are what they were
-  pub shares_left : (answer : Result Acted EngineFault) → HasTruncated mark start all answer parts shares → (table : ℕ) → IsBeside start table
+  pub shares_left : (answer : Result Verdict EngineFault) → HasTruncated mark start all answer parts shares → (table : ℕ) → IsBeside start table
       → share_of shares table ≡ share_of all table
-  shares_left (Ok Done) came table beside = came.kept table beside
-  shares_left (Ok (Held holder)) came table beside = came.1.kept table beside
-  shares_left (Ok Skipped) came table beside = absurd came
+  shares_left (Ok (ActedVerdict Done)) came table beside = came.kept table beside
+  shares_left (Ok (ActedVerdict (Held holder))) came table beside = came.1.kept table beside
+  shares_left (Ok (ActedVerdict Skipped)) came table beside = absurd came
+  shares_left (Ok (Clashes clash)) came table beside = absurd came
   shares_left (Err fault) came table beside = came.1.kept table beside
 
-  share_cut : (answer : Result Acted EngineFault) → HasTruncated mark start all answer parts shares → (i : ℕ) (p : Part) → slice_get start i ≡ Some p
+  share_cut : (answer : Result Verdict EngineFault) → HasTruncated mark start all answer parts shares → (i : ℕ) (p : Part) → slice_get start i ≡ Some p
       → IsSameShare (share_of all p.number) (share_of shares p.number)
-  share_cut (Ok Done) came i p there =
+  share_cut (Ok (ActedVerdict Done)) came i p there =
       some_is (slice_get parts i) (IsSameShare (share_of all p.number) (share_of shares p.number))
       (some_then (slice_get parts i) (came.each i p there) (λ q is. share_kept mark i p (share_of all p.number) q (share_of shares p.number) is))
-  share_cut (Ok (Held holder)) came i p there =
+  share_cut (Ok (ActedVerdict (Held holder))) came i p there =
       some_is (slice_get parts i) (IsSameShare (share_of all p.number) (share_of shares p.number))
       (some_then (slice_get parts i) (came.1.each i p there) (λ q is. share_waits i p (share_of all p.number) q (share_of shares p.number) is))
-  share_cut (Ok Skipped) came i p there = absurd came
+  share_cut (Ok (ActedVerdict Skipped)) came i p there = absurd came
+  share_cut (Ok (Clashes clash)) came i p there = absurd came
   share_cut (Err fault) came i p there =
       some_is (slice_get parts i) (IsSameShare (share_of all p.number) (share_of shares p.number))
       (some_then (slice_get parts i) (came.1.each i p there) (λ q is. share_stands true i p (share_of all p.number) q (share_of shares p.number) is))
 
-  pub shares_kept : (answer : Result Acted EngineFault) → HasTruncated mark start all answer parts shares → KeepsShares all shares
+  pub shares_kept : (answer : Result Verdict EngineFault) → HasTruncated mark start all answer parts shares → KeepsShares all shares
   shares_kept answer came table =
       elim (table_among start table) [
         | inl found ↦
@@ -115,53 +120,20 @@ module _ (mark : ℕ) (start : List Part) (all : Shares) (parts : List Part) (sh
         | inr beside ↦ subst (IsSameShare (share_of all table)) (sym (shares_left answer came table beside)) (same_share (share_of all table))
       ]
 
--- ---- in a world that has the parts
+  pub long_truncated : (answer : Result Verdict EngineFault) → HasTruncated mark start all answer parts shares → length parts ≡ length start
+  long_truncated (Ok (ActedVerdict Done)) came = came.long
+  long_truncated (Ok (ActedVerdict (Held holder))) came = came.1.long
+  long_truncated (Ok (ActedVerdict Skipped)) came = absurd came
+  long_truncated (Ok (Clashes clash)) came = absurd came
+  long_truncated (Err fault) came = came.1.long
 
-module _ (t : OpenTicket) (its : HasShares t) (sub : ℕ) (c : change_type.Change) (tables : List ℕ) (start : List Part) (here : CutsHere c tables start)
-    (w : World) (at : HasTicket w t) (mark : ℕ) (parts : List Part) (shares : Shares) where
+module _ (t : OpenTicket) (its : HasShares t) where
   -- the share of a part is of its ticket's number
   number_there : (table : ℕ) (share : Share) → share_of t.shares table ≡ Some share → share.number ≡ t.number
   number_there table share found = subst (IsShare t.number (opened_by t.events) table) found (its table)
 
-  abbrev o : Opened
-  o = opened_by t.events
-
-  module _ (i : ℕ) (p : Part) (there : slice_get start i ≡ Some p) (has : HasTable w p) where
-    kept_there : mark ≡ mark_for t.number sub (survivors t.number o.items) → (share : Option Share) → share_of t.shares p.number ≡ share → (q : Part) (new : Option Share)
-        → Keeps mark i p share q new → HasTable (after_act w t.number o sub c (told (Ok Done))) q
-    kept_there is None found q new none = absurd none
-    kept_there is (Some share) found q None none = absurd none
-    kept_there is (Some share) found q (Some new) did =
-        kept_part t sub c p (cut_here c tables start here i p there) w has at share (number_there p.number share found) mark is q new did
-
-    waiting_there : (holder : ℕ) (share : Option Share) → share_of t.shares p.number ≡ share → (q : Part) (new : Option Share)
-        → Waits i p share q new → HasTable (after_act w t.number o sub c (told (Ok (Held holder)))) q
-    waiting_there holder None found q new none = absurd none
-    waiting_there holder (Some share) found q None none = absurd none
-    waiting_there holder (Some share) found q (Some new) did =
-        waiting_part t sub c p (cut_here c tables start here i p there) w has at share (number_there p.number share found) q new false did.0 did.1
-
-    left_there : (share : Option Share) → share_of t.shares p.number ≡ share → (q : Part) (new : Option Share) → Stands true i p share q new → HasTable w q
-    left_there share found q new (inl untouched) = subst (HasTable w) (sym untouched.0) has
-    left_there None found q new (inr none) = absurd none
-    left_there (Some share) found q None (inr none) = absurd none
-    left_there (Some share) found q (Some new) (inr still) =
-        left_part t sub c p (cut_here c tables start here i p there) w has at share (number_there p.number share found) q new true still refl
-
-    -- the part in the world behind it
-    pub part_cut : mark ≡ mark_for t.number sub (survivors t.number o.items) → (answer : Result Acted EngineFault) → HasTruncated mark start t.shares answer parts shares
-        → IsSomeAnd (slice_get parts i) (HasTable (after_act w t.number o sub c (told answer)))
-    part_cut is (Ok Done) came = some_then (slice_get parts i) (came.each i p there) (λ q did. kept_there is (share_of t.shares p.number) refl q (share_of shares p.number) did)
-    part_cut is (Ok (Held holder)) came =
-        some_then (slice_get parts i) (came.1.each i p there) (λ q did. waiting_there holder (share_of t.shares p.number) refl q (share_of shares p.number) did)
-    part_cut is (Ok Skipped) came = absurd came
-    part_cut is (Err Stopped) came = some_then (slice_get parts i) (came.1.each i p there) (λ q did. left_there (share_of t.shares p.number) refl q (share_of shares p.number) did)
-    part_cut is (Err OutOfMemory) came = some_then (slice_get parts i) (came.1.each i p there) (λ q did. left_there (share_of t.shares p.number) refl q (share_of shares p.number) did)
-    part_cut is (Err AlreadyOpen) came = absurd came.0
-    part_cut is (Err TooManyOpen) came = absurd came.0
-    part_cut is (Err (Clash clash)) came = absurd came.0
-
-  module _ (schema : Schema) (have : HasEach w schema start) (runs : w.stopped ≡ None) where
+  -- where it is done nobody else has anything in a part
+  module _ (mark : ℕ) (start parts : List Part) (shares : Shares) where
     free_by : (i : ℕ) (p : Part) (share : Option Share) → share_of t.shares p.number ≡ share → (q : Part) (new : Option Share) → Keeps mark i p share q new
         → IsFree p.store.schema p.store.world t.number (Whole p.number ∷ [])
     free_by i p None found q new none = absurd none
@@ -174,27 +146,74 @@ module _ (t : OpenTicket) (its : HasShares t) (sub : ℕ) (c : change_type.Chang
         some_is (slice_get parts i) (IsFree p.store.schema p.store.world t.number (Whole p.number ∷ []))
         (some_then (slice_get parts i) (came.each i p there) (λ q did. free_by i p (share_of t.shares p.number) refl q (share_of shares p.number) did))
 
-    -- it is the step of the world
-    pub acts_cut : (answer : Result Acted EngineFault) → HasTruncated mark start t.shares answer parts shares
-        → Acts schema w t.number o sub c (told answer) (after_act w t.number o sub c (told answer))
-    acts_cut (Ok Done) came = cut_done c tables start here t sub w schema have runs (free_each came)
-    acts_cut (Ok (Held holder)) came =
-        let one = came.0 in
-        cut_held c tables start here t sub w schema have runs one.0 one.1 one.3 holder
-        (subst (λ (n : ℕ). IsHeldBy one.1.store.schema one.1.store.world n (Whole one.1.number ∷ []) holder) (number_there one.1.number one.2 one.4)
-        (held_there one.1 one.2 holder one.6))
-    acts_cut (Ok Skipped) came = absurd came
-    acts_cut (Err Stopped) came = let one = came.0 in ((have one.0 one.1 one.2).0.heard one.3, refl)
-    acts_cut (Err OutOfMemory) came = (runs, refl)
-    acts_cut (Err AlreadyOpen) came = absurd came.0
-    acts_cut (Err TooManyOpen) came = absurd came.0
-    acts_cut (Err (Clash clash)) came = absurd came.0
+    pub free_truncated : (answer : Result Verdict EngineFault) → HasTruncated mark start t.shares answer parts shares → answer ≡ Ok (ActedVerdict Done)
+        → (i : ℕ) (p : Part) → slice_get start i ≡ Some p → IsFree p.store.schema p.store.world t.number (Whole p.number ∷ [])
+    free_truncated answer came done =
+        free_each (subst (λ (a : Result Verdict EngineFault). HasTruncated mark start t.shares a parts shares) done came)
 
-module _ (xid sub : ℕ) (events : List Event) (c : change_type.Change) (answer : Result Acted EngineFault) where
+-- ---- in a world that has the parts
+
+module _ (t : OpenTicket) (its : HasShares t) (sub : ℕ) (c : change_type.Change) (tables : List ℕ) (start : List Part) (here : CutsHere c tables start)
+    (w : World) (at : HasTicket w t) (mark : ℕ) (parts : List Part) (shares : Shares) where
+  abbrev o : Opened
+  o = opened_by t.events
+
+  module _ (i : ℕ) (p : Part) (there : slice_get start i ≡ Some p) (has : HasTable w p) where
+    kept_there : mark ≡ mark_for t.number sub (survivors t.number o.items) → (share : Option Share) → share_of t.shares p.number ≡ share → (q : Part) (new : Option Share)
+        → Keeps mark i p share q new → HasTable (after_act w t.number o sub c (told (Ok Done))) q
+    kept_there is None found q new none = absurd none
+    kept_there is (Some share) found q None none = absurd none
+    kept_there is (Some share) found q (Some new) did =
+        kept_part t sub c p (cut_here c tables start here i p there) w has at share (number_there t its p.number share found) mark is q new did
+
+    waiting_there : (holder : ℕ) (share : Option Share) → share_of t.shares p.number ≡ share → (q : Part) (new : Option Share)
+        → Waits i p share q new → HasTable (after_act w t.number o sub c (told (Ok (Held holder)))) q
+    waiting_there holder None found q new none = absurd none
+    waiting_there holder (Some share) found q None none = absurd none
+    waiting_there holder (Some share) found q (Some new) did =
+        waiting_part t sub c p (cut_here c tables start here i p there) w has at share (number_there t its p.number share found) q new false did.0 did.1
+
+    left_there : (share : Option Share) → share_of t.shares p.number ≡ share → (q : Part) (new : Option Share) → Stands true i p share q new → HasTable w q
+    left_there share found q new (inl untouched) = subst (HasTable w) (sym untouched.0) has
+    left_there None found q new (inr none) = absurd none
+    left_there (Some share) found q None (inr none) = absurd none
+    left_there (Some share) found q (Some new) (inr still) =
+        left_part t sub c p (cut_here c tables start here i p there) w has at share (number_there t its p.number share found) q new true still refl
+
+    -- the part in the world behind it
+    pub part_cut : mark ≡ mark_for t.number sub (survivors t.number o.items) → (answer : Result Verdict EngineFault) → HasTruncated mark start t.shares answer parts shares
+        → IsSomeAnd (slice_get parts i) (HasTable (after_act w t.number o sub c (as_told answer)))
+    part_cut is (Ok (ActedVerdict Done)) came = some_then (slice_get parts i) (came.each i p there) (λ q did. kept_there is (share_of t.shares p.number) refl q (share_of shares p.number) did)
+    part_cut is (Ok (ActedVerdict (Held holder))) came =
+        some_then (slice_get parts i) (came.1.each i p there) (λ q did. waiting_there holder (share_of t.shares p.number) refl q (share_of shares p.number) did)
+    part_cut is (Ok (ActedVerdict Skipped)) came = absurd came
+    part_cut is (Ok (Clashes clash)) came = absurd came
+    part_cut is (Err fault) came = some_then (slice_get parts i) (came.1.each i p there) (λ q did. left_there (share_of t.shares p.number) refl q (share_of shares p.number) did)
+
+  module _ (schema : Schema) (have : HasEach w schema start) where
+    -- the world has each of the parts as though nothing had stopped it
+    each_running : HasEach (running w) schema start
+    each_running i p there = let one = have i p there in (table_running w p one.0, one.1)
+
+    -- it is the step of that world
+    pub acts_cut : (answer : Result Verdict EngineFault) → HasTruncated mark start t.shares answer parts shares
+        → Tries schema (running w) t.number o sub c answer (after_try (running w) t.number o sub c answer)
+    acts_cut (Ok (ActedVerdict Done)) came = cut_done c tables start here t sub (running w) schema each_running refl (free_each t its mark start parts shares came)
+    acts_cut (Ok (ActedVerdict (Held holder))) came =
+        let one = came.0 in
+        cut_held c tables start here t sub (running w) schema each_running refl one.0 one.1 one.3 holder
+        (subst (λ (n : ℕ). IsHeldBy one.1.store.schema one.1.store.world n (Whole one.1.number ∷ []) holder) (number_there t its one.1.number one.2 one.4)
+        (held_there one.1 one.2 holder one.6))
+    acts_cut (Ok (ActedVerdict Skipped)) came = absurd came
+    acts_cut (Ok (Clashes clash)) came = absurd came
+    acts_cut (Err fault) came =
+        subst (λ (f : EngineFault). Tries schema (running w) t.number o sub c (Err f) (running w)) (sym came.0) (refl, refl)
+
+module _ (xid sub : ℕ) (events : List Event) (c : change_type.Change) (answer : Result Verdict EngineFault) where
   -- the ticket has the share that it needs
   pub share_needed : (table : ℕ) (share new : Option Share) → IsShare xid (opened_by events) table share → IsSameShare share new → (share ≡ None → change_at table c ≡ [])
-      → IsShare xid (opened_by (events ++ events_of sub c (told answer))) table new
+      → IsShare xid (opened_by (events ++ events_of sub c (as_told answer))) table new
   share_needed table None new none same not =
-      subst (IsShare xid (opened_by (events ++ events_of sub c (told answer))) table) (sym same) (none_acted xid sub events c table (not refl) none (told answer))
+      subst (IsShare xid (opened_by (events ++ events_of sub c (as_told answer))) table) (sym same) (none_acted xid sub events c table (not refl) none (as_told answer))
   share_needed table (Some share) None number same not = absurd same
   share_needed table (Some share) (Some new) number same not = same.1 ∙ number

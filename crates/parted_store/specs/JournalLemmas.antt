@@ -1,6 +1,6 @@
 -- What the journal's part has of a world behind each call.
 --     journal_opens, journal_refuses      what it says of an open is the step
---     journal_opened, journal_acted, journal_done, journal_committed, journal_aborted      it has the world behind it
+--     journal_opened, journal_tried, journal_clashed, journal_done, journal_committed, journal_aborted      it has the world behind it
 use Rattle.std.specs.Prelude.{◌≡◌, ℕ, ◌+◌, ◌-◌, ◌<◌, ◌≤◌, true, false, cond, if◌then◌else◌, List, [], ◌∷◌, ◌++◌, Option, Some, None, IsSome, is_some, Result, Ok, Err, refl}
 use Rattle.std.proofs.Common.{sym, ◌∙◌, ap, subst, inl, inr, true≢false, arith}
 use Rattle.std.proofs.lemmas.Grind.{fold-append}
@@ -10,16 +10,21 @@ use Rattle.std.specs.FinMap.{get}
 use Rattle.model.specs.declared.change.Change as change_type
 use Rattle.model.specs.declared.item.Item.{Item}
 use Rattle.model.specs.declared.item.CommitInfo.{CommitInfo}
+use Rattle.model.specs.Effect.{ClashCause}
 use Rattle.model.specs.EditLemmas.{cond_inside}
 use Rattle.model.specs.Limits.{most_open}
 use Rattle.model.specs.Rows.{Schema}
 use Rattle.tokens.specs.Half.{Half}
 use Rattle.world.specs.World.{is_xid, Opened, Past, World, Stop, ByClash}
-use Rattle.world.specs.Steps.{Fault, Acted, IsDone, IsSkipped, Held, Clashed, Opens, opened_with, done_with, committed_with, aborted_with}
+use Rattle.world.specs.Steps.{Clashed, Opens, opened_with, done_with, committed_with, aborted_with}
 use Rattle.world.specs.ListingLemmas.{xid_cases, got_same, got_other}
+use Rattle.live_tables.specs.declared.answers.Acted.{Acted}
+use Rattle.live_tables.specs.declared.answers.Acted.TheVariants.{Done, Skipped, Held}
 use Rattle.live_tables.specs.declared.answers.EngineFault as fault_type
 use Rattle.live_tables.specs.declared.answers.EngineFault.TheVariants.{AlreadyOpen as AlreadyOpenFault, TooManyOpen as TooManyOpenFault, Clash as ClashFault, Stopped as StoppedFault, OutOfMemory as NoMemory}
-use Rattle.live_tables.specs.Answers.{told_fault, after_act}
+use Rattle.live_tables.specs.declared.answers.Verdict.{Verdict}
+use Rattle.live_tables.specs.declared.answers.Verdict.TheVariants.{Acted as ActedVerdict, Clashes}
+use Rattle.live_tables.specs.Answers.{told, told_fault, after_act}
 use Rattle.engine.specs.declared.events.LineEvent.{LineEvent}
 use Rattle.engine.specs.declared.events.LineEvent.TheVariants.{Opened as WasOpened, Committed as WasCommitted, Aborted as WasAborted}
 use Rattle.engine.specs.Events.{commits_in, open_after, is_open_in}
@@ -27,7 +32,7 @@ use Rattle.engine.specs.EventLemmas.{same_commits, more_commits}
 use Rattle.engine.specs.StoreLemmas.{same_len}
 use Rattle.parted_store.specs.Journal.{JournalPart}
 use Rattle.parted_store.specs.Lent.{HasJournal}
-use Rattle.parted_store.specs.Acting.{stop_after}
+use Rattle.parted_store.specs.Acting.{as_told}
 use Rattle.parted_store.specs.Opening.{CanOpen, RefusesOpen}
 
 one_fewer : (all less was now : ℕ) → less ≡ all - 1 → all ≡ was → now + 1 ≡ was → less ≡ now
@@ -105,17 +110,22 @@ module _ (w : World) (j : JournalPart) (has : HasJournal w j) (new : JournalPart
       count = same_len w.opened xid o later at ∙ has.count ∙ sym count;
     }
 
-    -- it tried a change
-    pub journal_acted : (sub : ℕ) (c : change_type.Change) (answer : Result Acted Fault)
-        → new ≡ record j { stopped = stop_after xid c answer j.stopped } → HasJournal (after_act w xid o sub c answer) new
-    journal_acted sub c answer is = by answer is
-      where
-        by : (a : Result Acted Fault) → new ≡ record j { stopped = stop_after xid c a j.stopped } → HasJournal (after_act w xid o sub c a) new
-        by (Ok IsDone) e = journal_moved _ w.stopped (ap (λ (k : JournalPart). k.line) e) (ap (λ (k : JournalPart). k.open_count) e) (has.stopped ∙ ap (λ (k : JournalPart). k.stopped) (sym e))
-        by (Ok IsSkipped) e = journal_moved _ w.stopped (ap (λ (k : JournalPart). k.line) e) (ap (λ (k : JournalPart). k.open_count) e) (has.stopped ∙ ap (λ (k : JournalPart). k.stopped) (sym e))
-        by (Ok (Held holder)) e = journal_moved _ w.stopped (ap (λ (k : JournalPart). k.line) e) (ap (λ (k : JournalPart). k.open_count) e) (has.stopped ∙ ap (λ (k : JournalPart). k.stopped) (sym e))
-        by (Ok (Clashed cause)) e = journal_moved _ (Some (ByClash xid c cause)) (ap (λ (k : JournalPart). k.line) e) (ap (λ (k : JournalPart). k.open_count) e) (ap (λ (k : JournalPart). k.stopped) (sym e))
-        by (Err fault) e = subst (HasJournal w) (sym e) has
+    -- it tried a change of which nobody told the journal: one that was done or waits, or that was refused
+    journal_acted : (sub : ℕ) (c : change_type.Change) (acted : Acted) → new ≡ j → HasJournal (after_act w xid o sub c (told (Ok acted))) new
+    journal_acted sub c Done is = journal_moved _ w.stopped (ap (λ (k : JournalPart). k.line) is) (ap (λ (k : JournalPart). k.open_count) is) (has.stopped ∙ ap (λ (k : JournalPart). k.stopped) (sym is))
+    journal_acted sub c Skipped is = journal_moved _ w.stopped (ap (λ (k : JournalPart). k.line) is) (ap (λ (k : JournalPart). k.open_count) is) (has.stopped ∙ ap (λ (k : JournalPart). k.stopped) (sym is))
+    journal_acted sub c (Held holder) is = journal_moved _ w.stopped (ap (λ (k : JournalPart). k.line) is) (ap (λ (k : JournalPart). k.open_count) is) (has.stopped ∙ ap (λ (k : JournalPart). k.stopped) (sym is))
+
+    pub journal_tried : (sub : ℕ) (c : change_type.Change) (answer : Result Verdict fault_type.EngineFault) → new ≡ j → HasJournal (after_act w xid o sub c (as_told answer)) new
+    journal_tried sub c (Ok (ActedVerdict acted)) is = journal_acted sub c acted is
+    journal_tried sub c (Ok (Clashes clash)) is = subst (HasJournal w) (sym is) has
+    journal_tried sub c (Err fault) is = subst (HasJournal w) (sym is) has
+
+    -- its change clashed, and stopped the store
+    pub journal_clashed : (sub : ℕ) (c : change_type.Change) (cause : ClashCause) → new ≡ record j { stopped = Some (ByClash xid c cause) }
+        → HasJournal (after_act w xid o sub c (Ok (Clashed cause))) new
+    journal_clashed sub c cause is =
+        journal_moved _ (Some (ByClash xid c cause)) (ap (λ (k : JournalPart). k.line) is) (ap (λ (k : JournalPart). k.open_count) is) (ap (λ (k : JournalPart). k.stopped) (sym is))
 
     gone_there : (q : ℕ) → is_some (get (finite.remove w.opened xid) q) ≡ (if is_xid q xid then false else is_open_in j.line.list q)
     gone_there q =

@@ -4,7 +4,8 @@
 --     IsShare      what a ticket knows of a table in which it has a share, and of one in which it has none
 --     IsSamePart      a part later on: of the same table, with the same keys and tickets
 --     Belongs      the share is one of the part
-use Rattle.std.specs.Prelude.{◌≡◌, ℕ, List, [], Option, Some, None, IsSome, is_some}
+--     Stands      in the part its transaction has done just what the share tells
+use Rattle.std.specs.Prelude.{◌≡◌, ℕ, List, [], Option, Some, None, is_some}
 use Rattle.std.specs.FinMap as finite
 use Rattle.std.specs.FinMap.{get}
 use Rattle.world.specs.World.{Opened, World, work}
@@ -28,11 +29,10 @@ pub record OpenTicket : Type 0 where
   pub shares : Shares
 
 -- The world has this part of a table, to which just the items were told that its transactions did
--- there, and the part's line. A part that is stopped has heard of a stop of the world.
+-- there, and the part's line.
 pub record HasTable (w : World) (p : Part) : Type 0 where
   pub is : HasPart p.number w p.store.world
   pub line : HasLine p.number w p.store.world
-  pub heard : IsSome p.store.world.stopped → IsSome w.stopped
 
 -- A part later on: of the same table, with the same keys and tickets.
 pub record IsSamePart (p q : Part) : Type 0 where
@@ -62,3 +62,8 @@ HasShares t = (table : ℕ) → IsShare t.number (opened_by t.events) table (sha
 -- the share of the part's table, if there is one, is a ticket of the part
 abbrev pub Belongs : Part → Shares → Type 0
 Belongs p shares = (share : Share) → share_of shares p.number ≡ Some share → share.name ≡ p.store.tickets
+
+-- in the part the transaction of the share of its table, if there is one, has done just what the share tells
+abbrev pub Stands : Part → Shares → Type 0
+Stands p shares =
+    (share : Share) → share_of shares p.number ≡ Some share → get p.store.world.opened share.number ≡ Some (opened_by share.list)

@@ -2,10 +2,11 @@
 -- transaction that it waits there no more.
 --     touched_by, nothing_touched      an item that changes no row; where it waits with no change of the table
 --     ticket_touched, items_touched, shares_touched      its ticket
+--     long_rested      as many parts are there
 --     RestsPart, each_rests      one of the parts that are lent, and its share; what follows of each of them
 --     same_rested, end_rested, left_rested, share_kept      the part itself; where its log goes on; other shares; its own
 --     acted_by, stays_by      a change of another table that was tried; where it waits with no change of this one
-use Rattle.std.specs.Prelude.{◌≡◌, ℕ, List, [], ◌∷◌, ◌++◌, Option, Some, None, IsSome, IsSomeAnd, slice_get, Result, Ok, Err, refl}
+use Rattle.std.specs.Prelude.{◌≡◌, ℕ, List, [], ◌∷◌, ◌++◌, Option, Some, None, IsSomeAnd, length, slice_get, Result, Ok, Err, refl}
 use Rattle.std.proofs.Common.{sym, ◌∙◌, ap, subst}
 use Rattle.std.proofs.lemmas.Option.{slice_get_within}
 use Rattle.std.specs.FinMap.{get}
@@ -45,7 +46,6 @@ module _ (t : OpenTicket) (sub : ℕ) (p : Part) (w : World) (has : HasTable w p
   nothing_touched none = record {
     is = touched_beside p.number w p.store.world has.is t.number (opened_by t.events) at sub (no_wants_here t p w has at none);
     line = line_touched;
-    heard = has.heard;
   }
 
   pub touched_by : (share : Option Share) → IsShare t.number (opened_by t.events) p.number share
@@ -53,9 +53,15 @@ module _ (t : OpenTicket) (sub : ℕ) (p : Part) (w : World) (has : HasTable w p
   touched_by None none q new did = subst (HasTable touched) (sym did.0) (nothing_touched none.1)
   touched_by (Some share) number q None did = absurd did
   touched_by (Some share) number q (Some new) did =
-      has_back p t.number share number t.number [] q new did touched has.heard line_touched
+      has_back p t.number share number t.number [] q new did touched line_touched
       (rested_touched p.number w p.store.world has.is t.number (opened_by t.events) (opened_by share.list) at
       (stood_there p t.number share number t.number [] q new did) sub)
+
+-- as many parts are there
+pub long_rested : (xid : ℕ) (answer : Result Acted Fault) (parts new_parts : List Part) (shares new_shares : Shares)
+    → Rests xid answer parts shares new_parts new_shares → length new_parts ≡ length parts
+long_rested xid (Ok acted) parts new_parts shares new_shares rests = rests.long
+long_rested xid (Err fault) parts new_parts shares new_shares rests = ap length rests.0
 
 -- one of the parts, and its share
 abbrev pub RestsPart : ℕ → Result Acted Fault → Part → Option Share → Part → Option Share → Type 0
@@ -98,12 +104,6 @@ module _ (t : OpenTicket) (sub : ℕ) (c : change_type.Change) (p : Part) (not :
   abbrev tried : Acted → World
   tried answer = after_tried w t.number (opened_by t.events) sub c answer
 
-  heard_by : (answer : Acted) → IsSome w.stopped → IsSome (tried answer).stopped
-  heard_by IsDone is = is
-  heard_by IsSkipped is = is
-  heard_by (Held holder) is = is
-  heard_by (Clashed cause) is = refl
-
   line_tried : (answer : Acted) → HasLine p.number (tried answer) p.store.world
   line_tried IsDone = record { start = has.line.start; line = has.line.line }
   line_tried IsSkipped = record { start = has.line.start; line = has.line.line }
@@ -120,7 +120,6 @@ module _ (t : OpenTicket) (sub : ℕ) (c : change_type.Change) (p : Part) (not :
   nothing_tried none answer = record {
     is = tried_elsewhere p.number w p.store.world has.is t.number (opened_by t.events) at sub c answer not (no_wants_here t p w has at none);
     line = line_tried answer;
-    heard = λ is. heard_by answer (has.heard is);
   }
 
   rests_by : (answer : Acted) (share : Option Share) → IsShare t.number (opened_by t.events) p.number share
@@ -128,7 +127,7 @@ module _ (t : OpenTicket) (sub : ℕ) (c : change_type.Change) (p : Part) (not :
   rests_by answer None none q new did = subst (HasTable (tried answer)) (sym did.0) (nothing_tried none.1 answer)
   rests_by answer (Some share) number q None did = absurd did
   rests_by answer (Some share) number q (Some new) did =
-      has_back p t.number share number t.number [] q new did (tried answer) (λ is. heard_by answer (has.heard is)) (line_tried answer)
+      has_back p t.number share number t.number [] q new did (tried answer) (line_tried answer)
       (rested_elsewhere p.number w p.store.world has.is t.number (opened_by t.events) (opened_by share.list) at
       (stood_there p t.number share number t.number [] q new did) sub c not answer)
 

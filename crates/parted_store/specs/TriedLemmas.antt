@@ -7,7 +7,7 @@
 --     none_left, kept_none      no attempt is left; all are
 --     next_part, next_share, next_belongs, stops_here, goes_up      the part that is next; it ends there; it was attempted
 --     stand_behind      whatever is behind the border stands
---     refuses_truncate, all_stand      one of the parts refuses it; nothing was tried
+--     all_stand      nothing was tried
 --     refused_stands, refused_same, waiting_stands, waiting_same, waiting_held, attempted_same      what came of an attempt
 use Rattle.std.specs.Prelude.{◌≡◌, ◌≢◌, ℕ, ◌+◌, Bool, true, false, List, [], ◌∷◌, ◌++◌, Option, Some, None, IsSomeAnd, Result, Ok, Err, OnErr, length, take, slice_get, slice_set, refl}
 use Rattle.std.proofs.Common.{sym, ◌∙◌, ap, subst, arith, inl, inr, length-append}
@@ -31,7 +31,7 @@ use Rattle.table_parts.specs.Several.{IsSameAs, IsAttempted, IsKept, IsLeft, IsR
 use Rattle.parted_store.specs.EachPart.{AreApart, BelongEach}
 use Rattle.parted_store.specs.Lent.{Belongs}
 use Rattle.parted_store.specs.Shares.{Share, Shares, share_of}
-use Rattle.parted_store.specs.Truncating.{Both, EachIs, Zones, Untouched, Attempts, Stands, IsStill, Keeps, IsHeldInOne, RefusesOne, RefusesTruncate, cut_of}
+use Rattle.parted_store.specs.Truncating.{Both, EachIs, Zones, Untouched, Attempts, Stands, IsStill, Keeps, IsHeldInOne, cut_of}
 use Rattle.parted_store.specs.TruncatingLemmas.{the_part, its_state, one_changes, zone_down, zone_up, each_as, nothing_yet}
 
 pub on_err : {T E : Type 0} (r : Result T E) (P : Type 0) → P → OnErr r P
@@ -298,14 +298,6 @@ pub attempted_same : (mark : ℕ) (q r : Part) (a : Attempt) (share new : Option
 attempted_same mark q r a None new none = absurd none
 attempted_same mark q r a (Some s) None none = absurd none
 attempted_same mark q r a (Some s) (Some t) done = done.same
-
--- where one of the parts refuses it
-pub refuses_truncate : (parts : List Part) (fault : EngineFault) → RefusesOne parts fault → RefusesTruncate parts fault
-refuses_truncate parts Stopped one = one
-refuses_truncate parts OutOfMemory one = tt
-refuses_truncate parts AlreadyOpen one = one.3
-refuses_truncate parts TooManyOpen one = one.3
-refuses_truncate parts (Clash clash) one = one.3
 
 -- where nothing was tried, each part stands
 pub all_stand : (waits : Bool) (start : List Part) (all : Shares) → EachIs (Stands waits) start all start all

@@ -7,8 +7,8 @@
 --         transaction has done there what it had, and waits with what it waited with; it is done; the transaction waits with it
 --     cut_of      what the truncate is in a part
 --     CanWait, CanWaitEach      the truncate can wait in a part; in each
---     IsHeldInOne, RefusesOne      another is in the way in one of the parts; one of them refuses
---     RefusesTruncate, HasTruncated      why it is refused; what came of it in all parts
+--     IsHeldInOne      another is in the way in one of the parts
+--     HasTruncated      what came of it in all parts
 use Rattle.std.specs.Prelude.{◌≡◌, ◌≢◌, ◌⊎◌, ℕ, ◌<◌, ◌≤◌, Bool, true, false, List, [], ◌∷◌, Option, Some, None, IsSome, IsSomeAnd, Result, Ok, Err, length, slice_get}
 use Rattle.std.specs.FinMap.{get, insert}
 use Rattle.model.specs.declared.change.Change.{Change}
@@ -17,16 +17,17 @@ use Rattle.model.specs.Footprint.{footprint}
 use Rattle.model.specs.Rows.{Schema}
 use Rattle.model.specs.Survivors.{survivors}
 use Rattle.world.specs.World.{World, own_rows, IsHeldBy}
-use Rattle.live_tables.specs.declared.answers.Acted.{Acted}
 use Rattle.live_tables.specs.declared.answers.Acted.TheVariants.{Done, Skipped, Held}
 use Rattle.live_tables.specs.declared.answers.EngineFault.{EngineFault}
-use Rattle.live_tables.specs.declared.answers.EngineFault.TheVariants.{AlreadyOpen, TooManyOpen, Clash, Stopped, OutOfMemory}
+use Rattle.live_tables.specs.declared.answers.EngineFault.TheVariants.{OutOfMemory as NoMemory}
+use Rattle.live_tables.specs.declared.answers.Verdict.{Verdict}
+use Rattle.live_tables.specs.declared.answers.Verdict.TheVariants.{Acted as ActedVerdict, Clashes}
 use Rattle.world_parts.specs.ByTable.{names_table}
 use Rattle.world_parts.specs.Parts.{wanted_by}
 use Rattle.engine.specs.Events.{opened_by}
 use Rattle.table_parts.specs.Part.{Part}
 use Rattle.table_parts.specs.declared.several.Attempt.{Attempt}
-use Rattle.table_parts.specs.Several.{IsSameAs, IsAttempted, IsKept, RefusesAttempt}
+use Rattle.table_parts.specs.Several.{IsSameAs, IsAttempted, IsKept}
 use Rattle.parted_store.specs.Lent.{HasTable}
 use Rattle.parted_store.specs.Shares.{Share, Shares, share_of}
 
@@ -106,32 +107,20 @@ IsHeldInOne parts all holder =
     × (p.store.world.stopped ≡ None)
     × IsHeldBy p.store.schema p.store.world share.number (footprint p.store.schema (own_rows p.store.schema p.store.world share.number (opened_by share.list)) (cut_of p)) holder
 
--- one of the parts refuses it so
-abbrev pub RefusesOne : List Part → EngineFault → Type 0
-RefusesOne parts fault = (i : ℕ) × (p : Part) × (slice_get parts i ≡ Some p) × RefusesAttempt p fault
-
--- A part in which the truncate can wait: the transaction has a share there, its table is there, and it runs.
+-- A part in which the truncate can wait: the transaction has a share there, and its table is there.
 pub record CanWait (all : Shares) (p : Part) : Type 0 where
   pub share : IsSome (share_of all p.number)
   pub known : p.number < length p.store.schema
-  pub runs : p.store.world.stopped ≡ None
 
 -- so it is of each
 abbrev pub CanWaitEach : List Part → Shares → Type 0
 CanWaitEach parts all = (i : ℕ) (p : Part) → slice_get parts i ≡ Some p → CanWait all p
 
--- Why the truncate was refused: one of the parts is stopped, or memory was refused.
-abbrev pub RefusesTruncate : List Part → EngineFault → Type 0
-RefusesTruncate parts Stopped = (i : ℕ) × (p : Part) × (slice_get parts i ≡ Some p) × IsSome p.store.world.stopped
-RefusesTruncate parts OutOfMemory = Unit {0}
-RefusesTruncate parts AlreadyOpen = ⊥
-RefusesTruncate parts TooManyOpen = ⊥
-RefusesTruncate parts (Clash clash) = ⊥
-
 -- What came of it in all parts: it is done in each; another is in the way in one, and in each the transaction waits with it;
--- it is refused, and each part is left.
-abbrev pub HasTruncated : ℕ → List Part → Shares → Result Acted EngineFault → List Part → Shares → Type 0
-HasTruncated mark start all (Ok Done) parts shares = EachIs (Keeps mark) start all parts shares
-HasTruncated mark start all (Ok (Held holder)) parts shares = IsHeldInOne start all holder × EachIs Waits start all parts shares
-HasTruncated mark start all (Ok Skipped) parts shares = ⊥
-HasTruncated mark start all (Err fault) parts shares = RefusesTruncate start fault × EachIs (Stands true) start all parts shares
+-- memory is refused, and each part is left.
+abbrev pub HasTruncated : ℕ → List Part → Shares → Result Verdict EngineFault → List Part → Shares → Type 0
+HasTruncated mark start all (Ok (ActedVerdict Done)) parts shares = EachIs (Keeps mark) start all parts shares
+HasTruncated mark start all (Ok (ActedVerdict (Held holder))) parts shares = IsHeldInOne start all holder × EachIs Waits start all parts shares
+HasTruncated mark start all (Ok (ActedVerdict Skipped)) parts shares = ⊥
+HasTruncated mark start all (Ok (Clashes clash)) parts shares = ⊥
+HasTruncated mark start all (Err fault) parts shares = (fault ≡ NoMemory) × EachIs (Stands true) start all parts shares

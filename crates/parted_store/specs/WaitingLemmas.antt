@@ -1,6 +1,6 @@
 -- What follows where a transaction waits with a truncate in the part of each of its tables.
 --     cut_there      what the truncate is in the part at a place
---     still_runs, still_there, still_belongs, still_named      a part in which it has done what it had runs still, and has its share
+--     still_there, still_belongs, still_named      a part in which it has done what it had runs still, and has its share
 --     waits_now      it waits there with the truncate
 --     HasWaited, its_part, its_same, its_stands, its_cut, waits_down      the last of the parts where it doesn't wait yet
 --     none_waits, all_wait      it waits nowhere yet; it waits everywhere
@@ -77,13 +77,6 @@ module _ (p q : Part) (same : IsSameAs p q) (all shares : Shares) (n : ℕ) (is 
 
   today : Now
   today = by_share (share_of all p.number) (share_of shares p.number) refl refl can.share is
-
-  pub still_runs : q.store.world.stopped ≡ None
-  still_runs =
-      elim today.world [
-        | inl e ↦ ap (λ (w : World). w.stopped) e ∙ can.runs
-        | inr e ↦ ap (λ (w : World). w.stopped) e ∙ can.runs
-      ]
 
   pub still_there : IsSome (share_of shares q.number)
   still_there = subst (λ (f : Option Share). IsSome f) (sym today.has) refl

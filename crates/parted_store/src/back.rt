@@ -32,6 +32,7 @@ pub fn back_to_in(parts: &mut [Part], ticket: &mut Ticket, sub: Xid)
     requires covers { Covers parts.old ticket.old.shares }
     ensures parts { (i : ℕ) (p : AnyPart) → slice_get parts.old i ≡ Some p → IsSomeAnd (slice_get parts.new i) (IsRolledBack ticket.old sub p) }
     ensures same { (i : ℕ) (p : AnyPart) → slice_get parts.old i ≡ Some p → IsSomeAnd (slice_get parts.new i) (IsSamePart p) }
+    ensures long { length parts.new ≡ length parts.old }
     ensures ends { (i : ℕ) (p : AnyPart) → slice_get parts.old i ≡ Some p → IsSomeAnd (slice_get parts.new i) (λ q. last_commit_end q ≡ last_commit_end p) }
     ensures journal { (w : World) (j : JournalPart) → HasJournal w j → HasTicket w ticket.old → HasJournal (done_with w ticket.old.number (opened_by ticket.old.events) (BackTo sub)) j }
     ensures ticket { (w : World) → HasTicket w ticket.old → HasTicket (done_with w ticket.old.number (opened_by ticket.old.events) (BackTo sub)) ticket.new }

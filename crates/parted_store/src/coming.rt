@@ -1,12 +1,13 @@
 // An open transaction comes to a table.
-ghost use Rattle.std.specs.Prelude.{◌≡◌, ◌≢◌, ℕ, IsSome, IfErr, OnOk, OnErr};
+ghost use Rattle.std.specs.Prelude.{◌≡◌, ◌≢◌, ℕ, None, IsSome, IfErr, OnOk, OnErr};
+ghost use Rattle.std.specs.FinMap.{get};
 ghost use Rattle.world.specs.World.{World};
 ghost use Rattle.live_tables.specs.Answers.{IsNoClash};
 ghost use Rattle.table_parts.specs.Part.{last_commit_end};
-ghost use Rattle.parted_store.specs.Lent.{HasTable, IsSamePart, Belongs};
+ghost use Rattle.parted_store.specs.Lent.{HasTable, IsSamePart, Belongs, Stands};
 ghost use Rattle.parted_store.specs.Shares.{share_of};
 
-use crate::shares::{make_room, put_share};
+use crate::shares::{make_room, put_share, take_share};
 use crate::ticket::Ticket;
 use engine::EngineFault;
 use std::alloc::Global;
@@ -20,6 +21,10 @@ pub fn come_to(alloc: Global, part: &mut Part, ticket: &mut Ticket) -> Result<()
     ensures share { OnOk result (IsSome (share_of ticket.new.shares part.new.number)) }
     ensures belongs { Belongs part.new ticket.new.shares }
     ensures part { (w : World) → HasTable w part.old → HasTable w part.new }
+    ensures first { OnOk result (share_of ticket.old.shares part.old.number ≡ None → get part.old.store.world.opened ticket.old.number ≡ None) }
+    ensures again { OnOk result (IsSome (share_of ticket.old.shares part.old.number)
+        → (part.new ≡ part.old) × (share_of ticket.new.shares part.old.number ≡ share_of ticket.old.shares part.old.number)) }
+    ensures stands { OnOk result (Stands part.new ticket.new.shares) }
     ensures events { ticket.new.events ≡ ticket.old.events }
     ensures xid { ticket.new.number ≡ ticket.old.number }
     ensures others { (other : ℕ) → other ≢ part.old.number → share_of ticket.new.shares other ≡ share_of ticket.old.shares other }
@@ -30,7 +35,9 @@ pub fn come_to(alloc: Global, part: &mut Part, ticket: &mut Ticket) -> Result<()
 {
     let table = part.number();
     make_room(&mut ticket.shares, table)?;
-    if ticket.shares[table].is_some() {
+    if let Some(mut share) = take_share(&mut ticket.shares, table) {
+        part.meet(&mut share);
+        put_share(&mut ticket.shares, table, share);
         return Ok(());
     }
     let share = part.open(alloc, ticket.xid)?;

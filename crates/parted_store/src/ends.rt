@@ -38,6 +38,7 @@ pub fn commit_in(
     requires covers { Covers parts.old ticket.shares }
     ensures parts { (i : ℕ) (p : AnyPart) → slice_get parts.old i ≡ Some p → IsSomeAnd (slice_get parts.new i) (IsCommitted ticket info p) }
     ensures same { (i : ℕ) (p : AnyPart) → slice_get parts.old i ≡ Some p → IsSomeAnd (slice_get parts.new i) (IsSamePart p) }
+    ensures long { length parts.new ≡ length parts.old }
     ensures ends { (i : ℕ) (p : AnyPart) → slice_get parts.old i ≡ Some p → IsSomeAnd (slice_get parts.new i) (λ q. last_commit_end q ≤ info.end) }
     ensures journal { (schema : Schema) (w : World) → HasJournal w journal.old → HasTicket w ticket → HasJournal (committed_with schema w ticket.number (opened_by ticket.events) info) journal.new }
     ensures beside { (schema : Schema) (w : World) (p : AnyPart) → HasTicket w ticket → HasTable w p → IsBeside parts.old p.number
@@ -68,6 +69,7 @@ pub fn abort_in(parts: &mut [Part], journal: &mut Journal, line: &mut Line, tick
     requires covers { Covers parts.old ticket.shares }
     ensures parts { (i : ℕ) (p : AnyPart) → slice_get parts.old i ≡ Some p → IsSomeAnd (slice_get parts.new i) (IsAborted ticket p) }
     ensures same { (i : ℕ) (p : AnyPart) → slice_get parts.old i ≡ Some p → IsSomeAnd (slice_get parts.new i) (IsSamePart p) }
+    ensures long { length parts.new ≡ length parts.old }
     ensures ends { (i : ℕ) (p : AnyPart) → slice_get parts.old i ≡ Some p → IsSomeAnd (slice_get parts.new i) (λ q. last_commit_end q ≡ last_commit_end p) }
     ensures journal { (w : World) → HasJournal w journal.old → HasTicket w ticket → HasJournal (aborted_with w ticket.number) journal.new }
     ensures beside { (w : World) (p : AnyPart) → HasTicket w ticket → HasTable w p → IsBeside parts.old p.number → HasTable (aborted_with w ticket.number) p }

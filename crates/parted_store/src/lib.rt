@@ -18,7 +18,9 @@
 //                 list of which one hand has all
 //   coming        an open transaction comes to a table
 //   acting        a change that is tried in the part of its table
+//   clashing      one that clashes, and stops the store
 //   touching      an item that changes no row
+//   meeting       what a part and a ticket tell of one another
 //   truncating    a truncate of several tables, tried in the part of each
 //   back          a rollback of a subtransaction, part by part
 //   ends          a commit and an abort, part by part
@@ -33,11 +35,13 @@
 // and on `engine` for events.
 mod acting;
 mod back;
+mod clashing;
 mod coming;
 mod ends;
 mod entry;
 mod journal;
 mod marks;
+mod meeting;
 mod shares;
 mod ticket;
 mod told;
@@ -46,10 +50,12 @@ mod truncating;
 
 pub use acting::act_in;
 pub use back::back_to_in;
+pub use clashing::clash_in;
 pub use coming::come_to;
 pub use ends::{abort_in, commit_in};
 pub use entry::Entry;
 pub use journal::{Journal, Line};
+pub use meeting::meet_in;
 pub use ticket::Ticket;
 pub use touching::touch_in;
 pub use truncating::truncate_in;

@@ -2,12 +2,12 @@
 ghost use Rattle.std.specs.Prelude.{◌≡◌, ◌==◌, ◌||◌, ◌<◌, not, is_some, length, unwrap_or, vec_len, vec_capacity, IfOk, OnOk, OnErr, if◌then◌else◌};
 ghost use Rattle.model.specs.declared.item.Item.TheVariants.{BackTo};
 ghost use Rattle.model.specs.Survivors.{after_item};
-ghost use Rattle.live_tables.specs.Answers.{told};
 ghost use Rattle.savepoint.specs.Savepoints.{mark_at, before_mark, latest_sub};
-ghost use Rattle.parted_store.specs.Acting.{is_done};
+ghost use Rattle.parted_store.specs.Acting.{as_told, is_done as told_done};
 ghost use Rattle.parted_store.specs.Ticket.{with_place, places_of};
 
-use engine::{Acted, EngineFault};
+use crate::acting::is_done;
+use engine::{EngineFault, Verdict};
 use model::{Item, OutOfMemory, Xid};
 use savepoint::Savepoints;
 
@@ -61,12 +61,11 @@ pub(crate) fn unset_mark(
     marks: &mut Savepoints<usize>,
     sub: Xid,
     set: bool,
-    answer: &Result<Acted, EngineFault>,
+    answer: &Result<Verdict, EngineFault>,
 )
-    ensures { marks.new ≡ (if not set || is_done (told answer.now) then marks.old else before_mark sub marks.old) }
+    ensures { marks.new ≡ (if not set || told_done (as_told answer.now) then marks.old else before_mark sub marks.old) }
 {
-    let is_done = matches!(answer, Ok(Acted::Done) | Ok(Acted::Skipped));
-    if set && !is_done {
+    if set && !is_done(answer) {
         marks.cut(sub);
     }
 }

@@ -10,6 +10,7 @@ pub(crate) fn take_share(shares: &mut Vec<Option<Share>>, table: TableId) -> Opt
     ensures share { result ≡ share_of shares.old.items table }
     ensures taken { share_of shares.new.items table ≡ None }
     ensures room { IsSome result → table < length shares.new.items }
+    ensures long { length shares.new.items ≡ length shares.old.items }
     ensures others { (other : ℕ) → other ≢ table → share_of shares.new.items other ≡ share_of shares.old.items other }
 {
     if table >= shares.len() {

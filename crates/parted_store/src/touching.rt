@@ -1,5 +1,5 @@
 // A subtransaction is named by an item that changes no row.
-ghost use Rattle.std.specs.Prelude.{◌≡◌, ◌++◌, ◌∷◌, [], ℕ, Some, IsSomeAnd, IfErr, slice_get};
+ghost use Rattle.std.specs.Prelude.{◌≡◌, ◌++◌, ◌∷◌, [], ℕ, Some, IsSomeAnd, IfErr, length, slice_get};
 ghost use Rattle.model.specs.declared.item.Item.TheVariants.{Touch};
 ghost use Rattle.world.specs.World.{World};
 ghost use Rattle.world.specs.Steps.{Touches};
@@ -39,6 +39,7 @@ pub fn touch_in(
         → Touches w ticket.old.number (opened_by ticket.old.events) sub (told_call result) (after_touch w ticket.old.number (opened_by ticket.old.events) sub (told_call result)) }
     ensures parts { (i : ℕ) (p : AnyPart) → slice_get parts.old i ≡ Some p → IsSomeAnd (slice_get parts.new i) (IsTouched ticket.old sub (told_call result) p) }
     ensures same { (i : ℕ) (p : AnyPart) → slice_get parts.old i ≡ Some p → IsSomeAnd (slice_get parts.new i) (IsSamePart p) }
+    ensures long { length parts.new ≡ length parts.old }
     ensures ends { (i : ℕ) (p : AnyPart) → slice_get parts.old i ≡ Some p → IsSomeAnd (slice_get parts.new i) (λ q. last_commit_end q ≡ last_commit_end p) }
     ensures journal { (w : World) → HasJournal w journal.now → HasTicket w ticket.old
         → HasJournal (after_touch w ticket.old.number (opened_by ticket.old.events) sub (told_call result)) journal.now }

@@ -4,47 +4,52 @@ ghost use Rattle.std.specs.FinMap.{get};
 ghost use Rattle.model.specs.declared.change.Change.{Change as AnyChange};
 ghost use Rattle.model.specs.Named.{NamesTables};
 ghost use Rattle.model.specs.Rows.{Schema};
-ghost use Rattle.world.specs.World.{World};
-ghost use Rattle.world.specs.Steps.{Acts, wanting};
-ghost use Rattle.live_tables.specs.Answers.{told, after_act, TellsCause};
+ghost use Rattle.model.specs.declared.cell.Cell.TheVariants.{Whole};
+ghost use Rattle.live_tables.specs.declared.answers.Acted.TheVariants.{Done as WasDone};
+ghost use Rattle.live_tables.specs.declared.answers.Verdict.TheVariants.{Acted as ActedVerdict};
+ghost use Rattle.world.specs.World.{World, IsFree};
+ghost use Rattle.world.specs.Steps.{wanting};
+ghost use Rattle.live_tables.specs.declared.answers.EngineFault.TheVariants.{OutOfMemory as NoMemory};
+ghost use Rattle.live_tables.specs.Answers.{after_act, TellsVerdict};
+ghost use Rattle.live_tables.specs.Tried.{Tries, after_try};
 ghost use Rattle.engine.specs.declared.events.Event.TheVariants.{Wants};
 ghost use Rattle.engine.specs.Events.{opened_by, events_of};
 ghost use Rattle.world_parts.specs.ByTable.{changes_at};
 ghost use Rattle.world_parts.specs.Parts.{wanted_by};
 ghost use Rattle.table_parts.specs.Part.{Part as AnyPart, last_commit_end};
-ghost use Rattle.parted_store.specs.Acting.{IsActed};
+ghost use Rattle.parted_store.specs.Acting.{running, as_told, IsActed};
 ghost use Rattle.parted_store.specs.Back.{KeepsShares};
-ghost use Rattle.table_parts.specs.Several.{IsAttempted, IsKept, IsLeft, IsSameAs, ComesTo, IsRefused, RefusesAttempt};
+ghost use Rattle.table_parts.specs.Several.{IsAttempted, IsKept, IsLeft, IsSameAs, ComesTo, IsRefused};
 ghost use Rattle.parted_store.specs.EachPart.{AreApart, IsBeside, BelongEach};
+ghost use Rattle.parted_store.specs.Journal.{JournalPart};
 ghost use Rattle.parted_store.specs.Lent.{HasTable, HasJournal, HasTicket, IsSamePart, Belongs};
 ghost use Rattle.parted_store.specs.Shares.{Share as AnyShare, Shares as AnyShares, share_of};
-ghost use Rattle.parted_store.specs.Truncating.{CutsHere, HasEach, Both, EachIs, Zones, Attempts, Stands, Keeps, Waits, CanWaitEach, IsHeldInOne, RefusesOne, HasTruncated, cut_of};
+ghost use Rattle.parted_store.specs.Truncating.{CutsHere, HasEach, Both, EachIs, Zones, Attempts, Stands, Keeps, Waits, CanWaitEach, IsHeldInOne, HasTruncated, cut_of};
 
 use crate::acting::{keep, rest_each, tell};
-use crate::journal::Journal;
 use crate::marks::{latest, make_place, unset_mark};
 use crate::shares::{put_share, take_share};
 use crate::ticket::Ticket;
-use engine::{Acted, EngineFault, Ticket as Share};
+use engine::{Acted, EngineFault, Ticket as Share, Verdict};
 use model::{Change, OutOfMemory, Xid};
 use std::alloc::Global;
 use table_parts::{Attempt, Attempted, Part};
 use world_parts::cutting::truncate_of;
 
 /// A subtransaction of an open transaction tries a truncate of several tables, in whose parts the transaction
-/// has shares. Lent are those parts, the journal's, and those of the other tables in which it waits, if it
-/// waits. Each part is told of it under the transaction's latest mark, or in each the transaction waits with it,
-/// where another transaction is in the way in one. In every world that has the parts, the journal's part and
-/// the ticket the call is the step, the world behind it has them, and the parts of other tables stay.
+/// has shares. Lent are those parts, and those of the other tables in which it waits, if it waits; what stopped
+/// the store isn't asked. Each part is told of it under the transaction's latest mark, or in each the transaction
+/// waits with it, where another transaction is in the way in one. In every world that has the parts and the
+/// ticket the call is the step, as though nothing had stopped that world; the world behind it has them, and the
+/// parts of other tables stay.
 pub fn truncate_in(
     alloc: Global,
     parts: &mut [Part],
     others: &mut [Part],
-    journal: &mut Journal,
     ticket: &mut Ticket,
     sub: Xid,
     c: &Change,
-) -> Result<Acted, EngineFault>
+) -> Result<Verdict, EngineFault>
     requires truncate { (tables : List ℕ) × CutsHere c.now tables parts.old }
     requires apart { AreApart parts.old }
     requires belong { BelongEach parts.old ticket.old.shares }
@@ -54,30 +59,30 @@ pub fn truncate_in(
     requires other { (i : ℕ) (p : AnyPart) → slice_get parts.old i ≡ Some p → IsBeside others.old p.number }
     requires belong_others { BelongEach others.old ticket.old.shares }
     requires elsewhere { (table : ℕ) → IsBeside parts.old table → IsBeside others.old table → changes_at table (wanted_by (opened_by ticket.old.events).wants) ≡ [] }
-    ensures acts { (w : World) (schema : Schema) → HasEach w schema parts.old → HasJournal w journal.old → HasTicket w ticket.old
-        → Acts schema w ticket.old.number (opened_by ticket.old.events) sub c.now (told result)
-        (after_act w ticket.old.number (opened_by ticket.old.events) sub c.now (told result)) }
+    ensures tries { (w : World) (schema : Schema) → HasEach w schema parts.old → HasTicket w ticket.old
+        → Tries schema (running w) ticket.old.number (opened_by ticket.old.events) sub c.now result
+        (after_try (running w) ticket.old.number (opened_by ticket.old.events) sub c.now result) }
     ensures parts { (w : World) → HasTicket w ticket.old → (i : ℕ) (p : AnyPart) → slice_get parts.old i ≡ Some p → HasTable w p
-        → IsSomeAnd (slice_get parts.new i) (HasTable (after_act w ticket.old.number (opened_by ticket.old.events) sub c.now (told result))) }
-    ensures journal { (w : World) → HasTicket w ticket.old → HasJournal w journal.old
-        → HasJournal (after_act w ticket.old.number (opened_by ticket.old.events) sub c.now (told result)) journal.new }
-    ensures its_ticket { (w : World) → HasTicket w ticket.old → HasTicket (after_act w ticket.old.number (opened_by ticket.old.events) sub c.now (told result)) ticket.new }
-    ensures others { (i : ℕ) (p : AnyPart) → slice_get others.old i ≡ Some p → IsSomeAnd (slice_get others.new i) (IsActed ticket.old sub c.now (told result) p) }
+        → IsSomeAnd (slice_get parts.new i) (HasTable (after_act w ticket.old.number (opened_by ticket.old.events) sub c.now (as_told result))) }
+    ensures its_ticket { (w : World) → HasTicket w ticket.old → HasTicket (after_act w ticket.old.number (opened_by ticket.old.events) sub c.now (as_told result)) ticket.new }
+    ensures journal { (w : World) (j : JournalPart) → HasTicket w ticket.old → HasJournal w j → HasJournal (after_act w ticket.old.number (opened_by ticket.old.events) sub c.now (as_told result)) j }
+    ensures others { (i : ℕ) (p : AnyPart) → slice_get others.old i ≡ Some p → IsSomeAnd (slice_get others.new i) (IsActed ticket.old sub c.now (as_told result) p) }
     ensures same { (i : ℕ) (p : AnyPart) → slice_get parts.old i ≡ Some p → IsSomeAnd (slice_get parts.new i) (IsSameAs p) }
+    ensures long { length parts.new ≡ length parts.old }
     ensures same_others { (i : ℕ) (p : AnyPart) → slice_get others.old i ≡ Some p → IsSomeAnd (slice_get others.new i) (IsSamePart p) }
+    ensures long_others { length others.new ≡ length others.old }
     ensures ends { (i : ℕ) (p : AnyPart) → slice_get others.old i ≡ Some p → IsSomeAnd (slice_get others.new i) (λ q. last_commit_end q ≡ last_commit_end p) }
     ensures beside { (w : World) (p : AnyPart) → HasTicket w ticket.old → HasTable w p → IsBeside parts.old p.number → IsBeside others.old p.number
-        → HasTable (after_act w ticket.old.number (opened_by ticket.old.events) sub c.now (told result)) p }
-    ensures cause { TellsCause result }
-    ensures ticket { ticket.new.events ≡ ticket.old.events ++ events_of sub c.now (told result) }
+        → HasTable (after_act w ticket.old.number (opened_by ticket.old.events) sub c.now (as_told result)) p }
+    ensures free { result ≡ Ok (ActedVerdict WasDone) → (i : ℕ) (p : AnyPart) → slice_get parts.old i ≡ Some p
+        → IsFree p.store.schema p.store.world ticket.old.number (Whole p.number ∷ []) }
+    ensures cause { TellsVerdict result }
+    ensures fault { IfErr result (λ fault. fault ≡ NoMemory) }
+    ensures ticket { ticket.new.events ≡ ticket.old.events ++ events_of sub c.now (as_told result) }
     ensures xid { ticket.new.number ≡ ticket.old.number }
     ensures shares { KeepsShares ticket.old.shares ticket.new.shares }
     ensures left { (table : ℕ) → IsBeside parts.old table → IsBeside others.old table → share_of ticket.new.shares table ≡ share_of ticket.old.shares table }
-    ensures line { journal.new.line ≡ journal.old.line }
 {
-    if journal.is_stopped() {
-        return Err(ticket.refuse(EngineFault::Stopped));
-    }
     let Ok(change) = c.copy() else {
         return Err(ticket.refuse(EngineFault::OutOfMemory));
     };
@@ -92,7 +97,7 @@ pub fn truncate_in(
     unset_mark(&mut ticket.marks, sub, set, &answer);
     rest_each(others, &mut ticket.shares, ticket.xid, &answer);
     tell(&mut ticket.events, sub, c, &answer);
-    keep(journal, &mut ticket.items, ticket.xid, sub, change, &answer);
+    keep(&mut ticket.items, sub, change, &answer);
     answer
 }
 
@@ -119,7 +124,7 @@ fn attempt_share(
     requires known { part.old.number < length part.old.store.schema }
     ensures ok { IfOk result (λ came. Both (λ share new. ComesTo part.old share mark came part.new new) (share_of shares.old.items part.old.number) (share_of shares.new.items part.old.number)) }
     ensures err { OnErr result (Both (λ share new. IsRefused part.old share part.new new) (share_of shares.old.items part.old.number) (share_of shares.new.items part.old.number)) }
-    ensures fault { IfErr result (RefusesAttempt part.old) }
+    ensures fault { IfErr result (λ fault. fault ≡ NoMemory) }
     ensures others { (other : ℕ) → other ≢ part.old.number → share_of shares.new.items other ≡ share_of shares.old.items other }
 {
     let table = part.number();
@@ -172,7 +177,6 @@ fn wait_share(part: &mut Part, shares: &mut Vec<Option<Share>>, mark: Xid, cut: 
     requires belongs { Belongs part.old shares.old.items }
     requires share { IsSome (share_of shares.old.items part.old.number) }
     requires names { NamesTables (length part.old.store.schema) cut }
-    requires running { part.old.store.world.stopped ≡ None }
     ensures waits { (share : AnyShare) → share_of shares.old.items part.old.number ≡ Some share
         → (get part.old.store.world.opened share.number ≡ Some (opened_by share.list))
         × (part.new.store.world ≡ wanting part.old.store.world share.number (opened_by share.list) mark cut)
@@ -208,7 +212,7 @@ fn try_each(
     ensures all { result ≡ Ok None → length tried.new.items ≡ length parts.old }
     ensures held { (holder : ℕ) → result ≡ Ok (Some holder) → IsHeldInOne parts.old shares.old.items holder }
     ensures err { OnErr result (EachIs (Zones (length tried.new.items) (Attempts mark tried.new.items) (Stands true)) parts.old shares.old.items parts.new shares.new.items) }
-    ensures fault { IfErr result (RefusesOne parts.old) }
+    ensures fault { IfErr result (λ fault. fault ≡ NoMemory) }
 {
     for i in 0..parts.len() {
         match attempt_share(alloc, &mut parts[i], shares, mark)? {
@@ -262,19 +266,6 @@ fn wait_each(parts: &mut [Part], shares: &mut Vec<Option<Share>>, mark: Xid, cut
     }
 }
 
-// Whether one of the parts is stopped.
-fn is_any_stopped(parts: &[Part]) -> bool
-    ensures stopped { result ≡ true → (i : ℕ) × (p : AnyPart) × (slice_get parts.now i ≡ Some p) × IsSome p.store.world.stopped }
-    ensures runs { result ≡ false → (i : ℕ) (p : AnyPart) → slice_get parts.now i ≡ Some p → p.store.world.stopped ≡ None }
-{
-    for part in parts {
-        if part.is_stopped() {
-            return true;
-        }
-    }
-    false
-}
-
 // Each of the parts is truncated, or in each the transaction waits with that, or each is left.
 fn truncate_each(
     alloc: Global,
@@ -282,7 +273,7 @@ fn truncate_each(
     shares: &mut Vec<Option<Share>>,
     mark: Xid,
     cuts: Vec<Change>,
-) -> Result<Acted, EngineFault>
+) -> Result<Verdict, EngineFault>
     requires apart { AreApart parts.old }
     requires belong { BelongEach parts.old shares.old.items }
     requires shares { (i : ℕ) (p : AnyPart) → slice_get parts.old i ≡ Some p → IsSome (share_of shares.old.items p.number) }
@@ -290,19 +281,16 @@ fn truncate_each(
     requires cuts { cuts.items ≡ map cut_of parts.old }
     ensures { HasTruncated mark parts.old shares.old.items result parts.new shares.new.items }
 {
-    if is_any_stopped(parts) {
-        return Err(EngineFault::Stopped);
-    }
     let mut tried = Vec::with_capacity(alloc, parts.len())?;
     match try_each(alloc, parts, shares, mark, &mut tried) {
         Ok(None) => {
             keep_each(parts, shares, tried, mark);
-            Ok(Acted::Done)
+            Ok(Verdict::Acted(Acted::Done))
         }
         Ok(Some(holder)) => {
             take_back_each(parts, shares, tried);
             wait_each(parts, shares, mark, cuts);
-            Ok(Acted::Held(holder))
+            Ok(Verdict::Acted(Acted::Held(holder)))
         }
         Err(fault) => {
             take_back_each(parts, shares, tried);

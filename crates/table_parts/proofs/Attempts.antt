@@ -4,8 +4,8 @@
 --     BackThen, back_then      a rollback to its own mark
 --     left_none, left_waiting      what was attempted is taken back, of a transaction that waited with nothing, or with a change
 --     never_skips, never_clashes      a truncate does neither
---     refused_at_once, refused_act      it is refused before it was tried, or then
---     attempted, refused_then      it is done, or refused, by a part and a ticket that were told to be these
+--     refused_at_once, refused_then      it is refused before it was tried, or then
+--     attempted, held_up, never_else, refused_as_tried      what comes of it, by a part and a ticket that were told to be these
 use Rattle.std.proofs.Common.{◌≡◌, ◌≢◌, ℕ, true, false, List, [], ◌∷◌, ◌++◌, length, Option, Some, None, refl, sym, ap, subst, ◌∙◌, inl, inr}
 use Rattle.std.specs.Prelude.{Result, Ok, Err, OnErr, IsSome, IfSome, if◌then◌else◌}
 use Rattle.std.specs.FinMap.{get, insert}
@@ -24,19 +24,23 @@ use Rattle.savepoint.specs.AdoptedLemmas.{adopted_last}
 use Rattle.savepoint.proofs.Marked.{before-last, before-none}
 use Rattle.world.specs.World.{Opened, World, OpenOnes, own_rows}
 use Rattle.world.specs.Steps as steps
-use Rattle.world.specs.Steps.{Fault, Acted, Acts, IsDone, IsSkipped, Held, Clashed, done_with, wanting}
+use Rattle.world.specs.Steps.{Fault, Acts, IsDone, done_with, wanting}
+use Rattle.world.specs.FineLemmas.{refused_stays}
 use Rattle.world.specs.ListingLemmas.{xid_cases, got_same, got_other, same_by_xid}
 use Rattle.live_tables.specs.Adopting.{adopted_with}
-use Rattle.live_tables.specs.Answers.{cause_of, told_clash, told, TellsCause}
+use Rattle.live_tables.specs.declared.answers.Acted.TheVariants.{Done as DoneAnswer, Skipped as SkippedAnswer, Held as HeldAnswer}
+use Rattle.live_tables.specs.declared.answers.Verdict.{Verdict}
+use Rattle.live_tables.specs.declared.answers.Verdict.TheVariants.{Acted as ActedVerdict, Clashes as ClashVerdict}
+use Rattle.live_tables.specs.Answers.{told_fault}
+use Rattle.live_tables.specs.Tried.{Tries}
 use Rattle.live_tables.specs.declared.answers.EngineFault.{EngineFault}
-use Rattle.live_tables.specs.declared.answers.EngineFault.TheVariants.{AlreadyOpen, TooManyOpen, Clash, Stopped, OutOfMemory}
 use Rattle.engine.specs.declared.events.Event.TheVariants.{Done, Wants, Adopted}
 use Rattle.engine.specs.Engine.{IsOtherwiseSame}
-use Rattle.engine.specs.Events.{opened_by, events_of, refusal_events}
+use Rattle.engine.specs.Events.{opened_by, tried_events, refusal_events}
 use Rattle.engine.specs.EventLemmas.{opened_more, opened_refused}
 use Rattle.table_parts.specs.Part.{Part, last_commit_end}
 use Rattle.table_parts.specs.declared.several.Attempt.{Attempt}
-use Rattle.table_parts.specs.Several.{Share, is_known, FitsOwn, IsSameAs, IsAttempted, IsKept, IsLeft, IsRefused, RefusesAttempt}
+use Rattle.table_parts.specs.Several.{Share, is_known, FitsOwn, IsSameAs, IsAttempted, IsKept, IsLeft, IsWaiting, IsRefused}
 
 -- put in once more at the same number
 inserted_again : (ones : OpenOnes) (xid : ℕ) (o p : Opened) → insert (insert ones xid o) xid p ≡ insert ones xid p
@@ -274,56 +278,78 @@ module _ (p : Part) (share : Share) (q : Part) (new : Share) (stood : get p.stor
       (ap (λ (s : Share). s.name) told) (ap (λ (s : Share). s.number) told) same
 
   -- when it was tried
-  pub refused_act : (fault : EngineFault) → Acts p.store.schema p.store.world share.number (opened_by share.list) own cut (told (Err fault)) q.store.world
-      → TellsCause (Err fault) → new ≡ record share { list = share.list ++ events_of own cut (told (Err fault)) }
-      → IsRefused p share q new × RefusesAttempt p fault
-  refused_act AlreadyOpen acts cause told = absurd acts
-  refused_act TooManyOpen acts cause told = absurd acts
-  refused_act (Clash clash) acts cause told = absurd (by_cause (cause_of clash) cause acts)
-    where
-      by_cause : (found : Option ClashCause) → IsSome found → Acts p.store.schema p.store.world share.number (opened_by share.list) own cut (told_clash found) q.store.world → ⊥
-      by_cause None some acts = let no : false ≡ true = some in cc
-      by_cause (Some cause) some acts =
-          never_clashes p.store.schema (own_rows p.store.schema p.store.world share.number (opened_by share.list)) (p.number ∷ []) cause acts.2
-  refused_act Stopped acts cause told = (refused_by steps.Stopped acts.1 told, acts.0)
-  refused_act OutOfMemory acts cause told = (refused_by steps.OutOfMemory acts.1 told, tt)
+  pub refused_then : (fault : EngineFault) → steps.IsRefused p.store.world (told_fault fault) q.store.world
+      → new ≡ record share { list = share.list ++ refusal_events (told_fault fault) } → IsRefused p share q new
+  refused_then fault refused told = refused_by (told_fault fault) (refused_stays p.store.world q.store.world (told_fault fault) refused) told
 
 -- ---- what came of it, by a part and a ticket that were told to be these
 
-module _ (p : Part) (share : Share) (p1 : Part) (share1 : Share) (cut : change_type.Change) (part_is : p1 ≡ p) (ticket_is : share1 ≡ share) (cut_is : cut ≡ Wipe (p.number ∷ []))
-    (stood : get p.store.world.opened share.number ≡ Some (opened_by share.list)) (own : ℕ) (answer : Result Acted Fault) (q : Part) (new : Share)
-    (tried : Acts p1.store.schema p1.store.world share1.number (opened_by share1.list) own cut answer q.store.world)
-    (listed : new ≡ record share1 { list = share1.list ++ events_of own cut answer })
-    (number : q.number ≡ p1.number) (store : IsOtherwiseSame p1.store q.store) (ends : last_commit_end q ≡ last_commit_end p1) where
-  acts : Acts p.store.schema p.store.world share.number (opened_by share.list) own (Wipe (p.number ∷ [])) answer q.store.world
-  acts =
-      subst (λ (u : Part). Acts u.store.schema u.store.world share.number (opened_by share.list) own (Wipe (p.number ∷ [])) answer q.store.world) part_is
-      (subst (λ (s : Share). Acts p1.store.schema p1.store.world s.number (opened_by s.list) own (Wipe (p.number ∷ [])) answer q.store.world) ticket_is
-      (subst (λ (d : change_type.Change). Acts p1.store.schema p1.store.world share1.number (opened_by share1.list) own d answer q.store.world) cut_is tried))
+-- what a truncate never comes to
+abbrev pub IsElse : Verdict → Type 0
+IsElse (ActedVerdict DoneAnswer) = ⊥
+IsElse (ActedVerdict SkippedAnswer) = Unit {0}
+IsElse (ActedVerdict (HeldAnswer holder)) = ⊥
+IsElse (ClashVerdict clash) = Unit {0}
 
-  told_then : new ≡ record share { list = share.list ++ events_of own (Wipe (p.number ∷ [])) answer }
-  told_then = listed ∙ (λ i. record (ticket_is i) { list = (ticket_is i).list ++ events_of own (cut_is i) answer })
+module _ (p : Part) (share : Share) (p1 : Part) (share1 : Share) (cut : change_type.Change) (part_is : p1 ≡ p) (ticket_is : share1 ≡ share) (cut_is : cut ≡ Wipe (p.number ∷ []))
+    (stood : get p.store.world.opened share.number ≡ Some (opened_by share.list)) (own : ℕ) (answer : Result Verdict EngineFault) (q : Part) (new : Share)
+    (tried : Tries p1.store.schema p1.store.world share1.number (opened_by share1.list) own cut answer q.store.world)
+    (listed : new ≡ record share1 { list = share1.list ++ tried_events own cut answer })
+    (number : q.number ≡ p1.number) (store : IsOtherwiseSame p1.store q.store) (ends : last_commit_end q ≡ last_commit_end p1) where
+  tries : Tries p.store.schema p.store.world share.number (opened_by share.list) own (Wipe (p.number ∷ [])) answer q.store.world
+  tries =
+      subst (λ (u : Part). Tries u.store.schema u.store.world share.number (opened_by share.list) own (Wipe (p.number ∷ [])) answer q.store.world) part_is
+      (subst (λ (s : Share). Tries p1.store.schema p1.store.world s.number (opened_by s.list) own (Wipe (p.number ∷ [])) answer q.store.world) ticket_is
+      (subst (λ (d : change_type.Change). Tries p1.store.schema p1.store.world share1.number (opened_by share1.list) own d answer q.store.world) cut_is tried))
+
+  abbrev TriesAs : Result Verdict EngineFault → Type 0
+  TriesAs came = Tries p.store.schema p.store.world share.number (opened_by share.list) own (Wipe (p.number ∷ [])) came q.store.world
+
+  tries_as : (came : Result Verdict EngineFault) → answer ≡ came → TriesAs came
+  tries_as came is = subst TriesAs is tries
+
+  told_as : (came : Result Verdict EngineFault) → answer ≡ came → new ≡ record share { list = share.list ++ tried_events own (Wipe (p.number ∷ [])) came }
+  told_as came is = listed ∙ (λ i. record (ticket_is i) { list = (ticket_is i).list ++ tried_events own (cut_is i) (is i) })
 
   same_then : IsSameAs p q
   same_then = subst (λ (u : Part). IsSameAs u q) part_is (same_after p1 p1 q (same_itself p1) number store ends)
 
   -- it is done
-  pub attempted : answer ≡ Ok IsDone → (mark : ℕ) (waited : Option (ℕ × change_type.Change)) → FitsOwn share mark own → waited ≡ (opened_by share.list).wants
+  pub attempted : answer ≡ Ok (ActedVerdict DoneAnswer) → (mark : ℕ) (waited : Option (ℕ × change_type.Change)) → FitsOwn share mark own → waited ≡ (opened_by share.list).wants
       → IfSome waited (λ (w : ℕ × change_type.Change). NamesTables (length p.store.schema) w.1)
       → IsAttempted p share mark (Wipe (p.number ∷ [])) (record { own = own; waited = waited }) q new
-  attempted done mark waited fits wants named = record {
+  attempted is mark waited fits wants named = record {
     stood = stood;
-    acts = subst (λ (r : Result Acted Fault). Acts p.store.schema p.store.world share.number (opened_by share.list) own (Wipe (p.number ∷ [])) r q.store.world) done acts;
-    share_is = told_then ∙ ap (λ (r : Result Acted Fault). record share { list = share.list ++ events_of own (Wipe (p.number ∷ [])) r }) done;
+    acts = tries_as (Ok (ActedVerdict DoneAnswer)) is;
+    share_is = told_as (Ok (ActedVerdict DoneAnswer)) is;
     own = fits;
     waited = wants;
     named = named;
     same = same_then;
   }
 
+  -- another transaction is in its way
+  pub held_up : (holder : ℕ) → answer ≡ Ok (ActedVerdict (HeldAnswer holder)) → IsWaiting p share holder q new
+  held_up holder is = record {
+    own = own;
+    stood = stood;
+    acts = tries_as (Ok (ActedVerdict (HeldAnswer holder))) is;
+    share_is = told_as (Ok (ActedVerdict (HeldAnswer holder))) is;
+    same = same_then;
+  }
+
+  -- it is neither skipped nor clashes
+  pub never_else : (verdict : Verdict) → answer ≡ Ok verdict → IsElse verdict → ⊥
+  never_else (ActedVerdict DoneAnswer) is other = other
+  never_else (ActedVerdict SkippedAnswer) is other =
+      never_skips p.store.schema (own_rows p.store.schema p.store.world share.number (opened_by share.list)) (p.number ∷ [])
+      (tries_as (Ok (ActedVerdict SkippedAnswer)) is).2
+  never_else (ActedVerdict (HeldAnswer holder)) is other = other
+  never_else (ClashVerdict clash) is other =
+      let found = (tries_as (Ok (ClashVerdict clash)) is).1 in
+      never_clashes p.store.schema (own_rows p.store.schema p.store.world share.number (opened_by share.list)) (p.number ∷ []) found.0 found.2.1
+
   -- it is refused
-  pub refused_then : (fault : EngineFault) → answer ≡ told (Err fault) → TellsCause (Err fault) → IsRefused p share q new × RefusesAttempt p fault
-  refused_then fault refused cause =
-      refused_act p share q new stood same_then own fault
-      (subst (λ (r : Result Acted Fault). Acts p.store.schema p.store.world share.number (opened_by share.list) own (Wipe (p.number ∷ [])) r q.store.world) refused acts) cause
-      (told_then ∙ ap (λ (r : Result Acted Fault). record share { list = share.list ++ events_of own (Wipe (p.number ∷ [])) r }) refused)
+  pub refused_as_tried : (fault : EngineFault) → answer ≡ Err fault → IsRefused p share q new
+  refused_as_tried fault is =
+      refused_then p share q new stood same_then own fault (tries_as (Err fault) is) (told_as (Err fault) is)

@@ -1,3 +1,4 @@
 mod Lifting
+mod Running
 mod Until
 pub mod Attempts

@@ -1,9 +1,10 @@
 -- What a call of a part's store is in every world of which it is a part.
 --     opened_lifts, tried_lifts      a transaction opens; a change was tried
+--     try_lifts, try_keeps      the same, where a clash alters nothing; start and commits stay
 --     back_lifts, commit_lifts, abort_lifts      a rollback; the two ends
 --     commit_line      a commit in the lines of both
 --     read_lifts, rows_lift, live_lifts      a committed row; all of them; a row with the work of all open transactions
-use Rattle.std.proofs.Common.{◌≡◌, ℕ, sym, ap, subst, ◌∙◌}
+use Rattle.std.proofs.Common.{◌≡◌, ℕ, refl, sym, ap, subst, ◌∙◌}
 use Rattle.std.specs.Prelude.{Vec, IfOk, Option, Some, Result, Ok, Err}
 use Rattle.std.specs.FinMap.{get}
 use Rattle.std.specs.Global.{Global}
@@ -13,19 +14,24 @@ use Rattle.model.specs.declared.row.Row.{Row}
 use Rattle.model.specs.declared.item.CommitInfo.{CommitInfo}
 use Rattle.model.specs.Rows.{Rows, Schema}
 use Rattle.model.specs.TableRows.{rows_of_table}
-use Rattle.world.specs.World.{Opened, World}
+use Rattle.world.specs.World.{Opened, ByClash, World}
 use Rattle.world.specs.Steps as steps
-use Rattle.world.specs.Steps.{Fault, AlreadyOpen, TooManyOpen, Stopped, OutOfMemory, Acted, IsDone, IsSkipped, Held, Clashed, Acts, ReadsLive}
+use Rattle.world.specs.Steps.{Fault, AlreadyOpen, TooManyOpen, Stopped, OutOfMemory, Acted, IsDone, IsSkipped, Held, Clashed, Acts, ReadsLive, wanting}
+use Rattle.live_tables.specs.declared.answers.EngineFault.{EngineFault}
+use Rattle.live_tables.specs.declared.answers.Verdict.{Verdict}
+use Rattle.live_tables.specs.declared.answers.Verdict.TheVariants.{Acted as ActedVerdict, Clashes}
+use Rattle.live_tables.specs.Answers.{told, told_fault}
+use Rattle.live_tables.specs.Tried as tried
 use Rattle.world_parts.specs.ByTable.{IsIn}
 use Rattle.world_parts.specs.ByTableLemmas.{get_rows_here, walked_at}
-use Rattle.world_parts.specs.Lines.{HasLine}
-use Rattle.world_parts.specs.LineLemmas.{line_here}
+use Rattle.world_parts.specs.Lines.{HasLine, KeepsLine}
+use Rattle.world_parts.specs.LineLemmas.{line_here, acts_keeps}
 use Rattle.world_parts.specs.LiveLemmas.{live_here}
 use Rattle.world_parts.specs.Parts.{after_tried}
 use Rattle.world_parts.specs.Marks.{HasPart}
 use Rattle.world_parts.specs.PartLemmas.{acts_lifts}
 use Rattle.world_parts.specs.ToldLemmas.{tried_here, back_told, ends_here, opens_here, aborts_here}
-use Rattle.table_parts.specs.Part.{Tries, Opens, GoesBack, Commits, CommitsLine, Aborts}
+use Rattle.table_parts.specs.Part.{Tries, TriesAlone, Opens, GoesBack, Commits, CommitsLine, Aborts}
 
 -- what was altered into the same is the same part
 same_part : (table : ℕ) (w part new : World) → new ≡ part → HasPart table w part → HasPart table w new
@@ -62,6 +68,22 @@ module _ (schema : Schema) (table : ℕ) (part new : World) (xid : ℕ) (p : Ope
         (tried_here table w part has xid o p at here sub c c answer inside),
   )
   tried_lifts mark c inside (Err fault) acts = λ w has. same_part table w part new (refused_same fault acts) has
+
+  pub try_lifts : (mark : ℕ) (c : change_type.Change) → IsIn table c → (answer : Result Verdict EngineFault) → tried.Tries schema part xid p mark c answer new
+      → TriesAlone schema table part xid mark c answer new
+  try_lifts mark c inside (Ok (ActedVerdict acted)) tries = tried_lifts mark c inside (told (Ok acted)) tries
+  try_lifts mark c inside (Ok (Clashes clash)) tries = λ w o has at runs.
+      let found = tries.1 in
+      let acts =
+      acts_lifts schema table w part has.0 xid o p at here c inside runs mark mark (Clashed found.0)
+      (record (wanting part xid p mark c) { stopped = Some (ByClash xid c found.0) }) (tries.0, found.2.0, found.2.1, refl) in
+      ((found.0, found.1, (acts.1, acts.2)), same_part table w part new tries.2 has)
+  try_lifts mark c inside (Err fault) tries = λ w has. same_part table w part new (refused_same (told_fault fault) tries) has
+
+  pub try_keeps : (mark : ℕ) (c : change_type.Change) (answer : Result Verdict EngineFault) → tried.Tries schema part xid p mark c answer new → KeepsLine part new
+  try_keeps mark c (Ok (ActedVerdict acted)) tries = acts_keeps part new xid p mark schema c (told (Ok acted)) tries
+  try_keeps mark c (Ok (Clashes clash)) tries = subst (KeepsLine part) (sym tries.2) (record { start = refl; line = refl })
+  try_keeps mark c (Err fault) tries = acts_keeps part new xid p mark schema c (Err (told_fault fault)) tries
 
   pub back_lifts : (mark : ℕ) → steps.GoesBack part xid p mark new → GoesBack table part xid mark new
   back_lifts mark goes w o sub has at cuts = subst (HasPart table _) (sym goes) (back_told table w part has xid o p at here sub mark cuts)

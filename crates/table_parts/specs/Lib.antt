@@ -1,3 +1,4 @@
 pub mod Part
 pub mod PartCode
+pub mod Kept
 pub mod Several

@@ -1,7 +1,7 @@
 -- The part of a table as its callers see it, and what its calls come to in every world of which it is a part.
 --     Part      its table, and a store of its own
 --     last_commit_end      where the log goes on behind its last commit
---     Tries      a change was tried
+--     Tries, TriesAlone      a change was tried; where a clash alters nothing
 --     Opens, GoesBack, Commits, Aborts      a transaction opens; is rolled back; ends
 --     CommitsLine      its commit comes in the line of the world and in that of the part
 use Rattle.std.specs.Prelude.{◌≡◌, ℕ, Some, None, Result, Ok, Err}
@@ -17,6 +17,11 @@ use Rattle.world.specs.Steps.{Acted, Acts, Fault, done_with, committed_with, abo
 use Rattle.world_parts.specs.Lines.{HasLine}
 use Rattle.world_parts.specs.Parts.{after_tried}
 use Rattle.world_parts.specs.Marks.{mark_for, HasPart, CutsTo}
+use Rattle.live_tables.specs.declared.answers.EngineFault.{EngineFault}
+use Rattle.live_tables.specs.declared.answers.Verdict.{Verdict}
+use Rattle.live_tables.specs.declared.answers.Verdict.TheVariants.{Acted as ActedVerdict, Clashes}
+use Rattle.live_tables.specs.Answers.{told}
+use Rattle.live_tables.specs.Tried.{HasClash}
 use Rattle.engine.specs.Engine.{Engine}
 use Rattle.engine.specs.Events.{ends_in}
 
@@ -36,6 +41,14 @@ Tries schema table part xid mark c (Ok answer) new =
     (w : World) (o : Opened) (sub : ℕ) → HasPart table w part → get w.opened xid ≡ Some o → w.stopped ≡ None → mark ≡ mark_for xid sub (survivors xid o.items)
     → Acts schema w xid o sub c (Ok answer) (after_tried w xid o sub c answer) × HasPart table (after_tried w xid o sub c answer) new
 Tries schema table part xid mark c (Err fault) new = (w : World) → HasPart table w part → HasPart table w new
+
+-- The same, where a change that clashes alters nothing.
+abbrev pub TriesAlone : Schema → ℕ → World → ℕ → ℕ → change_type.Change → Result Verdict EngineFault → World → Type 0
+TriesAlone schema table part xid mark c (Ok (ActedVerdict acted)) new = Tries schema table part xid mark c (told (Ok acted)) new
+TriesAlone schema table part xid mark c (Ok (Clashes clash)) new =
+    (w : World) (o : Opened) → HasPart table w part → get w.opened xid ≡ Some o → w.stopped ≡ None
+    → HasClash schema w xid o c clash × HasPart table w new
+TriesAlone schema table part xid mark c (Err fault) new = (w : World) → HasPart table w part → HasPart table w new
 
 -- a transaction opens in the part: nothing is new in the world
 abbrev pub Opens : ℕ → World → World → Type 0

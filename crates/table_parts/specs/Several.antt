@@ -4,8 +4,8 @@
 --     IsAttempted      the change was done under such a mark, and what the transaction waited with before
 --     IsKept      it is done under the mark of the ticket
 --     IsLeft      the transaction has done what it had, and waits with what it waited with
---     IsRefused, IsWaiting, ComesTo, RefusesAttempt      what comes of an attempt
-use Rattle.std.specs.Prelude.{◌≡◌, ◌≢◌, ◌⊎◌, ℕ, Bool, true, false, [], ◌∷◌, ◌++◌, length, Some, None, Ok, IsSome, IfSome}
+--     IsRefused, IsWaiting, ComesTo      what comes of an attempt
+use Rattle.std.specs.Prelude.{◌≡◌, ◌≢◌, ◌⊎◌, ℕ, Bool, true, false, [], ◌∷◌, ◌++◌, length, Some, None, Ok, IfSome}
 use Rattle.std.specs.FinMap.{get, insert}
 use Rattle.std.specs.List.{list_any}
 use Rattle.model.specs.declared.change.Change as change_type
@@ -15,8 +15,6 @@ use Rattle.model.specs.Named.{NamesTables}
 use Rattle.model.specs.Survivors.{is_of, survivors}
 use Rattle.tokens.specs.Lists.{OpenList}
 use Rattle.world.specs.Steps.{Acts, IsDone, Held}
-use Rattle.live_tables.specs.declared.answers.EngineFault.{EngineFault}
-use Rattle.live_tables.specs.declared.answers.EngineFault.TheVariants.{AlreadyOpen, TooManyOpen, Clash, Stopped, OutOfMemory}
 use Rattle.engine.specs.declared.events.Event.{Event}
 use Rattle.engine.specs.declared.events.Event.TheVariants.{Done, Wants}
 use Rattle.engine.specs.Engine.{IsOtherwiseSame}
@@ -92,11 +90,3 @@ pub record IsWaiting (p : Part) (share : Share) (holder : ℕ) (q : Part) (new :
 abbrev pub ComesTo : Part → Share → ℕ → Attempted → Part → Share → Type 0
 ComesTo p share mark (WasDone a) q new = IsAttempted p share mark (Wipe (p.number ∷ [])) a q new
 ComesTo p share mark (WasHeld holder) q new = IsWaiting p share holder q new
-
--- why it was refused: nothing clashes with it
-abbrev pub RefusesAttempt : Part → EngineFault → Type 0
-RefusesAttempt p Stopped = IsSome p.store.world.stopped
-RefusesAttempt p OutOfMemory = Unit {0}
-RefusesAttempt p AlreadyOpen = ⊥
-RefusesAttempt p TooManyOpen = ⊥
-RefusesAttempt p (Clash clash) = ⊥

@@ -9,24 +9,26 @@ ghost use Rattle.world.specs.World.{World, starting};
 ghost use Rattle.world.specs.Steps as steps;
 ghost use Rattle.world.specs.Steps.{ReadsCommitted, ReadsLive};
 ghost use Rattle.live_tables.specs.declared.answers.EngineFault.TheVariants.{OutOfMemory as NoMemory};
-ghost use Rattle.live_tables.specs.Answers.{told, told_call, TellsCause, IsNoClash};
+ghost use Rattle.live_tables.specs.Answers.{told_call, TellsVerdict, IsNoClash};
+ghost use Rattle.live_tables.specs.Tried as tried;
+ghost use Rattle.live_tables.specs.Tried.{after_try};
 ghost use Rattle.engine.specs.declared.events.Event.TheVariants.{Done};
 ghost use Rattle.engine.specs.Engine.{IsOtherwiseSame};
-ghost use Rattle.engine.specs.Events.{opened_by, events_of};
+ghost use Rattle.engine.specs.Events.{opened_by, tried_events};
 ghost use Rattle.world_parts.specs.ByTable.{IsIn};
 ghost use Rattle.world_parts.specs.Lines.{HasLine, KeepsLine, rows_until};
 ghost use Rattle.world_parts.specs.Marks.{HasPart};
-ghost use Rattle.table_parts.specs.Part.{last_commit_end, Tries, Opens, GoesBack, Commits, CommitsLine, Aborts};
+ghost use Rattle.table_parts.specs.Part.{last_commit_end, TriesAlone, Opens, GoesBack, Commits, CommitsLine, Aborts};
 
 use crate::entries::count_until;
-use engine::{Acted, EngineFault, Line, Store, Ticket};
+use engine::{EngineFault, Line, Store, Ticket, Verdict};
 use indexes::Tables;
 use model::{Change, CommitInfo, Key, Lsn, Row, TableId, Xid};
 use std::alloc::Global;
 use std::marker::Model;
 
 /// The part of a table: its committed rows, and what open transactions did in it. A clause sees the
-/// number of the table, and the part as a store.
+/// number of the table, and the part as a store, which nothing stops.
 #[derive(Debug, Drop)]
 pub struct Part {
     number: TableId,
@@ -35,7 +37,6 @@ pub struct Part {
 }
 
 impl Model for Part {
-    ghost use Rattle.std.specs.Prelude.{◌≡◌};
     ghost use Rattle.table_parts.specs.Part.{Part as AnyPart};
     ghost use Rattle.table_parts.specs.PartCode.{part_code};
 
@@ -45,7 +46,9 @@ impl Model for Part {
 
     ghost view = { λ p. record { number = p.number; store = p.store } };
 
-    ghost invariant = { λ p. p.line ≡ p.store.line };
+    ghost use Rattle.table_parts.specs.Kept.{IsPart};
+
+    ghost invariant = { IsPart };
 }
 
 impl Part {
@@ -87,28 +90,41 @@ impl Part {
         self.store.open(alloc, &mut self.line, xid)
     }
 
-    /// A transaction tries a change of this table alone, under its latest mark.
-    pub fn act(
+    /// Learns by its ticket what an open transaction did in the part. Nothing changes, and it takes no memory.
+    pub fn meet(&mut self, t: &mut Ticket)
+        requires { t.old.name ≡ self.old.store.tickets }
+        ensures stood { finite.get self.old.store.world.opened t.old.number ≡ Some (opened_by t.old.list) }
+        ensures ticket { t.new ≡ t.old }
+        ensures same { self.new ≡ self.old }
+    {
+        let _ = self.store.wants(t);
+    }
+
+    /// A transaction tries a change of this table alone, under its latest mark. A change that clashes alters
+    /// nothing.
+    pub fn try_change(
         &mut self,
         alloc: Global,
         t: &mut Ticket,
         mark: Xid,
         c: &Change,
-    ) -> Result<Acted, EngineFault>
+    ) -> Result<Verdict, EngineFault>
         requires belongs { t.old.name ≡ self.old.store.tickets }
         requires names { NamesTables (length self.old.store.schema) c.now }
         requires its { IsIn self.old.number c.now }
         ensures stood { finite.get self.old.store.world.opened t.old.number ≡ Some (opened_by t.old.list) }
-        ensures in_part { steps.Acts self.old.store.schema self.old.store.world t.old.number (opened_by t.old.list) mark c.now (told result) self.new.store.world }
-        ensures cause { TellsCause result }
-        ensures tries { Tries self.old.store.schema self.old.number self.old.store.world t.old.number mark c.now (told result) self.new.store.world }
+        ensures in_part { tried.Tries self.old.store.schema self.old.store.world t.old.number (opened_by t.old.list) mark c.now result self.new.store.world }
+        ensures world { self.new.store.world ≡ after_try self.old.store.world t.old.number (opened_by t.old.list) mark c.now result }
+        ensures cause { TellsVerdict result }
+        ensures fault { IfErr result (λ fault. fault ≡ NoMemory) }
+        ensures tries { TriesAlone self.old.store.schema self.old.number self.old.store.world t.old.number mark c.now result self.new.store.world }
         ensures line { KeepsLine self.old.store.world self.new.store.world }
-        ensures ticket { t.new ≡ record t.old { list = t.old.list ++ events_of mark c.now (told result) } }
+        ensures ticket { t.new ≡ record t.old { list = t.old.list ++ tried_events mark c.now result } }
         ensures same { IsOtherwiseSame self.old.store self.new.store }
         ensures number { self.new.number ≡ self.old.number }
         ensures end { last_commit_end self.new ≡ last_commit_end self.old }
     {
-        self.store.act(alloc, t, mark, c)
+        self.store.try_change(alloc, t, mark, c)
     }
 
     /// A subtransaction is rolled back, to the first mark of the table that it drops. It takes no memory.

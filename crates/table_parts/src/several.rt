@@ -1,5 +1,5 @@
 // What the part of a table is asked where a change is one of several tables.
-ghost use Rattle.std.specs.Prelude.{◌≡◌, ◌≢◌, ◌<◌, ◌++◌, ◌∷◌, [], ℕ, Some, None, IfOk, IfErr, IfSome, OnErr, is_some, length};
+ghost use Rattle.std.specs.Prelude.{◌≡◌, ◌≢◌, ◌<◌, ◌++◌, ◌∷◌, [], ℕ, Some, None, IfOk, IfErr, IfSome, OnErr, length};
 ghost use Rattle.std.specs.FinMap as finite;
 ghost use Rattle.std.specs.List.{list_any};
 ghost use Rattle.model.specs.declared.change.Change.{Change as AnyChange};
@@ -7,15 +7,16 @@ ghost use Rattle.model.specs.Named.{NamesTables};
 ghost use Rattle.model.specs.Survivors.{is_of, survivors};
 ghost use Rattle.savepoint.specs.Adopted.{CanAdopt};
 ghost use Rattle.world.specs.Steps.{wanting};
+ghost use Rattle.live_tables.specs.declared.answers.EngineFault.TheVariants.{OutOfMemory as NoMemory};
 ghost use Rattle.live_tables.specs.Adopting.{adopted_with};
 ghost use Rattle.engine.specs.declared.events.Event.TheVariants.{Wants, Adopted};
 ghost use Rattle.engine.specs.Engine.{IsOtherwiseSame};
 ghost use Rattle.engine.specs.Events.{opened_by};
 ghost use Rattle.table_parts.specs.Part.{Part as AnyPart, last_commit_end};
-ghost use Rattle.table_parts.specs.Several.{Share, FitsOwn, IsSameAs, IsAttempted, IsKept, IsLeft, IsRefused, ComesTo, RefusesAttempt};
+ghost use Rattle.table_parts.specs.Several.{Share, FitsOwn, IsSameAs, IsAttempted, IsKept, IsLeft, IsRefused, ComesTo};
 
 use crate::part::Part;
-use engine::{Acted, EngineFault, Ticket};
+use engine::{Acted, EngineFault, Ticket, Verdict};
 use model::{Change, OutOfMemory, Xid};
 use std::alloc::Global;
 use world_parts::cutting::truncate_of;
@@ -50,17 +51,17 @@ impl Part {
         requires known { self.old.number < length self.old.store.schema }
         ensures ok { IfOk result (λ came. ComesTo self.old t.old mark came self.new t.new) }
         ensures err { OnErr result (IsRefused self.old t.old self.new t.new) }
-        ensures fault { IfErr result (RefusesAttempt self.old) }
+        ensures fault { IfErr result (λ fault. fault ≡ NoMemory) }
     {
         let waited = self.wanted(t)?;
         let Some(own) = self.own_mark(t, mark) else {
             return Err(EngineFault::OutOfMemory);
         };
         let cut = truncate_of(alloc, self.number())?;
-        match self.act(alloc, t, own, &cut) {
-            Ok(Acted::Done) => Ok(Attempted::Done(Attempt { own, waited })),
-            Ok(Acted::Held(holder)) => Ok(Attempted::Held(holder)),
-            Ok(Acted::Skipped) => unreachable!(),
+        match self.try_change(alloc, t, own, &cut) {
+            Ok(Verdict::Acted(Acted::Done)) => Ok(Attempted::Done(Attempt { own, waited })),
+            Ok(Verdict::Acted(Acted::Held(holder))) => Ok(Attempted::Held(holder)),
+            Ok(Verdict::Acted(Acted::Skipped)) | Ok(Verdict::Clashes(_)) => unreachable!(),
             Err(fault) => Err(fault),
         }
     }
@@ -113,13 +114,6 @@ impl Part {
         }
     }
 
-    /// Whether something stopped the part. It takes no memory.
-    pub fn is_stopped(&self) -> bool
-        ensures { result ≡ is_some self.now.store.world.stopped }
-    {
-        self.store.stop().is_some()
-    }
-
     /// The last item of an open transaction, a change and the only one of its mark, comes under another
     /// mark of the table, or the top transaction. It takes no memory.
     pub fn adopt(&mut self, t: &mut Ticket, own: Xid, mark: Xid)
@@ -135,11 +129,10 @@ impl Part {
         self.store.adopt(t, own, mark);
     }
 
-    /// An open transaction waits with a change, in a part that isn't stopped. It takes no memory.
+    /// An open transaction waits with a change. It takes no memory.
     pub fn wait_with(&mut self, t: &mut Ticket, mark: Xid, change: Change)
         requires belongs { t.old.name ≡ self.old.store.tickets }
         requires names { NamesTables (length self.old.store.schema) change }
-        requires running { self.old.store.world.stopped ≡ None }
         ensures stood { finite.get self.old.store.world.opened t.old.number ≡ Some (opened_by t.old.list) }
         ensures in_part { self.new.store.world ≡ wanting self.old.store.world t.old.number (opened_by t.old.list) mark change }
         ensures ticket { t.new ≡ record t.old { list = t.old.list ++ Wants mark change ∷ [] } }

@@ -1,11 +1,13 @@
-use Rattle.std.proofs.Common.{◌≡◌, ◌≢◌, ◌++◌, ◌∙◌, ℕ, List, Some, None, sym, ap, subst}
+use Rattle.std.proofs.Common.{◌≡◌, ◌≢◌, ◌++◌, ◌∙◌, ℕ, List, Some, None, refl, sym, ap, subst}
 use Rattle.std.specs.Prelude.{Result, IsSomeAnd, is_some, length, slice_get, not, ◌==◌, ◌||◌, unwrap_or, if◌then◌else◌}
 use Rattle.std.specs.FinMap.{get}
+use Rattle.std.proofs.lemmas.Option.{same_Some}
 use Rattle.model.specs.declared.change.Change.{Change}
 use Rattle.model.specs.Survivors.{survivors}
 use Rattle.world.specs.World.{Opened, World}
-use Rattle.world.specs.Steps.{Fault, Acted, Acts}
-use Rattle.live_tables.specs.Answers.{told, after_act}
+use Rattle.world.specs.Steps.{Fault, Acted}
+use Rattle.live_tables.specs.Answers.{after_act}
+use Rattle.live_tables.specs.Tried.{Tries, after_try}
 use Rattle.engine.specs.declared.events.Event.{Event}
 use Rattle.engine.specs.Events.{opened_by, events_of}
 use Rattle.world_parts.specs.ByTable.{IsIn}
@@ -14,12 +16,12 @@ use Rattle.world_parts.specs.LineLemmas.{line_stays}
 use Rattle.world_parts.specs.Marks.{mark_for, HasPart}
 use Rattle.table_parts.specs.Part.{Part, last_commit_end}
 use Rattle.savepoint.specs.Savepoints.{mark_at, before_mark, latest_sub}
-use Rattle.parted_store.specs.Acting.{IsLent, is_done, items_of, stop_after, Rests, IsActed}
-use Rattle.parted_store.specs.ActLemmas.{act_step, act_part, act_heard, act_line, in_no_other, ticket_acted, items_acted, shares_acted}
-use Rattle.parted_store.specs.JournalLemmas.{none_there, journal_acted}
-use Rattle.parted_store.specs.Lent.{OpenTicket, HasTable, HasJournal, HasTicket, IsSamePart, IsShare}
-use Rattle.parted_store.specs.RestLemmas.{each_rests, same_rested, end_rested, share_kept, acted_by, stays_by}
-use Rattle.parted_store.specs.Shares.{share_of}
+use Rattle.parted_store.specs.Acting.{running, as_told, is_done, items_of, Rests, IsActed}
+use Rattle.parted_store.specs.ActLemmas.{try_step, try_part, act_line, in_no_other, ticket_acted, items_acted, shares_acted, tried_there}
+use Rattle.parted_store.specs.Lent.{OpenTicket, HasTable, HasTicket, IsSamePart, IsShare}
+use Rattle.parted_store.specs.RestLemmas.{long_rested, each_rests, same_rested, end_rested, left_rested, share_kept, acted_by, stays_by}
+use Rattle.parted_store.specs.JournalLemmas.{journal_tried}
+use Rattle.parted_store.specs.Shares.{Share, share_of}
 use Rattle.parted_store.specs.PlaceLemmas.{latest_with, placed_acted}
 use Rattle.parted_store.specs.Ticket.{Places, ticket_in, with_place, places_of}
 use Rattle.parted_store.proofs.acting.act_in.Goals as goal
@@ -32,7 +34,7 @@ module _ (c : goal.After-keep) where
   o = opened_by t.events
 
   abbrev answer : Result Acted Fault
-  answer = told c.act-answer.result
+  answer = as_told c.try_change-answer.result
 
   -- its share of the part
   found : share_of t.shares c.number-table.result ≡ Some c.in-Some.share
@@ -44,21 +46,21 @@ module _ (c : goal.After-keep) where
   shares_now : (other : ℕ) → IsShare t.number (opened_by (t.events ++ events_of c.args.sub c.args.c.now answer)) other (share_of c.put_share.new.shares.items other)
   shares_now =
       shares_acted t.number c.args.sub t.events c.args.c.now c.number-table.result (subst (λ n. IsIn n c.args.c.now) (sym c.number-table.ensures) c.requires.its)
-      t.shares c.put_share.new.shares.items c.ticket.invariant.shares c.act-answer.new.t c.put_share.ensures.share
-      (ap (λ u. u.number) c.act-answer.ensures.ticket ∙ number_is)
+      t.shares c.put_share.new.shares.items c.ticket.invariant.shares c.try_change-answer.new.t c.put_share.ensures.share
+      (ap (λ u. u.number) c.try_change-answer.ensures.ticket ∙ number_is)
       (λ other apart. c.put_share.ensures.others other apart ∙ c.take_share.ensures.others other apart) answer
 
   -- what the part did is a step of its world, by the transaction's number
   here : get c.args.part.now.store.world.opened t.number ≡ Some (opened_by c.in-Some.share.list)
-  here = subst (λ n. get c.args.part.now.store.world.opened n ≡ Some (opened_by c.in-Some.share.list)) number_is c.act-answer.ensures.stood
+  here = subst (λ n. get c.args.part.now.store.world.opened n ≡ Some (opened_by c.in-Some.share.list)) number_is c.try_change-answer.ensures.stood
 
   abbrev mark : ℕ
   mark = c.latest-mark.result
 
-  in_part : Acts c.args.part.now.store.schema c.args.part.now.store.world t.number (opened_by c.in-Some.share.list) mark c.args.c.now answer c.act-answer.new.self.store.world
+  in_part : Tries c.args.part.now.store.schema c.args.part.now.store.world t.number (opened_by c.in-Some.share.list) mark c.args.c.now c.try_change-answer.result c.try_change-answer.new.self.store.world
   in_part =
-      subst (λ n. Acts c.args.part.now.store.schema c.args.part.now.store.world n (opened_by c.in-Some.share.list) mark c.args.c.now answer c.act-answer.new.self.store.world)
-      number_is c.act-answer.ensures.in_part
+      subst (λ n. Tries c.args.part.now.store.schema c.args.part.now.store.world n (opened_by c.in-Some.share.list) mark c.args.c.now c.try_change-answer.result c.try_change-answer.new.self.store.world)
+      number_is c.try_change-answer.ensures.in_part
 
   -- the mark is the latest one, once the subtransaction's was set
   set_is : c.make_place.new.marks ≡ with_place t.number c.args.sub (length c.ticket.inside.items.items) (places_of t.number c.ticket.inside.items.items)
@@ -79,37 +81,28 @@ module _ (c : goal.After-keep) where
       c.unset_mark.ensures
       ∙ ap (λ (places : Places). if not c.in-Ok-make_place.set || is_done answer then places else before_mark c.args.sub places) set_is
       ∙ placed_acted t.number c.args.sub c.ticket.inside.items.items c.args.c.now c.in-Ok-make_place.set was_set answer
-      ∙ sym (ap (places_of t.number) (c.keep.ensures.items ∙ (λ i. c.make_place.ensures.items i ++ items_of c.args.sub (c.in-Ok.ensures i) answer)))
+      ∙ sym (ap (places_of t.number) (c.keep.ensures ∙ (λ i. c.make_place.ensures.items i ++ items_of c.args.sub (c.in-Ok.ensures i) answer)))
 
   abbrev later : World → World
   later w = after_act w t.number o c.args.sub c.args.c.now answer
 
-  acted : (w : World) → HasTable w c.args.part.now → HasTicket w t → w.stopped ≡ None
-      → Acts c.args.part.now.store.schema w t.number o c.args.sub c.args.c.now answer (later w)
-  acted w has at runs =
-      act_step c.args.part.now.store.schema c.args.part.now.number w c.args.part.now.store.world has.is t.number o (opened_by c.in-Some.share.list) at here
-      c.args.c.now c.requires.its has.heard runs c.args.sub mark answer c.act-answer.new.self.store.world in_part
+  tried : (w : World) → HasTable w c.args.part.now → HasTicket w t
+      → Tries c.args.part.now.store.schema (running w) t.number o c.args.sub c.args.c.now c.try_change-answer.result (after_try (running w) t.number o c.args.sub c.args.c.now c.try_change-answer.result)
+  tried w has at =
+      try_step c.args.part.now.store.schema c.args.part.now.number w c.args.part.now.store.world has.is t.number o (opened_by c.in-Some.share.list) at here
+      c.args.c.now c.requires.its c.args.sub mark c.try_change-answer.result c.try_change-answer.new.self.store.world c.try_change-answer.ensures.fault in_part
 
-  table_after : (w : World) → HasTable w c.args.part.now → HasTicket w t → HasTable (later w) c.act-answer.new.self
+  table_after : (w : World) → HasTable w c.args.part.now → HasTicket w t → HasTable (later w) c.try_change-answer.new.self
   table_after w has at = record {
     is =
-        subst (λ n. HasPart n (later w) c.act-answer.new.self.store.world) (sym c.act-answer.ensures.number)
-        (act_part c.args.part.now.store.schema c.args.part.now.number w c.args.part.now.store.world has.is t.number o (opened_by c.in-Some.share.list) at here
-        c.args.c.now c.requires.its c.args.sub mark mark_is answer c.act-answer.new.self.store.world in_part);
+        subst (λ n. HasPart n (later w) c.try_change-answer.new.self.store.world) (sym c.try_change-answer.ensures.number)
+        (try_part c.args.part.now.store.schema c.args.part.now.number w c.args.part.now.store.world has.is t.number o (opened_by c.in-Some.share.list) at here
+        c.args.c.now c.requires.its c.args.sub mark mark_is c.try_change-answer.result c.try_change-answer.new.self.store.world in_part);
     line =
-        subst (λ n. HasLine n (later w) c.act-answer.new.self.store.world) (sym c.act-answer.ensures.number)
-        (line_stays c.args.part.now.number w (later w) c.args.part.now.store.world c.act-answer.new.self.store.world
-        (act_line w t.number o c.args.sub c.args.c.now answer) c.act-answer.ensures.line has.line);
-    heard =
-        act_heard c.args.part.now.store.schema w c.args.part.now.store.world t.number o (opened_by c.in-Some.share.list) c.args.c.now has.heard
-        c.args.sub mark answer c.act-answer.new.self.store.world in_part;
+        subst (λ n. HasLine n (later w) c.try_change-answer.new.self.store.world) (sym c.try_change-answer.ensures.number)
+        (line_stays c.args.part.now.number w (later w) c.args.part.now.store.world c.try_change-answer.new.self.store.world
+        (act_line w t.number o c.args.sub c.args.c.now answer) c.try_change-answer.ensures.line has.line);
   }
-
-  journal_after : (w : World) → HasJournal w c.args.journal.now → HasTicket w t → HasJournal (later w) c.keep.new.journal
-  journal_after w has at =
-      journal_acted w c.args.journal.now has c.keep.new.journal t.number o at c.args.sub c.args.c.now answer
-      (c.keep.ensures.journal
-      ∙ ap (λ (d : Change). record c.args.journal.now { stopped = stop_after t.number d answer c.args.journal.now.stopped }) c.in-Ok.ensures)
 
   -- the parts of other tables
   rests : Rests t.number answer c.args.others.now c.put_share.new.shares.items c.rest_each.new.others c.rest_each.new.shares.items
@@ -138,7 +131,7 @@ invariant_of-ticket-2 c = record {
       (share_kept (t c).number (opened_by ((t c).events ++ events_of c.args.sub c.args.c.now (answer c))) other (share_of c.put_share.new.shares.items other) (share_of c.rest_each.new.shares.items other)
       (c.rest_each.ensures.shares other) (shares_now c other));
   items =
-      c.keep.ensures.items
+      c.keep.ensures
       ∙ (λ i. (c.make_place.ensures.items ∙ c.ticket.invariant.items) i ++ items_of c.args.sub (c.in-Ok.ensures i) (answer c))
       ∙ items_acted (t c).number c.args.sub (t c).events c.args.c.now (answer c)
       ∙ ap (λ (events : List Event). survivors (t c).number (opened_by events).items) (sym c.tell.ensures);
@@ -147,22 +140,28 @@ invariant_of-ticket-2 c = record {
 
 -- ---- it was tried
 
-pub returns-clause-acts : goal.returns-clause-acts
-returns-clause-acts c w lent =
-    subst (λ (u : OpenTicket). HasTicket w u → Acts c.args.part.now.store.schema w u.number (opened_by u.events) c.args.sub c.args.c.now (answer c)
-    (after_act w u.number (opened_by u.events) c.args.sub c.args.c.now (answer c))) c.ticket.view_is
-    (λ at. acted c w lent.0 at (lent.1.stopped ∙ none_there c.args.journal.now.stopped (sym c.is_stopped.ensures ∙ c.if-is_stopped.false))) lent.2
+pub returns-clause-tries : goal.returns-clause-tries
+returns-clause-tries c w has =
+    subst (λ (u : OpenTicket). HasTicket w u → Tries c.args.part.now.store.schema (running w) u.number (opened_by u.events) c.args.sub c.args.c.now c.try_change-answer.result
+    (after_try (running w) u.number (opened_by u.events) c.args.sub c.args.c.now c.try_change-answer.result)) c.ticket.view_is
+    (tried c w has)
 
-pub returns-clause-lent : goal.returns-clause-lent
-returns-clause-lent c w lent =
-    subst (λ (u : OpenTicket). HasTicket w u → IsLent (after_act w u.number (opened_by u.events) c.args.sub c.args.c.now (answer c)) c.act-answer.new.self c.keep.new.journal
+pub returns-clause-part : goal.returns-clause-part
+returns-clause-part c w has =
+    subst (λ (u : OpenTicket). HasTicket w u → HasTable (after_act w u.number (opened_by u.events) c.args.sub c.args.c.now (answer c)) c.try_change-answer.new.self) c.ticket.view_is
+    (table_after c w has)
+
+pub returns-clause-its_ticket : goal.returns-clause-its_ticket
+returns-clause-its_ticket c w =
+    subst (λ (u : OpenTicket). HasTicket w u → HasTicket (after_act w u.number (opened_by u.events) c.args.sub c.args.c.now (answer c))
     (record { number = (t c).number; events = c.tell.new.events; shares = c.rest_each.new.shares.items })) c.ticket.view_is
-    (λ at. (
-      table_after c w lent.0 at,
-      journal_after c w lent.1 at,
-      ticket_acted (t c).number c.args.sub (t c).events c.args.c.now w at (answer c)
-          ∙ ap (λ (events : List Event). Some (opened_by events)) (sym c.tell.ensures),
-    )) lent.2
+    (λ at.
+    ticket_acted (t c).number c.args.sub (t c).events c.args.c.now w at (answer c)
+    ∙ ap (λ (events : List Event). Some (opened_by events)) (sym c.tell.ensures))
+
+pub returns-clause-journal : goal.returns-clause-journal
+returns-clause-journal c w j at has =
+    journal_tried w j has j c.args.ticket.now.number (opened_by c.args.ticket.now.events) at c.args.sub c.args.c.now c.try_change-answer.result refl
 
 pub returns-clause-beside : goal.returns-clause-beside
 returns-clause-beside c w p its_ticket has apart beside =
@@ -186,4 +185,20 @@ returns-clause-ends c i p at =
     (λ (q : Part). last_commit_end q ≡ last_commit_end p) i p at
     (λ q did. end_rested (t c).number (answer c) p (share_of c.put_share.new.shares.items p.number) q (share_of c.rest_each.new.shares.items p.number) did)
 
--- ---- the store is stopped, or memory was refused
+pub returns-clause-long : goal.returns-clause-long
+returns-clause-long c =
+    long_rested (t c).number (answer c) c.args.others.now c.rest_each.new.others c.put_share.new.shares.items c.rest_each.new.shares.items (rests c)
+
+-- the share of its table is left by what is told the parts of others
+pub returns-clause-stands : goal.returns-clause-stands
+returns-clause-stands c stood share there =
+    let table = c.args.part.now.number in
+    let number : c.try_change-answer.new.self.number ≡ c.number-table.result = c.try_change-answer.ensures.number ∙ sym c.number-table.ensures in
+    let kept =
+    left_rested (t c).number (answer c) c.args.others.now c.rest_each.new.others c.put_share.new.shares.items c.rest_each.new.shares.items (rests c) table
+    (λ i p at. c.requires.other i p at) in
+    let same : Some c.try_change-answer.new.t ≡ Some share =
+    sym c.put_share.ensures.share ∙ ap (share_of c.put_share.new.shares.items) c.number-table.ensures ∙ sym kept ∙ ap (share_of c.rest_each.new.shares.items) (sym c.try_change-answer.ensures.number) ∙ there in
+    subst (λ (s : Share). get c.try_change-answer.new.self.store.world.opened s.number ≡ Some (opened_by s.list)) (same_Some c.try_change-answer.new.t share same)
+    (tried_there c.args.part.now.store.world c.in-Some.share (mark c) c.args.c.now c.try_change-answer.ensures.stood c.try_change-answer.result
+    c.try_change-answer.new.self.store.world c.try_change-answer.ensures.world c.try_change-answer.new.t c.try_change-answer.ensures.ticket)

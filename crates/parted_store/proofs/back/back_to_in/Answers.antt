@@ -81,3 +81,6 @@ returns-clause-beside c w p its_ticket has beside =
     (λ at. nothing_rolled (t c) c.args.sub (marks c) (drops c) p w has at
     (none_beside c.args.parts.now (t c) c.ticket.invariant.shares (subst (λ (u : OpenTicket). Covers c.args.parts.now u.shares) (sym c.ticket.view_is) c.requires.covers) p.number beside))
     its_ticket
+
+pub returns-clause-long : goal.returns-clause-long
+returns-clause-long c = c.back_each.ensures.each.long

@@ -57,3 +57,6 @@ pub returns-clause-ends : goal.returns-clause-ends
 returns-clause-ends c i p at =
     some_then (slice_get c.abort_each.new.parts i) (c.abort_each.ensures.done i p (slice_get_within c.args.parts.now i p at) at)
     (λ q did. end_aborted p q (share_of (ticket_in c.ticket.inside).shares p.number) did.0)
+
+pub returns-clause-long : goal.returns-clause-long
+returns-clause-long c = c.abort_each.ensures.long

@@ -79,3 +79,6 @@ returns-clause-ticket c w =
 pub returns-clause-beside : goal.returns-clause-beside
 returns-clause-beside c w p its_ticket has beside =
     nothing_touched c.args.ticket.now c.args.sub p w has its_ticket (c.requires.waits p.number beside)
+
+pub returns-clause-long : goal.returns-clause-long
+returns-clause-long c = c.back_each.ensures.each.long

@@ -1,6 +1,5 @@
 use Rattle.std.proofs.Common.{◌∙◌, false, true, ap}
 use Rattle.std.specs.Prelude.{Ok}
-use Rattle.parted_store.specs.TriedLemmas.{refuses_truncate}
 use Rattle.parted_store.proofs.truncating.truncate_each.Goals as goal
 
 pub wait_each-requires : goal.wait_each-requires
@@ -11,7 +10,7 @@ wait_each-requires c = record {
     c.requires.apart,
     c.requires.belong,
     c.requires.cuts,
-    λ i p there. record { share = c.requires.shares i p there; known = c.requires.known i p there; runs = c.is_any_stopped.ensures.runs c.if-is_any_stopped.false i p there },
+    λ i p there. record { share = c.requires.shares i p there; known = c.requires.known i p there },
     c.take_back_each.ensures c.args.parts.now c.args.shares.now.items c.args.mark false c.requires.apart c.in-Ok-Some.ensures.ok,
   );
 }
@@ -24,12 +23,12 @@ pub returns-in-Ok-Some : goal.returns-in-Ok-Some
 returns-in-Ok-Some c = (
   c.try_each.ensures.held c.in-Ok-Some.holder (c.in-Ok-Some.is ∙ ap Ok c.in-Ok-Some.field-0-is),
   c.wait_each.ensures c.args.parts.now c.args.shares.now.items c.requires.apart c.requires.cuts
-      (λ i p there. record { share = c.requires.shares i p there; known = c.requires.known i p there; runs = c.is_any_stopped.ensures.runs c.if-is_any_stopped.false i p there })
+      (λ i p there. record { share = c.requires.shares i p there; known = c.requires.known i p there })
       (c.take_back_each.ensures c.args.parts.now c.args.shares.now.items c.args.mark false c.requires.apart c.in-Ok-Some.ensures.ok),
 )
 
 pub returns-in-Err : goal.returns-in-Err
 returns-in-Err c = (
-  refuses_truncate c.args.parts.now c.in-Err.fault c.in-Err.ensures.fault,
+  c.in-Err.ensures.fault,
   c.take_back_each-in-Err.ensures c.args.parts.now c.args.shares.now.items c.args.mark true c.requires.apart c.in-Err.ensures.err,
 )

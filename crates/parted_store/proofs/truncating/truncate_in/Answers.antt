@@ -1,26 +1,32 @@
-use Rattle.std.proofs.Common.{◌≡◌, ◌++◌, ◌∙◌, ℕ, List, Some, None, sym, ap, subst}
-use Rattle.std.specs.Prelude.{Result, IsSome, IsSomeAnd, is_some, length, slice_get, not, ◌==◌, ◌||◌, unwrap_or, if◌then◌else◌}
+use Rattle.std.proofs.Common.{◌≡◌, ◌++◌, ◌∷◌, [], ◌∙◌, ℕ, List, Some, None, refl, sym, ap, subst}
+use Rattle.std.specs.Prelude.{Result, Ok, Err, IfErr, IsSome, IsSomeAnd, is_some, length, slice_get, not, ◌==◌, ◌||◌, unwrap_or, if◌then◌else◌}
 use Rattle.std.proofs.lemmas.Bool.{false≢true}
 use Rattle.model.specs.declared.change.Change.{Change}
 use Rattle.model.specs.Survivors.{survivors}
-use Rattle.world.specs.World.{Opened, World}
-use Rattle.world.specs.Steps.{Fault, Acted, Acts}
-use Rattle.live_tables.specs.Answers.{told, after_act}
+use Rattle.model.specs.declared.cell.Cell.TheVariants.{Whole}
+use Rattle.world.specs.World.{Opened, World, IsFree}
+use Rattle.world.specs.Steps.{Fault, Acted}
+use Rattle.live_tables.specs.declared.answers.EngineFault.{EngineFault}
+use Rattle.live_tables.specs.declared.answers.EngineFault.TheVariants.{OutOfMemory as NoMemory}
+use Rattle.live_tables.specs.declared.answers.Verdict.{Verdict}
+use Rattle.live_tables.specs.declared.answers.Verdict.TheVariants.{Acted as ActedVerdict, Clashes}
+use Rattle.live_tables.specs.Answers.{after_act, TellsVerdict, IsNoClash}
+use Rattle.live_tables.specs.Tried.{Tries, after_try}
 use Rattle.engine.specs.declared.events.Event.{Event}
 use Rattle.engine.specs.Events.{opened_by, events_of}
 use Rattle.world_parts.specs.Marks.{mark_for}
 use Rattle.table_parts.specs.Part.{Part, last_commit_end}
 use Rattle.savepoint.specs.Savepoints.{mark_at, before_mark, latest_sub}
-use Rattle.parted_store.specs.Acting.{is_done, items_of, stop_after, Rests, IsActed}
+use Rattle.parted_store.specs.Acting.{running, as_told, is_done, items_of, Rests, IsActed}
 use Rattle.parted_store.specs.ActLemmas.{ticket_acted, items_acted}
 use Rattle.parted_store.specs.CutLemmas.{cut_beside}
 use Rattle.parted_store.specs.Back.{IsSameShare}
 use Rattle.parted_store.specs.EachPart.{IsBeside}
-use Rattle.parted_store.specs.HasCutLemmas.{same_again, shares_left, share_needed, shares_kept, part_cut, acts_cut}
-use Rattle.parted_store.specs.JournalLemmas.{none_there, journal_acted}
-use Rattle.parted_store.specs.Lent.{OpenTicket, HasTable, HasJournal, HasTicket, IsSamePart, IsShare}
-use Rattle.parted_store.specs.RestLemmas.{each_rests, same_rested, end_rested, share_kept, acted_by, stays_by}
-use Rattle.parted_store.specs.Shares.{share_of}
+use Rattle.parted_store.specs.HasCutLemmas.{same_again, shares_left, share_needed, shares_kept, long_truncated, free_truncated, part_cut, acts_cut}
+use Rattle.parted_store.specs.Lent.{OpenTicket, HasTable, HasTicket, IsSamePart, IsShare}
+use Rattle.parted_store.specs.RestLemmas.{long_rested, each_rests, same_rested, end_rested, share_kept, acted_by, stays_by}
+use Rattle.parted_store.specs.JournalLemmas.{journal_tried}
+use Rattle.parted_store.specs.Shares.{Shares, share_of}
 use Rattle.parted_store.specs.PlaceLemmas.{latest_with, placed_acted}
 use Rattle.parted_store.specs.Ticket.{Places, ticket_in, with_place, places_of}
 use Rattle.parted_store.specs.Truncating.{HasTruncated, CutsHere}
@@ -34,7 +40,7 @@ module _ (c : goal.After-keep) where
   o = opened_by t.events
 
   abbrev answer : Result Acted Fault
-  answer = told c.truncate_each-answer.result
+  answer = as_told c.truncate_each-answer.result
 
   abbrev mark : ℕ
   mark = c.latest-mark.result
@@ -58,7 +64,7 @@ module _ (c : goal.After-keep) where
       c.unset_mark.ensures
       ∙ ap (λ (places : Places). if not c.in-Ok-make_place.set || is_done answer then places else before_mark c.args.sub places) set_is
       ∙ placed_acted t.number c.args.sub c.ticket.inside.items.items c.args.c.now c.in-Ok-make_place.set was_set answer
-      ∙ sym (ap (places_of t.number) (c.keep.ensures.items ∙ (λ i. c.make_place.ensures.items i ++ items_of c.args.sub (c.in-Ok.ensures i) answer)))
+      ∙ sym (ap (places_of t.number) (c.keep.ensures ∙ (λ i. c.make_place.ensures.items i ++ items_of c.args.sub (c.in-Ok.ensures i) answer)))
 
   abbrev later : World → World
   later w = after_act w t.number o c.args.sub c.args.c.now answer
@@ -109,7 +115,7 @@ invariant_of-ticket-2 c = record {
       (share_kept (t c).number (opened_by ((t c).events ++ events_of c.args.sub c.args.c.now (answer c))) other (share_of c.truncate_each-answer.new.shares.items other) (share_of c.rest_each.new.shares.items other)
       (c.rest_each.ensures.shares other) (shares_now c other));
   items =
-      c.keep.ensures.items
+      c.keep.ensures
       ∙ (λ i. (c.make_place.ensures.items ∙ c.ticket.invariant.items) i ++ items_of c.args.sub (c.in-Ok.ensures i) (answer c))
       ∙ items_acted (t c).number c.args.sub (t c).events c.args.c.now (answer c)
       ∙ ap (λ (events : List Event). survivors (t c).number (opened_by events).items) (sym c.tell.ensures);
@@ -118,14 +124,28 @@ invariant_of-ticket-2 c = record {
 
 -- ---- it was tried
 
-pub returns-clause-acts : goal.returns-clause-acts
-returns-clause-acts c w schema have journal =
-    subst (λ (u : OpenTicket). HasTicket w u → Acts schema w u.number (opened_by u.events) c.args.sub c.args.c.now (answer c)
-    (after_act w u.number (opened_by u.events) c.args.sub c.args.c.now (answer c))) c.ticket.view_is
+pub returns-clause-tries : goal.returns-clause-tries
+returns-clause-tries c w schema have =
+    subst (λ (u : OpenTicket). HasTicket w u → Tries schema (running w) u.number (opened_by u.events) c.args.sub c.args.c.now c.truncate_each-answer.result
+    (after_try (running w) u.number (opened_by u.events) c.args.sub c.args.c.now c.truncate_each-answer.result)) c.ticket.view_is
     (λ at.
     acts_cut (t c) c.ticket.invariant.shares c.args.sub c.args.c.now c.requires.truncate.0 c.args.parts.now (here c) w at (mark c)
-    c.truncate_each-answer.new.parts c.truncate_each-answer.new.shares.items schema have
-    (journal.stopped ∙ none_there c.args.journal.now.stopped (sym c.is_stopped.ensures ∙ c.if-is_stopped.false)) c.truncate_each-answer.result (came c))
+    c.truncate_each-answer.new.parts c.truncate_each-answer.new.shares.items schema have c.truncate_each-answer.result (came c))
+
+-- a truncate clashes with nothing, and memory alone refuses it
+told_so : (own : ℕ) (start : List Part) (all : Shares) (result : Result Verdict EngineFault) (parts : List Part) (shares : Shares) → HasTruncated own start all result parts shares
+    → TellsVerdict result × IfErr result (λ (fault : EngineFault). fault ≡ NoMemory)
+told_so own start all (Ok (ActedVerdict acted)) parts shares is = (tt, tt)
+told_so own start all (Ok (Clashes clash)) parts shares is = absurd is
+told_so own start all (Err fault) parts shares is = (subst IsNoClash (sym is.0) tt, is.0)
+
+pub returns-clause-cause : goal.returns-clause-cause
+returns-clause-cause c =
+    (told_so (mark c) c.args.parts.now (t c).shares c.truncate_each-answer.result c.truncate_each-answer.new.parts c.truncate_each-answer.new.shares.items (came c)).0
+
+pub returns-clause-fault : goal.returns-clause-fault
+returns-clause-fault c =
+    (told_so (mark c) c.args.parts.now (t c).shares c.truncate_each-answer.result c.truncate_each-answer.new.parts c.truncate_each-answer.new.shares.items (came c)).1
 
 pub returns-clause-parts : goal.returns-clause-parts
 returns-clause-parts c w its_ticket i p there has =
@@ -135,14 +155,6 @@ returns-clause-parts c w its_ticket i p there has =
     part_cut (t c) c.ticket.invariant.shares c.args.sub c.args.c.now c.requires.truncate.0 c.args.parts.now (here c) w at (mark c)
     c.truncate_each-answer.new.parts c.truncate_each-answer.new.shares.items i p there has (mark_is c) c.truncate_each-answer.result (came c)) its_ticket
 
-pub returns-clause-journal : goal.returns-clause-journal
-returns-clause-journal c w its_ticket has =
-    subst (λ (u : OpenTicket). HasTicket w u → HasJournal (after_act w u.number (opened_by u.events) c.args.sub c.args.c.now (answer c)) c.keep.new.journal) c.ticket.view_is
-    (λ at.
-    journal_acted w c.args.journal.now has c.keep.new.journal (t c).number (o c) at c.args.sub c.args.c.now (answer c)
-    (c.keep.ensures.journal
-    ∙ ap (λ (d : Change). record c.args.journal.now { stopped = stop_after (t c).number d (answer c) c.args.journal.now.stopped }) c.in-Ok.ensures)) its_ticket
-
 pub returns-clause-its_ticket : goal.returns-clause-its_ticket
 returns-clause-its_ticket c w its_ticket =
     subst (λ (u : OpenTicket). HasTicket w u → HasTicket (after_act w u.number (opened_by u.events) c.args.sub c.args.c.now (answer c))
@@ -150,6 +162,10 @@ returns-clause-its_ticket c w its_ticket =
     (λ at.
     ticket_acted (t c).number c.args.sub (t c).events c.args.c.now w at (answer c)
     ∙ ap (λ (events : List Event). Some (opened_by events)) (sym c.tell.ensures)) its_ticket
+
+pub returns-clause-journal : goal.returns-clause-journal
+returns-clause-journal c w j at has =
+    journal_tried w j has j c.args.ticket.now.number (opened_by c.args.ticket.now.events) at c.args.sub c.args.c.now c.truncate_each-answer.result refl
 
 pub returns-clause-beside : goal.returns-clause-beside
 returns-clause-beside c w p its_ticket has apart beside =
@@ -179,3 +195,17 @@ returns-clause-shares c table =
     (same_again (share_of (t c).shares table) (share_of c.truncate_each-answer.new.shares.items table) (share_of c.rest_each.new.shares.items table)
     (shares_kept (mark c) c.args.parts.now (t c).shares c.truncate_each-answer.new.parts c.truncate_each-answer.new.shares.items c.truncate_each-answer.result (came c) table)
     (c.rest_each.ensures.shares table))
+
+pub returns-clause-long : goal.returns-clause-long
+returns-clause-long c =
+    long_truncated (mark c) c.args.parts.now (t c).shares c.truncate_each-answer.new.parts c.truncate_each-answer.new.shares.items c.truncate_each-answer.result (came c)
+
+pub returns-clause-long_others : goal.returns-clause-long_others
+returns-clause-long_others c =
+    long_rested (t c).number (answer c) c.args.others.now c.rest_each.new.others c.truncate_each-answer.new.shares.items c.rest_each.new.shares.items (rests c)
+
+pub returns-clause-free : goal.returns-clause-free
+returns-clause-free c done i p there =
+    subst (λ (u : OpenTicket). IsFree p.store.schema p.store.world u.number (Whole p.number ∷ [])) c.ticket.view_is
+    (free_truncated (t c) c.ticket.invariant.shares (mark c) c.args.parts.now c.truncate_each-answer.new.parts c.truncate_each-answer.new.shares.items
+    c.truncate_each-answer.result (came c) done i p there)

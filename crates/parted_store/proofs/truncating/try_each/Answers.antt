@@ -2,11 +2,12 @@ use Rattle.std.proofs.Common.{rules, ◌≡◌, ◌<◌, ◌≤◌, ◌+◌, ◌
 use Rattle.std.specs.Prelude.{Option, IsSome, IfErr, Result, Ok, Err}
 use Rattle.std.proofs.lemmas.Option.{slice_get-get_or}
 use Rattle.live_tables.specs.declared.answers.EngineFault.{EngineFault}
+use Rattle.live_tables.specs.declared.answers.EngineFault.TheVariants.{OutOfMemory as NoMemory}
 use Rattle.table_parts.specs.declared.several.Attempt.{Attempt}
 use Rattle.table_parts.specs.declared.several.Attempted.{Attempted}
 use Rattle.table_parts.specs.Several.{IsAttempted, IsWaiting, ComesTo}
 use Rattle.parted_store.specs.Shares.{Share, share_of}
-use Rattle.parted_store.specs.Truncating.{Both, EachIs, Zones, Untouched, Attempts, Stands, IsHeldInOne, RefusesOne, cut_of}
+use Rattle.parted_store.specs.Truncating.{Both, EachIs, Zones, Untouched, Attempts, Stands, IsHeldInOne, cut_of}
 use Rattle.parted_store.specs.TriedLemmas.{on_err, next_part, next_share, next_belongs, stops_here, goes_up, stand_behind, refused_stands, refused_same, waiting_stands, waiting_same, waiting_held, attempted_same}
 use Rattle.parted_store.proofs.truncating.try_each.Goals as goal
 
@@ -51,13 +52,8 @@ returns-in_err-attempt-clause-err c =
 
 pub returns-in_err-attempt-clause-fault : goal.returns-in_err-attempt-clause-fault
 returns-in_err-attempt-clause-fault c =
-    let l = c.loop-i in
-    let room : l.i < length l.parts = search rules in
-    let q = slice_index_or l.parts l.i c.index-parts-i.result in
-    let at = slice_get-get_or l.parts l.i c.index-parts-i.result room in
     let same : c.from_residual.result ≡ Err c.in_err-attempt.field-0.0 = search rules in
-    subst (λ (came : Result (Option ℕ) EngineFault). IfErr came (RefusesOne c.args.parts.now)) (sym same)
-    (l.i, q, next_part c.args.mark c.args.parts.now c.args.shares.now.items c.requires.apart l.parts l.shares.items l.tried.items l.i l.invariant.0 q at, c.in_err-attempt.ensures.fault)
+    subst (λ (came : Result (Option ℕ) EngineFault). IfErr came (λ (fault : EngineFault). fault ≡ NoMemory)) (sym same) c.in_err-attempt.ensures.fault
 
 pub returns-in-Held-clause-ok : goal.returns-in-Held-clause-ok
 returns-in-Held-clause-ok c =

@@ -6,7 +6,7 @@ use Rattle.model.specs.declared.change.Change.{Change}
 use Rattle.model.specs.Named.{NamesTables}
 use Rattle.parted_store.specs.TriedLemmas.{popped}
 use Rattle.parted_store.specs.Truncating.{cut_of}
-use Rattle.parted_store.specs.WaitingLemmas.{still_runs, still_there, still_belongs, still_named, its_part, its_same, its_stands, its_cut, waits_down, none_waits, all_wait}
+use Rattle.parted_store.specs.WaitingLemmas.{still_there, still_belongs, still_named, its_part, its_same, its_stands, its_cut, waits_down, none_waits, all_wait}
 use Rattle.parted_store.proofs.truncating.wait_each.Goals as goal
 
 pub loop-cut-init : goal.loop-cut-init
@@ -70,24 +70,6 @@ wait_share-requires-clause-names c =
     let stands = its_stands start all c.loop-cut.parts c.loop-cut.shares.items c.args.cuts.items c.loop-cut.cuts.items c.pop.new.self.items c.in-Some.cut c.in-Some.ensures.items inv.1 are now_were c.len.result count q at part.0 part.1 in
     subst (λ (d : Change). NamesTables (length q.store.schema) d) (sym (its_cut start all c.loop-cut.parts c.loop-cut.shares.items c.args.cuts.items c.loop-cut.cuts.items c.pop.new.self.items c.in-Some.cut c.in-Some.ensures.items inv.1 are now_were c.len.result count q at part.0 part.1))
     (still_named part.0 q same all c.loop-cut.shares.items c.len.result stands (can c.len.result part.0 part.1))
-
-pub wait_share-requires-clause-running : goal.wait_share-requires-clause-running
-wait_share-requires-clause-running c =
-    let (start, all, apart, belong, are, can, were) = c.requires.waits in
-    let inv = c.loop-cut.invariant in
-    let now_were = inv.0 start all apart are can were in
-    let one_less = (popped c.args.cuts.items c.loop-cut.cuts.items c.pop.new.self.items c.in-Some.cut c.in-Some.ensures.items inv.1).2 in
-    let long = now_were.long in
-    let within = inv.2 in
-    let as_many = ap length are ∙ length-map start cut_of in
-    let count : c.len.result ≡ length c.pop.new.self.items = search rules in
-    let room : c.len.result < length c.loop-cut.parts = omega (arith, count, long, as_many, one_less, within) in
-    let q = slice_index_or c.loop-cut.parts c.len.result c.index-parts-len.result in
-    let at = slice_get-get_or c.loop-cut.parts c.len.result c.index-parts-len.result room in
-    let part = its_part start all c.loop-cut.parts c.loop-cut.shares.items c.args.cuts.items c.loop-cut.cuts.items c.pop.new.self.items c.in-Some.cut c.in-Some.ensures.items inv.1 are now_were c.len.result count q at in
-    let same = its_same start all c.loop-cut.parts c.loop-cut.shares.items c.args.cuts.items c.loop-cut.cuts.items c.pop.new.self.items c.in-Some.cut c.in-Some.ensures.items inv.1 are now_were c.len.result count q at part.0 part.1 in
-    let stands = its_stands start all c.loop-cut.parts c.loop-cut.shares.items c.args.cuts.items c.loop-cut.cuts.items c.pop.new.self.items c.in-Some.cut c.in-Some.ensures.items inv.1 are now_were c.len.result count q at part.0 part.1 in
-    still_runs part.0 q same all c.loop-cut.shares.items c.len.result stands (can c.len.result part.0 part.1)
 
 pub loop-cut-preserved : goal.loop-cut-preserved
 loop-cut-preserved c =

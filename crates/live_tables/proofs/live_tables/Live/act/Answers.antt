@@ -1,49 +1,40 @@
-use Rattle.std.proofs.Common.{rules, refl, sym, ap, subst, ◌∙◌}
-use Rattle.live_tables.specs.declared.live_tables.Live.{Live}
-use Rattle.live_tables.specs.Represents.{Represents}
-use Rattle.live_tables.specs.ByHoldsLemmas.{by_holds, by_some}
-use Rattle.live_tables.specs.ActLemmas.{has_stopped}
-use Rattle.live_tables.specs.Tried.{HasActed}
-use Rattle.live_tables.proofs.Refusals.{memory_refused, runs_there, acted_by_holds}
+use Rattle.std.proofs.Common.{rules, ◌≡◌, sym, subst}
+use Rattle.std.specs.Prelude.{Result, Ok, Err}
+use Rattle.live_tables.specs.declared.answers.Acted as acted_type
+use Rattle.live_tables.specs.declared.answers.EngineFault.{EngineFault}
+use Rattle.live_tables.specs.declared.answers.Verdict.{Verdict}
+use Rattle.live_tables.specs.declared.answers.Verdict.TheVariants.{Clashes}
+use Rattle.live_tables.specs.Tried.{HasTried, HasActed}
+use Rattle.live_tables.proofs.Refusals.{runs_here, refused_as_tried, acted_as_tried, stopped_as_tried}
 use Rattle.live_tables.proofs.live_tables.Live.act.Goals as goal
 
-pub returns-then-is_some : goal.returns-then-is_some
-returns-then-is_some c = record {
-  acts = λ w o tied is.
-      let some = by_some w c.args.self.now tied in
-      (has_stopped w (record c.args.self.now { holds = some.0 }) some.1 (sym c.is_some.ensures ∙ c.if-is_some.true), refl);
-  tied = λ w o tied is. tied;
-  cause = tt;
-  schema = refl;
-}
+pub returns-in_err-acted : goal.returns-in_err-acted
+returns-in_err-acted c =
+    let same : c.from_residual.result ≡ Err c.in_err-acted.field-0.0 = search rules in
+    subst (λ (came : Result acted_type.Acted EngineFault). HasActed c.args.self.now c.try_change.new.self c.args.xid c.args.sub c.args.c.now came) (sym same)
+    (refused_as_tried c.args.self.now c.try_change.new.self c.args.xid c.args.sub c.args.c.now c.in_err-acted.field-0.0 c.in_err-acted.ensures)
 
-pub act_by_holds-requires-clause-tied : goal.act_by_holds-requires-clause-tied
-act_by_holds-requires-clause-tied c = let (w, o, tied, is) = c.requires.tied in (w, o, by_holds w c.args.self.now tied c.if-self.true, is)
+pub returns-in-Acted : goal.returns-in-Acted
+returns-in-Acted c =
+    acted_as_tried c.args.self.now c.try_change.new.self c.args.xid c.args.sub c.args.c.now c.in-Acted.acted
+    (subst (λ (v : Verdict). HasTried c.args.self.now c.try_change.new.self c.args.xid c.args.sub c.args.c.now (Ok v)) c.in-Acted.is c.in_ok-acted.ensures)
 
-pub returns-then-self : goal.returns-then-self
-returns-then-self c =
-    acted_by_holds c.args.self.now c.args.self.now c.act_by_holds.new.self c.args.xid c.args.sub c.args.c.now c.act_by_holds.result
-    (λ w tied. by_holds w c.args.self.now tied c.if-self.true) refl (c.act_by_holds.ensures.made ∙ c.if-self.true) c.act_by_holds.ensures.acted
+-- ---- it clashes
 
-pub returns-then-sub-xid : goal.returns-then-sub-xid
-returns-then-sub-xid c = rw c.if-sub-xid.true c.act_alone.ensures
+module _ (c : goal.After-stop_by_clash-arg-1) where
+  clashes : HasTried c.args.self.now c.try_change.new.self c.args.xid c.args.sub c.args.c.now (Ok (Clashes c.in-Clashes.clash))
+  clashes = subst (λ (v : Verdict). HasTried c.args.self.now c.try_change.new.self c.args.xid c.args.sub c.args.c.now (Ok v)) c.in-Clashes.is c.in_ok-acted.ensures
 
-pub make-requires : goal.make-requires
-make-requires c = let (w, o, tied, is) = c.requires.tied in (w, c.args.xid, o, tied, is)
+pub stop_by_clash-requires-clause-tied : goal.stop_by_clash-requires-clause-tied
+stop_by_clash-requires-clause-tied c = let (w, o, tied, is) = c.requires.tied in (w, o, (clashes c).tied w o tied is, is)
 
-pub returns-in_err-make : goal.returns-in_err-make
-returns-in_err-make c =
-    subst (λ (m : Live). HasActed c.args.self.now m c.args.xid c.args.sub c.args.c.now c.from_residual.result) (sym c.in_err-make.ensures.err)
-    (memory_refused Represents c.args.self.now (runs_there c.args.self.now (search rules)) c.args.xid c.args.sub c.args.c.now c.from_residual.result c.from_residual.ensures.1)
+pub stop_by_clash-requires-clause-running : goal.stop_by_clash-requires-clause-running
+stop_by_clash-requires-clause-running c =
+    let (w, o, tied, is) = c.requires.tied in
+    runs_here w c.try_change.new.self ((clashes c).tied w o tied is) ((clashes c).tries w o tied is).0
 
--- behind the making
-pub act_by_holds-requires-2-clause-names : goal.act_by_holds-requires-2-clause-names
-act_by_holds-requires-2-clause-names c = rw c.in_ok-make.ensures.same c.requires.names
-
-pub act_by_holds-requires-2-clause-tied : goal.act_by_holds-requires-2-clause-tied
-act_by_holds-requires-2-clause-tied c = let (w, o, tied, is) = c.requires.tied in (w, o, c.in_ok-make.ensures.ok w tied, is)
-
-pub returns : goal.returns
-returns c =
-    acted_by_holds c.args.self.now c.make.new.self c.act_by_holds-2.new.self c.args.xid c.args.sub c.args.c.now c.act_by_holds-2.result
-    c.in_ok-make.ensures.ok (ap (λ (m : Live). m.tables.schema) c.in_ok-make.ensures.same) (c.act_by_holds-2.ensures.made ∙ c.in_ok-make.ensures.made) c.act_by_holds-2.ensures.acted
+pub returns-in-Clashes : goal.returns-in-Clashes
+returns-in-Clashes c =
+    stopped_as_tried c.args.self.now c.try_change.new.self c.stop_by_clash.new.self c.args.xid c.args.sub c.args.c.now c.in-Clashes.clash c.stop_by_clash.result
+    (subst (λ (v : Verdict). HasTried c.args.self.now c.try_change.new.self c.args.xid c.args.sub c.args.c.now (Ok v)) c.in-Clashes.is c.in_ok-acted.ensures)
+    c.stop_by_clash.ensures

@@ -1,3 +1,5 @@
+use Rattle.table_parts.proofs.Running.{aborts_runs}
+use Rattle.std.proofs.Common.{◌∙◌}
 use Rattle.std.proofs.Common.{subst}
 use Rattle.world_parts.specs.Lines.{KeepsLine}
 use Rattle.world_parts.specs.LineLemmas.{aborts_keeps}
@@ -14,3 +16,9 @@ pub returns-clause-line : goal.returns-clause-line
 returns-clause-line c =
     subst (λ (p : Part). KeepsLine p.store.world c.abort.new.self.world) c.self.view_is
     (aborts_keeps c.self.inside.store.world c.abort.new.self.world c.args.t.number c.abort.ensures.aborts)
+
+pub invariant_of-self : goal.invariant_of-self
+invariant_of-self c = record {
+  line = c.abort.ensures.line_told;
+  runs = aborts_runs c.self.inside.store.world c.abort.new.self.world c.args.t.number c.abort.ensures.aborts ∙ c.self.invariant.runs;
+}

@@ -1,3 +1,5 @@
+use Rattle.table_parts.proofs.Running.{back_runs}
+use Rattle.std.proofs.Common.{sym, ◌∙◌}
 use Rattle.std.proofs.Common.{subst}
 use Rattle.engine.specs.Events.{opened_by}
 use Rattle.world_parts.specs.Lines.{KeepsLine}
@@ -17,3 +19,11 @@ returns-clause-line c =
     subst (λ (p : Part). KeepsLine p.store.world c.back_to.new.self.world) c.self.view_is
     (back_keeps c.self.inside.store.world c.back_to.new.self.world c.args.t.now.number (opened_by c.args.t.now.list) c.args.mark
     c.back_to.ensures.goes_back)
+
+pub invariant_of-self : goal.invariant_of-self
+invariant_of-self c = record {
+  line = c.self.invariant.line ∙ sym c.back_to.ensures.line;
+  runs =
+      back_runs c.self.inside.store.world c.back_to.new.self.world c.args.t.now.number (opened_by c.args.t.now.list) c.args.mark c.back_to.ensures.goes_back
+      ∙ c.self.invariant.runs;
+}

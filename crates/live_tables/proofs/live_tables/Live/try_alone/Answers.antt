@@ -1,5 +1,7 @@
 use Rattle.std.proofs.Common.{rules, ◌≡◌, if◌then◌else◌, true, false, Bool, Some, length, refl, sym, subst, ◌∙◌}
-use Rattle.std.specs.Prelude.{Ok}
+use Rattle.std.specs.Prelude.{Ok, Err}
+use Rattle.model.specs.Effect.{outcome}
+use Rattle.change.specs.Applied.{AnswersOutcome}
 use Rattle.std.specs.FinMap.{get}
 use Rattle.model.specs.declared.change.Change as change_type
 use Rattle.model.specs.declared.item.Item.TheVariants.{Change}
@@ -7,20 +9,19 @@ use Rattle.model.specs.Named.{NamesTables}
 use Rattle.model.specs.Rows.{Schema}
 use Rattle.world.specs.World.{Opened, World}
 use Rattle.world.specs.Steps.{Acts, IsDone, IsSkipped, done_with}
-use Rattle.live_tables.specs.Answers.{told, after_act}
-use Rattle.live_tables.specs.Transactions.{WritesTransaction, HasApplied, HasRefused}
+use Rattle.live_tables.specs.Answers.{verdict_of}
+use Rattle.live_tables.specs.Transactions.{HasApplied}
 use Rattle.live_tables.specs.Represents.{Represents}
-use Rattle.live_tables.specs.ByHolds.{RepresentsWith}
-use Rattle.live_tables.specs.Tried.{HasActedBy}
-use Rattle.live_tables.specs.ActLemmas.{free_again}
+use Rattle.live_tables.specs.Tried.{HasTried}
+use Rattle.live_tables.specs.ActLemmas.{after_refusal, refusal_caused, refusal_told}
 use Rattle.live_tables.specs.declared.live_tables.Live.{Live}
 use Rattle.keyholds.specs.Holds.{cells_held}
 use Rattle.live_tables.specs.ByHoldsLemmas.{never_absent, open_tells}
 use Rattle.live_tables.specs.BasicLemmas.{writes_by_borrow}
-use Rattle.live_tables.specs.LoneLemmas.{would, lone_free, lone_taken, left_stands, lone_clashed}
+use Rattle.live_tables.specs.LoneLemmas.{would, stands, lone_free, lone_taken, lone_refused}
 use Rattle.live_tables.proofs.Refusals.{memory_refused, runs_there}
-use Rattle.live_tables.proofs.live_tables.Live.act_alone.Goals as goal
-use Rattle.live_tables.proofs.live_tables.Live.act_alone.Goals.{After-apply, After-refuse}
+use Rattle.live_tables.proofs.live_tables.Live.try_alone.Goals as goal
+use Rattle.live_tables.proofs.live_tables.Live.try_alone.Goals.{After-apply}
 
 pub returns-in_err-change : goal.returns-in_err-change
 returns-in_err-change c =
@@ -74,19 +75,19 @@ pub returns-in-Ok-true : goal.returns-in-Ok-true
 returns-in-Ok-true c =
     let at = (goal.at.returns-in-Ok-true c).After-apply in
     let applied = rw c.in-Ok-true.field-0-test at c.in-Ok-true.ensures.ok in
-    record { acts = λ w o tied is. lent_acts at true applied w o tied is; tied = λ w o tied is. lent_tied at true applied w o tied is; cause = search rules; schema = search rules }
+    record { tries = λ w o tied is. lent_acts at true applied w o tied is; tied = λ w o tied is. lent_tied at true applied w o tied is; cause = search rules; schema = search rules }
 
 pub returns-in-Ok-false : goal.returns-in-Ok-false
 returns-in-Ok-false c =
     let at = (goal.at.returns-in-Ok-false c).After-apply in
     let applied = rw c.in-Ok-false.field-0-test at c.in-Ok-false.ensures.ok in
-    record { acts = λ w o tied is. lent_acts at false applied w o tied is; tied = λ w o tied is. lent_tied at false applied w o tied is; cause = search rules; schema = search rules }
+    record { tries = λ w o tied is. lent_acts at false applied w o tied is; tied = λ w o tied is. lent_tied at false applied w o tied is; cause = search rules; schema = search rules }
 
 -- ---- it was refused
 
--- the store before the refusal is told
-abbrev before : After-refuse → Live
-before c = record {
+-- the store then
+abbrev after : goal.After-verdict → Live
+after c = record {
   tables = c.apply.new.tables;
   holds = c.args.self.now.holds;
   made = c.args.self.now.made;
@@ -94,52 +95,27 @@ before c = record {
   stopped = c.args.self.now.stopped;
 }
 
-abbrev writes : (c : After-refuse) → WritesTransaction c.args.xid c.in-Some.transaction.now c.apply.new.self c.args.self.now.transactions (before c).transactions
-writes c =
-    writes_by_borrow c.args.xid c.in-Some.transaction.now c.apply.new.self c.args.self.now.transactions (before c).transactions (sym c.in-Some.ensures.value)
-    (c.get_mut.follows.holds c.apply.new.self)
+-- the change that was copied is the one that was lent
+clashed : (c : goal.After-verdict) → AnswersOutcome (outcome c.args.self.now.tables.schema c.args.self.now.tables.rows c.args.c.now) (Err c.in-Err.refused.clash)
+clashed c =
+    subst (λ (change : change_type.Change). AnswersOutcome (outcome c.args.self.now.tables.schema c.args.self.now.tables.rows change) (Err c.in-Err.refused.clash)) c.in_ok-change.ensures
+    c.in-Err.ensures.err.clash
 
-module _ (c : After-refuse) (w : World) (o : Opened) (tied : Represents w c.args.self.now) (is : get w.opened c.args.xid ≡ Some o) where
-  told_of : HasRefused c.in-Err.refused c.in_ok-change.change c.args.self.now.tables c.apply.new.tables c.in-Some.transaction.now c.apply.new.self
-  told_of = c.in-Err.ensures.err
-
-  -- the change that is handed back is the one that was lent
-  handed_back : c.in-Err.refused.change ≡ c.args.c.now
-  handed_back = told_of.change_is ∙ c.in_ok-change.ensures
-
-  refused_by : HasActedBy (RepresentsWith (would w c.args.self.now tied c.requires.alone c.args.xid o is)) (before c) c.refuse.new.self c.args.xid c.args.xid c.in-Err.refused.change c.refuse.result
-  refused_by =
-      c.refuse.ensures.acted (would w c.args.self.now tied c.requires.alone c.args.xid o is)
-      (free_again c.args.self.now.tables.schema c.args.self.now.tables.rows (cells_held (would w c.args.self.now tied c.requires.alone c.args.xid o is)) c.args.xid c.in-Err.refused.change
-      (lone_free w c.args.self.now tied c.requires.alone c.args.xid o is c.in-Err.refused.change) c.apply.new.tables.schema c.apply.new.tables.rows
-      (cells_held (would w c.args.self.now tied c.requires.alone c.args.xid o is)) c.in-Err.refused.change told_of.tables.schema_is told_of.tables.rows refl refl)
-
-  stood : RepresentsWith (would w c.args.self.now tied c.requires.alone c.args.xid o is) w (before c)
-  stood =
-      left_stands w c.args.self.now tied c.requires.alone c.args.xid o is c.in-Some.transaction.now c.apply.new.self (before c) (writes c) refl refl told_of.tables.schema_is
-      told_of.tables told_of.kept refl
-
-  refused_acts : Acts c.args.self.now.tables.schema w c.args.xid o c.args.xid c.args.c.now (told c.refuse.result) (after_act w c.args.xid o c.args.xid c.args.c.now (told c.refuse.result))
-  refused_acts =
-      subst (λ (schema : Schema). Acts schema w c.args.xid o c.args.xid c.args.c.now (told c.refuse.result) (after_act w c.args.xid o c.args.xid c.args.c.now (told c.refuse.result)))
-      told_of.tables.schema_is
-      (subst (λ (change : change_type.Change). Acts c.apply.new.tables.schema w c.args.xid o c.args.xid change (told c.refuse.result)
-      (after_act w c.args.xid o c.args.xid change (told c.refuse.result))) handed_back (refused_by.acts w o stood is))
-
-  refused_tied : Represents (after_act w c.args.xid o c.args.xid c.args.c.now (told c.refuse.result)) c.refuse.new.self
-  refused_tied =
-      subst (λ (change : change_type.Change). Represents (after_act w c.args.xid o c.args.xid change (told c.refuse.result)) c.refuse.new.self) handed_back
-      (lone_clashed w c.args.self.now tied c.requires.alone c.args.xid o is c.in-Some.transaction.now c.apply.new.self (before c) (writes c) refl refl told_of.tables.schema_is
-      told_of.kept c.args.xid c.in-Err.refused.change (told c.refuse.result) c.refuse.new.self (refused_by.tied w o stood is) c.refuse.ensures.made c.refuse.ensures.holds refused_by.schema
-      c.refuse.ensures.records)
+refused : (c : goal.After-verdict) → HasTried c.args.self.now (after c) c.args.xid c.args.xid c.args.c.now (verdict_of c.in-Err.refused.clash)
+refused c = record {
+  tries = λ w o tied is.
+      refusal_told w (record c.args.self.now { holds = would w c.args.self.now tied c.requires.alone c.args.xid o is }) (stands w c.args.self.now tied c.requires.alone c.args.xid o is)
+      c.args.xid o is c.args.xid c.args.c.now c.requires.running (lone_free w c.args.self.now tied c.requires.alone c.args.xid o is c.args.c.now) c.in-Err.refused.clash (clashed c);
+  tied = λ w o tied is.
+      subst (λ (v : World). Represents v (after c)) (sym (after_refusal w c.args.xid o c.args.xid c.args.c.now c.in-Err.refused.clash))
+      (lone_refused w c.args.self.now tied c.requires.alone c.args.xid o is c.in-Some.transaction.now c.apply.new.self (after c)
+      (writes_by_borrow c.args.xid c.in-Some.transaction.now c.apply.new.self c.args.self.now.transactions (after c).transactions (sym c.in-Some.ensures.value)
+      (c.get_mut.follows.holds c.apply.new.self))
+      refl refl c.in-Err.ensures.err.tables.schema_is c.in-Err.ensures.err.tables c.in-Err.ensures.err.kept refl);
+  cause = refusal_caused c.in-Err.refused.clash;
+  schema = c.in-Err.ensures.err.tables.schema_is;
+}
 
 pub returns-in-Err : goal.returns-in-Err
 returns-in-Err c =
-    let at = (goal.at.returns-in-Err c).After-refuse in
-    let (w, o, tied, is) = c.requires.tied in
-    record {
-      acts = λ w o tied is. refused_acts at w o tied is;
-      tied = λ w o tied is. refused_tied at w o tied is;
-      cause = (refused_by at w o tied is).cause;
-      schema = (refused_by at w o tied is).schema ∙ (told_of at w o tied is).tables.schema_is;
-    }
+    subst (HasTried c.args.self.now (after c) c.args.xid c.args.xid c.args.c.now) (sym c.verdict.ensures) (refused c)
