@@ -2,7 +2,7 @@
 --     keeps_opened, keeps_committed, keeps_aborted      a transaction opens; it is committed; it is aborted
 --     keeps_stopped      something stops the store
 --     keeps_new, keeps_room      nothing has happened; there is more room
---     told_some      what stopped it is told
+--     told_some, stop_told      what stopped it is told, to its caller too
 --     one_left, has_room      how many are open without one that is; there is room for its entry
 use Rattle.std.specs.Prelude.{◌≡◌, ℕ, ◌+◌, ◌<◌, ◌≤◌, Bool, true, false, if◌then◌else◌, List, [], ◌∷◌, ◌++◌, Option, Some, None, map, length, is_some, IsSome, IfSome, vec_len, vec_capacity, refl}
 use Rattle.std.proofs.Common.{Vec, Global, sym, ◌∙◌, ap, subst, inl, inr, true≢false, arith, eq-eqb, ne_eqb}
@@ -29,7 +29,7 @@ use Rattle.engine.specs.StoreLemmas.{still_rising}
 use Rattle.engine.specs.EventLemmas.{same_commits, more_commits, ends_same, ends_more, rise_more}
 use Rattle.live_tables.specs.declared.live_tables.Stopped as stopped_type
 use Rattle.live_tables.specs.declared.live_tables.Stopped.TheVariants.{Clash as StoppedByClash, Held as StoppedByHold}
-use Rattle.live_tables.specs.Answers.{cause_of, stop_for, told_stop, HasCause}
+use Rattle.live_tables.specs.Answers.{cause_of, stop_for, told_stop, stop_of, TellsWhatStopped, HasCause}
 use Rattle.parted_store.specs.declared.entry.Entry.{Entry}
 use Rattle.parted_store.specs.declared.journal.Journal.TheInside.{Inside}
 use Rattle.parted_store.specs.Journal.{entry_in, IsJournal}
@@ -163,6 +163,15 @@ told_some (Some (StoppedByClash xid c clash)) caused = by (cause_of clash) cause
     by None none = absurd (true≢false (sym none))
     by (Some cause) is = refl
 told_some (Some (StoppedByHold waiter holder)) caused = refl
+
+-- and so its caller is told
+pub stop_told : (stopped : stopped_type.Stopped) → HasCause stopped → TellsWhatStopped (Some (stop_of stopped)) (told_stop (Some stopped))
+stop_told (StoppedByClash xid c clash) caused = by (cause_of clash) refl caused
+  where
+    by : (found : Option ClashCause) → cause_of clash ≡ found → IsSome found → TellsWhatStopped (Some (stop_of (StoppedByClash xid c clash))) (stop_for xid c found)
+    by None is none = absurd (true≢false (sym none))
+    by (Some cause) is some = (c, cause, is, refl)
+stop_told (StoppedByHold waiter holder) caused = refl
 
 -- one that its line tells open is among those that are open, so one less is left without it
 pub one_left : (j : Inside) → IsJournal j → (xid : ℕ) (line : Half LineEvent) → is_open_in line.list xid ≡ true → line ≡ j.line

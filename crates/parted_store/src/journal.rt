@@ -2,12 +2,13 @@
 ghost use Rattle.std.specs.Prelude.{◌≡◌, ◌<◌, ◌≤◌, ◌+◌, ◌∷◌, ◌++◌, [], true, false, ℕ, Some, None, IsSome, IfOk, IfErr, OnOk, OnErr, is_some, map, vec_len, vec_capacity};
 ghost use Rattle.std.specs.BTreeSet as set;
 ghost use Rattle.std.specs.BTreeSet.{btree_set_len};
+ghost use Rattle.std.specs.List.Sorted.{IsStrictlyIncreasing};
 ghost use Rattle.std.specs.Ordering.{nat_cmp};
-ghost use Rattle.model.specs.Beginning.{last_end};
+ghost use Rattle.model.specs.Beginning.{Begins, last_end};
 ghost use Rattle.model.specs.Survivors.{survivors};
 ghost use Rattle.world.specs.World.{World, ByHold, entry_of};
 ghost use Rattle.world.specs.Steps.{Opens};
-ghost use Rattle.live_tables.specs.Answers.{cause_of, stop_for, told_call, after_open, IsNoClash};
+ghost use Rattle.live_tables.specs.Answers.{cause_of, stop_for, told_call, after_open, TellsWhatStopped, IsNoClash};
 ghost use Rattle.engine.specs.declared.events.LineEvent.TheVariants.{Opened as WasOpened, Committed as WasCommitted, Aborted as WasAborted};
 ghost use Rattle.engine.specs.Events.{opened_by, commits_in, ends_in, is_open_in};
 ghost use Rattle.parted_store.specs.Journal.{entry_in};
@@ -18,13 +19,13 @@ use crate::entry::Entry;
 use crate::ticket::Ticket;
 use crate::told::Told;
 use change::Clash;
-use engine::{Changes, EngineFault, Event, LineEvent};
-use live_tables::Stopped;
+use engine::{Changes, EngineFault, Event, LineEvent, stop_of};
+use live_tables::{Stop, Stopped};
 use model::{Change, CommitInfo, Item, MOST_OPEN, OutOfMemory, Xid};
 use std::alloc::Global;
 use std::collections::BTreeSet;
 use std::marker::{Brand, Model};
-use tokens::{Items, Kept, Token, grow, grow_by, pair};
+use tokens::{Items, Kept, Seen as SeenList, Token, grow, grow_by, look, meet, pair, watch};
 
 /// The one token of a store's commits. A clause sees its name, and the list of what happened to all
 /// transactions: which were opened, committed with which items, and aborted.
@@ -40,6 +41,22 @@ impl Model for Line {
     ghost Value = { Half AnyEvent };
 
     ghost view = { λ l. l.token };
+}
+
+/// What was seen of a store's line: a beginning of what it is now. It has no bytes. A clause sees the
+/// line's name, and the list of what was seen.
+#[derive(Debug, Drop)]
+pub struct Seen {
+    list: SeenList<LineEvent>,
+}
+
+impl Model for Seen {
+    ghost use Rattle.engine.specs.declared.events.LineEvent.{LineEvent as AnyEvent};
+    ghost use Rattle.tokens.specs.Half.{Half};
+
+    ghost Value = { Half AnyEvent };
+
+    ghost view = { λ s. s.list };
 }
 
 /// The part of a store that is no table's: the entries of its commits, which transactions are open, and
@@ -96,6 +113,69 @@ impl Journal {
         ensures { result ≡ is_some self.now.stopped }
     {
         self.stopped.is_some()
+    }
+
+    /// What stopped the store, if anything did. It takes no memory.
+    pub fn stop(&self) -> Option<Stop>
+        ensures { TellsWhatStopped result self.now.stopped }
+    {
+        match &self.stopped {
+            None => None,
+            Some(stopped) => Some(stop_of(stopped)),
+        }
+    }
+
+    /// Whether a transaction is open. It takes no memory.
+    pub fn is_open(&self, xid: Xid) -> bool
+        ensures { result ≡ is_open_in self.now.line.list xid }
+    {
+        self.open_ones.contains(&xid)
+    }
+
+    /// Tells a proof what its type keeps: where the log goes on behind each commit rises from one to the next. It
+    /// does nothing.
+    pub fn recall_invariant(&self)
+        ensures { IsStrictlyIncreasing (0 ∷ ends_in self.now.line.list) }
+    {
+        let _count = self.entries.len();
+    }
+
+    /// Learns that its line tells all that happened to its transactions. Nothing changes, and it takes no memory.
+    pub fn meet(&mut self, line: &mut Line)
+        requires { line.old.name ≡ self.old.line.name }
+        ensures met { line.old ≡ self.old.line }
+        ensures same { self.new ≡ self.old }
+        ensures line { line.new ≡ line.old }
+    {
+        meet(&mut self.line, &mut line.token);
+    }
+
+    /// Sees the commits as they are now. It takes no memory.
+    pub fn watch(&mut self) -> Seen
+        ensures same { self.new ≡ self.old }
+        ensures seen { result ≡ self.old.line }
+    {
+        Seen {
+            list: watch(&mut self.line),
+        }
+    }
+
+    /// Learns that what was seen is a beginning of the line, and sees all of it. It takes no memory.
+    pub fn look(&mut self, seen: &mut Seen)
+        requires { seen.old.name ≡ self.old.line.name }
+        ensures same { self.new ≡ self.old }
+        ensures begins { Begins seen.old.list self.old.line.list }
+        ensures seen { seen.new ≡ self.old.line }
+    {
+        look(&mut self.line, &mut seen.list);
+    }
+
+    /// The entries, for whoever gives up the rest. It takes no memory.
+    pub fn into_entries(self) -> Vec<Entry>
+        ensures { map entry_in result.items ≡ map entry_of (commits_in self.line.list) }
+    {
+        let Journal { entries, .. } = self;
+        entries
     }
 
     /// A transaction opens. In every world that has this journal's part the call is the step. Stopped goes

@@ -54,7 +54,7 @@ pub use clashing::clash_in;
 pub use coming::come_to;
 pub use ends::{abort_in, commit_in};
 pub use entry::Entry;
-pub use journal::{Journal, Line};
+pub use journal::{Journal, Line, Seen};
 pub use meeting::meet_in;
 pub use ticket::Ticket;
 pub use touching::touch_in;

@@ -1,11 +1,13 @@
 // The right to work on an open transaction of a store in parts.
-ghost use Rattle.std.specs.Prelude.{◌≡◌, ◌++◌, [], IfOk};
+ghost use Rattle.std.specs.Prelude.{◌≡◌, ◌++◌, [], IfOk, is_some};
 ghost use Rattle.live_tables.specs.Answers.{told_fault};
 ghost use Rattle.engine.specs.Events.{refusal_events};
+ghost use Rattle.parted_store.specs.Lent.{HasShares};
+ghost use Rattle.parted_store.specs.Shares.{share_of};
 
 use crate::told::Told;
 use engine::{EngineFault, Event, Ticket as Share};
-use model::{Item, OutOfMemory, Xid};
+use model::{Item, OutOfMemory, TableId, Xid};
 use savepoint::Savepoints;
 use std::alloc::Global;
 use std::marker::{Brand, Model};
@@ -54,12 +56,30 @@ impl Ticket {
 
     /// A call of the transaction is refused, and its list tells it. Nothing else changes, and it takes no
     /// memory.
-    pub(crate) fn refuse(&mut self, fault: EngineFault) -> EngineFault
+    pub fn refuse(&mut self, fault: EngineFault) -> EngineFault
         ensures same { result ≡ fault }
         ensures ticket { self.new ≡ record self.old { events = self.old.events ++ refusal_events (told_fault fault) } }
     {
         tell_refusal(&mut self.events, &fault);
         fault
+    }
+
+    /// Tells a proof what its type keeps: it has a share of each table in which its transaction did something, or
+    /// wants something. It does nothing.
+    pub fn recall_invariant(&self)
+        ensures { HasShares self.now }
+    {
+        let _xid = self.xid;
+    }
+
+    /// Whether it has a share of the table.
+    pub fn has_share(&self, table: TableId) -> bool
+        ensures { result ≡ is_some (share_of self.now.shares table) }
+    {
+        if table >= self.shares.len() {
+            return false;
+        }
+        self.shares[table].is_some()
     }
 
     /// The transaction's number.
