@@ -17,5 +17,6 @@ pub mod ToldLemmas
 pub mod LineLemmas
 pub mod ReachedLemmas
 pub mod TwiceLemmas
+pub mod MadeLemmas
 pub mod StepLemmas
 pub mod FineLemmas

@@ -22,9 +22,9 @@ use Rattle.world.specs.Live.{IsListing, live_rows}
 use Rattle.world.specs.Fine.{StillClashes, IsFine}
 use Rattle.world_parts.specs.ByTable.{names_table, rows_at, change_at, changes_at, IsIn, AreOf}
 use Rattle.world_parts.specs.Parts.{wanted_by, wanted_if, IsPartOf, after_tried, rested}
-use Rattle.world_parts.specs.Marks.{marked_at, under, items_at, mark_for, kept_by, survivors_if, IsFirstDropped, AreKept, AreDropped, HasPart, CutsTo, CutsNothing}
+use Rattle.world_parts.specs.Marks.{marked_at, under, items_at, mark_for, kept_by, survivors_if, IsFirstDropped, AreKept, AreDropped, HasPart, AreMarked, CutsTo, CutsNothing}
 use Rattle.world_parts.specs.Lines.{HasLine, KeepsLine, IsCommit, rows_until}
-use Rattle.world_parts.specs.Reached.{PartStep, IsReachedByParts, HasReachedPart}
+use Rattle.world_parts.specs.Reached.{PartStep, PartReaches, IsReachedByParts, HasReachedPart}
 
 -- ---- rows and changes by their table
 
@@ -215,6 +215,32 @@ pub record HasOpen (table : ℕ) (part : World) (xid : ℕ) (o : Opened) : Type 
   pub starts : part.start ≡ rows_at table part.start
   pub told : survivors_if xid (get part.opened xid) ≡ items_at table xid (survivors xid o.items)
   pub wants : wanted_if (get part.opened xid) ≡ changes_at table (wanted_by o.wants)
+
+-- ---- a world that is made of parts
+
+-- its committed rows are those after its commits
+abbrev pub IsSerial : Schema → World → Type 0
+IsSerial schema w = w.committed ≡ serial schema w.start (changes_in w.line)
+
+-- A part that has nothing of another table: its commits are those that the world's line has in the table, and of each
+-- transaction of the world it was told just its items there, and has what it wants there; of no other it has anything.
+pub record IsMadeOf (schema : Schema) (table : ℕ) (w part : World) : Type 0 where
+  pub own : HasPart table part part
+  pub serial_commits : IsSerial schema part
+  pub line : HasLine table w part
+  pub told : AreMarked table w part
+  pub wanted : (xid : ℕ) → wanted_if (get part.opened xid) ≡ changes_at table (wanted_if (get w.opened xid))
+
+-- such a part, to which parts of calls lead
+abbrev pub HasMadePart : Schema → Rows → World → ℕ → Type 0
+HasMadePart schema start w table =
+    (part : World) × IsMadeOf schema table w part × PartReaches schema table (starting (rows_at table start)) part
+
+-- a world is reached by parts where it has such a part of each table
+abbrev pub MadeOfParts : Type 0
+MadeOfParts =
+    (schema : Schema) (start : Rows) (w : World) → IsSerial schema w → ((table : ℕ) → HasMadePart schema start w table)
+    → IsReachedByParts schema start w
 
 -- a truncate of several leads on in the part of one, where nobody else holds anything of that, whatever is in the others
 abbrev pub TruncateLeads : Type 0

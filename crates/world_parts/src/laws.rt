@@ -1,6 +1,6 @@
 // The laws of parts. Each function does nothing: its contract is a law, and the check of this crate
 // proves it.
-ghost use Rattle.world_parts.specs.Statements.{RowsByTable, WalkedByTable, ValidByTable, SerialByTable, HeldByTable, HasEachPart, PartOfPart, PartOfItself, TriedInPart, TruncatedByParts, LiveInPart, PartAfterOpen, PartAfterTry, PartAfterTouch, PartAfterRollback, PartAfterCommit, PartAfterAbort, LineBegins, LineAfterCommit, LineAfterStep, LineStays, RowsUntilInPart, ReachedByParts, ReachedOfEach, TruncateLeads, WaitingLeads, ChangesAreTold, RollbackByTable, RollbackByMarks, PartIsFine, FineByParts};
+ghost use Rattle.world_parts.specs.Statements.{RowsByTable, WalkedByTable, ValidByTable, SerialByTable, HeldByTable, HasEachPart, PartOfPart, PartOfItself, TriedInPart, TruncatedByParts, LiveInPart, PartAfterOpen, PartAfterTry, PartAfterTouch, PartAfterRollback, PartAfterCommit, PartAfterAbort, LineBegins, LineAfterCommit, LineAfterStep, LineStays, RowsUntilInPart, ReachedByParts, ReachedOfEach, MadeOfParts, TruncateLeads, WaitingLeads, ChangesAreTold, RollbackByTable, RollbackByMarks, PartIsFine, FineByParts};
 
 /// Rows that agree in each table are the same.
 pub fn rows_by_table()
@@ -120,6 +120,12 @@ pub fn reached_by_parts()
 /// So it is where each part is reached by calls of its own.
 pub fn reached_of_each()
     ensures { ReachedOfEach }
+{}
+
+/// So it is where it is made of parts, each with its commits and transactions in the table, to which parts of
+/// calls lead.
+pub fn made_of_parts()
+    ensures { MadeOfParts }
 {}
 
 /// A truncate of several leads on in the part of one of its tables, where nobody else holds anything of that.
