@@ -4,7 +4,7 @@
 --     is_done, items_of      whether the transaction has done it; the item that it has done
 --     Rests      the parts of other tables and their shares behind it
 --     IsActed      a part of another table in every world in which it was, once the ticket's transaction has tried it
-use Rattle.std.specs.Prelude.{◌≡◌, ℕ, Bool, true, false, List, [], ◌∷◌, length, Option, Some, None, Result, Ok, Err}
+use Rattle.std.specs.Prelude.{◌≡◌, ℕ, Bool, true, false, List, [], ◌∷◌, length, None, Result, Ok, Err}
 use Rattle.model.specs.declared.change.Change as change_type
 use Rattle.model.specs.declared.item.Item.{Item}
 use Rattle.model.specs.declared.item.Item.TheVariants.{Change}

@@ -3,7 +3,7 @@
 --     free_there, held_there, each_free      the table of a part is free, or held; each is free
 --     CutsHere, cut_here, cut_beside      lent are the parts of its tables: what it is in each, and beside them
 --     cut_done, cut_held      so it is done in the world, or held
-use Rattle.std.specs.Prelude.{◌≡◌, ℕ, ◌==◌, Bool, true, false, ◌||◌, List, [], ◌∷◌, Some, None, IsSome, slice_get, Ok, refl}
+use Rattle.std.specs.Prelude.{◌≡◌, ℕ, ◌==◌, Bool, true, false, ◌||◌, List, [], ◌∷◌, Some, None, slice_get, Ok, refl}
 use Rattle.std.proofs.Common.{sym, ◌∙◌, ap, subst, append-nil}
 use Rattle.std.specs.List.{AllByRecursion}
 use Rattle.std.specs.FinMap.{insert}

@@ -2,7 +2,7 @@
 --     committed_by, aborted_by      what the end of a share is in every world
 --     same_committed, end_committed, same_aborted, end_aborted      the part is the same one; where its log goes on
 --     commits_beside, aborts_beside      a part of a table of which there is no share stays
-use Rattle.std.specs.Prelude.{◌≡◌, ℕ, ◌<◌, ◌≤◌, List, [], Option, Some, None, IsSome, refl}
+use Rattle.std.specs.Prelude.{◌≡◌, ℕ, ◌<◌, ◌≤◌, List, [], Option, Some, None, refl}
 use Rattle.std.proofs.Common.{sym, ◌∙◌, ap, subst, arith}
 use Rattle.std.specs.FinMap.{get}
 use Rattle.model.specs.declared.item.CommitInfo.{CommitInfo}

@@ -20,8 +20,6 @@ use Rattle.model.specs.Survivors.{survivors}
 use Rattle.savepoint.proofs.Indexed.{take-take}
 use Rattle.live_tables.specs.BeforeImageLemmas.{slice_front, slice_longer, slice_next}
 use Rattle.world.specs.World.{Opened}
-use Rattle.live_tables.specs.declared.answers.EngineFault.{EngineFault}
-use Rattle.live_tables.specs.declared.answers.EngineFault.TheVariants.{AlreadyOpen, TooManyOpen, Clash, Stopped, OutOfMemory}
 use Rattle.engine.specs.declared.events.Event.TheVariants.{Wants}
 use Rattle.engine.specs.Events.{opened_by}
 use Rattle.engine.specs.EventLemmas.{opened_more}

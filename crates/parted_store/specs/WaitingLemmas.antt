@@ -16,7 +16,7 @@ use Rattle.model.specs.declared.change.Change.{Change}
 use Rattle.model.specs.Named.{NamesTables}
 use Rattle.model.specs.Rows.{Schema}
 use Rattle.model.specs.Survivors.{survivors}
-use Rattle.world.specs.World.{Opened, World, OpenOnes}
+use Rattle.world.specs.World.{Opened, OpenOnes}
 use Rattle.world.specs.Steps.{wanting}
 use Rattle.world_parts.specs.Parts.{wanted_by}
 use Rattle.engine.specs.declared.events.Event.TheVariants.{Wants}

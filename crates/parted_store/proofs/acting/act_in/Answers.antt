@@ -1,8 +1,7 @@
-use Rattle.std.proofs.Common.{◌≡◌, ◌≢◌, ◌++◌, ◌∙◌, ℕ, List, Some, None, refl, sym, ap, subst}
+use Rattle.std.proofs.Common.{◌≡◌, ◌≢◌, ◌++◌, ◌∙◌, ℕ, List, Some, refl, sym, ap, subst}
 use Rattle.std.specs.Prelude.{Result, IsSomeAnd, is_some, length, slice_get, not, ◌==◌, ◌||◌, unwrap_or, if◌then◌else◌}
 use Rattle.std.specs.FinMap.{get}
 use Rattle.std.proofs.lemmas.Option.{same_Some}
-use Rattle.model.specs.declared.change.Change.{Change}
 use Rattle.model.specs.Survivors.{survivors}
 use Rattle.world.specs.World.{Opened, World}
 use Rattle.world.specs.Steps.{Fault, Acted}

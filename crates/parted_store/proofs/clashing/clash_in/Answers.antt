@@ -1,8 +1,7 @@
-use Rattle.std.proofs.Common.{true, false, ◌≡◌, ◌≢◌, ◌++◌, ◌∷◌, [], ◌∙◌, ℕ, List, append-nil, Some, None, refl, sym, ap, subst, inl}
-use Rattle.std.specs.Prelude.{Option, Result, Ok, IsSome, IsSomeAnd, length, slice_get}
+use Rattle.std.proofs.Common.{true, false, ◌≡◌, ◌≢◌, ◌++◌, ◌∙◌, ℕ, List, append-nil, Some, None, refl, sym, ap, subst, inl}
+use Rattle.std.specs.Prelude.{Option, Result, Ok, IsSome, IsSomeAnd, slice_get}
 use Rattle.std.specs.FinMap.{get}
 use Rattle.std.proofs.lemmas.Option.{same_Some}
-use Rattle.model.specs.declared.change.Change.{Change}
 use Rattle.model.specs.Effect.{ClashCause}
 use Rattle.model.specs.Survivors.{survivors}
 use Rattle.world.specs.World.{Opened, ByClash, World}

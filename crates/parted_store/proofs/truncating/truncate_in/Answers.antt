@@ -1,7 +1,6 @@
 use Rattle.std.proofs.Common.{◌≡◌, ◌++◌, ◌∷◌, [], ◌∙◌, ℕ, List, Some, None, refl, sym, ap, subst}
 use Rattle.std.specs.Prelude.{Result, Ok, Err, IfErr, IsSome, IsSomeAnd, is_some, length, slice_get, not, ◌==◌, ◌||◌, unwrap_or, if◌then◌else◌}
 use Rattle.std.proofs.lemmas.Bool.{false≢true}
-use Rattle.model.specs.declared.change.Change.{Change}
 use Rattle.model.specs.Survivors.{survivors}
 use Rattle.model.specs.declared.cell.Cell.TheVariants.{Whole}
 use Rattle.world.specs.World.{Opened, World, IsFree}
