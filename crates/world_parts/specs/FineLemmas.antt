@@ -1,4 +1,5 @@
 -- A world keeps what every world keeps that calls reach where its parts do, and they do where it does.
+--     wipe_accepted      a truncate clashes with nothing
 --     accepted_at, accepted_by_tables      changes of which none clashes, by table
 --     apart_at, apart_by_tables      two lists of changes that share no cell, by table
 --     serial_by_tables      rows are those after changes where each table's are
@@ -32,7 +33,7 @@ use Rattle.world_parts.specs.Statements.{HasFinePart}
 
 -- ---- changes of which none clashes
 
-wipe_accepted : (schema : Schema) (rows : Rows) (tables : List ℕ) → HasNoClash schema rows (Wipe tables)
+pub wipe_accepted : (schema : Schema) (rows : Rows) (tables : List ℕ) → HasNoClash schema rows (Wipe tables)
 wipe_accepted schema rows tables cause e = cc
 
 module _ (schema : Schema) (table : ℕ) (rows : Rows) where

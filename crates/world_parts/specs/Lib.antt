@@ -4,6 +4,8 @@ pub mod Marks
 pub mod PartOf
 pub mod Lines
 pub mod Reached
+pub mod Sound
+pub mod Led
 pub mod Statements
 pub mod ByTableLemmas
 pub mod HeldLemmas
@@ -20,3 +22,6 @@ pub mod TwiceLemmas
 pub mod MadeLemmas
 pub mod StepLemmas
 pub mod FineLemmas
+pub mod SoundLemmas
+pub mod SoundPartLemmas
+pub mod LedLemmas

@@ -20,7 +20,7 @@ use Rattle.world_parts.specs.TwiceLemmas.{rows_twice}
 -- ---- the changes of a table's line
 
 -- those of its commits, in order
-abbrev changes_of_line : List TableCommit → List Change
+abbrev pub changes_of_line : List TableCommit → List Change
 changes_of_line line = flat_map (λ (c : TableCommit). c.changes) line
 
 -- a commit that changed nothing there tells nothing
@@ -29,7 +29,7 @@ told_once : (end : ℕ) (cs : List Change) (line : List TableCommit)
 told_once end [] line = refl
 told_once end (c ∷ cs) line = refl
 
-changes_by_commits : (table : ℕ) (line : List Past) → changes_at table (changes_in line) ≡ changes_of_line (line_at table line)
+pub changes_by_commits : (table : ℕ) (line : List Past) → changes_at table (changes_in line) ≡ changes_of_line (line_at table line)
 changes_by_commits table [] = refl
 changes_by_commits table (p ∷ line) =
     changes_both table (work_behind p) (changes_in line)

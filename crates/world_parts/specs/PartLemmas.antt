@@ -2,17 +2,18 @@
 --     own_at, outcome_at, footprint_at      what a transaction sees of a table, and what a change of the table does and meets there
 --     free_lifts, held_lifts      cells of the table are free, or held, in the world where they are in the part
 --     free_here      and free in the part where they are in the world
---     acts_lifts      a change of the table comes to in the world what it comes to in the part
+--     clashing_lifts      a change of the table clashes in the world where it does in the part
+--     acts_lifts      and comes there to what it comes to in the part
 use Rattle.std.specs.Prelude.{◌≡◌, ℕ, true, false, List, Option, Some, None, Ok, refl}
 use Rattle.std.proofs.Common.{sym, ◌∙◌, ap, subst, true≢false}
 use Rattle.std.specs.FinMap.{get}
 use Rattle.model.specs.declared.change.Change as change_type
 use Rattle.model.specs.declared.cell.Cell.{Cell}
 use Rattle.model.specs.Rows.{Rows, Schema}
-use Rattle.model.specs.Effect.{outcome, serial}
+use Rattle.model.specs.Effect.{ClashCause, outcome, serial}
 use Rattle.model.specs.Footprint.{footprint, held_cells, shares_cell}
 use Rattle.world.specs.World.{Opened, World, own_rows, IsHeldBy, IsFree}
-use Rattle.world.specs.Steps.{Acted, IsDone, IsSkipped, Held, Clashed, Acts}
+use Rattle.world.specs.Steps.{Acted, IsDone, IsSkipped, Held, Clashed, Acts, IsClashing}
 use Rattle.world_parts.specs.ByTable.{rows_at, changes_at, IsIn, AreOf, AreSameIn}
 use Rattle.world_parts.specs.ByTableLemmas.{get_rows_here, InTable, in_view, outcome_in, footprint_of, serial_at}
 use Rattle.world_parts.specs.HeldLemmas.{footprint_in, shares_at, holds_nothing}
@@ -128,6 +129,10 @@ module _ (schema : Schema) (table : ℕ) (w part : World) (is : IsPartOf table w
   held_too holder held =
       held_lifts schema table w part is xid (footprint schema (own_rows schema w xid o) c) its_cells holder
       (subst (λ cells. IsHeldBy schema part xid cells holder) same_cells held)
+
+  -- what clashes in the part clashes in the world
+  pub clashing_lifts : (cause : ClashCause) → IsClashing schema part xid p c cause → IsClashing schema w xid o c cause
+  clashing_lifts cause clashing = (free_too clashing.0, same_outcome ∙ clashing.1)
 
   -- what comes of it in the part comes of it in the world
   pub acts_lifts : w.stopped ≡ None → (sub mark : ℕ) (answer : Acted) (new : World) → Acts schema part xid p mark c (Ok answer) new

@@ -25,6 +25,8 @@ use Rattle.world_parts.specs.Parts.{wanted_by, wanted_if, IsPartOf, after_tried,
 use Rattle.world_parts.specs.Marks.{marked_at, under, items_at, mark_for, kept_by, survivors_if, IsFirstDropped, AreKept, AreDropped, HasPart, AreMarked, CutsTo, CutsNothing}
 use Rattle.world_parts.specs.Lines.{HasLine, KeepsLine, IsCommit, rows_until}
 use Rattle.world_parts.specs.Reached.{PartStep, PartReaches, IsReachedByParts, HasReachedPart}
+use Rattle.world_parts.specs.Led.{IsLed}
+use Rattle.world_parts.specs.Sound.{IsSound, IsAlike, HasSoundPart, StopsInTable}
 
 -- ---- rows and changes by their table
 
@@ -304,3 +306,27 @@ abbrev pub FineByParts : Type 0
 FineByParts =
     (schema : Schema) (w : World) → ((table : ℕ) → HasFinePart schema w table) → IsValid schema w.start
     → w.committed ≡ serial schema w.start (changes_in w.line) → StillClashes schema w → IsFine schema w
+
+-- every world that calls reach from valid rows is sound
+abbrev pub SoundReached : Type 0
+SoundReached =
+    (schema : Schema) (rows : Rows) → IsValid schema rows → (w : World) → Reaches schema (starting rows) w → IsSound schema w
+
+-- and so is one that has the same start, commits and stop, and of open transactions the same that survives
+abbrev pub SoundAlike : Type 0
+SoundAlike = (schema : Schema) (w v : World) → IsAlike w v → IsSound schema w → IsSound schema v
+
+-- a world is sound of which each part is, where what stopped it was of one table
+abbrev pub SoundByParts : Type 0
+SoundByParts =
+    (schema : Schema) (w : World) → ((table : ℕ) → HasSoundPart schema w table) → StopsInTable w → IsSound schema w
+
+-- a run may have each world that calls reach
+abbrev pub LedReached : Type 0
+LedReached =
+    (schema : Schema) (start : Rows) (w : World) → ∥ Reaches schema (starting start) w ∥₁ → IsLed schema start w
+
+-- and behind a call the world that it leads to
+abbrev pub LedByStep : Type 0
+LedByStep =
+    (schema : Schema) (start : Rows) (w new : World) → IsLed schema start w → Step schema w new → IsLed schema start new

@@ -1,6 +1,6 @@
 // The laws of parts. Each function does nothing: its contract is a law, and the check of this crate
 // proves it.
-ghost use Rattle.world_parts.specs.Statements.{RowsByTable, WalkedByTable, ValidByTable, SerialByTable, HeldByTable, HasEachPart, PartOfPart, PartOfItself, TriedInPart, TruncatedByParts, LiveInPart, PartAfterOpen, PartAfterTry, PartAfterTouch, PartAfterRollback, PartAfterCommit, PartAfterAbort, LineBegins, LineAfterCommit, LineAfterStep, LineStays, RowsUntilInPart, ReachedByParts, ReachedOfEach, MadeOfParts, TruncateLeads, WaitingLeads, ChangesAreTold, RollbackByTable, RollbackByMarks, PartIsFine, FineByParts};
+ghost use Rattle.world_parts.specs.Statements.{RowsByTable, WalkedByTable, ValidByTable, SerialByTable, HeldByTable, HasEachPart, PartOfPart, PartOfItself, TriedInPart, TruncatedByParts, LiveInPart, PartAfterOpen, PartAfterTry, PartAfterTouch, PartAfterRollback, PartAfterCommit, PartAfterAbort, LineBegins, LineAfterCommit, LineAfterStep, LineStays, RowsUntilInPart, ReachedByParts, ReachedOfEach, MadeOfParts, TruncateLeads, WaitingLeads, ChangesAreTold, RollbackByTable, RollbackByMarks, PartIsFine, FineByParts, SoundReached, SoundAlike, SoundByParts, LedReached, LedByStep};
 
 /// Rows that agree in each table are the same.
 pub fn rows_by_table()
@@ -161,4 +161,29 @@ pub fn part_is_fine()
 /// A world keeps it where each of its parts does.
 pub fn fine_by_parts()
     ensures { FineByParts }
+{}
+
+/// Every world that calls reach from valid rows is sound.
+pub fn sound_reached()
+    ensures { SoundReached }
+{}
+
+/// So is a world that is alike: of its transactions survives the same, and they want the same.
+pub fn sound_alike()
+    ensures { SoundAlike }
+{}
+
+/// So is one of which each part is, where a clash that stopped it was of one table.
+pub fn sound_by_parts()
+    ensures { SoundByParts }
+{}
+
+/// A run may have each world that calls reach.
+pub fn led_reached()
+    ensures { LedReached }
+{}
+
+/// So may it have each that a call leads to.
+pub fn led_by_step()
+    ensures { LedByStep }
 {}

@@ -20,6 +20,8 @@
 //   specs/Lines           the commits of a table, and the line of a part
 //   specs/PartOf          a part that is made of a world
 //   specs/Reached         a world whose parts are reached, each by calls of its own
+//   specs/Sound           what every world keeps that calls reach, said of any world
+//   specs/Led             what is so of the world of a run
 //   specs/Statements      the laws as statements, which `laws` promises
 //   specs/..Lemmas        the same for the layers above
 //
