@@ -78,13 +78,13 @@ module _ (t : OpenTicket) (p : Part) (w : World) (has : HasTable w p) (at : HasT
   aborted_by None none q did = subst (HasTable _) (sym did) (aborts_nothing none)
   aborted_by (Some share) number q did = record {
     is =
-        subst (λ (n : ℕ). HasPart n (aborted_with w t.number) q.store.world) (sym did.1.number)
+        subst (λ (n : ℕ). HasPart n (aborted_with w t.number) q.store.world) (sym did.2.number)
         (subst (HasPart p.number (aborted_with w t.number))
-        (sym (did.0 ∙ ap (aborted_with p.store.world) number))
+        (sym (did.1 ∙ ap (aborted_with p.store.world) number))
         (aborts_here p.number w p.store.world has.is t.number));
     line =
-        subst (λ (n : ℕ). HasLine n (aborted_with w t.number) q.store.world) (sym did.1.number)
-        (subst (HasLine p.number (aborted_with w t.number)) (sym did.0) (record { start = has.line.start; line = has.line.line }));
+        subst (λ (n : ℕ). HasLine n (aborted_with w t.number) q.store.world) (sym did.2.number)
+        (subst (HasLine p.number (aborted_with w t.number)) (sym did.1) (record { start = has.line.start; line = has.line.line }));
   }
 
 -- ---- the part itself
@@ -104,11 +104,11 @@ module _ (p q : Part) (info : CommitInfo) where
 module _ (p q : Part) where
   pub same_aborted : (share : Option Share) → AbortsShare p share q → IsSamePart p q
   same_aborted None did = same_part p q did
-  same_aborted (Some share) did = did.1
+  same_aborted (Some share) did = did.2
 
   pub end_aborted : (share : Option Share) → AbortsShare p share q → last_commit_end q ≡ last_commit_end p
   end_aborted None did = ap last_commit_end did
-  end_aborted (Some share) did = did.2
+  end_aborted (Some share) did = did.3
 
 -- a part of a table that is none of those lent
 module _ (parts : List Part) (t : OpenTicket) (its : HasShares t) (covers : Covers parts t.shares) where

@@ -23,7 +23,8 @@ CommitsShare info p (Some share) q =
 abbrev pub AbortsShare : Part → Option Share → Part → Type 0
 AbortsShare p None q = q ≡ p
 AbortsShare p (Some share) q =
-    Aborts p.store.world share.number q.store.world × IsSamePart p q × (last_commit_end q ≡ last_commit_end p)
+    (get p.store.world.opened share.number ≡ Some (opened_by share.list))
+    × Aborts p.store.world share.number q.store.world × IsSamePart p q × (last_commit_end q ≡ last_commit_end p)
 
 -- it does so, and the share is gone
 abbrev pub Takes : (Part → Option Share → Part → Type 0) → Part → Option Share → Part → Option Share → Type 0

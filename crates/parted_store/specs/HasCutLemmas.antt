@@ -1,9 +1,11 @@
 -- What follows of what came of a truncate in all parts.
 --     same_again      a share that is still one, twice over
 --     shares_left      other shares are what they were
+--     table_among      a part of a table is among them, or none is
 --     share_cut, shares_kept      each share is still one of its part and number
 --     long_truncated      as many parts are there
 --     free_truncated      where it is done nobody else has anything in a part
+--     tells_truncated      how it may be answered
 --     part_cut, acts_cut      each part in the world behind it, and the step of the world
 --     share_needed      the ticket has the shares that it needs
 use Rattle.std.specs.Prelude.{◌≡◌, ◌≢◌, ◌⊎◌, ℕ, zero, suc, Bool, true, false, List, [], ◌∷◌, ◌++◌, Option, Some, None, IsSomeAnd, is_some, length, slice_get, Result, Ok, Err, refl}
@@ -35,7 +37,7 @@ use Rattle.parted_store.specs.EachPart.{IsBeside}
 use Rattle.parted_store.specs.EachPartLemmas.{some_then}
 use Rattle.parted_store.specs.Lent.{OpenTicket, HasTable, HasTicket, IsShare, HasShares}
 use Rattle.parted_store.specs.Shares.{Share, Shares, share_of}
-use Rattle.parted_store.specs.Truncating.{EachIs, Stands, Keeps, Waits, HasTruncated, CutsHere, HasEach}
+use Rattle.parted_store.specs.Truncating.{EachIs, Stands, Keeps, Waits, HasTruncated, TellsTruncate, CutsHere, HasEach}
 
 -- ---- shares
 
@@ -72,7 +74,7 @@ some_is None R is = absurd is
 some_is (Some x) R is = is
 
 -- a part of the table is among them, or none is
-table_among : (parts : List Part) (table : ℕ) → ((i : ℕ) × (p : Part) × (slice_get parts i ≡ Some p) × (p.number ≡ table)) ⊎ IsBeside parts table
+pub table_among : (parts : List Part) (table : ℕ) → ((i : ℕ) × (p : Part) × (slice_get parts i ≡ Some p) × (p.number ≡ table)) ⊎ IsBeside parts table
 table_among [] table = inr (λ i p there. absurd (false≢true (ap is_some there)))
 table_among (first ∷ parts) table =
     elim (xid_cases first.number table) [
@@ -150,6 +152,21 @@ module _ (t : OpenTicket) (its : HasShares t) where
         → (i : ℕ) (p : Part) → slice_get start i ≡ Some p → IsFree p.store.schema p.store.world t.number (Whole p.number ∷ [])
     free_truncated answer came done =
         free_each (subst (λ (a : Result Verdict EngineFault). HasTruncated mark start t.shares a parts shares) done came)
+
+    -- and held where another holds the table of one
+    pub tells_truncated : (answer : Result Verdict EngineFault) → HasTruncated mark start t.shares answer parts shares → TellsTruncate start t.number answer
+    tells_truncated (Ok (ActedVerdict Done)) came = tt
+    tells_truncated (Ok (ActedVerdict (Held holder))) came =
+        let one = came.0 in (
+          one.0,
+          one.1,
+          one.3,
+          subst (λ (n : ℕ). IsHeldBy one.1.store.schema one.1.store.world n (Whole one.1.number ∷ []) holder) (number_there one.1.number one.2 one.4)
+              (held_there one.1 one.2 holder one.6),
+        )
+    tells_truncated (Ok (ActedVerdict Skipped)) came = absurd came
+    tells_truncated (Ok (Clashes clash)) came = absurd came
+    tells_truncated (Err fault) came = came.0
 
 -- ---- in a world that has the parts
 

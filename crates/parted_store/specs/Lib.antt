@@ -9,6 +9,7 @@ pub mod Acting
 pub mod Touching
 pub mod Back
 pub mod Ends
+pub mod KeepsSound
 pub mod EachPartLemmas
 pub mod ActLemmas
 pub mod BackLemmas
@@ -24,3 +25,5 @@ pub mod TriedLemmas
 pub mod WaitingLemmas
 pub mod CutLemmas
 pub mod HasCutLemmas
+pub mod StandLemmas
+pub mod KeepsSoundLemmas

@@ -9,10 +9,12 @@
 --     CanWait, CanWaitEach      the truncate can wait in a part; in each
 --     IsHeldInOne      another is in the way in one of the parts
 --     HasTruncated      what came of it in all parts
+--     IsHeldInPart, TellsTruncate      another holds the table of one of the parts; how a truncate may be answered
 use Rattle.std.specs.Prelude.{◌≡◌, ◌≢◌, ◌⊎◌, ℕ, ◌<◌, ◌≤◌, Bool, true, false, List, [], ◌∷◌, Option, Some, None, IsSome, IsSomeAnd, Result, Ok, Err, length, slice_get}
 use Rattle.std.specs.FinMap.{get, insert}
 use Rattle.model.specs.declared.change.Change.{Change}
 use Rattle.model.specs.declared.change.Change.TheVariants.{Wipe}
+use Rattle.model.specs.declared.cell.Cell.TheVariants.{Whole}
 use Rattle.model.specs.Footprint.{footprint}
 use Rattle.model.specs.Rows.{Schema}
 use Rattle.model.specs.Survivors.{survivors}
@@ -124,3 +126,18 @@ HasTruncated mark start all (Ok (ActedVerdict (Held holder))) parts shares = IsH
 HasTruncated mark start all (Ok (ActedVerdict Skipped)) parts shares = ⊥
 HasTruncated mark start all (Ok (Clashes clash)) parts shares = ⊥
 HasTruncated mark start all (Err fault) parts shares = (fault ≡ NoMemory) × EachIs (Stands true) start all parts shares
+
+-- ---- how it may be answered
+
+-- another transaction holds the table of one of the parts
+abbrev pub IsHeldInPart : List Part → ℕ → ℕ → Type 0
+IsHeldInPart parts xid holder =
+    (i : ℕ) × (p : Part) × (slice_get parts i ≡ Some p) × IsHeldBy p.store.schema p.store.world xid (Whole p.number ∷ []) holder
+
+-- It is done; another holds the table of one of the parts; or memory is refused.
+abbrev pub TellsTruncate : List Part → ℕ → Result Verdict EngineFault → Type 0
+TellsTruncate parts xid (Ok (ActedVerdict Done)) = Unit {0}
+TellsTruncate parts xid (Ok (ActedVerdict (Held holder))) = IsHeldInPart parts xid holder
+TellsTruncate parts xid (Ok (ActedVerdict Skipped)) = ⊥
+TellsTruncate parts xid (Ok (Clashes clash)) = ⊥
+TellsTruncate parts xid (Err fault) = fault ≡ NoMemory

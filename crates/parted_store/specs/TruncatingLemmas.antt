@@ -1,4 +1,5 @@
 -- What follows of parts in which a truncate is tried.
+--     apart_cases      of two places that differ one is before the other
 --     one_changes      one part and its share change their state
 --     zone_up, zone_down      the border of two states moves by one
 --     each_as, nothing_yet      other words for the states; nothing was tried
@@ -20,7 +21,8 @@ use Rattle.parted_store.specs.Truncating.{EachIs, Zones, Untouched}
 pub some_same : {A : Type 0} (P : A → Type 0) (found : Option A) (x : A) → found ≡ Some x → IsSomeAnd found P → P x
 some_same {A = A} P found x is so = subst (λ (f : Option A). IsSomeAnd f P) is so
 
-apart_cases : (j i : ℕ) → j ≢ i → (j < i) ⊎ (i < j)
+-- of two places that differ one is before the other
+pub apart_cases : (j i : ℕ) → j ≢ i → (j < i) ⊎ (i < j)
 apart_cases zero zero differs = absurd (differs refl)
 apart_cases zero (suc i) differs = inl (omega arith)
 apart_cases (suc j) zero differs = inr (omega arith)

@@ -1,8 +1,10 @@
 // A change that is tried in the part of its table.
-ghost use Rattle.std.specs.Prelude.{◌≡◌, ◌≢◌, ◌<◌, ◌++◌, ℕ, [], Some, IsSome, IsSomeAnd, IfErr, length, slice_get, vec_len, vec_capacity};
+ghost use Rattle.std.specs.Prelude.{◌≡◌, ◌≢◌, ◌<◌, ◌++◌, ℕ, [], Some, Ok, IsSome, IsSomeAnd, IfErr, length, slice_get, vec_len, vec_capacity};
 ghost use Rattle.model.specs.Named.{NamesTables};
+ghost use Rattle.change.specs.declared.outcome.Clash.{Clash as AnyClash};
 ghost use Rattle.world.specs.World.{World};
 ghost use Rattle.live_tables.specs.declared.answers.EngineFault.TheVariants.{OutOfMemory as NoMemory};
+ghost use Rattle.live_tables.specs.declared.answers.Verdict.TheVariants.{Clashes};
 ghost use Rattle.live_tables.specs.Answers.{after_act, TellsVerdict};
 ghost use Rattle.live_tables.specs.Tried.{Tries, after_try};
 ghost use Rattle.engine.specs.Events.{opened_by, events_of};
@@ -13,10 +15,12 @@ ghost use Rattle.parted_store.specs.Acting.{running, as_told, is_done as told_do
 ghost use Rattle.parted_store.specs.Back.{KeepsShares};
 ghost use Rattle.parted_store.specs.EachPart.{AreApart, IsBeside, BelongEach};
 ghost use Rattle.parted_store.specs.Journal.{JournalPart};
+ghost use Rattle.parted_store.specs.KeepsSound.{KeepsSound, KeepsSoundRunning, ClashesHere};
 ghost use Rattle.parted_store.specs.Lent.{HasTable, HasJournal, HasTicket, IsSamePart, Belongs, Stands};
 ghost use Rattle.parted_store.specs.Shares.{share_of};
 
 use crate::back::back_each;
+use crate::boxed::BoxedPart;
 use crate::marks::{latest, make_place, unset_mark};
 use crate::shares::{put_share, take_share};
 use crate::ticket::Ticket;
@@ -36,7 +40,7 @@ use tokens::Items;
 pub fn act_in(
     alloc: Global,
     part: &mut Part,
-    others: &mut [Part],
+    others: &mut [BoxedPart],
     ticket: &mut Ticket,
     sub: Xid,
     c: &Change,
@@ -71,6 +75,10 @@ pub fn act_in(
     ensures stands { Stands part.old ticket.old.shares → Stands part.new ticket.new.shares }
     ensures same { IsSamePart part.old part.new }
     ensures end { last_commit_end part.new ≡ last_commit_end part.old }
+    ensures stand_others { (i : ℕ) (p : AnyPart) → slice_get others.old i ≡ Some p → Stands p ticket.old.shares → IsSomeAnd (slice_get others.new i) (λ q. Stands q ticket.new.shares) }
+    ensures sound { KeepsSoundRunning part.old part.new }
+    ensures sound_others { (i : ℕ) (p : AnyPart) → slice_get others.old i ≡ Some p → IsSomeAnd (slice_get others.new i) (KeepsSound p) }
+    ensures clash { (clash : AnyClash) → result ≡ Ok (Clashes clash) → ClashesHere part.new ticket.new.shares c.now clash }
 {
     let Ok(change) = c.copy() else {
         return Err(ticket.refuse(EngineFault::OutOfMemory));
@@ -94,7 +102,7 @@ pub fn act_in(
 
 // The transaction waits in these parts no more, unless the change was refused or clashed.
 pub(crate) fn rest_each(
-    others: &mut [Part],
+    others: &mut [BoxedPart],
     shares: &mut Vec<Option<Share>>,
     xid: Xid,
     answer: &Result<Verdict, EngineFault>,

@@ -10,9 +10,11 @@ ghost use Rattle.table_parts.specs.Part.{Part as AnyPart, last_commit_end};
 ghost use Rattle.parted_store.specs.Back.{IsBackAt, BacksShare, KeepsShares, IsSameShare, IsRolledBack};
 ghost use Rattle.parted_store.specs.EachPart.{AreApart, IsBeside, Covers, BelongEach, Progress};
 ghost use Rattle.parted_store.specs.Journal.{JournalPart};
-ghost use Rattle.parted_store.specs.Lent.{HasTable, HasJournal, HasTicket, IsSamePart, Belongs};
+ghost use Rattle.parted_store.specs.KeepsSound.{KeepsSound};
+ghost use Rattle.parted_store.specs.Lent.{HasTable, HasJournal, HasTicket, IsSamePart, Belongs, Stands};
 ghost use Rattle.parted_store.specs.Shares.{share_of};
 
+use crate::boxed::BoxedPart;
 use crate::marks::cut_back;
 use crate::shares::{put_share, take_share};
 use crate::ticket::Ticket;
@@ -26,7 +28,7 @@ use tokens::Items;
 /// A subtransaction of an open transaction is rolled back, also in a store that is stopped, over the parts
 /// that are lent: those of all tables in which the transaction did something. In every world that has them
 /// the call is the step; the parts of other tables stay, and the journal's. It takes no memory.
-pub fn back_to_in(parts: &mut [Part], ticket: &mut Ticket, sub: Xid)
+pub fn back_to_in(parts: &mut [BoxedPart], ticket: &mut Ticket, sub: Xid)
     requires apart { AreApart parts.old }
     requires belong { BelongEach parts.old ticket.old.shares }
     requires covers { Covers parts.old ticket.old.shares }
@@ -41,6 +43,8 @@ pub fn back_to_in(parts: &mut [Part], ticket: &mut Ticket, sub: Xid)
     ensures events { ticket.new.events ≡ ticket.old.events ++ Done (BackTo sub) ∷ [] }
     ensures xid { ticket.new.number ≡ ticket.old.number }
     ensures shares { KeepsShares ticket.old.shares ticket.new.shares }
+    ensures stand { (i : ℕ) (p : AnyPart) → slice_get parts.old i ≡ Some p → Stands p ticket.old.shares → IsSomeAnd (slice_get parts.new i) (λ q. Stands q ticket.new.shares) }
+    ensures sound { (i : ℕ) (p : AnyPart) → slice_get parts.old i ≡ Some p → IsSomeAnd (slice_get parts.new i) (KeepsSound p) }
 {
     back_each(parts, &mut ticket.shares, sub, ticket.marks.since(sub));
     cut_back(&mut ticket.items, &mut ticket.marks, ticket.xid, sub);
@@ -49,7 +53,7 @@ pub fn back_to_in(parts: &mut [Part], ticket: &mut Ticket, sub: Xid)
 
 /// The share of each part is rolled back, to the subtransaction's mark and to those that are dropped.
 pub(crate) fn back_each(
-    parts: &mut [Part],
+    parts: &mut [BoxedPart],
     shares: &mut Vec<Option<Share>>,
     sub: Xid,
     dropped: &[(Xid, usize)],
@@ -65,14 +69,19 @@ pub(crate) fn back_each(
 }
 
 // The share of a part is rolled back, if there is one.
-fn back_share(part: &mut Part, shares: &mut Vec<Option<Share>>, sub: Xid, dropped: &[(Xid, usize)])
+fn back_share(
+    part: &mut BoxedPart,
+    shares: &mut Vec<Option<Share>>,
+    sub: Xid,
+    dropped: &[(Xid, usize)],
+)
     requires { Belongs part.old shares.old.items }
     ensures back { BacksShare (sub ∷ subs_of dropped.now) part.old (share_of shares.old.items part.old.number) part.new (share_of shares.new.items part.old.number) }
     ensures others { (other : ℕ) → other ≢ part.old.number → share_of shares.new.items other ≡ share_of shares.old.items other }
 {
     let table = part.number();
     if let Some(mut share) = take_share(shares, table) {
-        back_to_marks(part, &mut share, sub, dropped);
+        back_to_marks(part.part(), &mut share, sub, dropped);
         put_share(shares, table, share);
     }
 }

@@ -12,10 +12,12 @@ ghost use Rattle.table_parts.specs.Part.{Part as AnyPart, last_commit_end};
 ghost use Rattle.parted_store.specs.Acting.{IsActed};
 ghost use Rattle.parted_store.specs.Back.{KeepsShares};
 ghost use Rattle.parted_store.specs.EachPart.{AreApart, IsBeside, BelongEach};
+ghost use Rattle.parted_store.specs.KeepsSound.{KeepsSound, StopsSound, ClashesHere};
 ghost use Rattle.parted_store.specs.Lent.{HasTable, HasJournal, HasTicket, IsSamePart, Belongs, Stands};
 ghost use Rattle.parted_store.specs.Shares.{share_of};
 
 use crate::back::back_each;
+use crate::boxed::BoxedPart;
 use crate::journal::Journal;
 use crate::marks::latest;
 use crate::shares::{put_share, take_share};
@@ -34,7 +36,7 @@ use tokens::Items;
 /// the parts of other tables stay. It answers the clash; or that memory was refused, and nothing changed.
 pub fn clash_in(
     part: &mut Part,
-    others: &mut [Part],
+    others: &mut [BoxedPart],
     journal: &mut Journal,
     ticket: &mut Ticket,
     sub: Xid,
@@ -50,6 +52,7 @@ pub fn clash_in(
     requires belong { BelongEach others.old ticket.old.shares }
     requires elsewhere { (table : ℕ) → table ≢ part.old.number → IsBeside others.old table → changes_at table (wanted_by (opened_by ticket.old.events).wants) ≡ [] }
     requires cause { IsSome (cause_of clash) }
+    requires clashes { ClashesHere part.old ticket.old.shares c.now clash }
     ensures fault { (result ≡ ClashFault clash) ⊎ (result ≡ NoMemory) }
     ensures part { (w : World) → HasTable w part.old → HasTicket w ticket.old
         → HasTable (after_act w ticket.old.number (opened_by ticket.old.events) sub c.now (told (Err result))) part.new }
@@ -70,6 +73,10 @@ pub fn clash_in(
     ensures same { IsSamePart part.old part.new }
     ensures end { last_commit_end part.new ≡ last_commit_end part.old }
     ensures line { journal.new.line ≡ journal.old.line }
+    ensures stand_others { (i : ℕ) (p : AnyPart) → slice_get others.old i ≡ Some p → Stands p ticket.old.shares → IsSomeAnd (slice_get others.new i) (λ q. Stands q ticket.new.shares) }
+    ensures sound { result ≡ ClashFault clash → StopsSound ticket.old.number c.now clash part.old part.new }
+    ensures refused { result ≡ NoMemory → part.new ≡ part.old }
+    ensures sound_others { (i : ℕ) (p : AnyPart) → slice_get others.old i ≡ Some p → IsSomeAnd (slice_get others.new i) (KeepsSound p) }
 {
     let Ok(wanted) = c.copy() else {
         return ticket.refuse(EngineFault::OutOfMemory);

@@ -4,6 +4,7 @@ ghost use Rattle.std.specs.FinMap.{get};
 ghost use Rattle.world.specs.World.{World};
 ghost use Rattle.live_tables.specs.Answers.{IsNoClash};
 ghost use Rattle.table_parts.specs.Part.{last_commit_end};
+ghost use Rattle.parted_store.specs.KeepsSound.{KeepsSoundRunning};
 ghost use Rattle.parted_store.specs.Lent.{HasTable, IsSamePart, Belongs, Stands};
 ghost use Rattle.parted_store.specs.Shares.{share_of};
 
@@ -32,6 +33,7 @@ pub fn come_to(alloc: Global, part: &mut Part, ticket: &mut Ticket) -> Result<()
     ensures err { OnErr result ((other : ℕ) → share_of ticket.new.shares other ≡ share_of ticket.old.shares other) }
     ensures same { IsSamePart part.old part.new }
     ensures end { last_commit_end part.new ≡ last_commit_end part.old }
+    ensures sound { KeepsSoundRunning part.old part.new }
 {
     let table = part.number();
     make_room(&mut ticket.shares, table)?;

@@ -188,6 +188,7 @@ impl Journal {
         ensures ticket { IfOk result (λ ticket. ticket ≡ record { number = xid; events = []; shares = [] }) }
         ensures met { OnOk result (line.old ≡ self.old.line) }
         ensures line { OnOk result (line.new ≡ self.new.line) }
+        ensures name { line.new.name ≡ line.old.name }
         ensures ok { OnOk result (line.new.list ≡ line.old.list ++ WasOpened xid ∷ []) }
         ensures err { OnErr result (self.new ≡ self.old) }
         ensures err_line { OnErr result (line.new ≡ line.old) }

@@ -9,10 +9,13 @@ ghost use Rattle.engine.specs.Events.{opened_by, touch_events};
 ghost use Rattle.table_parts.specs.Part.{Part as AnyPart, last_commit_end};
 ghost use Rattle.parted_store.specs.Back.{KeepsShares};
 ghost use Rattle.parted_store.specs.EachPart.{AreApart, IsBeside, BelongEach, WaitsAmong};
-ghost use Rattle.parted_store.specs.Lent.{HasTable, HasJournal, HasTicket, IsSamePart};
+ghost use Rattle.parted_store.specs.KeepsSound.{KeepsSound};
+ghost use Rattle.parted_store.specs.Lent.{HasTable, HasJournal, HasTicket, IsSamePart, Stands};
+ghost use Rattle.parted_store.specs.Shares.{share_of};
 ghost use Rattle.parted_store.specs.Touching.{IsTouched};
 
 use crate::back::back_each;
+use crate::boxed::BoxedPart;
 use crate::journal::Journal;
 use crate::marks::make_place;
 use crate::ticket::Ticket;
@@ -20,14 +23,13 @@ use crate::told::Told;
 use engine::{EngineFault, Event};
 use model::{Item, Xid};
 use std::marker::Brand;
-use table_parts::Part;
 use tokens::Items;
 
 /// A subtransaction of an open transaction is named by an item that changes no row, over the journal's part
 /// and those in which the transaction waits, if it waits. In every world that has them the call is the step,
 /// and the parts of other tables stay. A refusal is listed, and changes nothing else.
 pub fn touch_in(
-    parts: &mut [Part],
+    parts: &mut [BoxedPart],
     journal: &Journal,
     ticket: &mut Ticket,
     sub: Xid,
@@ -50,6 +52,9 @@ pub fn touch_in(
     ensures events { ticket.new.events ≡ ticket.old.events ++ touch_events sub (told_call result) }
     ensures xid { ticket.new.number ≡ ticket.old.number }
     ensures shares { KeepsShares ticket.old.shares ticket.new.shares }
+    ensures left { (table : ℕ) → IsBeside parts.old table → share_of ticket.new.shares table ≡ share_of ticket.old.shares table }
+    ensures stand { (i : ℕ) (p : AnyPart) → slice_get parts.old i ≡ Some p → Stands p ticket.old.shares → IsSomeAnd (slice_get parts.new i) (λ q. Stands q ticket.new.shares) }
+    ensures sound { (i : ℕ) (p : AnyPart) → slice_get parts.old i ≡ Some p → IsSomeAnd (slice_get parts.new i) (KeepsSound p) }
 {
     if journal.is_stopped() {
         return Err(ticket.refuse(EngineFault::Stopped));

@@ -22,18 +22,20 @@ ghost use Rattle.parted_store.specs.Back.{KeepsShares};
 ghost use Rattle.table_parts.specs.Several.{IsAttempted, IsKept, IsLeft, IsSameAs, ComesTo, IsRefused};
 ghost use Rattle.parted_store.specs.EachPart.{AreApart, IsBeside, BelongEach};
 ghost use Rattle.parted_store.specs.Journal.{JournalPart};
-ghost use Rattle.parted_store.specs.Lent.{HasTable, HasJournal, HasTicket, IsSamePart, Belongs};
+ghost use Rattle.parted_store.specs.KeepsSound.{KeepsSound, KeepsSoundRunning};
+ghost use Rattle.parted_store.specs.Lent.{HasTable, HasJournal, HasTicket, IsSamePart, Belongs, Stands as StandsAsTold};
 ghost use Rattle.parted_store.specs.Shares.{Share as AnyShare, Shares as AnyShares, share_of};
-ghost use Rattle.parted_store.specs.Truncating.{CutsHere, HasEach, Both, EachIs, Zones, Attempts, Stands, Keeps, Waits, CanWaitEach, IsHeldInOne, HasTruncated, cut_of};
+ghost use Rattle.parted_store.specs.Truncating.{CutsHere, HasEach, Both, EachIs, Zones, Attempts, Stands, Keeps, Waits, CanWaitEach, IsHeldInOne, HasTruncated, TellsTruncate, cut_of};
 
 use crate::acting::{keep, rest_each, tell};
+use crate::boxed::BoxedPart;
 use crate::marks::{latest, make_place, unset_mark};
 use crate::shares::{put_share, take_share};
 use crate::ticket::Ticket;
 use engine::{Acted, EngineFault, Ticket as Share, Verdict};
 use model::{Change, OutOfMemory, Xid};
 use std::alloc::Global;
-use table_parts::{Attempt, Attempted, Part};
+use table_parts::{Attempt, Attempted};
 use world_parts::cutting::truncate_of;
 
 /// A subtransaction of an open transaction tries a truncate of several tables, in whose parts the transaction
@@ -44,8 +46,8 @@ use world_parts::cutting::truncate_of;
 /// parts of other tables stay.
 pub fn truncate_in(
     alloc: Global,
-    parts: &mut [Part],
-    others: &mut [Part],
+    parts: &mut [BoxedPart],
+    others: &mut [BoxedPart],
     ticket: &mut Ticket,
     sub: Xid,
     c: &Change,
@@ -76,12 +78,17 @@ pub fn truncate_in(
         → HasTable (after_act w ticket.old.number (opened_by ticket.old.events) sub c.now (as_told result)) p }
     ensures free { result ≡ Ok (ActedVerdict WasDone) → (i : ℕ) (p : AnyPart) → slice_get parts.old i ≡ Some p
         → IsFree p.store.schema p.store.world ticket.old.number (Whole p.number ∷ []) }
+    ensures tells { TellsTruncate parts.old ticket.old.number result }
     ensures cause { TellsVerdict result }
     ensures fault { IfErr result (λ fault. fault ≡ NoMemory) }
     ensures ticket { ticket.new.events ≡ ticket.old.events ++ events_of sub c.now (as_told result) }
     ensures xid { ticket.new.number ≡ ticket.old.number }
     ensures shares { KeepsShares ticket.old.shares ticket.new.shares }
     ensures left { (table : ℕ) → IsBeside parts.old table → IsBeside others.old table → share_of ticket.new.shares table ≡ share_of ticket.old.shares table }
+    ensures stand { (i : ℕ) (p : AnyPart) → slice_get parts.old i ≡ Some p → StandsAsTold p ticket.old.shares → IsSomeAnd (slice_get parts.new i) (λ q. StandsAsTold q ticket.new.shares) }
+    ensures stand_others { (i : ℕ) (p : AnyPart) → slice_get others.old i ≡ Some p → StandsAsTold p ticket.old.shares → IsSomeAnd (slice_get others.new i) (λ q. StandsAsTold q ticket.new.shares) }
+    ensures sound { (i : ℕ) (p : AnyPart) → slice_get parts.old i ≡ Some p → IsSomeAnd (slice_get parts.new i) (KeepsSoundRunning p) }
+    ensures sound_others { (i : ℕ) (p : AnyPart) → slice_get others.old i ≡ Some p → IsSomeAnd (slice_get others.new i) (KeepsSound p) }
 {
     let Ok(change) = c.copy() else {
         return Err(ticket.refuse(EngineFault::OutOfMemory));
@@ -102,7 +109,7 @@ pub fn truncate_in(
 }
 
 // What a truncate is in each of the parts.
-fn cuts_of(alloc: Global, parts: &[Part]) -> Result<Vec<Change>, OutOfMemory>
+fn cuts_of(alloc: Global, parts: &[BoxedPart]) -> Result<Vec<Change>, OutOfMemory>
     ensures { IfOk result (λ cuts. cuts.items ≡ map cut_of parts.now) }
 {
     let mut cuts = Vec::new(alloc);
@@ -115,7 +122,7 @@ fn cuts_of(alloc: Global, parts: &[Part]) -> Result<Vec<Change>, OutOfMemory>
 // A part's table is truncated, to be kept or taken back.
 fn attempt_share(
     alloc: Global,
-    part: &mut Part,
+    part: &mut BoxedPart,
     shares: &mut Vec<Option<Share>>,
     mark: Xid,
 ) -> Result<Attempted, EngineFault>
@@ -131,13 +138,13 @@ fn attempt_share(
     let Some(mut share) = take_share(shares, table) else {
         unreachable!()
     };
-    let came = part.attempt(alloc, &mut share, mark);
+    let came = part.part().attempt(alloc, &mut share, mark);
     put_share(shares, table, share);
     came
 }
 
 // What a part attempted is undone.
-fn take_back_share(part: &mut Part, shares: &mut Vec<Option<Share>>, attempt: Attempt)
+fn take_back_share(part: &mut BoxedPart, shares: &mut Vec<Option<Share>>, attempt: Attempt)
     requires belongs { Belongs part.old shares.old.items }
     requires attempted { (p : AnyPart) × (share : AnyShare) × (mark : ℕ) × (c : AnyChange) × IsSomeAnd (share_of shares.old.items part.old.number) (λ now. IsAttempted p share mark c attempt part.old now) }
     ensures left { (p : AnyPart) (share : AnyShare) (mark : ℕ) (c : AnyChange)
@@ -150,12 +157,12 @@ fn take_back_share(part: &mut Part, shares: &mut Vec<Option<Share>>, attempt: At
     let Some(mut share) = take_share(shares, table) else {
         unreachable!()
     };
-    part.take_back(&mut share, attempt);
+    part.part().take_back(&mut share, attempt);
     put_share(shares, table, share);
 }
 
 // What a part attempted is kept.
-fn keep_share(part: &mut Part, shares: &mut Vec<Option<Share>>, attempt: Attempt, mark: Xid)
+fn keep_share(part: &mut BoxedPart, shares: &mut Vec<Option<Share>>, attempt: Attempt, mark: Xid)
     requires belongs { Belongs part.old shares.old.items }
     requires attempted { (p : AnyPart) × (share : AnyShare) × (c : AnyChange) × IsSomeAnd (share_of shares.old.items part.old.number) (λ now. IsAttempted p share mark c attempt part.old now) }
     ensures kept { (p : AnyPart) (share : AnyShare) (c : AnyChange)
@@ -168,12 +175,12 @@ fn keep_share(part: &mut Part, shares: &mut Vec<Option<Share>>, attempt: Attempt
     let Some(mut share) = take_share(shares, table) else {
         unreachable!()
     };
-    part.keep(&mut share, attempt, mark);
+    part.part().keep(&mut share, attempt, mark);
     put_share(shares, table, share);
 }
 
 // The transaction waits with a change of the part's table.
-fn wait_share(part: &mut Part, shares: &mut Vec<Option<Share>>, mark: Xid, cut: Change)
+fn wait_share(part: &mut BoxedPart, shares: &mut Vec<Option<Share>>, mark: Xid, cut: Change)
     requires belongs { Belongs part.old shares.old.items }
     requires share { IsSome (share_of shares.old.items part.old.number) }
     requires names { NamesTables (length part.old.store.schema) cut }
@@ -188,7 +195,7 @@ fn wait_share(part: &mut Part, shares: &mut Vec<Option<Share>>, mark: Xid, cut: 
     let Some(mut share) = take_share(shares, table) else {
         unreachable!()
     };
-    part.wait_with(&mut share, mark, cut);
+    part.part().wait_with(&mut share, mark, cut);
     put_share(shares, table, share);
 }
 
@@ -196,7 +203,7 @@ fn wait_share(part: &mut Part, shares: &mut Vec<Option<Share>>, mark: Xid, cut: 
 // part refuses. Told is what was attempted.
 fn try_each(
     alloc: Global,
-    parts: &mut [Part],
+    parts: &mut [BoxedPart],
     shares: &mut Vec<Option<Share>>,
     mark: Xid,
     tried: &mut Vec<Attempt>,
@@ -224,7 +231,7 @@ fn try_each(
 }
 
 // What the parts attempted is undone.
-fn take_back_each(parts: &mut [Part], shares: &mut Vec<Option<Share>>, tried: Vec<Attempt>)
+fn take_back_each(parts: &mut [BoxedPart], shares: &mut Vec<Option<Share>>, tried: Vec<Attempt>)
     requires tried { (start : List AnyPart) × (all : AnyShares) × (mark : ℕ) × (waits : Bool) × AreApart start × BelongEach start all
         × (length tried.items ≤ length start)
         × EachIs (Zones (length tried.items) (Attempts mark tried.items) (Stands waits)) start all parts.old shares.old.items }
@@ -239,7 +246,12 @@ fn take_back_each(parts: &mut [Part], shares: &mut Vec<Option<Share>>, tried: Ve
 }
 
 // What the parts attempted is kept.
-fn keep_each(parts: &mut [Part], shares: &mut Vec<Option<Share>>, tried: Vec<Attempt>, mark: Xid)
+fn keep_each(
+    parts: &mut [BoxedPart],
+    shares: &mut Vec<Option<Share>>,
+    tried: Vec<Attempt>,
+    mark: Xid,
+)
     requires tried { (start : List AnyPart) × (all : AnyShares) × AreApart start × BelongEach start all × (length tried.items ≡ length start)
         × EachIs (Zones (length tried.items) (Attempts mark tried.items) (Stands false)) start all parts.old shares.old.items }
     ensures { (start : List AnyPart) (all : AnyShares) → AreApart start → length tried.items ≡ length start
@@ -253,7 +265,7 @@ fn keep_each(parts: &mut [Part], shares: &mut Vec<Option<Share>>, tried: Vec<Att
 }
 
 // The transaction waits with the truncate in each of the parts.
-fn wait_each(parts: &mut [Part], shares: &mut Vec<Option<Share>>, mark: Xid, cuts: Vec<Change>)
+fn wait_each(parts: &mut [BoxedPart], shares: &mut Vec<Option<Share>>, mark: Xid, cuts: Vec<Change>)
     requires waits { (start : List AnyPart) × (all : AnyShares) × AreApart start × BelongEach start all × (cuts.items ≡ map cut_of start) × CanWaitEach start all
         × EachIs (Stands false) start all parts.old shares.old.items }
     ensures { (start : List AnyPart) (all : AnyShares) → AreApart start → cuts.items ≡ map cut_of start → CanWaitEach start all
@@ -269,7 +281,7 @@ fn wait_each(parts: &mut [Part], shares: &mut Vec<Option<Share>>, mark: Xid, cut
 // Each of the parts is truncated, or in each the transaction waits with that, or each is left.
 fn truncate_each(
     alloc: Global,
-    parts: &mut [Part],
+    parts: &mut [BoxedPart],
     shares: &mut Vec<Option<Share>>,
     mark: Xid,
     cuts: Vec<Change>,

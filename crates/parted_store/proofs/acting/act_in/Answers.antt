@@ -5,10 +5,12 @@ use Rattle.std.proofs.lemmas.Option.{same_Some}
 use Rattle.model.specs.Survivors.{survivors}
 use Rattle.world.specs.World.{Opened, World}
 use Rattle.world.specs.Steps.{Fault, Acted}
+use Rattle.live_tables.specs.declared.answers.EngineFault.{EngineFault}
+use Rattle.live_tables.specs.declared.answers.Verdict.{Verdict}
 use Rattle.live_tables.specs.Answers.{after_act}
 use Rattle.live_tables.specs.Tried.{Tries, after_try}
 use Rattle.engine.specs.declared.events.Event.{Event}
-use Rattle.engine.specs.Events.{opened_by, events_of}
+use Rattle.engine.specs.Events.{opened_by, events_of, tried_events}
 use Rattle.world_parts.specs.ByTable.{IsIn}
 use Rattle.world_parts.specs.Lines.{HasLine}
 use Rattle.world_parts.specs.LineLemmas.{line_stays}
@@ -17,11 +19,14 @@ use Rattle.table_parts.specs.Part.{Part, last_commit_end}
 use Rattle.savepoint.specs.Savepoints.{mark_at, before_mark, latest_sub}
 use Rattle.parted_store.specs.Acting.{running, as_told, is_done, items_of, Rests, IsActed}
 use Rattle.parted_store.specs.ActLemmas.{try_step, try_part, act_line, in_no_other, ticket_acted, items_acted, shares_acted, tried_there}
-use Rattle.parted_store.specs.Lent.{OpenTicket, HasTable, HasTicket, IsSamePart, IsShare}
+use Rattle.parted_store.specs.KeepsSound.{KeepsSound}
+use Rattle.parted_store.specs.KeepsSoundLemmas.{sound_tried, sound_rests, clashes_there}
+use Rattle.parted_store.specs.Lent.{OpenTicket, HasTable, HasTicket, IsSamePart, IsShare, Stands}
 use Rattle.parted_store.specs.RestLemmas.{long_rested, each_rests, same_rested, end_rested, left_rested, share_kept, acted_by, stays_by}
 use Rattle.parted_store.specs.JournalLemmas.{journal_tried}
 use Rattle.parted_store.specs.Shares.{Share, share_of}
 use Rattle.parted_store.specs.PlaceLemmas.{latest_with, placed_acted}
+use Rattle.parted_store.specs.StandLemmas.{stands_with, stands_rested}
 use Rattle.parted_store.specs.Ticket.{Places, ticket_in, with_place, places_of}
 use Rattle.parted_store.proofs.acting.act_in.Goals as goal
 
@@ -123,6 +128,16 @@ module _ (c : goal.After-keep) where
       (subst (IsShare t.number o p.number) (sym (same_share p apart)) (c.ticket.invariant.shares p.number))
       q (share_of c.rest_each.new.shares.items p.number) did)
 
+  -- the share of its table is left by what is told the parts of others
+  new_share : (share : Share) → share_of c.rest_each.new.shares.items c.try_change-answer.new.self.number ≡ Some share → c.try_change-answer.new.t ≡ share
+  new_share share there =
+      let kept =
+      left_rested t.number answer c.args.others.now c.rest_each.new.others c.put_share.new.shares.items c.rest_each.new.shares.items rests c.args.part.now.number
+      (λ i p at. c.requires.other i p at) in
+      same_Some c.try_change-answer.new.t share
+      (sym c.put_share.ensures.share ∙ ap (share_of c.put_share.new.shares.items) c.number-table.ensures ∙ sym kept
+      ∙ ap (share_of c.rest_each.new.shares.items) (sym c.try_change-answer.ensures.number) ∙ there)
+
 pub invariant_of-ticket-2 : goal.invariant_of-ticket-2
 invariant_of-ticket-2 c = record {
   shares = λ other.
@@ -188,16 +203,39 @@ pub returns-clause-long : goal.returns-clause-long
 returns-clause-long c =
     long_rested (t c).number (answer c) c.args.others.now c.rest_each.new.others c.put_share.new.shares.items c.rest_each.new.shares.items (rests c)
 
--- the share of its table is left by what is told the parts of others
 pub returns-clause-stands : goal.returns-clause-stands
 returns-clause-stands c stood share there =
-    let table = c.args.part.now.number in
-    let number : c.try_change-answer.new.self.number ≡ c.number-table.result = c.try_change-answer.ensures.number ∙ sym c.number-table.ensures in
-    let kept =
-    left_rested (t c).number (answer c) c.args.others.now c.rest_each.new.others c.put_share.new.shares.items c.rest_each.new.shares.items (rests c) table
-    (λ i p at. c.requires.other i p at) in
-    let same : Some c.try_change-answer.new.t ≡ Some share =
-    sym c.put_share.ensures.share ∙ ap (share_of c.put_share.new.shares.items) c.number-table.ensures ∙ sym kept ∙ ap (share_of c.rest_each.new.shares.items) (sym c.try_change-answer.ensures.number) ∙ there in
-    subst (λ (s : Share). get c.try_change-answer.new.self.store.world.opened s.number ≡ Some (opened_by s.list)) (same_Some c.try_change-answer.new.t share same)
+    subst (λ (s : Share). get c.try_change-answer.new.self.store.world.opened s.number ≡ Some (opened_by s.list)) (new_share c share there)
     (tried_there c.args.part.now.store.world c.in-Some.share (mark c) c.args.c.now c.try_change-answer.ensures.stood c.try_change-answer.result
     c.try_change-answer.new.self.store.world c.try_change-answer.ensures.world c.try_change-answer.new.t c.try_change-answer.ensures.ticket)
+
+pub returns-clause-clash : goal.returns-clause-clash
+returns-clause-clash c clash is share there =
+    let r = c.try_change-answer in
+    clashes_there c.args.part.now r.new.self c.in-Some.share (mark c) c.args.c.now clash
+    (subst (λ (a : Result Verdict EngineFault).
+    Tries c.args.part.now.store.schema c.args.part.now.store.world c.in-Some.share.number (opened_by c.in-Some.share.list) (mark c) c.args.c.now a r.new.self.store.world)
+    is r.ensures.in_part)
+    r.ensures.same.schema share
+    (sym (new_share c share there)
+    ∙ r.ensures.ticket
+    ∙ ap (λ (a : Result Verdict EngineFault). record c.in-Some.share { list = c.in-Some.share.list ++ tried_events (mark c) c.args.c.now a }) is)
+
+pub returns-clause-sound : goal.returns-clause-sound
+returns-clause-sound c =
+    sound_tried c.args.part.now c.try_change-answer.new.self c.in-Some.share.number (opened_by c.in-Some.share.list) (mark c) c.args.c.now
+    c.try_change-answer.ensures.stood c.try_change-answer.result c.try_change-answer.ensures.in_part
+
+-- ---- the parts of other tables
+
+pub returns-clause-stand_others : goal.returns-clause-stand_others
+returns-clause-stand_others c i p at stood =
+    stands_rested (t c).number (answer c) c.args.others.now c.rest_each.new.others c.put_share.new.shares.items c.rest_each.new.shares.items (rests c) i p at
+    (stands_with p (t c).shares c.put_share.new.shares.items (same_share c p (c.requires.other i p at))
+    (subst (λ (u : OpenTicket). Stands p u.shares) (sym c.ticket.view_is) stood))
+
+pub returns-clause-sound_others : goal.returns-clause-sound_others
+returns-clause-sound_others c i p at =
+    each_rests (t c).number (answer c) c.args.others.now c.rest_each.new.others c.put_share.new.shares.items c.rest_each.new.shares.items (rests c)
+    (KeepsSound p) i p at
+    (λ q did. sound_rests p q (t c).number (answer c) (share_of c.put_share.new.shares.items p.number) (share_of c.rest_each.new.shares.items p.number) did)

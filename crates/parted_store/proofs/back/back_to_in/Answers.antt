@@ -14,8 +14,10 @@ use Rattle.parted_store.specs.EachPart.{BelongEach, Covers}
 use Rattle.parted_store.specs.EachPartLemmas.{some_then}
 use Rattle.parted_store.specs.EndLemmas.{none_beside}
 use Rattle.parted_store.specs.JournalLemmas.{journal_done}
+use Rattle.parted_store.specs.KeepsSoundLemmas.{sound_back}
 use Rattle.parted_store.specs.Lent.{OpenTicket, HasTable, HasTicket, IsShare}
 use Rattle.parted_store.specs.Shares.{share_of}
+use Rattle.parted_store.specs.StandLemmas.{stands_rolled}
 use Rattle.parted_store.specs.Ticket.{Places, ticket_in}
 use Rattle.parted_store.proofs.back.back_to_in.Goals as goal
 
@@ -84,3 +86,13 @@ returns-clause-beside c w p its_ticket has beside =
 
 pub returns-clause-long : goal.returns-clause-long
 returns-clause-long c = c.back_each.ensures.each.long
+
+pub returns-clause-stand : goal.returns-clause-stand
+returns-clause-stand c i p at stood =
+    some_then (slice_get c.back_each.new.parts i) (c.back_each.ensures.each.done i p (slice_get_within c.args.parts.now i p at) at)
+    (λ q did. stands_rolled p q (c.args.sub ∷ marks c) (t c).shares c.back_each.new.shares.items did)
+
+pub returns-clause-sound : goal.returns-clause-sound
+returns-clause-sound c i p at =
+    some_then (slice_get c.back_each.new.parts i) (c.back_each.ensures.each.done i p (slice_get_within c.args.parts.now i p at) at)
+    (λ q did. sound_back p q c.args.sub (marks c) (share_of (t c).shares p.number) (share_of c.back_each.new.shares.items p.number) did)

@@ -7,6 +7,7 @@ use Rattle.model.specs.Survivors.{survivors}
 use Rattle.world.specs.World.{Opened, ByClash, World}
 use Rattle.world.specs.Steps.{Fault, Acted, Clashed, wanting}
 use Rattle.live_tables.specs.Answers.{cause_of, told_clash, stop_for, after_act}
+use Rattle.live_tables.specs.Tried.{HasClash}
 use Rattle.engine.specs.declared.events.Event.{Event}
 use Rattle.engine.specs.Events.{opened_by, events_of}
 use Rattle.world_parts.specs.ByTable.{IsIn}
@@ -17,9 +18,12 @@ use Rattle.table_parts.specs.Part.{Part, last_commit_end}
 use Rattle.parted_store.specs.Acting.{Rests, IsActed}
 use Rattle.parted_store.specs.ActLemmas.{clash_part, act_line, in_no_other, ticket_acted, items_acted, shares_acted, wants_there}
 use Rattle.parted_store.specs.JournalLemmas.{journal_clashed}
-use Rattle.parted_store.specs.Lent.{OpenTicket, HasTable, HasJournal, HasTicket, IsSamePart, IsShare}
+use Rattle.parted_store.specs.KeepsSound.{KeepsSound, StopsSound}
+use Rattle.parted_store.specs.KeepsSoundLemmas.{sound_stopped, sound_rests}
+use Rattle.parted_store.specs.Lent.{OpenTicket, HasTable, HasJournal, HasTicket, IsSamePart, IsShare, Stands}
 use Rattle.parted_store.specs.RestLemmas.{each_rests, same_rested, end_rested, left_rested, share_kept, acted_by, stays_by}
 use Rattle.parted_store.specs.Shares.{Share, share_of}
+use Rattle.parted_store.specs.StandLemmas.{stands_with, stands_rested}
 use Rattle.parted_store.specs.Ticket.{ticket_in}
 use Rattle.parted_store.proofs.clashing.clash_in.Goals as goal
 
@@ -66,6 +70,14 @@ module _ (c : goal.After-stop_by_clash) where
   waits =
       c.wait_with.ensures.in_part
       ∙ (λ i. wanting c.args.part.now.store.world (number_is i) (opened_by c.in-Some.share.list) c.latest-mark.result (c.in-Ok.ensures i))
+
+  -- and the change clashes there, as its caller knows
+  clashes : HasClash c.args.part.now.store.schema c.args.part.now.store.world t.number (opened_by c.in-Some.share.list) c.args.c.now c.args.clash
+  clashes =
+      subst (λ n. HasClash c.args.part.now.store.schema c.args.part.now.store.world n (opened_by c.in-Some.share.list) c.args.c.now c.args.clash) number_is
+      (c.requires.clashes c.in-Some.share
+      (subst (λ (u : OpenTicket). share_of u.shares c.args.part.now.number ≡ Some c.in-Some.share) c.ticket.view_is
+      (ap (share_of t.shares) (sym c.number-table.ensures) ∙ found)))
 
   abbrev later : World → World
   later w = after_act w t.number o c.args.sub c.args.c.now answer
@@ -192,3 +204,23 @@ returns-clause-stands c stood share there =
     subst (λ (s : Share). get c.wait_with.new.self.store.world.opened s.number ≡ Some (opened_by s.list)) (same_Some c.wait_with.new.t share same)
     (wants_there c.args.part.now.store.world c.in-Some.share c.latest-mark.result c.in-Ok.wanted c.wait_with.ensures.stood c.wait_with.new.self.store.world
     c.wait_with.ensures.in_part c.wait_with.new.t c.wait_with.ensures.ticket)
+
+pub returns-clause-sound : goal.returns-clause-sound
+returns-clause-sound c is =
+    subst (λ (u : OpenTicket). StopsSound u.number c.args.c.now c.args.clash c.args.part.now c.wait_with.new.self) c.ticket.view_is
+    (sound_stopped c.args.part.now c.wait_with.new.self (t c).number (opened_by c.in-Some.share.list) c.latest-mark.result c.args.c.now c.args.clash (here c)
+    (clashes c) (waits c))
+
+-- ---- the parts of other tables
+
+pub returns-clause-stand_others : goal.returns-clause-stand_others
+returns-clause-stand_others c i p at stood =
+    stands_rested (t c).number (answer c) c.args.others.now c.back_each.new.parts c.put_share.new.shares.items c.back_each.new.shares.items (rests c) i p at
+    (stands_with p (t c).shares c.put_share.new.shares.items (same_share c p (c.requires.other i p at))
+    (subst (λ (u : OpenTicket). Stands p u.shares) (sym c.ticket.view_is) stood))
+
+pub returns-clause-sound_others : goal.returns-clause-sound_others
+returns-clause-sound_others c i p at =
+    each_rests (t c).number (answer c) c.args.others.now c.back_each.new.parts c.put_share.new.shares.items c.back_each.new.shares.items (rests c)
+    (KeepsSound p) i p at
+    (λ q did. sound_rests p q (t c).number (answer c) (share_of c.put_share.new.shares.items p.number) (share_of c.back_each.new.shares.items p.number) did)

@@ -1,6 +1,7 @@
 use Rattle.std.proofs.Common.{◌≡◌, ◌∙◌, ◌<◌, sym, ap, subst}
 use Rattle.live_tables.specs.Answers.{told_call}
 use Rattle.parted_store.specs.ComeLemmas.{comes_to, opened_there}
+use Rattle.parted_store.specs.KeepsSoundLemmas.{sound_opened}
 use Rattle.parted_store.specs.Shares.{Share, share_of}
 use Rattle.parted_store.proofs.coming.come_to.Goals as goal
 
@@ -16,3 +17,6 @@ returns-clause-stands c share there =
     opened_there c.args.part.now.store.world c.open.new.self.store.world c.ticket.inside.xid c.in_ok-share.ensures.in_part c.in_ok-share.share
     (ap (λ (s : Share). s.number) c.in_ok-share.ensures.ticket) (ap (λ (s : Share). s.list) c.in_ok-share.ensures.ticket) share
     (sym c.put_share-2.ensures.share ∙ ap (share_of c.put_share-2.new.shares.items) (sym number) ∙ there)
+
+pub returns-clause-sound : goal.returns-clause-sound
+returns-clause-sound c = sound_opened c.args.part.now c.open.new.self c.ticket.inside.xid (told_call c.open.result) c.open.ensures.in_part

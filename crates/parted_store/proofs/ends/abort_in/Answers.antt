@@ -11,6 +11,7 @@ use Rattle.parted_store.specs.Ends.{IsAborted}
 use Rattle.parted_store.specs.EachPartLemmas.{some_then}
 use Rattle.parted_store.specs.EndLemmas.{aborted_by, same_aborted, end_aborted, aborts_nothing, none_beside}
 use Rattle.parted_store.specs.JournalLemmas.{journal_aborted}
+use Rattle.parted_store.specs.KeepsSoundLemmas.{sound_aborted}
 use Rattle.parted_store.specs.Lent.{OpenTicket, HasJournal, HasTicket, HasShares}
 use Rattle.parted_store.specs.Shares.{share_of}
 use Rattle.parted_store.specs.Ticket.{ticket_in}
@@ -60,3 +61,8 @@ returns-clause-ends c i p at =
 
 pub returns-clause-long : goal.returns-clause-long
 returns-clause-long c = c.abort_each.ensures.long
+
+pub returns-clause-sound : goal.returns-clause-sound
+returns-clause-sound c i p at =
+    some_then (slice_get c.abort_each.new.parts i) (c.abort_each.ensures.done i p (slice_get_within c.args.parts.now i p at) at)
+    (λ q did. sound_aborted p q (share_of (ticket_in c.ticket.inside).shares p.number) did.0)

@@ -11,10 +11,12 @@ use Rattle.parted_store.specs.BackLemmas.{same_rolled, end_rolled}
 use Rattle.parted_store.specs.EachPart.{BelongEach}
 use Rattle.parted_store.specs.EachPartLemmas.{some_then}
 use Rattle.parted_store.specs.JournalLemmas.{journal_done}
+use Rattle.parted_store.specs.KeepsSoundLemmas.{sound_back}
 use Rattle.parted_store.specs.Lent.{OpenTicket, HasTicket, IsShare}
 use Rattle.parted_store.specs.PlaceLemmas.{placed_more}
 use Rattle.parted_store.specs.RestLemmas.{touched_by, nothing_touched, ticket_touched, items_touched, shares_touched}
 use Rattle.parted_store.specs.Shares.{share_of}
+use Rattle.parted_store.specs.StandLemmas.{stands_rolled}
 use Rattle.parted_store.specs.Ticket.{ticket_in, with_place, places_of}
 use Rattle.parted_store.specs.Touching.{IsTouched}
 use Rattle.parted_store.proofs.touching.touch_in.Goals as goal
@@ -82,3 +84,18 @@ returns-clause-beside c w p its_ticket has beside =
 
 pub returns-clause-long : goal.returns-clause-long
 returns-clause-long c = c.back_each.ensures.each.long
+
+pub returns-clause-stand : goal.returns-clause-stand
+returns-clause-stand c i p at stood =
+    some_then (slice_get c.back_each.new.parts i) (c.back_each.ensures.each.done i p (slice_get_within c.args.parts.now i p at) at)
+    (λ q did. stands_rolled p q ((t c).number ∷ []) (t c).shares c.back_each.new.shares.items did)
+
+pub returns-clause-sound : goal.returns-clause-sound
+returns-clause-sound c i p at =
+    some_then (slice_get c.back_each.new.parts i) (c.back_each.ensures.each.done i p (slice_get_within c.args.parts.now i p at) at)
+    (λ q did. sound_back p q (t c).number [] (share_of (t c).shares p.number) (share_of c.back_each.new.shares.items p.number) did)
+
+pub returns-clause-left : goal.returns-clause-left
+returns-clause-left c table beside =
+    subst (λ (u : OpenTicket). share_of c.back_each.new.shares.items table ≡ share_of u.shares table) c.ticket.view_is
+    (c.back_each.ensures.each.kept table (λ j p below at. beside j p at))

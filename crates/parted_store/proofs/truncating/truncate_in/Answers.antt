@@ -21,14 +21,17 @@ use Rattle.parted_store.specs.ActLemmas.{ticket_acted, items_acted}
 use Rattle.parted_store.specs.CutLemmas.{cut_beside}
 use Rattle.parted_store.specs.Back.{IsSameShare}
 use Rattle.parted_store.specs.EachPart.{IsBeside}
-use Rattle.parted_store.specs.HasCutLemmas.{same_again, shares_left, share_needed, shares_kept, long_truncated, free_truncated, part_cut, acts_cut}
-use Rattle.parted_store.specs.Lent.{OpenTicket, HasTable, HasTicket, IsSamePart, IsShare}
-use Rattle.parted_store.specs.RestLemmas.{long_rested, each_rests, same_rested, end_rested, share_kept, acted_by, stays_by}
+use Rattle.parted_store.specs.HasCutLemmas.{same_again, shares_left, share_needed, shares_kept, long_truncated, free_truncated, tells_truncated, part_cut, acts_cut}
+use Rattle.parted_store.specs.KeepsSound.{KeepsSound}
+use Rattle.parted_store.specs.KeepsSoundLemmas.{sound_truncated, sound_rests}
+use Rattle.parted_store.specs.Lent.{OpenTicket, HasTable, HasTicket, IsSamePart, IsShare, Stands}
+use Rattle.parted_store.specs.RestLemmas.{long_rested, each_rests, same_rested, end_rested, left_rested, share_kept, acted_by, stays_by}
 use Rattle.parted_store.specs.JournalLemmas.{journal_tried}
 use Rattle.parted_store.specs.Shares.{Shares, share_of}
 use Rattle.parted_store.specs.PlaceLemmas.{latest_with, placed_acted}
+use Rattle.parted_store.specs.StandLemmas.{stands_with, stands_rested, stands_truncated}
 use Rattle.parted_store.specs.Ticket.{Places, ticket_in, with_place, places_of}
-use Rattle.parted_store.specs.Truncating.{HasTruncated, CutsHere}
+use Rattle.parted_store.specs.Truncating.{HasTruncated, TellsTruncate, CutsHere}
 use Rattle.parted_store.proofs.truncating.truncate_in.Goals as goal
 
 module _ (c : goal.After-keep) where
@@ -208,3 +211,32 @@ returns-clause-free c done i p there =
     subst (λ (u : OpenTicket). IsFree p.store.schema p.store.world u.number (Whole p.number ∷ [])) c.ticket.view_is
     (free_truncated (t c) c.ticket.invariant.shares (mark c) c.args.parts.now c.truncate_each-answer.new.parts c.truncate_each-answer.new.shares.items
     c.truncate_each-answer.result (came c) done i p there)
+
+pub returns-clause-tells : goal.returns-clause-tells
+returns-clause-tells c =
+    subst (λ (u : OpenTicket). TellsTruncate c.args.parts.now u.number c.truncate_each-answer.result) c.ticket.view_is
+    (tells_truncated (t c) c.ticket.invariant.shares (mark c) c.args.parts.now c.truncate_each-answer.new.parts c.truncate_each-answer.new.shares.items
+    c.truncate_each-answer.result (came c))
+
+pub returns-clause-stand : goal.returns-clause-stand
+returns-clause-stand c i p there stood =
+    stands_truncated (mark c) c.args.parts.now (t c).shares c.truncate_each-answer.new.parts c.truncate_each-answer.new.shares.items c.rest_each.new.shares.items i p there
+    (left_rested (t c).number (answer c) c.args.others.now c.rest_each.new.others c.truncate_each-answer.new.shares.items c.rest_each.new.shares.items (rests c) p.number
+    (c.requires.other i p there))
+    (subst (λ (u : OpenTicket). Stands p u.shares) (sym c.ticket.view_is) stood) c.truncate_each-answer.result (came c)
+
+pub returns-clause-stand_others : goal.returns-clause-stand_others
+returns-clause-stand_others c i p at stood =
+    stands_rested (t c).number (answer c) c.args.others.now c.rest_each.new.others c.truncate_each-answer.new.shares.items c.rest_each.new.shares.items (rests c) i p at
+    (stands_with p (t c).shares c.truncate_each-answer.new.shares.items (left_by_parts c p.number (apart_from c i p at))
+    (subst (λ (u : OpenTicket). Stands p u.shares) (sym c.ticket.view_is) stood))
+
+pub returns-clause-sound : goal.returns-clause-sound
+returns-clause-sound c i p there =
+    sound_truncated (mark c) c.args.parts.now (t c).shares c.truncate_each-answer.result c.truncate_each-answer.new.parts c.truncate_each-answer.new.shares.items (came c) i p there
+
+pub returns-clause-sound_others : goal.returns-clause-sound_others
+returns-clause-sound_others c i p at =
+    each_rests (t c).number (answer c) c.args.others.now c.rest_each.new.others c.truncate_each-answer.new.shares.items c.rest_each.new.shares.items (rests c)
+    (KeepsSound p) i p at
+    (λ q did. sound_rests p q (t c).number (answer c) (share_of c.truncate_each-answer.new.shares.items p.number) (share_of c.rest_each.new.shares.items p.number) did)
