@@ -1,0 +1,111 @@
+// The store.
+ghost use Rattle.std.specs.Prelude.{◌≡◌, ◌++◌, ◌∷◌, [], ◌<◌, ◌≤◌, IfOk, IfErr, OnOk, OnErr, length};
+ghost use Rattle.std.specs.Sync.Mutex.{mutex_guard_value};
+ghost use Rattle.live_tables.specs.Answers.{IsNoClash};
+ghost use Rattle.engine.specs.declared.events.LineEvent.TheVariants.{Opened as WasOpened};
+ghost use Rattle.table_locks.specs.Starts.{AreNames};
+
+use crate::hidden::wait_for_ever;
+use crate::journal::Journal;
+use crate::made::Made;
+use crate::names::StoreNames;
+use crate::table_part::TablePart;
+use crate::ticket::Ticket;
+use engine::EngineFault;
+use model::{OutOfMemory, TableId, Xid};
+use parted_store::Line;
+use std::alloc::Global;
+use std::marker::Model;
+use std::sync::{Condvar, Mutex, MutexGuard, Wait};
+
+/// A store with a lock for each table, and one for the journal.
+#[derive(Debug, Drop)]
+pub struct Store<N: StoreNames> {
+    pub(crate) tables: Vec<Mutex<TablePart<N>>>,
+    pub(crate) journal: Mutex<Journal<N>>,
+    /// Notified under the journal's lock whenever a move is counted.
+    pub(crate) moved: Condvar,
+    ghost all: { length tables.items ≡ length N.schema },
+    ghost few: { length N.schema ≤ 1024 },
+}
+
+impl<N: StoreNames> Store<N> {
+    /// A store in which nothing has happened. It can have any names that fit what it is made of.
+    pub fn new(alloc: Global, made: Made) -> Result<Store<N>, OutOfMemory>
+        requires { AreNames N.shares N.line N.tables N.schema N.start made }
+    {
+        made.recall_invariant();
+        let Made {
+            tables: made_tables,
+            journal,
+            book,
+        } = made;
+        let journal = Journal::new(journal, book);
+        let mut tables = Vec::new(alloc);
+        for (part, commits) in made_tables {
+            tables.push(Mutex::new(TablePart::new(part, commits)))?;
+        }
+        Ok(Store {
+            tables,
+            journal: Mutex::new(journal),
+            moved: Condvar::new(),
+        })
+    }
+
+    /// What lies under a table's lock, lent until the guard is dropped.
+    pub fn lock_table<R: Wait>(&self, rt: &R, table: TableId) -> MutexGuard<'_, TablePart<N>>
+        requires { table < length N.schema }
+        ensures { (mutex_guard_value result).number ≡ table }
+    {
+        let guard = self.tables[table].lock(rt);
+        if guard.number() == table {
+            return guard;
+        }
+        wait_for_ever(rt)
+    }
+
+    /// What lies under the journal's lock, lent until the guard is dropped.
+    pub fn lock_journal<R: Wait>(&self, rt: &R) -> MutexGuard<'_, Journal<N>> {
+        self.journal.lock(rt)
+    }
+
+    /// How often something moved.
+    pub fn moves<R: Wait>(&self, rt: &R) -> u64 {
+        self.journal.lock(rt).moves()
+    }
+
+    /// Counts a move, and wakes those that wait for one.
+    pub fn tell_move<R: Wait>(&self, rt: &R) {
+        let mut journal = self.journal.lock(rt);
+        journal.count_move();
+        self.moved.notify_all();
+    }
+
+    /// Waits while no more moves are counted than were seen.
+    pub fn wait_past<R: Wait>(&self, rt: &R, seen: u64) {
+        let _journal = self.moved.wait_while(
+            rt,
+            self.journal.lock(rt),
+            |journal| journal.moves() == seen,
+        );
+    }
+
+    /// A transaction opens. Stopped goes before AlreadyOpen, that before TooManyOpen, and that
+    /// before OutOfMemory; a refusal changes nothing.
+    pub fn open<R: Wait>(
+        &self,
+        rt: &R,
+        alloc: Global,
+        line: &mut Line,
+        xid: Xid,
+    ) -> Result<Ticket<N>, EngineFault>
+        requires { line.old.name ≡ N.line }
+        ensures fault { IfErr result IsNoClash }
+        ensures ticket { IfOk result (λ ticket. ticket ≡ record { number = xid; events = []; shares = [] }) }
+        ensures name { line.new.name ≡ N.line }
+        ensures ok { OnOk result (line.new.list ≡ line.old.list ++ WasOpened xid ∷ []) }
+        ensures err { OnErr result (line.new ≡ line.old) }
+    {
+        self.journal.lock(rt).open(alloc, line, xid)
+    }
+}
