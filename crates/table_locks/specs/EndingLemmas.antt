@@ -6,6 +6,7 @@
 --     fits_told      the part behind a commit may lie where its table was told of it
 --     fit_told      so may each
 --     lists_told      each table's list is the table's part of the line with the commit
+--     beyond_told      which has nothing beyond the tables
 use Rattle.std.specs.Prelude.{◌≡◌, ℕ, ◌+◌, ◌<◌, ◌≤◌, List, [], ◌∷◌, ◌++◌, true, false, Option, Some, None, IfSome, IsSome, IsSomeAnd, is_some, length, slice_get, slice_set, refl}
 use Rattle.std.proofs.Common.{sym, ◌∙◌, ap, subst, arith, append-nil}
 use Rattle.std.proofs.lemmas.Grind.{flat_map-append}
@@ -239,6 +240,19 @@ module _ (shares : ℕ → Name) (tables : Name) (schema : Schema) (start : Rows
           by : (share : Option Share) → share_of t.shares table ≡ share → get new.lists table ≡ Some list → IsNow table list
           by None had = list_left table list had
           by (Some share) had = list_told table list share had
+
+  -- beyond the tables its transaction has done nothing
+  pub beyond_told : HasShares t → (line : List Past) → ((table : ℕ) → length schema ≤ table → line_at table line ≡ [])
+      → (table : ℕ) → length schema ≤ table → line_at table (line ++ its_past ∷ []) ≡ []
+  beyond_told its line beyond table past = by (share_of t.shares table) refl
+    where
+      by : (share : Option Share) → share_of t.shares table ≡ share → line_at table (line ++ its_past ∷ []) ≡ []
+      by None had =
+          let none : IsShare t.number (opened_by t.events) table None = subst (IsShare t.number (opened_by t.events) table) had (its table) in
+          line_with table line its_past
+          ∙ ap (λ cs. cs ++ commit_at table its_past) (beyond table past)
+          ∙ ap (λ (cs : List Change). commit_of info.end cs) none.0
+      by (Some share) had = let known : table < length schema = is.known table share had in absurd (omega (arith, past, known))
 
 -- no commit of the parts that are lent ends there or behind
 pub ends_before : (shares : ℕ → Name) (tables : Name) (schema : Schema) (start : Rows) (guards : Guards) (parts : List Part) (end : ℕ)

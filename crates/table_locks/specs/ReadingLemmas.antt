@@ -33,7 +33,7 @@ use Rattle.table_locks.specs.TableStates.{TableState, Fits, IsTableState}
 -- ---- the world of the commits
 
 module _ (shares : ℕ → Name) (tables : Name) (schema : Schema) (start : Rows) (s : TableState) (p : Part) (fits : Fits shares tables schema start s p) where
-  pub listed_told : (its_line book : Name) (j : JournalState) → IsJournal its_line book j → get j.tables.lists s.number ≡ Some s.commits.list
+  pub listed_told : (its_line book : Name) (j : JournalState) → IsJournal its_line book schema j → get j.tables.lists s.number ≡ Some s.commits.list
       → line_at p.number p.store.world.line ≡ line_at p.number (commits_in j.part.line.list)
   listed_told its_line book j is listed =
       sym fits.listed.list ∙ is.lists s.number s.commits.list listed ∙ ap (λ (n : ℕ). line_at n (commits_in j.part.line.list)) (sym fits.number)
@@ -60,7 +60,7 @@ module _ (shares : ℕ → Name) (tables : Name) (schema : Schema) (start : Rows
 
 -- so it has what lies under the table's lock
 pub state_told : (shares : ℕ → Name) (tables : Name) (schema : Schema) (start : Rows) (s : TableState) → IsTableState shares tables schema start s
-    → (its_line book : Name) (j : JournalState) → IsJournal its_line book j → get j.tables.lists s.number ≡ Some s.commits.list
+    → (its_line book : Name) (j : JournalState) → IsJournal its_line book schema j → get j.tables.lists s.number ≡ Some s.commits.list
     → HasState (told_world schema start j.part.line.list s) s
 state_told shares tables schema start s keeps its_line book j is listed = by s.part keeps.part
   where

@@ -47,13 +47,13 @@ impl<N: StoreNames> Model for Journal<N> {
 
     ghost view = { λ j. record { part = j.part; tables = j.tables } };
 
-    ghost invariant = { λ j. IsJournal N.line N.tables (record { part = j.part; tables = j.tables }) };
+    ghost invariant = { λ j. IsJournal N.line N.tables N.schema (record { part = j.part; tables = j.tables }) };
 }
 
 impl<N: StoreNames> Journal<N> {
     /// The journal's part of a store to which nobody came, to be put under the journal's lock.
     pub(crate) fn new(part: parted_store::Journal, tables: Book<TableCommit>) -> Journal<N>
-        requires { IsJournal N.line N.tables (record { part = part; tables = tables }) }
+        requires { IsJournal N.line N.tables N.schema (record { part = part; tables = tables }) }
         ensures { result ≡ record { part = part; tables = tables } }
     {
         Journal {

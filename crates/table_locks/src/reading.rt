@@ -88,7 +88,7 @@ impl<N: StoreNames> Journal<N> {
     /// Tells a proof what its type keeps: where the log goes on behind each commit rises from one
     /// to the next. It does nothing.
     pub fn recall_invariant(&self)
-        ensures kept { IsJournal N.line N.tables self.now }
+        ensures kept { IsJournal N.line N.tables N.schema self.now }
         ensures rising { IsStrictlyIncreasing (0 ∷ ends_in self.now.part.line.list) }
     {
         self.part.recall_invariant();

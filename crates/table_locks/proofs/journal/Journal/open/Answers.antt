@@ -21,4 +21,5 @@ invariant_of-self-2 g c =
       line = ap (λ (h : Half LineEvent). h.name) (sym c.in_ok-ticket.ensures.line) ∙ c.open.ensures.name ∙ c.requires;
       name = c.self.invariant.name;
       lists = λ table list at. c.self.invariant.lists table list at ∙ ap (λ (line : List Past). line_at table line) commits;
+      beyond = λ table past. ap (λ (line : List Past). line_at table line) (sym commits) ∙ c.self.invariant.beyond table past;
     }
