@@ -1,5 +1,5 @@
 // Several open transactions on one live set of tables.
-ghost use Rattle.std.specs.Prelude.{◌≡◌, ℕ, ◌+◌, ◌<◌, ◌≤◌, ◌==◌, if◌then◌else◌, [], ◌∷◌, ◌++◌, Some, Ok, IfOk, IfErr, OnOk, OnErr, is_some, length, map, vec_len, vec_capacity};
+ghost use Rattle.std.specs.Prelude.{◌≡◌, ℕ, ◌+◌, ◌<◌, ◌≤◌, ◌==◌, if◌then◌else◌, [], ◌∷◌, ◌++◌, Some, None, Ok, IfOk, IfErr, IfSome, OnOk, OnErr, is_some, length, map, vec_len, vec_capacity};
 ghost use Rattle.std.specs.List.Sorted.{IsStrictlyIncreasing};
 ghost use Rattle.std.specs.BTreeMap.{btree_map_len};
 ghost use Rattle.std.specs.FinMap as finite;
@@ -12,6 +12,7 @@ ghost use Rattle.model.specs.TableRows.{rows_of_table};
 ghost use Rattle.model.specs.declared.item.Item.TheVariants.{BackTo};
 ghost use Rattle.tokens.specs.Lists.{open_list, with_list};
 ghost use Rattle.world.specs.World.{Opened, World, starting, entry_of, journal, work, changes_in};
+ghost use Rattle.world.specs.Settled.{WaitsFor};
 ghost use Rattle.world.specs.Steps.{Opens, Acts, Touches, GoesBack, Commits, Aborts, StopsHeld, ReadsLive, ReadsCommitted, ReadsAfter, TellsJournal, Closes, Watches, Looks, Fault};
 ghost use Rattle.live_tables.specs.declared.answers.EngineFault.TheVariants.{OutOfMemory as NoMemory};
 ghost use Rattle.live_tables.specs.Answers.{told, told_call, after_open, after_touch, stop_of, TellsWhatStopped, TellsCause, IsNoClash};
@@ -188,6 +189,22 @@ impl Store {
         self.live.wants(xid)
     }
 
+    /// Whom an open transaction waits for: another, which holds a cell of the change that it wants. Nothing
+    /// changes, and it takes no memory.
+    #[tactic(auto, using(crate::proofs::StoreTickets::met_open))]
+    pub fn holder_of(&mut self, t: &mut Ticket) -> Option<Xid>
+        requires { t.old.name ≡ self.old.tickets }
+        ensures stood { finite.get self.old.world.opened t.old.number ≡ Some (opened_by t.old.list) }
+        ensures held { IfSome result (WaitsFor self.old.schema self.old.world t.old.number (opened_by t.old.list)) }
+        ensures free { result ≡ None → (holder : ℕ) → ¬ (WaitsFor self.old.schema self.old.world t.old.number (opened_by t.old.list) holder) }
+        ensures ticket { t.new ≡ t.old }
+        ensures same { self.new ≡ self.old }
+    {
+        let xid = t.slip.number();
+        self.book.meet(&mut t.slip);
+        self.live.holder_of(xid)
+    }
+
     /// An open transaction is committed, also in a store that is stopped: its changes that survived
     /// its rollbacks are an entry of the journal, and what it held is let go. The log goes on behind it
     /// above where it went on behind the commit before, and above 0 behind the first: so an end names
@@ -244,6 +261,13 @@ impl Store {
         ensures { result ≡ length self.now.schema }
     {
         self.live.tables.len()
+    }
+
+    /// How many transactions are open. It takes no memory.
+    pub fn open_count(&self) -> usize
+        ensures { result ≡ finite.len self.now.world.opened }
+    {
+        self.live.open_count()
     }
 
     /// Tells a proof what its type keeps: its world has the commits that its line tells, each of which

@@ -7,7 +7,7 @@
 --     lone_aborted, lone_committed      it ends
 --     lone_opened, open_refused      one opens where none is open; it is refused
 --     none_open      none is, where the map has none
---     lone_not_stuck      it waits for nobody
+--     lone_not_waiting, lone_not_stuck      it waits for nobody
 use Rattle.std.proofs.Common.{◌≡◌, ◌≢◌, ℕ, ◌+◌, ◌==◌, Bool, true, false, cond, List, [], ◌∷◌, ◌++◌, length, map, Option, Some, None, refl, sym, ap, subst, ◌∙◌, inl, inr, arith}
 use Rattle.std.specs.Prelude.{Ok, All, not, if◌then◌else◌, unwrap_or, option_map, take_while}
 use Rattle.std.specs.List.{Contains}
@@ -43,6 +43,7 @@ use Rattle.savepoint.specs.Record.{Record, with_mark_unless_top}
 use Rattle.keyholds.specs.Holds.{holds_of, cells_held, with_holds, IsFreeCell}
 use Rattle.world.specs.World.{Opened, ByClash, World}
 use Rattle.world.specs.Live.{IsLive}
+use Rattle.world.specs.Settled.{WaitsFor}
 use Rattle.world.specs.Steps.{StopsHeld, Acts, IsClashing, IsDone, IsSkipped, opened_with, done_with, wanting, aborted_with, committed_with}
 use Rattle.world.specs.FineLemmas.{put_cases}
 use Rattle.world.specs.ListingLemmas.{xid_cases, got_same, got_other, gone_same, gone_other}
@@ -52,8 +53,8 @@ use Rattle.live_tables.specs.declared.transaction.OpenTransaction.{OpenTransacti
 use Rattle.live_tables.specs.declared.live_tables.Stopped.TheVariants.{Clash as StoppedByClash}
 use Rattle.live_tables.specs.Answers.{cause_of}
 use Rattle.live_tables.specs.Cells.{IsFreeOf}
-use Rattle.live_tables.specs.Waits.{WaitsForNobody, not_open, not_waiting}
-use Rattle.live_tables.specs.WaitLemmas.{stop_is_refused}
+use Rattle.live_tables.specs.Waits.{WaitsForNobody, IsNotStuck, not_open, not_waiting}
+use Rattle.live_tables.specs.WaitLemmas.{passes_live_tells, stop_is_refused}
 use Rattle.live_tables.specs.KeptRecords.{IsPutAt}
 use Rattle.live_tables.specs.BeforeImages.{LiveHolds, IsStoodAt, up_to_before_image}
 use Rattle.live_tables.specs.Represents.{records_in, Represents}
@@ -429,20 +430,28 @@ none_open w l tied none other =
     ap (λ (m : FinMap nat_cmp Opened). get m other) (finite.empty_of_len w.opened (tied.count ∙ none)) ∙ get-empty nat_cmp other
 
 -- nobody is there to wait for
-pub lone_not_stuck : (w : World) (l : Live) (tied : Represents w l) → l.made ≡ false → (sent : List (ℕ × ℕ)) (waiter : ℕ) → StopsHeld l.tables.schema w sent waiter None w
-lone_not_stuck w l tied alone sent waiter = by (get w.opened waiter) refl
-  where
-    stood : RepresentsWith (tied.lone alone).would w l
-    stood = by_would w l tied alone
+module _ (w : World) (l : Live) (tied : Represents w l) (alone : l.made ≡ false) (waiter : ℕ) where
+  nobody : (o : Opened) → get w.opened waiter ≡ Some o → WaitsForNobody l.tables.schema l.tables.rows (cells_held (tied.lone alone).would) waiter o
+  nobody o is = by_wants o.wants refl
+    where
+      by_wants : (wants : Option (ℕ × change_type.Change)) → o.wants ≡ wants
+          → WaitsForNobody l.tables.schema l.tables.rows (cells_held (tied.lone alone).would) waiter o
+      by_wants None none = inl none
+      by_wants (Some (sub, c)) its = let free = lone_free w l tied alone waiter o is c in inr (sub, c, its, (free.row, free.all))
 
-    by_wants : (o : Opened) → get w.opened waiter ≡ Some o → (wants : Option (ℕ × change_type.Change)) → o.wants ≡ wants
-        → WaitsForNobody l.tables.schema l.tables.rows (cells_held (tied.lone alone).would) waiter o
-    by_wants o is None none = inl none
-    by_wants o is (Some (sub, c)) its = let free = lone_free w l tied alone waiter o is c in inr (sub, c, its, (free.row, free.all))
+  pub lone_not_waiting : (o : Opened) → get w.opened waiter ≡ Some o → (holder : ℕ) → ¬ (WaitsFor l.tables.schema w waiter o holder)
+  lone_not_waiting o is =
+      passes_live_tells l.tables.schema l.tables w (records_in l.transactions) tied.kept (cells_held (tied.lone alone).would)
+      (tied.lone alone).held.holds waiter o is (nobody o is)
 
-    by : (found : Option Opened) → get w.opened waiter ≡ found → StopsHeld l.tables.schema w sent waiter None w
-    by None closed =
-        stop_is_refused l.tables.schema l.tables w (records_in l.transactions) tied.kept (cells_held (tied.lone alone).would) stood.holds sent waiter (not_open closed)
-    by (Some o) is =
-        stop_is_refused l.tables.schema l.tables w (records_in l.transactions) tied.kept (cells_held (tied.lone alone).would) stood.holds sent waiter
-        (not_waiting o is (by_wants o is o.wants refl))
+  pub lone_not_stuck : (sent : List (ℕ × ℕ)) → StopsHeld l.tables.schema w sent waiter None w
+  lone_not_stuck sent = by (get w.opened waiter) refl
+    where
+      refused : IsNotStuck l.tables.schema l.tables.rows (cells_held (tied.lone alone).would) w sent waiter → StopsHeld l.tables.schema w sent waiter None w
+      refused =
+          stop_is_refused l.tables.schema l.tables w (records_in l.transactions) tied.kept (cells_held (tied.lone alone).would)
+          (tied.lone alone).held.holds sent waiter
+
+      by : (found : Option Opened) → get w.opened waiter ≡ found → StopsHeld l.tables.schema w sent waiter None w
+      by None closed = refused (not_open closed)
+      by (Some o) is = refused (not_waiting o is (nobody o is))

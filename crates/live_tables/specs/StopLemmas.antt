@@ -6,6 +6,7 @@
 --     IsSettledAt, settled_by, unsettled_by      a transaction is named with so many items as it has done, or waits
 --     none_open, is_open, wants_named      which transactions are open, and what they want
 --     settled, unsettled      so it is with each, or with one it isn't
+--     wanting_waits, wanting_nobody      whom an open transaction waits for, by the change that it wants
 --     refused_unopened, refused_unsettled, stops_by      what the call answers
 --     tied_stopped      a store that is stopped stays tied
 use Rattle.std.proofs.Common.{◌≡◌, ◌≢◌, ℕ, ◌<◌, ◌-◌, ◌^◌, ◌⊎◌, true, false, List, [], ◌∷◌, Option, Some, None, refl, sym, ap, subst, ◌∙◌, arith, inl, inr, length, Bool, is_some, true≢false}
@@ -27,7 +28,7 @@ use Rattle.change.specs.InverseLemmas.{contains_here}
 use Rattle.keyholds.specs.Holds.{cells_held, holds_of, IsFreeCell, IsCellHeldBy}
 use Rattle.live_tables.specs.BeforeImageCallLemmas.{stop_keeps_before_images}
 use Rattle.world.specs.World.{Opened, World}
-use Rattle.world.specs.Settled.{IsNamed}
+use Rattle.world.specs.Settled.{WaitsFor, IsNamed}
 use Rattle.world.specs.Steps.{StopsHeld}
 use Rattle.live_tables.specs.declared.live_tables.Live.{Live}
 use Rattle.live_tables.specs.declared.live_tables.Stopped.TheVariants.{Held as StoppedByHold}
@@ -38,7 +39,7 @@ use Rattle.live_tables.specs.Represents.{records_in}
 use Rattle.live_tables.specs.ByHolds.{RepresentsByHolds}
 use Rattle.live_tables.specs.BasicLemmas.{is_there}
 use Rattle.live_tables.specs.Waits.{IsOneHeldBy, WaitsByHolds, WaitsForNobody, IsSettledLive, IsUnsettledLive, IsSentCount, not_open, not_waiting, not_settled}
-use Rattle.live_tables.specs.WaitLemmas.{shared_is_held, stop_is_found, stop_is_refused}
+use Rattle.live_tables.specs.WaitLemmas.{shared_is_held, waits_live_tells, passes_live_tells, stop_is_found, stop_is_refused}
 
 -- ---- one cell
 
@@ -164,6 +165,20 @@ module _ (w : World) (l : Live) (tied : RepresentsByHolds w l) where
   unsettled sent xid kept found not passes =
       let (o, at) = is_open xid kept found in
       (xid, o, at, λ named. not (named_is_counted xid kept found sent o at named), passes o (sym (tied.beside xid o kept at found).wants))
+
+  -- ---- whom an open transaction waits for
+
+  module _ (xid : ℕ) (kept : OpenTransaction) (found : tree.get nat_cmp l.transactions xid ≡ Some kept) (o : Opened) (at : get w.opened xid ≡ Some o) where
+    its_wants : o.wants ≡ kept.wants
+    its_wants = sym (tied.beside xid o kept at found).wants
+
+    pub wanting_waits : (holder : ℕ) → WantsFrom l xid kept.wants holder → WaitsFor l.tables.schema w xid o holder
+    wanting_waits holder wants =
+        waits_live_tells l.tables.schema l.tables w (records_in l.transactions) tied.kept (cells_held l.holds) tied.holds xid o at holder (wants o its_wants)
+
+    pub wanting_nobody : WantsFromNobody l xid kept.wants → (holder : ℕ) → ¬ (WaitsFor l.tables.schema w xid o holder)
+    wanting_nobody wants =
+        passes_live_tells l.tables.schema l.tables w (records_in l.transactions) tied.kept (cells_held l.holds) tied.holds xid o at (wants o its_wants)
 
   -- ---- what the call answers
 

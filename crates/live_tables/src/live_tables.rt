@@ -303,6 +303,13 @@ impl Live {
         Err(NotSettled)
     }
 
+    /// How many transactions are open. It takes no memory.
+    pub fn open_count(&self) -> usize
+        ensures { (w : World) → Represents w self.now → result ≡ finite.len w.opened }
+    {
+        self.transactions.len()
+    }
+
     /// The row of a table at a key, with the work of all open transactions. It takes no memory.
     pub fn row(&self, table: TableId, key: &Key) -> Option<RowView<'_>>
         requires { table < length self.now.tables.schema }

@@ -1,6 +1,6 @@
 // Who waits for whom, by the live tables and the cells that are held. All is read in place, and it
 // takes no memory.
-ghost use Rattle.std.specs.Prelude.{◌≡◌, ◌≢◌, ◌↔◌, ◌∷◌, [], ℕ, true, false, Some, IfOk, IfSome, IfNone, IsTrue, All, is_some, length};
+ghost use Rattle.std.specs.Prelude.{◌≡◌, ◌≢◌, ◌↔◌, ◌∷◌, [], ℕ, true, false, Some, None, IfOk, IfSome, IfNone, IsTrue, All, is_some, length};
 ghost use Rattle.std.specs.Ordering.{nat_cmp};
 ghost use Rattle.std.specs.BTreeMap as tree;
 ghost use Rattle.std.specs.FinMap as finite;
@@ -11,6 +11,7 @@ ghost use Rattle.model.specs.Named.{NamesTables};
 ghost use Rattle.model.specs.Survivors.{is_of, survivors};
 ghost use Rattle.model.specs.Footprint.{looked_up, footprint, shares_cell};
 ghost use Rattle.world.specs.World.{Opened, World};
+ghost use Rattle.world.specs.Settled.{WaitsFor};
 ghost use Rattle.world.specs.Steps.{StopsHeld};
 ghost use Rattle.keyholds.specs.Holds.{cells_held, IsFreeCell};
 ghost use Rattle.live_tables.specs.Answers.{after_stop};
@@ -81,6 +82,35 @@ impl Live {
             return None;
         }
         self.find_holder(waiter, &transaction.wants)
+    }
+
+    /// Whom an open transaction waits for: another, which holds a cell of the change that it wants. It takes
+    /// no memory.
+    pub fn holder_of(&self, xid: Xid) -> Option<Xid>
+        requires tied { (w : World) × Represents w self.now }
+        ensures held { IfSome result (λ holder. (w : World) (o : Opened) → Represents w self.now → finite.get w.opened xid ≡ Some o
+            → WaitsFor self.now.tables.schema w xid o holder) }
+        ensures free { result ≡ None → (w : World) (o : Opened) → Represents w self.now → finite.get w.opened xid ≡ Some o → (holder : ℕ)
+            → ¬ (WaitsFor self.now.tables.schema w xid o holder) }
+    {
+        if self.made {
+            return self.holder_by_holds(xid);
+        }
+        None
+    }
+
+    // The same, where holds are made.
+    fn holder_by_holds(&self, xid: Xid) -> Option<Xid>
+        requires tied { (w : World) × RepresentsByHolds w self.now }
+        ensures held { IfSome result (λ holder. (w : World) (o : Opened) → RepresentsByHolds w self.now → finite.get w.opened xid ≡ Some o
+            → WaitsFor self.now.tables.schema w xid o holder) }
+        ensures free { result ≡ None → (w : World) (o : Opened) → RepresentsByHolds w self.now → finite.get w.opened xid ≡ Some o → (holder : ℕ)
+            → ¬ (WaitsFor self.now.tables.schema w xid o holder) }
+    {
+        let Some(transaction) = self.transactions.get(&xid) else {
+            return None;
+        };
+        self.find_holder(xid, &transaction.wants)
     }
 
     /// Whether an open transaction waits with a change, or has one that clashed.

@@ -5,10 +5,12 @@
 --     IsSamePart      a part later on: of the same table, with the same keys and tickets
 --     Belongs      the share is one of the part
 --     Stands      in the part its transaction has done just what the share tells
+--     WaitsIn      there it waits for another
 use Rattle.std.specs.Prelude.{◌≡◌, ℕ, List, [], Option, Some, None, is_some}
 use Rattle.std.specs.FinMap as finite
 use Rattle.std.specs.FinMap.{get}
 use Rattle.world.specs.World.{Opened, World, work}
+use Rattle.world.specs.Settled.{WaitsFor}
 use Rattle.world_parts.specs.ByTable.{changes_at}
 use Rattle.world_parts.specs.Lines.{HasLine}
 use Rattle.world_parts.specs.Parts.{wanted_by}
@@ -67,3 +69,9 @@ Belongs p shares = (share : Share) → share_of shares p.number ≡ Some share �
 abbrev pub Stands : Part → Shares → Type 0
 Stands p shares =
     (share : Share) → share_of shares p.number ≡ Some share → get p.store.world.opened share.number ≡ Some (opened_by share.list)
+
+-- the transaction of the share of its table waits in the part for the holder, with what it wants there
+abbrev pub WaitsIn : Part → Shares → ℕ → Type 0
+WaitsIn p shares holder =
+    (share : Share) × (share_of shares p.number ≡ Some share)
+    × WaitsFor p.store.schema p.store.world share.number (opened_by share.list) holder

@@ -17,6 +17,7 @@ pub mod RestLemmas
 pub mod ComeLemmas
 pub mod EndLemmas
 pub mod JournalLemmas
+pub mod OpenLemmas
 pub mod KeptLemmas
 pub mod PlaceLemmas
 pub mod Truncating

@@ -1,12 +1,14 @@
 // The part of a store that is no table's: its commits, who is open, and what stopped it.
-ghost use Rattle.std.specs.Prelude.{◌≡◌, ◌<◌, ◌≤◌, ◌+◌, ◌∷◌, ◌++◌, [], true, false, ℕ, Some, None, IsSome, IfOk, IfErr, OnOk, OnErr, is_some, map, vec_len, vec_capacity};
+ghost use Rattle.std.specs.Prelude.{◌≡◌, ◌<◌, ◌≤◌, ◌+◌, ◌∷◌, ◌++◌, [], true, false, ◌==◌, ℕ, List, Some, None, IsSome, IfOk, IfErr, OnOk, OnErr, All, Contains, is_some, length, map, vec_len, vec_capacity};
+ghost use Rattle.std.specs.List.{IsDistinct};
 ghost use Rattle.std.specs.BTreeSet as set;
 ghost use Rattle.std.specs.BTreeSet.{btree_set_len};
+ghost use Rattle.std.specs.List.{IsDistinct};
 ghost use Rattle.std.specs.List.Sorted.{IsStrictlyIncreasing};
 ghost use Rattle.std.specs.Ordering.{nat_cmp};
 ghost use Rattle.model.specs.Beginning.{Begins, last_end};
 ghost use Rattle.model.specs.Survivors.{survivors};
-ghost use Rattle.world.specs.World.{World, ByHold, entry_of};
+ghost use Rattle.world.specs.World.{is_xid, World, ByHold, entry_of};
 ghost use Rattle.world.specs.Steps.{Opens};
 ghost use Rattle.live_tables.specs.Answers.{cause_of, stop_for, told_call, after_open, TellsWhatStopped, IsNoClash};
 ghost use Rattle.engine.specs.declared.events.LineEvent.TheVariants.{Opened as WasOpened, Committed as WasCommitted, Aborted as WasAborted};
@@ -130,6 +132,21 @@ impl Journal {
         ensures { result ≡ is_open_in self.now.line.list xid }
     {
         self.open_ones.contains(&xid)
+    }
+
+    /// How many transactions are open. It takes no memory.
+    pub fn open_count(&self) -> usize
+        ensures { result ≡ self.now.open_count }
+    {
+        self.open_ones.len()
+    }
+
+    /// Tells a proof that transactions which are open, as many of them as are, are all that are. It does nothing.
+    pub fn recall_open(&self)
+        ensures { (xids : List ℕ) → IsDistinct is_xid xids → All (λ xid. is_open_in self.now.line.list xid ≡ true) xids → length xids ≡ self.now.open_count
+            → (xid : ℕ) → is_open_in self.now.line.list xid ≡ true → Contains xids xid }
+    {
+        let _count = self.open_ones.len();
     }
 
     /// Tells a proof what its type keeps: where the log goes on behind each commit rises from one to the next. It

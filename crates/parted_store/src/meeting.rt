@@ -1,13 +1,14 @@
-// What a part and a ticket tell of one another.
-ghost use Rattle.std.specs.Prelude.{◌≡◌, ℕ, Some, slice_get};
+// What a part and a ticket tell of one another, and whom a transaction waits for in a part.
+ghost use Rattle.std.specs.Prelude.{◌≡◌, ℕ, Some, None, IfSome, slice_get};
 ghost use Rattle.table_parts.specs.Part.{Part as AnyPart};
 ghost use Rattle.parted_store.specs.EachPart.{BelongEach};
-ghost use Rattle.parted_store.specs.Lent.{Belongs, Stands};
+ghost use Rattle.parted_store.specs.Lent.{Belongs, Stands, WaitsIn};
 ghost use Rattle.parted_store.specs.Shares.{share_of};
 
 use crate::boxed::BoxedPart;
 use crate::shares::{put_share, take_share};
 use crate::ticket::Ticket;
+use model::Xid;
 use table_parts::Part;
 
 /// Learns that in the part the ticket's transaction has done just what its share tells, if it has one. Nothing
@@ -25,6 +26,27 @@ pub fn meet_in(part: &mut Part, ticket: &mut Ticket)
         part.meet(&mut share);
         put_share(&mut ticket.shares, table, share);
     }
+}
+
+/// Whom the ticket's transaction waits for in the part: another, which holds there a cell of the change that it
+/// wants there. Nothing changes, and it takes no memory.
+pub fn holder_in(part: &mut Part, ticket: &mut Ticket) -> Option<Xid>
+    requires { Belongs part.old ticket.old.shares }
+    ensures stands { Stands part.old ticket.old.shares }
+    ensures held { IfSome result (WaitsIn part.old ticket.old.shares) }
+    ensures free { result ≡ None → (holder : ℕ) → ¬ (WaitsIn part.old ticket.old.shares holder) }
+    ensures part { part.new ≡ part.old }
+    ensures xid { ticket.new.number ≡ ticket.old.number }
+    ensures events { ticket.new.events ≡ ticket.old.events }
+    ensures shares { (table : ℕ) → share_of ticket.new.shares table ≡ share_of ticket.old.shares table }
+{
+    let table = part.number();
+    let Some(mut share) = take_share(&mut ticket.shares, table) else {
+        return None;
+    };
+    let holder = part.holder_of(&mut share);
+    put_share(&mut ticket.shares, table, share);
+    holder
 }
 
 /// Learns so in each of the parts that are lent. Nothing changes, and it takes no memory.

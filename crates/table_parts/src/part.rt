@@ -1,11 +1,12 @@
 // The part of a table, and its calls.
-ghost use Rattle.std.specs.Prelude.{◌≡◌, ◌<◌, ℕ, ◌++◌, ◌∷◌, [], Some, IfOk, IfErr, OnOk, OnErr, length};
+ghost use Rattle.std.specs.Prelude.{◌≡◌, ◌<◌, ℕ, ◌++◌, ◌∷◌, [], Some, None, IfOk, IfErr, IfSome, OnOk, OnErr, length};
 ghost use Rattle.std.specs.FinMap as finite;
 ghost use Rattle.model.specs.declared.item.Item.TheVariants.{BackTo};
 ghost use Rattle.model.specs.Named.{NamesTables};
 ghost use Rattle.model.specs.TableRows.{rows_of_table};
 ghost use Rattle.tokens.specs.Lists.{open_list};
 ghost use Rattle.world.specs.World.{World, starting};
+ghost use Rattle.world.specs.Settled.{WaitsFor};
 ghost use Rattle.world.specs.Steps as steps;
 ghost use Rattle.world.specs.Steps.{ReadsCommitted, ReadsLive};
 ghost use Rattle.live_tables.specs.declared.answers.EngineFault.TheVariants.{OutOfMemory as NoMemory};
@@ -98,6 +99,26 @@ impl Part {
         ensures same { self.new ≡ self.old }
     {
         let _ = self.store.wants(t);
+    }
+
+    /// Whom a transaction waits for in the part: another, which holds there a cell of the change that it wants
+    /// there. Nothing changes, and it takes no memory.
+    pub fn holder_of(&mut self, t: &mut Ticket) -> Option<Xid>
+        requires { t.old.name ≡ self.old.store.tickets }
+        ensures stood { finite.get self.old.store.world.opened t.old.number ≡ Some (opened_by t.old.list) }
+        ensures held { IfSome result (WaitsFor self.old.store.schema self.old.store.world t.old.number (opened_by t.old.list)) }
+        ensures free { result ≡ None → (holder : ℕ) → ¬ (WaitsFor self.old.store.schema self.old.store.world t.old.number (opened_by t.old.list) holder) }
+        ensures ticket { t.new ≡ t.old }
+        ensures same { self.new ≡ self.old }
+    {
+        self.store.holder_of(t)
+    }
+
+    /// How many transactions have come to the part and have not ended. It takes no memory.
+    pub fn open_count(&self) -> usize
+        ensures { result ≡ finite.len self.now.store.world.opened }
+    {
+        self.store.open_count()
     }
 
     /// A transaction tries a change of this table alone, under its latest mark. A change that clashes alters

@@ -14,4 +14,4 @@ returns-then-self-clause-tied c = λ w tied.
     from_holds _ c.stop_by_holds.new.self (c.stop_by_holds.ensures.tied w (by_holds w c.args.self.now tied c.if-self.true)) (c.stop_by_holds.ensures.made ∙ c.if-self.true)
 
 pub returns-clause-stops : goal.returns-clause-stops
-returns-clause-stops c = λ w tied. lone_not_stuck w c.args.self.now tied c.if-self.false c.args.sent.now c.args.waiter
+returns-clause-stops c = λ w tied. lone_not_stuck w c.args.self.now tied c.if-self.false c.args.waiter c.args.sent.now
