@@ -330,3 +330,9 @@ LedReached =
 abbrev pub LedByStep : Type 0
 LedByStep =
     (schema : Schema) (start : Rows) (w new : World) → IsLed schema start w → Step schema w new → IsLed schema start new
+
+-- and so may a run have a world that is known by its parts
+abbrev pub LedByParts : Type 0
+LedByParts =
+    (schema : Schema) (start : Rows) (w : World) → w.start ≡ start → ∥ IsReachedByParts schema start w ∥₁
+    → (IsValid schema start → ∥ ((table : ℕ) → HasSoundPart schema w table) ∥₁) → StopsInTable w → IsLed schema start w

@@ -1,6 +1,6 @@
 // The laws of parts. Each function does nothing: its contract is a law, and the check of this crate
 // proves it.
-ghost use Rattle.world_parts.specs.Statements.{RowsByTable, WalkedByTable, ValidByTable, SerialByTable, HeldByTable, HasEachPart, PartOfPart, PartOfItself, TriedInPart, TruncatedByParts, LiveInPart, PartAfterOpen, PartAfterTry, PartAfterTouch, PartAfterRollback, PartAfterCommit, PartAfterAbort, LineBegins, LineAfterCommit, LineAfterStep, LineStays, RowsUntilInPart, ReachedByParts, ReachedOfEach, MadeOfParts, TruncateLeads, WaitingLeads, ChangesAreTold, RollbackByTable, RollbackByMarks, PartIsFine, FineByParts, SoundReached, SoundAlike, SoundByParts, LedReached, LedByStep};
+ghost use Rattle.world_parts.specs.Statements.{RowsByTable, WalkedByTable, ValidByTable, SerialByTable, HeldByTable, HasEachPart, PartOfPart, PartOfItself, TriedInPart, TruncatedByParts, LiveInPart, PartAfterOpen, PartAfterTry, PartAfterTouch, PartAfterRollback, PartAfterCommit, PartAfterAbort, LineBegins, LineAfterCommit, LineAfterStep, LineStays, RowsUntilInPart, ReachedByParts, ReachedOfEach, MadeOfParts, TruncateLeads, WaitingLeads, ChangesAreTold, RollbackByTable, RollbackByMarks, PartIsFine, FineByParts, SoundReached, SoundAlike, SoundByParts, LedReached, LedByStep, LedByParts};
 
 /// Rows that agree in each table are the same.
 pub fn rows_by_table()
@@ -186,4 +186,9 @@ pub fn led_reached()
 /// So may it have each that a call leads to.
 pub fn led_by_step()
     ensures { LedByStep }
+{}
+
+/// And so may it have one that is known by its parts.
+pub fn led_by_parts()
+    ensures { LedByParts }
 {}
