@@ -1,5 +1,6 @@
 // What a part and a ticket tell of one another, and whom a transaction waits for in a part.
-ghost use Rattle.std.specs.Prelude.{◌≡◌, ℕ, Some, None, IfSome, slice_get};
+ghost use Rattle.std.specs.Prelude.{◌≡◌, ℕ, false, Some, None, IfSome, MatchOption, is_some, slice_get};
+ghost use Rattle.engine.specs.Events.{opened_by};
 ghost use Rattle.table_parts.specs.Part.{Part as AnyPart};
 ghost use Rattle.parted_store.specs.EachPart.{BelongEach};
 ghost use Rattle.parted_store.specs.Lent.{Belongs, Stands, WaitsIn};
@@ -17,6 +18,7 @@ pub fn meet_in(part: &mut Part, ticket: &mut Ticket)
     requires { Belongs part.old ticket.old.shares }
     ensures stands { Stands part.old ticket.old.shares }
     ensures part { part.new ≡ part.old }
+    ensures ticket { ticket.new ≡ ticket.old }
     ensures xid { ticket.new.number ≡ ticket.old.number }
     ensures events { ticket.new.events ≡ ticket.old.events }
     ensures shares { (table : ℕ) → share_of ticket.new.shares table ≡ share_of ticket.old.shares table }
@@ -73,4 +75,21 @@ fn meet_boxed(part: &mut BoxedPart, ticket: &mut Ticket)
     ensures shares { (table : ℕ) → share_of ticket.new.shares table ≡ share_of ticket.old.shares table }
 {
     meet_in(part.part(), ticket);
+}
+
+/// Whether the ticket's transaction waits in the part with a change, or has one there that clashed:
+/// without a share it does neither. Nothing changes, and it takes no memory.
+pub fn wants_in(part: &mut Part, ticket: &mut Ticket) -> bool
+    requires { Belongs part.old ticket.old.shares }
+    ensures wants { MatchOption (share_of ticket.old.shares part.old.number) (result ≡ false) (λ share. result ≡ is_some (opened_by share.list).wants) }
+    ensures part { part.new ≡ part.old }
+    ensures ticket { ticket.new ≡ ticket.old }
+{
+    let table = part.number();
+    let Some(mut share) = take_share(&mut ticket.shares, table) else {
+        return false;
+    };
+    let wants = part.wants(&mut share);
+    put_share(&mut ticket.shares, table, share);
+    wants
 }

@@ -24,6 +24,7 @@ pub(crate) fn take_share(shares: &mut Vec<Option<Share>>, table: TableId) -> Opt
 pub(crate) fn put_share(shares: &mut Vec<Option<Share>>, table: TableId, share: Share)
     requires { table < length shares.old.items }
     ensures share { share_of shares.new.items table ≡ Some share }
+    ensures long { length shares.new.items ≡ length shares.old.items }
     ensures others { (other : ℕ) → other ≢ table → share_of shares.new.items other ≡ share_of shares.old.items other }
 {
     shares[table] = Some(share);

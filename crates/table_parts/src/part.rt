@@ -1,5 +1,5 @@
 // The part of a table, and its calls.
-ghost use Rattle.std.specs.Prelude.{◌≡◌, ◌<◌, ℕ, ◌++◌, ◌∷◌, [], Some, None, IfOk, IfErr, IfSome, OnOk, OnErr, length};
+ghost use Rattle.std.specs.Prelude.{◌≡◌, ◌<◌, ℕ, ◌++◌, ◌∷◌, [], Some, None, IfOk, IfErr, IfSome, OnOk, OnErr, is_some, length};
 ghost use Rattle.std.specs.FinMap as finite;
 ghost use Rattle.model.specs.declared.item.Item.TheVariants.{BackTo};
 ghost use Rattle.model.specs.Named.{NamesTables};
@@ -99,6 +99,18 @@ impl Part {
         ensures same { self.new ≡ self.old }
     {
         let _ = self.store.wants(t);
+    }
+
+    /// Whether an open transaction waits with a change of the table, or has one that clashed.
+    /// Nothing changes, and it takes no memory.
+    pub fn wants(&mut self, t: &mut Ticket) -> bool
+        requires { t.old.name ≡ self.old.store.tickets }
+        ensures stood { finite.get self.old.store.world.opened t.old.number ≡ Some (opened_by t.old.list) }
+        ensures wants { result ≡ is_some (opened_by t.old.list).wants }
+        ensures ticket { t.new ≡ t.old }
+        ensures same { self.new ≡ self.old }
+    {
+        self.store.wants(t)
     }
 
     /// Whom a transaction waits for in the part: another, which holds there a cell of the change that it wants
