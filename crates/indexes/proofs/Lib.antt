@@ -14,3 +14,4 @@ pub mod Walking
 pub mod Seen
 pub mod Emptied
 pub mod Released
+pub mod Exchanged

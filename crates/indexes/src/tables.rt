@@ -22,6 +22,7 @@ use model::{Cell, Key, OutOfMemory, Row, TableDef};
 use rows::{RowView, Walk};
 use std::alloc::Global;
 use std::marker::Model;
+use std::mem;
 
 /// The tables of a catalog, in its order. A clause sees their keys' columns, all rows by table and
 /// key, and the cells that there is room for.
@@ -340,6 +341,25 @@ impl Tables {
     {
         let table = &mut self.tables[table];
         table.unwipe(contents);
+    }
+
+    /// Exchanges the rows of a table with those that it has there, where the tables have the same
+    /// keys. None is copied, and it takes no memory.
+    pub fn exchange(&mut self, table: usize, other: &mut Tables)
+        requires known { table < length self.old.schema }
+        requires keys { other.old.schema ≡ self.old.schema }
+        ensures schema { self.new.schema ≡ self.old.schema }
+        ensures rows { (key : AnyKey) → finite.get self.new.rows (table, key) ≡ finite.get other.old.rows (table, key) }
+        ensures elsewhere { SameElsewhere self.old.rows self.new.rows table }
+
+        // The same of the other tables.
+        ensures schema_there { other.new.schema ≡ other.old.schema }
+        ensures rows_there { (key : AnyKey) → finite.get other.new.rows (table, key) ≡ finite.get self.old.rows (table, key) }
+        ensures elsewhere_there { SameElsewhere other.old.rows other.new.rows table }
+    {
+        let here = &mut self.tables[table];
+        let there = &mut other.tables[table];
+        mem::swap(here, there);
     }
 
     /// Drops the slot of a key and the entries of a row's unique values, where they are empty. It
