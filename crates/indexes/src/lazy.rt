@@ -124,8 +124,8 @@ impl LazyTable {
         }
     }
 
-    // An empty table with the same keys. It takes no memory.
-    fn emptied(&self) -> Result<LazyTable, OutOfMemory>
+    /// An empty table with the same keys. It takes no memory.
+    pub(crate) fn emptied(&self) -> Result<LazyTable, OutOfMemory>
         ensures keys { IfOk result (λ table. table.keys ≡ self.now.keys) }
         ensures empty { IfOk result (λ table. table.rows ≡ finite.empty) }
         ensures sound { IfOk result IsSound }

@@ -92,6 +92,19 @@ impl Tables {
         Ok(Tables { tables })
     }
 
+    /// Empty tables with the same keys. No row is copied.
+    pub fn blank(&self) -> Result<Tables, OutOfMemory>
+        ensures schema { IfOk result (λ blank. blank.schema ≡ self.now.schema) }
+        ensures empty { IfOk result (λ blank. blank.rows ≡ finite.empty) }
+    {
+        let alloc = *self.tables.allocator();
+        let mut tables = Vec::new(alloc);
+        for table in &self.tables {
+            tables.push(table.emptied()?)?;
+        }
+        Ok(Tables { tables })
+    }
+
     /// How many tables there are.
     pub fn len(&self) -> usize
         ensures { result ≡ length self.now.schema }
