@@ -2,10 +2,11 @@
 ghost use Rattle.std.specs.Prelude.{◌≡◌, ◌<◌, ℕ, ◌++◌, ◌∷◌, [], Some, None, IfOk, IfErr, IfSome, OnOk, OnErr, is_some, length};
 ghost use Rattle.std.specs.FinMap as finite;
 ghost use Rattle.model.specs.declared.item.Item.TheVariants.{BackTo};
+ghost use Rattle.model.specs.Effect.{serial};
 ghost use Rattle.model.specs.Named.{NamesTables};
 ghost use Rattle.model.specs.TableRows.{rows_of_table};
 ghost use Rattle.tokens.specs.Lists.{open_list};
-ghost use Rattle.world.specs.World.{World, starting};
+ghost use Rattle.world.specs.World.{World, starting, changes_in};
 ghost use Rattle.world.specs.Settled.{WaitsFor};
 ghost use Rattle.world.specs.Steps as steps;
 ghost use Rattle.world.specs.Steps.{ReadsCommitted, ReadsLive};
@@ -202,6 +203,16 @@ impl Part {
         ensures end { last_commit_end self.new ≡ last_commit_end self.old }
     {
         self.store.abort(&mut self.line, t);
+    }
+
+    /// The tables, of which its own alone has rows, once all transactions that are still open in it
+    /// were aborted: what they did is undone. It takes no memory.
+    pub fn into_tables(self) -> Tables
+        ensures rows { result.rows ≡ serial self.store.schema self.store.world.start (changes_in self.store.world.line) }
+        ensures schema { result.schema ≡ self.store.schema }
+    {
+        let (tables, _) = self.store.shut(self.line);
+        tables
     }
 
     /// The committed row at a key, as a copy.
