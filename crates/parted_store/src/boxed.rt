@@ -1,10 +1,10 @@
 // The part of a table in a box.
-ghost use Rattle.std.specs.Prelude.{◌≡◌, IfOk};
+ghost use Rattle.std.specs.Prelude.{◌≡◌, IfOk, IfErr};
 ghost use Rattle.std.specs.Borrow.{Lends, sem};
 ghost use Rattle.parted_store.specs.contracts.boxed.BoxedPart.{the_row as the_boxed_row};
 ghost use Rattle.table_parts.specs.contracts.part.Part.{the_row as the_part_row};
 
-use model::{OutOfMemory, TableId};
+use model::TableId;
 use std::alloc::Global;
 use std::marker::Model;
 use table_parts::Part;
@@ -29,13 +29,15 @@ impl Model for BoxedPart {
 }
 
 impl BoxedPart {
-    /// Puts a part into a box.
-    pub fn new(alloc: Global, part: Part) -> Result<BoxedPart, OutOfMemory>
-        ensures { IfOk result (λ boxed. boxed ≡ part) }
+    /// Puts a part into a box. Refused for memory, the part is handed back.
+    pub fn new(alloc: Global, part: Part) -> Result<BoxedPart, Part>
+        ensures ok { IfOk result (λ boxed. boxed ≡ part) }
+        ensures err { IfErr result (λ refused. refused ≡ part) }
     {
-        Ok(BoxedPart {
-            part: Box::new(alloc, part)?,
-        })
+        match Box::new(alloc, part) {
+            Ok(part) => Ok(BoxedPart { part }),
+            Err(refused) => Err(refused.value),
+        }
     }
 
     /// The number of its table.
@@ -50,6 +52,13 @@ impl BoxedPart {
         ensures { result.now ≡ self.now }
     {
         &*self.part
+    }
+
+    /// Takes the part out of its box.
+    pub fn into_part(self) -> Part
+        ensures { result ≡ self }
+    {
+        Box::into_inner(self.part)
     }
 
     /// The part in the box.
