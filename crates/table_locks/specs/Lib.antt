@@ -19,3 +19,7 @@ pub mod Reading
 pub mod ReadingLemmas
 pub mod Starts
 pub mod StartLemmas
+pub mod Moving
+pub mod MovingLemmas
+pub mod Closing
+pub mod ClosingLemmas

@@ -1,5 +1,5 @@
 // A subtransaction is rolled back, or named.
-ghost use Rattle.std.specs.Prelude.{◌≡◌, ◌≤◌, ◌++◌, ◌∷◌, [], true, IfErr, length};
+ghost use Rattle.std.specs.Prelude.{◌≡◌, ◌≤◌, ◌++◌, ◌∷◌, [], IfErr, length};
 ghost use Rattle.model.specs.declared.item.Item.TheVariants.{BackTo};
 ghost use Rattle.live_tables.specs.Answers.{told_call, IsNoClash};
 ghost use Rattle.engine.specs.declared.events.Event.TheVariants.{Done};

@@ -25,13 +25,16 @@
 //   entries      positions among the journal's entries
 //   hidden       `wait_for_ever`, for what only a lock hides
 //   made         `Made`, what a store is made of before its names are chosen
+//   closing      the end of a store
+//   moving       the rows of one table, moved out of tables and into them
 //
 //   specs/TableStates, Journals, Tickets    what the types keep
 //   specs/Reading                     what a reader sees
-//   specs/Starts                      what a store is made of
+//   specs/Starts, Closing, Moving     what a store is made of, and what is left of it
 //   specs/..Lemmas                    what follows, from one call to the next
 mod acting;
 mod back;
+mod closing;
 mod commits;
 mod ends;
 mod entries;
@@ -39,6 +42,7 @@ mod hidden;
 mod journal;
 mod locks;
 mod made;
+mod moving;
 mod names;
 mod reading;
 mod several;

@@ -3,7 +3,7 @@ ghost use Rattle.std.specs.Prelude.{◌≡◌, ◌++◌, ◌∷◌, [], ◌<◌,
 ghost use Rattle.std.specs.Sync.Mutex.{mutex_guard_value};
 ghost use Rattle.live_tables.specs.Answers.{IsNoClash};
 ghost use Rattle.engine.specs.declared.events.LineEvent.TheVariants.{Opened as WasOpened};
-ghost use Rattle.table_locks.specs.Starts.{AreNames};
+ghost use Rattle.table_locks.specs.Starts.{AreNames, AreKnown};
 
 use crate::hidden::wait_for_ever;
 use crate::journal::Journal;
@@ -12,6 +12,7 @@ use crate::names::StoreNames;
 use crate::table_part::TablePart;
 use crate::ticket::Ticket;
 use engine::EngineFault;
+use indexes::Tables;
 use model::{OutOfMemory, TableId, Xid};
 use parted_store::Line;
 use std::alloc::Global;
@@ -25,8 +26,12 @@ pub struct Store<N: StoreNames> {
     pub(crate) journal: Mutex<Journal<N>>,
     /// Notified under the journal's lock whenever a move is counted.
     pub(crate) moved: Condvar,
+    /// Tables with the same keys, into which the rows of all parts are to come at the end.
+    pub(crate) blank: Tables,
     ghost all: { length tables.items ≡ length N.schema },
     ghost few: { length N.schema ≤ 1024 },
+    ghost keys: { blank.schema ≡ N.schema },
+    ghost known: { AreKnown N.schema N.start },
 }
 
 impl<N: StoreNames> Store<N> {
@@ -34,11 +39,11 @@ impl<N: StoreNames> Store<N> {
     pub fn new(alloc: Global, made: Made) -> Result<Store<N>, OutOfMemory>
         requires { AreNames N.shares N.line N.tables N.schema N.start made }
     {
-        made.recall_invariant();
         let Made {
             tables: made_tables,
             journal,
             book,
+            blank,
         } = made;
         let journal = Journal::new(journal, book);
         let mut tables = Vec::new(alloc);
@@ -49,6 +54,7 @@ impl<N: StoreNames> Store<N> {
             tables,
             journal: Mutex::new(journal),
             moved: Condvar::new(),
+            blank,
         })
     }
 

@@ -3,7 +3,7 @@ use Rattle.std.specs.Prelude.{slice_get}
 use Rattle.std.specs.Vec.Iter.{into_iter_items}
 use Rattle.tokens.specs.Half.{Name}
 use Rattle.table_locks.specs.StartLemmas.{here, taken_front, taken_count, fits_begun}
-use Rattle.table_locks.specs.Starts.{MadeTable, MadeStore, IsBegun}
+use Rattle.table_locks.specs.Starts.{MadeTable, MadeStore, IsBegun, IsMade}
 use Rattle.table_locks.proofs.store.Store.new.Goals as goal
 
 pub new-requires : goal.new-requires
@@ -17,7 +17,7 @@ new-requires g c =
     let at : slice_get c.args.made.tables (length taken) ≡ Some t =
     ap (λ (ts : List MadeTable). slice_get ts (length taken)) split ∙ here taken t (into_iter_items c.next.new.self) in
     fits_begun g.N.StoreNames.shares g.N.StoreNames.tables g.N.StoreNames.schema g.N.StoreNames.start (length taken) t
-    (subst (λ (name : Name). IsBegun name (length taken) t) c.requires.book (c.recall_invariant.ensures.begun.each (length taken) t at))
+    (subst (λ (name : Name). IsBegun name (length taken) t) c.requires.book ((subst IsMade c.made.view_is c.made.invariant).begun.each (length taken) t at))
     (c.requires.tickets (length taken) t at) (c.requires.over (length taken) t at)
 
 pub invariant_of-result : goal.invariant_of-result
@@ -31,5 +31,7 @@ invariant_of-result g c =
     let count : length taken ≡ length c.made.inside.tables.items = omega (arith, whole, counted, left, none) in
     record {
       all = c.loop-part.invariant ∙ count ∙ ap (λ (ts : List MadeTable). length ts) made ∙ c.requires.long;
-      few = subst (λ (n : ℕ). n ≤ 1024) c.requires.long c.recall_invariant.ensures.few;
+      few = subst (λ (n : ℕ). n ≤ 1024) c.requires.long (subst IsMade c.made.view_is c.made.invariant).few;
+      keys = ap (λ (m : MadeStore). m.blank.schema) c.made.view_is ∙ c.requires.keys;
+      known = c.requires.known;
     }
