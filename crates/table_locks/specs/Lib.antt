@@ -23,3 +23,5 @@ pub mod Moving
 pub mod MovingLemmas
 pub mod Closing
 pub mod ClosingLemmas
+pub mod Whole
+pub mod MeetingLemmas

@@ -23,6 +23,7 @@
 //   reading      committed rows, and what was seen of the line
 //   several      those of several tables, all after the same commits
 //   entries      positions among the journal's entries
+//   meeting      what a table's part and all tickets tell of one another
 //   hidden       `wait_for_ever`, for what only a lock hides
 //   made         `Made`, what a store is made of before its names are chosen
 //   closing      the end of a store
@@ -42,6 +43,7 @@ mod hidden;
 mod journal;
 mod locks;
 mod made;
+mod meeting;
 mod moving;
 mod names;
 mod reading;

@@ -1,22 +1,28 @@
 // What lies under a table's lock.
-ghost use Rattle.std.specs.Prelude.{◌≡◌, ◌++◌, Some, None, is_some};
+ghost use Rattle.std.specs.Prelude.{◌≡◌, ◌++◌, true, Some, None, is_some};
 ghost use Rattle.std.specs.FinMap.{get};
+ghost use Rattle.model.specs.declared.change.Change.{Change as AnyChange};
+ghost use Rattle.model.specs.Effect.{ClashCause};
 ghost use Rattle.tokens.specs.Lists.{with_list};
+ghost use Rattle.world.specs.World.{ByClash};
+ghost use Rattle.world_parts.specs.ByTable.{IsIn};
 ghost use Rattle.world_parts.specs.Lines.{commit_at};
-ghost use Rattle.live_tables.specs.Answers.{told_stop, HasCause};
+ghost use Rattle.live_tables.specs.Answers.{cause_of, told_stop, HasCause};
 ghost use Rattle.table_locks.specs.Ending.{past_by, told_state};
 ghost use Rattle.table_locks.specs.TableStates.{Fits, IsTableState, IsLent};
 
 use crate::commits::TableCommit;
 use crate::hidden::wait_for_ever;
 use crate::names::StoreNames;
+use change::Clash;
 use live_tables::Stopped;
-use model::{CommitInfo, Lsn, TableId};
+use model::{Change, CommitInfo, Lsn, TableId, Xid};
 use parted_store::BoxedPart;
 use std::marker::{Brand, Model, PhantomData};
 use std::sync::Wait;
 use table_parts::Part;
 use tokens::{Book, Items, Slip};
+use world_parts::cutting::only_table;
 
 /// What lies under a table's lock: the table's part, which whoever holds the lock may take out and
 /// puts back; a half of the list of the table's commits, whose other half lies with the journal;
@@ -73,6 +79,48 @@ impl<N: StoreNames> TablePart<N> {
         ensures { result ≡ is_some self.now.stopped }
     {
         self.stopped.is_some()
+    }
+
+    /// Whether the table knows that this clash, of a change of it alone, stopped the store.
+    pub(crate) fn knows(&self, xid: Xid, clash: Clash) -> bool
+        ensures { result ≡ true → (c : AnyChange) × (cause : ClashCause) × (cause_of clash ≡ Some cause) × (self.now.stopped ≡ Some (ByClash xid c cause)) × IsIn self.now.number c }
+    {
+        match &self.stopped {
+            Some(stopped) => self.has_noted(stopped, xid, clash),
+            None => false,
+        }
+    }
+
+    // Whether this is that clash, of a change of the table alone.
+    fn has_noted(&self, stopped: &Stopped, xid: Xid, clash: Clash) -> bool
+        requires { HasCause stopped.now }
+        ensures { result ≡ true → (c : AnyChange) × (cause : ClashCause) × (cause_of clash ≡ Some cause) × (told_stop (Some stopped.now) ≡ Some (ByClash xid c cause)) × IsIn self.now.number c }
+    {
+        let Stopped::Clash {
+            xid: noted,
+            change,
+            clash: was,
+        } = stopped
+        else {
+            return false;
+        };
+        if *noted != xid {
+            return false;
+        }
+        if *was != clash {
+            return false;
+        }
+        self.has_alone(change)
+    }
+
+    // Whether a change is one of the table alone.
+    fn has_alone(&self, change: &Change) -> bool
+        ensures { result ≡ true → IsIn self.now.number change.now }
+    {
+        match only_table(change) {
+            Some(table) => table == self.number(),
+            None => false,
+        }
     }
 
     /// A position behind which no commit of the part ends.

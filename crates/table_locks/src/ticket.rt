@@ -2,6 +2,8 @@
 ghost use Rattle.std.specs.Prelude.{◌≡◌, ◌++◌, []};
 ghost use Rattle.live_tables.specs.Answers.{told_fault};
 ghost use Rattle.engine.specs.Events.{refusal_events};
+ghost use Rattle.parted_store.specs.Lent.{HasShares};
+ghost use Rattle.table_locks.specs.Tickets.{IsTicketOf};
 
 use crate::names::StoreNames;
 use engine::EngineFault;
@@ -61,6 +63,14 @@ impl<N: StoreNames> Ticket<N> {
         ensures { result ≡ self.now.number }
     {
         self.ticket.xid()
+    }
+
+    /// Tells a proof what its type keeps. It does nothing.
+    pub fn recall_invariant(&self)
+        ensures is { IsTicketOf N.shares N.schema self.now }
+        ensures shares { HasShares self.now }
+    {
+        self.ticket.recall_invariant();
     }
 
     /// A call of the transaction is refused, and its list tells it. Nothing else changes, and it
