@@ -24,4 +24,6 @@ pub mod MovingLemmas
 pub mod Closing
 pub mod ClosingLemmas
 pub mod Whole
+pub mod WholeLemmas
 pub mod MeetingLemmas
+pub mod GuardLemmas

@@ -7,7 +7,7 @@
 --     closed_by      in a part no other is open, where as many are as have a share there
 --     wants_here, wants_nothing      what a transaction wants is something in the table
 --     known_by      a clash that a table knows
-use Rattle.std.specs.Prelude.{◌≡◌, ◌≢◌, ◌⊎◌, ℕ, ◌+◌, ◌<◌, ◌≤◌, Bool, true, false, cond, List, [], ◌∷◌, ◌++◌, Option, Some, None, IfSome, MatchOption, All, Contains, is_some, filter, length, take, slice_get, refl}
+use Rattle.std.specs.Prelude.{◌≡◌, ◌≢◌, ◌⊎◌, ℕ, ◌+◌, ◌<◌, ◌≤◌, Bool, true, false, cond, List, [], ◌∷◌, Option, Some, None, IfSome, MatchOption, All, Contains, is_some, filter, length, take, slice_get, refl}
 use Rattle.std.proofs.Common.{zero, suc, sym, ◌∙◌, ap, subst, arith, inl, inr, append-nil}
 use Rattle.std.proofs.lemmas.Bool.{cases_Bool}
 use Rattle.std.proofs.lemmas.List.Elements.{All-from_recursion}
@@ -37,7 +37,7 @@ use Rattle.parted_store.specs.OpenLemmas.{open_all}
 use Rattle.parted_store.specs.Shares.{Share, share_of}
 use Rattle.table_locks.specs.LendingLemmas.{some_there}
 use Rattle.table_locks.specs.Tickets.{IsTicketOf}
-use Rattle.table_locks.specs.Whole.{HasTicketOf, AreDifferent, AreOpen, AreAllOpen, AreTickets, HasShareOf, WantsIn, numbers_of, numbers_at}
+use Rattle.table_locks.specs.Whole.{AreDifferent, AreOpen, AreAllOpen, AreTickets, HasShareOf, WantsIn, numbers_of, numbers_at}
 
 -- ---- one ticket after another
 

@@ -1,6 +1,7 @@
 -- What follows of a store in which nothing has happened.
 --     here, taken_front, taken_count      what is behind the first so many; what the iterator of a vector has given
 --     none_are_of      of no rows none are a table's
+--     own_starting      the rows of a table, before anything happened, are a part of themselves
 --     fits_begun      a table's part may be laid under its lock
 --     none_begun, begun_more, over_none, over_more      before the first table, and behind one table more
 --     left_more, left_same      one more table's rows were taken out; none were
@@ -72,8 +73,7 @@ none_are_of table =
 
 -- ---- a table
 
--- the rows of a table, before anything happened, are a part of themselves
-own_starting : (number : ℕ) (start : Rows) → HasPart number (starting (rows_at number start)) (starting (rows_at number start))
+pub own_starting : (number : ℕ) (start : Rows) → HasPart number (starting (rows_at number start)) (starting (rows_at number start))
 own_starting number start = (
   record {
     committed = sym (rows_twice number start);

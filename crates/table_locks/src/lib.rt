@@ -23,6 +23,7 @@
 //   reading      committed rows, and what was seen of the line
 //   several      those of several tables, all after the same commits
 //   entries      positions among the journal's entries
+//   whole        the end, where all is one world again
 //   meeting      what a table's part and all tickets tell of one another
 //   hidden       `wait_for_ever`, for what only a lock hides
 //   made         `Made`, what a store is made of before its names are chosen
@@ -52,6 +53,7 @@ mod store;
 mod table_part;
 mod ticket;
 mod truncating;
+mod whole;
 
 pub use commits::TableCommit;
 pub use journal::Journal;

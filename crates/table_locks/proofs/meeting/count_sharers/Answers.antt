@@ -1,4 +1,4 @@
-use Rattle.std.proofs.Common.{arith, ◌≡◌, ◌+◌, ◌≤◌, ◌∙◌, ◌∷◌, drop, length, slice_index_or, is_some, refl, sym, ap}
+use Rattle.std.proofs.Common.{arith, ◌≡◌, ◌+◌, ◌∙◌, ◌∷◌, drop, length, slice_index_or, is_some, sym, ap}
 use Rattle.std.proofs.lemmas.List.{drop_more, drop_all}
 use Rattle.parted_store.specs.Lent.{OpenTicket}
 use Rattle.parted_store.specs.Shares.{share_of}

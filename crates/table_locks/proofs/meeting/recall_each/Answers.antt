@@ -1,4 +1,4 @@
-use Rattle.std.proofs.Common.{arith, length, slice_index_or, subst}
+use Rattle.std.proofs.Common.{arith, slice_index_or, subst}
 use Rattle.std.proofs.lemmas.Option.{slice_get-get_or}
 use Rattle.parted_store.specs.Lent.{OpenTicket, HasShares}
 use Rattle.table_locks.specs.MeetingLemmas.{none_below, one_below, each_of}

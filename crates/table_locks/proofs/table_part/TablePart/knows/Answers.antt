@@ -1,4 +1,4 @@
-use Rattle.std.proofs.Common.{◌≡◌, ◌∙◌, Some, sym, ap}
+use Rattle.std.proofs.Common.{◌∙◌, sym, ap}
 use Rattle.live_tables.specs.Answers.{told_stop}
 use Rattle.table_locks.specs.TableStates.{TableState}
 use Rattle.table_locks.proofs.table_part.TablePart.knows.Goals as goal
