@@ -189,8 +189,8 @@ impl Store {
         self.live.wants(xid)
     }
 
-    /// Whom an open transaction waits for: another, which holds a cell of the change that it wants. Nothing
-    /// changes, and it takes no memory.
+    /// Whom an open transaction waits for: another, which holds a cell of the change that it wants.
+    /// Nothing changes, and it takes no memory.
     #[tactic(auto, using(crate::proofs::StoreTickets::met_open))]
     pub fn holder_of(&mut self, t: &mut Ticket) -> Option<Xid>
         requires { t.old.name ≡ self.old.tickets }

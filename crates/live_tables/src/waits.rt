@@ -84,8 +84,8 @@ impl Live {
         self.find_holder(waiter, &transaction.wants)
     }
 
-    /// Whom an open transaction waits for: another, which holds a cell of the change that it wants. It takes
-    /// no memory.
+    /// Whom an open transaction waits for: another, which holds a cell of the change that it wants. It
+    /// takes no memory.
     pub fn holder_of(&self, xid: Xid) -> Option<Xid>
         requires tied { (w : World) × Represents w self.now }
         ensures held { IfSome result (λ holder. (w : World) (o : Opened) → Represents w self.now → finite.get w.opened xid ≡ Some o

@@ -1,14 +1,16 @@
 -- Parts that are lent, and what is done in each of them, one after another.
 --     AreApart, IsBeside      they are of different tables; none is of this one
 --     Covers, BelongEach      they are those of the shares; each share is a ticket of its part
+--     HasEach      a world over these keys has each of them
 --     WaitsAmong      a transaction waits with no change of a table beside them
 --     Progress      the first of them have done so, and the others are as they were
 use Rattle.std.specs.Prelude.{◌≡◌, ◌≢◌, ℕ, ◌<◌, ◌≤◌, List, [], Option, Some, IsSomeAnd, length, slice_get}
-use Rattle.world.specs.World.{Opened}
+use Rattle.model.specs.Rows.{Schema}
+use Rattle.world.specs.World.{Opened, World}
 use Rattle.world_parts.specs.ByTable.{changes_at}
 use Rattle.world_parts.specs.Parts.{wanted_by}
 use Rattle.table_parts.specs.Part.{Part}
-use Rattle.parted_store.specs.Lent.{Belongs}
+use Rattle.parted_store.specs.Lent.{HasTable, Belongs}
 use Rattle.parted_store.specs.Shares.{Share, Shares, share_of}
 
 -- the parts are of different tables
@@ -28,6 +30,10 @@ Covers parts shares =
 -- each share is a ticket of its part
 abbrev pub BelongEach : List Part → Shares → Type 0
 BelongEach parts shares = (i : ℕ) (p : Part) → slice_get parts i ≡ Some p → Belongs p shares
+
+-- the world, over these keys, has each of them
+abbrev pub HasEach : Schema → World → List Part → Type 0
+HasEach schema w parts = (i : ℕ) (p : Part) → slice_get parts i ≡ Some p → HasTable w p × (p.store.schema ≡ schema)
 
 -- it waits with no change of a table beside them
 abbrev pub WaitsAmong : List Part → Opened → Type 0

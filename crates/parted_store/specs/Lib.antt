@@ -18,6 +18,7 @@ pub mod ComeLemmas
 pub mod EndLemmas
 pub mod JournalLemmas
 pub mod OpenLemmas
+pub mod HeldLemmas
 pub mod KeptLemmas
 pub mod PlaceLemmas
 pub mod Truncating

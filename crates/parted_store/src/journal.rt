@@ -141,7 +141,8 @@ impl Journal {
         self.open_ones.len()
     }
 
-    /// Tells a proof that transactions which are open, as many of them as are, are all that are. It does nothing.
+    /// Tells a proof that different transactions that are open, as many as are, are all that are. It
+    /// does nothing.
     pub fn recall_open(&self)
         ensures { (xids : List ℕ) → IsDistinct is_xid xids → All (λ xid. is_open_in self.now.line.list xid ≡ true) xids → length xids ≡ self.now.open_count
             → (xid : ℕ) → is_open_in self.now.line.list xid ≡ true → Contains xids xid }

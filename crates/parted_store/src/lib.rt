@@ -60,7 +60,7 @@ pub use coming::come_to;
 pub use ends::{abort_in, commit_in};
 pub use entry::Entry;
 pub use journal::{Journal, Line, Seen};
-pub use meeting::{holder_in, meet_each, meet_in, wants_in};
+pub use meeting::{holder_in, holder_in_each, meet_each, meet_in, wants_in};
 pub use ticket::Ticket;
 pub use touching::touch_in;
 pub use truncating::truncate_in;

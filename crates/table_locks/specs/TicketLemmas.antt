@@ -5,19 +5,25 @@
 --     acted_tied, acted_known      its shares behind a change of one table
 --     room_still      with room for the parts of its tables
 --     waits_follow      where it waits behind that
-use Rattle.std.specs.Prelude.{◌≡◌, ◌≢◌, ℕ, ◌<◌, true, false, [], ◌++◌, Option, Some, None, IsSome, Result, Ok, Err, length, refl}
-use Rattle.std.proofs.Common.{sym, ◌∙◌, ap, subst}
+--     counted_same, counted_more      how many items it has done, where no more have come, and where one has
+--     counted_touched      behind an item that changes no row
+use Rattle.std.specs.Prelude.{◌≡◌, ◌≢◌, ℕ, ◌<◌, ◌+◌, ◌-◌, ◌^◌, true, false, List, [], ◌∷◌, ◌++◌, min, Option, Some, None, IsSome, Result, Ok, Err, length, refl}
+use Rattle.std.proofs.Common.{sym, ◌∙◌, ap, subst, arith, length-append}
 use mathlib.Core.Logic.{dite}
 use native.Mathlib.Decide.{ℕ_discrete}
 use Rattle.model.specs.declared.change.Change as change_type
+use Rattle.model.specs.declared.item.Item.{Item}
+use Rattle.model.specs.declared.item.Item.TheVariants.{Touch}
 use Rattle.model.specs.Rows.{Rows, Schema}
 use Rattle.tokens.specs.Half.{Name}
 use Rattle.world.specs.Steps.{Fault, Acted, IsDone, IsSkipped, Held, Clashed}
-use Rattle.world.specs.World.{World}
+use Rattle.world.specs.World.{Opened, World}
 use Rattle.world_parts.specs.ByTable.{IsIn, changes_at}
 use Rattle.world_parts.specs.Parts.{wanted_by}
-use Rattle.engine.specs.EventLemmas.{opened_refused}
-use Rattle.engine.specs.Events.{opened_by, events_of}
+use Rattle.engine.specs.EventLemmas.{opened_more, opened_refused}
+use Rattle.engine.specs.declared.events.Event.{Event}
+use Rattle.engine.specs.declared.events.Event.TheVariants.{Done}
+use Rattle.engine.specs.Events.{opened_by, events_of, touch_events}
 use Rattle.table_parts.specs.Part.{Part}
 use Rattle.parted_store.specs.ActLemmas.{in_no_other, opened_acted}
 use Rattle.parted_store.specs.Back.{IsSameShare, KeepsShares}
@@ -25,7 +31,7 @@ use Rattle.parted_store.specs.Lent.{OpenTicket, HasTable, HasTicket, Belongs, St
 use Rattle.parted_store.specs.Shares.{Share, Shares, share_of}
 use Rattle.table_locks.specs.StateLemmas.{tied_by, tied_beside}
 use Rattle.table_locks.specs.TableStates.{IsKept}
-use Rattle.table_locks.specs.Tickets.{IsTied, WaitsSo, waits_acted, IsTicket, HasRoom}
+use Rattle.table_locks.specs.Tickets.{IsTied, WaitsSo, waits_acted, counted, one_more, done_touched, IsTicket, HasRoom}
 use Rattle.table_locks.specs.declared.ticket.Waits.{Waits}
 
 module _ (shares : ℕ → Name) (schema : Schema) (waits : Waits) (t : OpenTicket) (is : IsTicket shares schema waits t) where
@@ -112,3 +118,22 @@ waits_follow t u sub c waits so (Ok (Held holder)) events = tt
 waits_follow t u sub c waits so (Ok (Clashed cause)) events = tt
 waits_follow t u sub c waits so (Err fault) events =
     subst (λ o. WaitsSo waits o.wants) (sym (ap opened_by events ∙ opened_refused t.events fault)) so
+
+-- ---- how many items it has done
+
+pub counted_same : (events new : List Event) → opened_by new ≡ opened_by events → counted new ≡ counted events
+counted_same events new = ap (λ (o : Opened). min (length o.items) (2 ^ 64 - 1))
+
+more_counted : (items more max done next : ℕ) → more ≡ items + 1 → done ≡ min items max → next ≡ min more max → next ≡ min (done + 1) max
+more_counted items more max done next is was now = omega (arith, is, was, now)
+
+pub counted_more : (events new : List Event) (item : Item) → new ≡ events ++ Done item ∷ [] → counted new ≡ one_more (counted events)
+counted_more events new item is =
+    more_counted (length (opened_by events).items) (length (opened_by new).items) (2 ^ 64 - 1) (counted events) (counted new)
+    (ap (λ es. length (opened_by es).items) is ∙ ap (λ (o : Opened). length o.items) (opened_more events (Done item))
+    ∙ length-append (opened_by events).items (item ∷ [])) refl refl
+
+pub counted_touched : (events new : List Event) (sub : ℕ) (answer : Result (Unit {0}) Fault) → new ≡ events ++ touch_events sub answer
+    → counted new ≡ done_touched (counted events) answer
+counted_touched events new sub (Ok touched) is = counted_more events new (Touch sub) is
+counted_touched events new sub (Err fault) is = counted_same events new (ap opened_by is ∙ opened_refused events fault)

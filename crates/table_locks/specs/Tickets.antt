@@ -3,10 +3,12 @@
 --     WaitsSo      whether its transaction may want something
 --     waits_acted      the same once it tried a change
 --     waits_after      where it waits behind an item that changes no row, by what came of the call
+--     counted, one_more      how many items it has done, as far as a u64 counts; with one more
+--     done_acted, done_touched      the same once it tried a change; behind an item that changes no row
 --     IsTicket      each share tells just what the transaction did in its table, and wants there
 --     IsTicketOf      so it is of a ticket that waits somewhere
 --     HasRoom      there is room for the parts of its tables, while they are lent
-use Rattle.std.specs.Prelude.{◌≡◌, ◌<◌, ◌≤◌, ℕ, length, Option, Some, None, Result, Ok, Err}
+use Rattle.std.specs.Prelude.{◌≡◌, ◌<◌, ◌≤◌, ◌+◌, ◌-◌, ◌^◌, ℕ, List, length, min, Option, Some, None, Result, Ok, Err}
 use Rattle.model.specs.declared.change.Change.{Change}
 use Rattle.model.specs.Rows.{Schema}
 use Rattle.model.specs.Survivors.{survivors}
@@ -16,6 +18,7 @@ use Rattle.world.specs.World.{Opened}
 use Rattle.world_parts.specs.ByTable.{changes_at}
 use Rattle.world_parts.specs.Marks.{items_at}
 use Rattle.world_parts.specs.Parts.{wanted_by}
+use Rattle.engine.specs.declared.events.Event.{Event}
 use Rattle.engine.specs.Events.{opened_by}
 use Rattle.parted_store.specs.Lent.{OpenTicket}
 use Rattle.parted_store.specs.Shares.{Share, share_of}
@@ -46,6 +49,27 @@ waits_acted waits (Err fault) = waits
 abbrev pub waits_after : Waits → Result (Unit {0}) Fault → Waits
 waits_after waits (Ok done) = Nowhere
 waits_after waits (Err fault) = waits
+
+-- how many items the transaction has done, rollbacks among them, as far as a u64 counts
+abbrev pub counted : List Event → ℕ
+counted events = min (length (opened_by events).items) (2 ^ 64 - 1)
+
+-- with one more
+abbrev pub one_more : ℕ → ℕ
+one_more done = min (done + 1) (2 ^ 64 - 1)
+
+-- how many it has done once it tried a change
+abbrev pub done_acted : ℕ → Result Acted Fault → ℕ
+done_acted done (Ok IsDone) = one_more done
+done_acted done (Ok IsSkipped) = one_more done
+done_acted done (Ok (Held holder)) = done
+done_acted done (Ok (Clashed cause)) = done
+done_acted done (Err fault) = done
+
+-- behind an item that changes no row, by what came of the call
+abbrev pub done_touched : ℕ → Result (Unit {0}) Fault → ℕ
+done_touched done (Ok touched) = one_more done
+done_touched done (Err fault) = done
 
 -- Each share is one of its table's part, and tells just what the transaction did there, and wants there. Its table is
 -- one of the store. It waits so.

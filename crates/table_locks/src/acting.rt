@@ -16,14 +16,14 @@ ghost use Rattle.parted_store.specs.Lent.{HasTable, Stands};
 ghost use Rattle.parted_store.specs.Shares.{share_of};
 ghost use Rattle.table_locks.specs.TableStates.{Fits, IsKept, StaysFit};
 ghost use Rattle.table_locks.specs.Answers.{IsTold};
-ghost use Rattle.table_locks.specs.Tickets.{IsTicket, IsTicketOf, HasRoom, waits_acted};
+ghost use Rattle.table_locks.specs.Tickets.{IsTicket, IsTicketOf, HasRoom, waits_acted, done_acted};
 ghost use Rattle.table_locks.specs.declared.ticket.Waits.{Waits as AnyWaits};
 
 use crate::hidden::wait_for_ever;
 use crate::names::StoreNames;
 use crate::store::Store;
 use crate::table_part::TablePart;
-use crate::ticket::{Ticket, Waits};
+use crate::ticket::{Ticket, Waits, count_one};
 use change::Clash;
 use engine::{Acted, EngineFault, Verdict};
 use live_tables::Stopped;
@@ -181,6 +181,7 @@ fn try_in<N: StoreNames, R: Wait>(
     }
     let answer = act_tied::<N>(alloc, part, &mut ticket.ticket, sub, c);
     ticket.waits = waits_behind(ticket.waits, &answer);
+    ticket.done = done_behind(ticket.done, &answer);
     answer
 }
 
@@ -263,6 +264,26 @@ pub(crate) fn waits_refused(waits: Waits, fault: &EngineFault) -> Waits
     match fault {
         EngineFault::Clash(_) => Waits::Somewhere,
         _ => waits,
+    }
+}
+
+// How many items a transaction has done once it tried a change.
+fn done_behind(done: u64, answer: &Result<Verdict, EngineFault>) -> u64
+    ensures { result ≡ done_acted done (as_told answer.now) }
+{
+    match answer {
+        Ok(Verdict::Acted(acted)) => done_by(done, acted),
+        Ok(Verdict::Clashes(_)) | Err(_) => done,
+    }
+}
+
+/// The same, by what came of the change: one that waits is none of them.
+pub(crate) fn done_by(done: u64, acted: &Acted) -> u64
+    ensures { result ≡ done_acted done (told (Ok acted.now)) }
+{
+    match acted {
+        Acted::Done | Acted::Skipped => count_one(done),
+        Acted::Held(_) => done,
     }
 }
 

@@ -10,7 +10,7 @@ use crate::locks::{lend_its, no_guards, put_each};
 use crate::names::StoreNames;
 use crate::store::Store;
 use crate::table_part::TablePart;
-use crate::ticket::{Ticket, Waits};
+use crate::ticket::{Ticket, Waits, count_one, count_touched};
 use engine::EngineFault;
 use model::Xid;
 use parted_store::{back_to_in, touch_in};
@@ -45,6 +45,7 @@ impl<N: StoreNames> Store<N> {
         back_to_in(ticket.lent.as_mut_slice(), &mut ticket.ticket, sub);
         put_each(guards, &mut ticket.lent);
         ticket.waits = Waits::Nowhere;
+        ticket.done = count_one(ticket.done);
     }
 
     /// A subtransaction of an open transaction is named by an item that changes no row. It takes
@@ -62,7 +63,9 @@ impl<N: StoreNames> Store<N> {
     {
         if let Waits::Nowhere = ticket.waits {
             let journal = self.journal.lock(rt);
-            return touch_in(&mut [], &journal.part, &mut ticket.ticket, sub);
+            let touched = touch_in(&mut [], &journal.part, &mut ticket.ticket, sub);
+            ticket.done = count_touched(ticket.done, &touched);
+            return touched;
         }
         let mut guards = no_guards(self);
         self.touch_with(rt, &mut guards, ticket, sub)
@@ -93,6 +96,7 @@ impl<N: StoreNames> Store<N> {
         drop(journal);
         put_each(guards, &mut ticket.lent);
         ticket.waits = waits_after(ticket.waits, &touched);
+        ticket.done = count_touched(ticket.done, &touched);
         touched
     }
 }

@@ -1,9 +1,9 @@
 // The right to work on an open transaction of a store with a lock for each table.
 ghost use Rattle.std.specs.Prelude.{◌≡◌, ◌++◌, []};
-ghost use Rattle.live_tables.specs.Answers.{told_fault};
+ghost use Rattle.live_tables.specs.Answers.{told_call, told_fault};
 ghost use Rattle.engine.specs.Events.{refusal_events};
 ghost use Rattle.parted_store.specs.Lent.{HasShares};
-ghost use Rattle.table_locks.specs.Tickets.{IsTicketOf};
+ghost use Rattle.table_locks.specs.Tickets.{IsTicketOf, counted, one_more, done_touched as touched_more};
 
 use crate::names::StoreNames;
 use engine::EngineFault;
@@ -26,6 +26,8 @@ pub(crate) enum Waits {
 pub struct Ticket<N: StoreNames> {
     pub(crate) ticket: parted_store::Ticket,
     pub(crate) waits: Waits,
+    /// How many items its transaction has done, rollbacks among them, as far as it counts.
+    pub(crate) done: u64,
     /// Room for the parts of its tables, while they are lent.
     pub(crate) lent: Vec<BoxedPart>,
     of: PhantomData<N>,
@@ -34,13 +36,13 @@ pub struct Ticket<N: StoreNames> {
 impl<N: StoreNames> Model for Ticket<N> {
     ghost use Rattle.std.specs.Prelude.{◌≡◌, [], length, vec_capacity};
     ghost use Rattle.parted_store.specs.Lent.{OpenTicket};
-    ghost use Rattle.table_locks.specs.Tickets.{IsTicket, HasRoom};
+    ghost use Rattle.table_locks.specs.Tickets.{counted, IsTicket, HasRoom};
 
     ghost Value = { OpenTicket };
 
     ghost view = { λ t. t.ticket };
 
-    ghost invariant = { λ t. IsTicket N.shares N.schema t.waits t.ticket × (t.lent.items ≡ []) × HasRoom (length N.schema) t.ticket (vec_capacity t.lent) };
+    ghost invariant = { λ t. IsTicket N.shares N.schema t.waits t.ticket × (t.lent.items ≡ []) × HasRoom (length N.schema) t.ticket (vec_capacity t.lent) × (t.done ≡ counted t.ticket.events) };
 }
 
 impl<N: StoreNames> Ticket<N> {
@@ -53,6 +55,7 @@ impl<N: StoreNames> Ticket<N> {
         Ticket {
             ticket,
             waits: Waits::Nowhere,
+            done: 0,
             lent: Vec::new(alloc),
             of: PhantomData,
         }
@@ -73,6 +76,14 @@ impl<N: StoreNames> Ticket<N> {
         self.ticket.recall_invariant();
     }
 
+    /// How many items the transaction has done, rollbacks among them. Past the last number of a
+    /// u64 the count stays there.
+    pub fn done(&self) -> u64
+        ensures { result ≡ counted self.now.events }
+    {
+        self.done
+    }
+
     /// A call of the transaction is refused, and its list tells it. Nothing else changes, and it
     /// takes no memory.
     pub(crate) fn refuse(&mut self, fault: EngineFault) -> EngineFault
@@ -80,5 +91,22 @@ impl<N: StoreNames> Ticket<N> {
         ensures ticket { self.new ≡ record self.old { events = self.old.events ++ refusal_events (told_fault fault) } }
     {
         self.ticket.refuse(fault)
+    }
+}
+
+/// One item more, as far as a u64 counts.
+pub(crate) fn count_one(done: u64) -> u64
+    ensures { result ≡ one_more done }
+{
+    done.saturating_add(1)
+}
+
+/// How many items a transaction has done once a subtransaction was named, if it was.
+pub(crate) fn count_touched(done: u64, touched: &Result<(), EngineFault>) -> u64
+    ensures { result ≡ touched_more done (told_call touched.now) }
+{
+    match touched {
+        Ok(()) => count_one(done),
+        Err(_) => done,
     }
 }

@@ -14,11 +14,11 @@ ghost use Rattle.parted_store.specs.Shares.{share_of};
 ghost use Rattle.parted_store.specs.Truncating.{CutsHere, TellsTruncate};
 ghost use Rattle.table_locks.specs.Lending.{state_of, KeptEach, CoversAlone};
 ghost use Rattle.table_locks.specs.TableStates.{IsKept, StaysFit};
-ghost use Rattle.table_locks.specs.Tickets.{IsTicket, IsTicketOf, waits_acted};
+ghost use Rattle.table_locks.specs.Tickets.{IsTicket, IsTicketOf, waits_acted, done_acted};
 ghost use Rattle.table_locks.specs.Truncating.{IsTruncate, wipes_table, AreRunning, KnownEach, StayRunning, StandEach};
 ghost use Rattle.table_locks.specs.declared.ticket.Waits.{Waits as AnyWaits};
 
-use crate::acting::come_here;
+use crate::acting::{come_here, done_by};
 use crate::locks::{Needs, lend_each, no_guards, put_each};
 use crate::names::StoreNames;
 use crate::store::Store;
@@ -94,6 +94,7 @@ impl<N: StoreNames> Store<N> {
         let lent = &mut ticket.lent;
         let answer = self.truncate_lent(rt, alloc, guards, lent, &mut ticket.ticket, sub, c);
         ticket.waits = waits_cut(ticket.waits, &answer);
+        ticket.done = done_cut(ticket.done, &answer);
         answer
     }
 
@@ -294,5 +295,16 @@ fn waits_cut(waits: Waits, answer: &Result<Acted, EngineFault>) -> Waits
         Ok(Acted::Held(_)) => Waits::Somewhere,
         Ok(_) => Waits::Nowhere,
         Err(_) => waits,
+    }
+}
+
+// How many items a transaction has done once it tried a truncate.
+fn done_cut(done: u64, answer: &Result<Acted, EngineFault>) -> u64
+    requires { IfErr answer.now IsNoClash }
+    ensures { result ≡ done_acted done (told answer.now) }
+{
+    match answer {
+        Ok(acted) => done_by(done, acted),
+        Err(_) => done,
     }
 }

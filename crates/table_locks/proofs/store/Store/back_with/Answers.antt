@@ -12,7 +12,8 @@ use Rattle.parted_store.specs.Lent.{OpenTicket}
 use Rattle.parted_store.specs.Shares.{share_of}
 use Rattle.table_locks.specs.CallLemmas.{belong_each, stay_each, ticket_behind, fit_again, wants_back}
 use Rattle.table_locks.specs.Lending.{AreMet, FitEach}
-use Rattle.table_locks.specs.TicketLemmas.{had_share}
+use Rattle.table_locks.specs.TicketLemmas.{had_share, counted_more}
+use Rattle.table_locks.specs.Tickets.{counted, one_more}
 use Rattle.table_locks.specs.declared.ticket.Waits.TheVariants.{Nowhere}
 use Rattle.table_locks.proofs.store.Store.back_with.Goals as goal
 
@@ -63,6 +64,8 @@ invariant_of-ticket g c =
       λ table share at.
           let had = had_share (share_of t.shares table) (share_of u.shares table) (back.shares table) share at in
           subst (λ n. length g.N.StoreNames.schema ≤ n) (sym c.put_each.ensures.capacity) (c.lend_its.ensures.room table had.0 had.1),
+      c.count_one-ticket-inside.ensures ∙ ap one_more (c.ticket.invariant.3 ∙ ap counted (sym c.lend_its.ensures.events))
+          ∙ sym (counted_more t.events u.events (BackTo c.args.sub) back.events),
     )
 
 pub returns-clause-events : goal.returns-clause-events

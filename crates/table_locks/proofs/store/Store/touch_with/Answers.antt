@@ -11,8 +11,8 @@ use Rattle.parted_store.specs.Lent.{OpenTicket}
 use Rattle.parted_store.specs.Shares.{share_of}
 use Rattle.table_locks.specs.CallLemmas.{belong_each, stay_each, ticket_behind, fit_again, touch_steps, touch_line, waits_touched}
 use Rattle.table_locks.specs.Lending.{AreMet, FitEach}
-use Rattle.table_locks.specs.TicketLemmas.{had_share}
-use Rattle.table_locks.specs.Tickets.{IsTicket, waits_after}
+use Rattle.table_locks.specs.TicketLemmas.{had_share, counted_touched}
+use Rattle.table_locks.specs.Tickets.{counted, done_touched, IsTicket, waits_after}
 use Rattle.table_locks.specs.declared.ticket.Waits.{Waits}
 use Rattle.table_locks.proofs.store.Store.touch_with.Goals as goal
 
@@ -68,6 +68,9 @@ invariant_of-ticket g c =
       λ table share at.
           let had = had_share (share_of t.shares table) (share_of u.shares table) (touch.shares table) share at in
           subst (λ n. length g.N.StoreNames.schema ≤ n) (sym c.put_each.ensures.capacity) (c.lend_its.ensures.room table had.0 had.1),
+      c.count_touched-ticket-inside.ensures
+          ∙ ap (λ n. done_touched n answer) (c.ticket.invariant.3 ∙ ap counted (sym c.lend_its.ensures.events))
+          ∙ sym (counted_touched t.events u.events c.args.sub answer touch.events),
     )
 
 pub returns-clause-fault : goal.returns-clause-fault
