@@ -11,6 +11,7 @@ pub mod CallLemmas
 pub mod TruncateLemmas
 pub mod Truncating
 pub mod TruncatingLemmas
+pub mod NamedLemmas
 pub mod ActingLemmas
 pub mod ComingLemmas
 pub mod Ending

@@ -8,7 +8,7 @@ ghost use Rattle.live_tables.specs.declared.answers.EngineFault.TheVariants.{Cla
 ghost use Rattle.live_tables.specs.declared.answers.Verdict.TheVariants.{Clashes};
 ghost use Rattle.live_tables.specs.Answers.{cause_of, told, TellsCause, TellsVerdict};
 ghost use Rattle.engine.specs.Events.{opened_by, events_of};
-ghost use Rattle.world_parts.specs.ByTable.{IsIn, changes_at};
+ghost use Rattle.world_parts.specs.ByTable.{IsIn, change_at, changes_at};
 ghost use Rattle.world_parts.specs.Parts.{wanted_by};
 ghost use Rattle.parted_store.specs.Acting.{as_told};
 ghost use Rattle.parted_store.specs.KeepsSound.{KeepsSoundRunning, StopsSound, ClashesHere};
@@ -32,8 +32,36 @@ use parted_store::{BoxedPart, act_in, clash_in, come_to};
 use std::alloc::Global;
 use std::sync::{MutexGuard, Wait};
 use table_parts::Part;
+use world_parts::cutting::only_table;
 
 impl<N: StoreNames> Store<N> {
+    /// A subtransaction of an open transaction, which waits in none but the change's tables, tries a
+    /// change. It takes the locks of the tables that the change names, and the journal's where the
+    /// change clashes or names none.
+    ///
+    /// Stopped comes where one of the tables knows that the store is stopped, and where it is
+    /// stopped and the change clashes or names no table. Held tells who is in the way, whatever
+    /// stopped the store.
+    pub fn act<R: Wait>(
+        &self,
+        rt: &R,
+        alloc: Global,
+        ticket: &mut Ticket<N>,
+        sub: Xid,
+        c: &Change,
+    ) -> Result<Acted, EngineFault>
+        requires names { NamesTables (length N.schema) c.now }
+        requires waits { (table : ℕ) → change_at table c.now ≡ [] → changes_at table (wanted_by (opened_by ticket.old.events).wants) ≡ [] }
+        ensures cause { TellsCause result }
+        ensures events { ticket.new.events ≡ ticket.old.events ++ events_of sub c.now (told result) }
+        ensures xid { ticket.new.number ≡ ticket.old.number }
+    {
+        match only_table(c) {
+            Some(table) => self.act_in_table(rt, alloc, ticket, table, sub, c),
+            None => self.truncate(rt, alloc, ticket, sub, c),
+        }
+    }
+
     /// A subtransaction of an open transaction, which waits in no other table, tries a change of
     /// this one. It takes the table's lock, and the journal's too where the change clashes.
     ///
