@@ -1,0 +1,10 @@
+// The files, and what each tests or gives the others.
+//
+//   table     two tables, and changes of them
+//   stage     a store of these with its line, by calls that end the process where they fail
+//   calls     each call of the store, on one thread
+//   threads   a lock that is held, commits that are watched, a wait for a move
+mod calls;
+mod stage;
+mod table;
+mod threads;
