@@ -1,6 +1,5 @@
 // The part of a store that is no table's: its commits, who is open, and what stopped it.
 ghost use Rattle.std.specs.Prelude.{◌≡◌, ◌<◌, ◌≤◌, ◌+◌, ◌∷◌, ◌++◌, [], true, false, ◌==◌, ℕ, List, Some, None, IsSome, IfOk, IfErr, OnOk, OnErr, All, Contains, is_some, length, map, vec_len, vec_capacity};
-ghost use Rattle.std.specs.List.{IsDistinct};
 ghost use Rattle.std.specs.BTreeSet as set;
 ghost use Rattle.std.specs.BTreeSet.{btree_set_len};
 ghost use Rattle.std.specs.List.{IsDistinct};
