@@ -6,7 +6,8 @@ ghost use Rattle.model.specs.declared.change.Change.{Change as AnyChange};
 ghost use Rattle.model.specs.contracts.change.Change as change_type;
 ghost use Rattle.model.specs.Survivors.{changes_of};
 
-use model::{Change, Item, Lsn, Xid};
+use model::{Change, CommitInfo, Item, Lsn, Xid};
+use std::alloc::Global;
 use std::iter::FusedIterator;
 use std::marker::Model;
 use undo::UndoLog;
@@ -125,4 +126,21 @@ pub struct Entry {
     pub end: Lsn,
     /// What stood before its changes. It can be read alone: the room to put it back is given up.
     pub(crate) inverses: UndoLog,
+}
+
+impl Entry {
+    /// One that keeps nothing of what stood before its changes. It takes no memory.
+    pub fn new(alloc: Global, xid: Xid, changes: Changes, info: CommitInfo) -> Entry
+        ensures xid { result.xid ≡ xid }
+        ensures changes { result.changes ≡ changes }
+        ensures place { (result.commit ≡ info.commit) × (result.end ≡ info.end) }
+    {
+        Entry {
+            xid,
+            changes,
+            commit: info.commit,
+            end: info.end,
+            inverses: UndoLog::new(alloc),
+        }
+    }
 }

@@ -1,5 +1,5 @@
 // Several open transactions on one live set of tables.
-ghost use Rattle.std.specs.Prelude.{◌≡◌, ℕ, ◌+◌, ◌<◌, ◌≤◌, ◌==◌, if◌then◌else◌, [], ◌∷◌, ◌++◌, Some, None, Ok, IfOk, IfErr, IfSome, OnOk, OnErr, is_some, length, map, vec_len, vec_capacity};
+ghost use Rattle.std.specs.Prelude.{◌≡◌, ℕ, ◌+◌, ◌-◌, ◌^◌, ◌<◌, ◌≤◌, ◌==◌, if◌then◌else◌, [], ◌∷◌, ◌++◌, Some, None, Ok, IfOk, IfErr, IfSome, OnOk, OnErr, is_some, length, map, min, vec_len, vec_capacity};
 ghost use Rattle.std.specs.List.Sorted.{IsStrictlyIncreasing};
 ghost use Rattle.std.specs.BTreeMap.{btree_map_len};
 ghost use Rattle.std.specs.FinMap as finite;
@@ -261,6 +261,24 @@ impl Store {
         ensures { result ≡ length self.now.schema }
     {
         self.live.tables.len()
+    }
+
+    /// Whom a transaction waits for that is open under this number: another, which holds a cell of the
+    /// change that it wants. It takes no memory.
+    pub fn waiting_for(&self, xid: Xid) -> Option<Xid>
+        ensures held { IfSome result (λ holder. (o : Opened) → finite.get self.now.world.opened xid ≡ Some o → WaitsFor self.now.schema self.now.world xid o holder) }
+        ensures free { result ≡ None → (o : Opened) → finite.get self.now.world.opened xid ≡ Some o → (holder : ℕ)
+            → ¬ (WaitsFor self.now.schema self.now.world xid o holder) }
+    {
+        self.live.holder_of(xid)
+    }
+
+    /// How many items a transaction has done that is open under this number, rollbacks among them. Past
+    /// the last number of a u64 the count stays there; of one that isn't open it is 0. It takes no memory.
+    pub fn done_by(&self, xid: Xid) -> u64
+        ensures { (o : Opened) → finite.get self.now.world.opened xid ≡ Some o → result ≡ min (length o.items) (2 ^ 64 - 1) }
+    {
+        self.live.done_by(xid)
     }
 
     /// How many transactions are open. It takes no memory.

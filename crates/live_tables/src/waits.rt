@@ -1,6 +1,6 @@
 // Who waits for whom, by the live tables and the cells that are held. All is read in place, and it
 // takes no memory.
-ghost use Rattle.std.specs.Prelude.{◌≡◌, ◌≢◌, ◌↔◌, ◌∷◌, [], ℕ, true, false, Some, None, IfOk, IfSome, IfNone, IsTrue, All, is_some, length};
+ghost use Rattle.std.specs.Prelude.{◌≡◌, ◌≢◌, ◌↔◌, ◌∷◌, ◌-◌, ◌^◌, [], ℕ, true, false, Some, None, IfOk, IfSome, IfNone, IsTrue, All, is_some, length, min};
 ghost use Rattle.std.specs.Ordering.{nat_cmp};
 ghost use Rattle.std.specs.BTreeMap as tree;
 ghost use Rattle.std.specs.FinMap as finite;
@@ -111,6 +111,17 @@ impl Live {
             return None;
         };
         self.find_holder(xid, &transaction.wants)
+    }
+
+    /// How many items an open transaction has done, rollbacks among them. Past the last number of a
+    /// u64 the count stays there. Of one that isn't open it is 0. It takes no memory.
+    pub fn done_by(&self, xid: Xid) -> u64
+        ensures { (w : World) (o : Opened) → Represents w self.now → finite.get w.opened xid ≡ Some o → result ≡ min (length o.items) (2 ^ 64 - 1) }
+    {
+        match self.transactions.get(&xid) {
+            Some(transaction) => transaction.done,
+            None => 0,
+        }
     }
 
     /// Whether an open transaction waits with a change, or has one that clashed.

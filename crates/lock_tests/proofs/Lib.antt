@@ -1,1 +1,1 @@
-mod Names
+pub mod Names

@@ -1,9 +1,9 @@
 -- For whom a transaction waits, by the parts of the tables in which it waits.
 --     waits_lifts      for whom it waits in a part it waits in the world
 --     WaitsForNobodyIn, nobody_lifts      it waits for nobody in the part of a table; in each of those that it waits in, and so for nobody
---     waits_with      of the shares just that of the part's table is asked
---     waits_in_part, waits_nowhere      the same of parts that are lent, by the transaction's ticket
-use Rattle.std.specs.Prelude.{◌≡◌, ◌≢◌, ℕ, ◌==◌, Bool, true, false, ◌||◌, List, [], ◌∷◌, Option, Some, None, slice_get, refl}
+--     waits_in_part      the same by the transaction's ticket
+--     FreeIn, waits_nowhere      the world has the part of a table, in which it waits for nobody; for nobody, where each share has such a part
+use Rattle.std.specs.Prelude.{◌≡◌, ◌≢◌, ℕ, ◌==◌, Bool, true, false, ◌||◌, List, [], ◌∷◌, Option, Some, None, refl}
 use Rattle.std.proofs.Common.{sym, ◌∙◌, ap, subst, inl, inr, append-nil, eq-eqb}
 use Rattle.std.specs.List.{AllByRecursion}
 use Rattle.std.specs.FinMap.{get}
@@ -25,9 +25,8 @@ use Rattle.world_parts.specs.TruncateLemmas.{wipe_free, wipe_held}
 use Rattle.live_tables.specs.WaitLemmas.{free_or_held, not_both}
 use Rattle.engine.specs.Events.{opened_by}
 use Rattle.table_parts.specs.Part.{Part}
-use Rattle.parted_store.specs.EachPart.{Covers, HasEach}
 use Rattle.parted_store.specs.Lent.{OpenTicket, HasTable, HasTicket, IsShare, HasShares, Stands, WaitsIn}
-use Rattle.parted_store.specs.Shares.{Share, Shares, share_of}
+use Rattle.parted_store.specs.Shares.{Share, share_of}
 
 -- ---- what a change is in a table
 
@@ -174,11 +173,7 @@ module _ (schema : Schema) (w : World) (xid : ℕ) (o : Opened) (at : get w.open
     nobody_lifts holder waits =
         not_both schema w xid (footprint schema (own_rows schema w xid o) waits.1) holder (free_wanted waits.0 waits.1 waits.2) waits.3
 
--- ---- of parts that are lent
-
--- the share of the part's table alone is asked
-pub waits_with : (p : Part) (shares new : Shares) → share_of new p.number ≡ share_of shares p.number → (holder : ℕ) → WaitsIn p shares holder → WaitsIn p new holder
-waits_with p shares new same holder waits = (waits.0, same ∙ waits.1, waits.2)
+-- ---- by a ticket and its parts
 
 module _ (schema : Schema) (w : World) (t : OpenTicket) (at : HasTicket w t) (shares : HasShares t) where
   -- a share is of its number
@@ -197,22 +192,29 @@ module _ (schema : Schema) (w : World) (t : OpenTicket) (at : HasTicket w t) (sh
       (subst (λ (s : Schema). WaitsFor s p.store.world t.number (opened_by waits.0.list) holder) keys
       (subst (λ n. WaitsFor p.store.schema p.store.world n (opened_by waits.0.list) holder) (numbered p.number waits.0 waits.1) waits.2))
 
-  module _ (parts : List Part) (covers : Covers parts t.shares) (has : HasEach schema w parts)
-      (stand : (i : ℕ) (p : Part) → slice_get parts i ≡ Some p → Stands p t.shares)
-      (nobody : (i : ℕ) (p : Part) → slice_get parts i ≡ Some p → (holder : ℕ) → ¬ (WaitsIn p t.shares holder)) where
-    nobody_at : (i : ℕ) (p : Part) → slice_get parts i ≡ Some p → (share : Share) → share_of t.shares p.number ≡ Some share
-        → WaitsForNobodyIn schema w t.number (opened_by t.events) at p.number
-    nobody_at i p there share found = record {
+  -- the world has the part of the table, in which it waits for nobody
+  pub record FreeIn (table : ℕ) : Type 0 where
+    pub part : Part
+    pub number : part.number ≡ table
+    pub has : HasTable w part
+    pub keys : part.store.schema ≡ schema
+    pub stands : Stands part t.shares
+    pub nobody : (holder : ℕ) → ¬ (WaitsIn part t.shares holder)
+
+  module _ (each : (table : ℕ) (share : Share) → share_of t.shares table ≡ Some share → FreeIn table) where
+    nobody_at : (p : Part) → HasTable w p → p.store.schema ≡ schema → Stands p t.shares → ((holder : ℕ) → ¬ (WaitsIn p t.shares holder))
+        → (share : Share) → share_of t.shares p.number ≡ Some share → WaitsForNobodyIn schema w t.number (opened_by t.events) at p.number
+    nobody_at p has keys stands nobody share found = record {
       part = p.store.world;
-      is_part = (has i p there).0.is.0;
+      is_part = has.is.0;
       its = opened_by share.list;
-      there = its_place p (stand i p there) share found;
+      there = its_place p stands share found;
       nobody = λ holder waits.
-          nobody i p there holder (
+          nobody holder (
             share,
             found,
             subst (λ n. WaitsFor p.store.schema p.store.world n (opened_by share.list) holder) (sym (numbered p.number share found))
-                (subst (λ (s : Schema). WaitsFor s p.store.world t.number (opened_by share.list) holder) (sym (has i p there).1) waits),
+                (subst (λ (s : Schema). WaitsFor s p.store.world t.number (opened_by share.list) holder) (sym keys) waits),
           );
     }
 
@@ -222,9 +224,9 @@ module _ (schema : Schema) (w : World) (t : OpenTicket) (at : HasTicket w t) (sh
         by_share : (found : Option Share) → share_of t.shares table ≡ found → WaitsForNobodyIn schema w t.number (opened_by t.events) at table
         by_share None none = absurd (some (subst (IsShare t.number (opened_by t.events) table) none (shares table)).1)
         by_share (Some share) found =
-            let place = covers table share found in
-            subst (WaitsForNobodyIn schema w t.number (opened_by t.events) at) place.3
-            (nobody_at place.0 place.1 place.2 share (ap (share_of t.shares) place.3 ∙ found))
+            let free = each table share found in
+            subst (WaitsForNobodyIn schema w t.number (opened_by t.events) at) free.number
+            (nobody_at free.part free.has free.keys free.stands free.nobody share (ap (share_of t.shares) free.number ∙ found))
 
     pub waits_nowhere : (holder : ℕ) → ¬ (WaitsFor schema w t.number (opened_by t.events) holder)
     waits_nowhere = nobody_lifts schema w t.number (opened_by t.events) at nobody_in

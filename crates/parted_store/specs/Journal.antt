@@ -1,6 +1,5 @@
 -- The journal's part as its callers see it, and what its type keeps.
 --     JournalPart      its line, how many transactions are open, and what stopped the store
---     entry_in      an entry, as the world tells it
 --     journal_in, IsJournal      the journal's part from what it keeps; what its type keeps
 use Rattle.std.specs.Prelude.{◌≡◌, ℕ, ◌+◌, ◌≤◌, ◌∷◌, Option, map, IfSome, vec_len, vec_capacity}
 use Rattle.std.specs.List.Sorted.{IsStrictlyIncreasing}
@@ -8,12 +7,11 @@ use Rattle.std.specs.Ordering.{nat_cmp}
 use Rattle.std.specs.BTreeSet as set
 use Rattle.std.specs.BTreeSet.{btree_set_len}
 use Rattle.tokens.specs.Half.{Half}
-use Rattle.world.specs.World as told
 use Rattle.world.specs.World.{Stop, entry_of}
 use Rattle.engine.specs.declared.events.LineEvent.{LineEvent}
+use Rattle.engine.specs.Engine.{entry_in}
 use Rattle.engine.specs.Events.{commits_in, ends_in, is_open_in}
 use Rattle.live_tables.specs.Answers.{told_stop, HasCause}
-use Rattle.parted_store.specs.declared.entry.Entry.{Entry}
 use Rattle.parted_store.specs.declared.journal.Journal.TheInside.{Inside}
 
 -- the journal's part as its callers see it
@@ -23,10 +21,6 @@ pub record JournalPart : Type 0 where
   -- how many of them are open
   pub open_count : ℕ
   pub stopped : Option Stop
-
--- an entry, as the world tells it
-abbrev pub entry_in : Entry → told.Entry
-entry_in e = record { xid = e.xid; changes = e.changes; commit = e.commit; end = e.end }
 
 -- the journal's part as its callers see it, from what it keeps
 abbrev pub journal_in : Inside → JournalPart

@@ -22,17 +22,18 @@ use Rattle.model.specs.Effect.{ClashCause}
 use Rattle.tokens.specs.Half.{Half}
 use Rattle.world.specs.World.{is_xid, Past, entry_of}
 use Rattle.world.specs.ListingLemmas.{xid_cases}
+use Rattle.engine.specs.declared.entry.Entry.{Entry}
 use Rattle.engine.specs.declared.events.LineEvent.{LineEvent}
 use Rattle.engine.specs.declared.events.LineEvent.TheVariants.{Opened as WasOpened, Committed as WasCommitted, Aborted as WasAborted}
+use Rattle.engine.specs.Engine.{entry_in}
 use Rattle.engine.specs.Events.{commits_in, ends_in, open_after, is_open_in}
 use Rattle.engine.specs.StoreLemmas.{still_rising}
 use Rattle.engine.specs.EventLemmas.{same_commits, more_commits, ends_same, ends_more, rise_more}
 use Rattle.live_tables.specs.declared.live_tables.Stopped as stopped_type
 use Rattle.live_tables.specs.declared.live_tables.Stopped.TheVariants.{Clash as StoppedByClash, Held as StoppedByHold}
 use Rattle.live_tables.specs.Answers.{cause_of, stop_for, told_stop, stop_of, TellsWhatStopped, HasCause}
-use Rattle.parted_store.specs.declared.entry.Entry.{Entry}
 use Rattle.parted_store.specs.declared.journal.Journal.TheInside.{Inside}
-use Rattle.parted_store.specs.Journal.{entry_in, IsJournal}
+use Rattle.parted_store.specs.Journal.{IsJournal}
 
 -- who is open, once one more is, or one less
 still_opened : (b : Bool) (ones new : BTreeSet ℕ) (xid : ℕ) → set.Updates nat_cmp ones new xid b

@@ -11,16 +11,15 @@ ghost use Rattle.world.specs.World.{is_xid, World, ByHold, entry_of};
 ghost use Rattle.world.specs.Steps.{Opens};
 ghost use Rattle.live_tables.specs.Answers.{cause_of, stop_for, told_call, after_open, TellsWhatStopped, IsNoClash};
 ghost use Rattle.engine.specs.declared.events.LineEvent.TheVariants.{Opened as WasOpened, Committed as WasCommitted, Aborted as WasAborted};
+ghost use Rattle.engine.specs.Engine.{entry_in};
 ghost use Rattle.engine.specs.Events.{opened_by, commits_in, ends_in, is_open_in};
-ghost use Rattle.parted_store.specs.Journal.{entry_in};
 ghost use Rattle.parted_store.specs.Lent.{HasJournal};
 ghost use Rattle.parted_store.specs.Opening.{CanOpen, RefusesOpen};
 
-use crate::entry::Entry;
 use crate::ticket::Ticket;
 use crate::told::Told;
 use change::Clash;
-use engine::{Changes, EngineFault, Event, LineEvent, stop_of};
+use engine::{Changes, EngineFault, Entry, Event, LineEvent, stop_of};
 use live_tables::{Stop, Stopped};
 use model::{Change, CommitInfo, Item, MOST_OPEN, OutOfMemory, Xid};
 use std::alloc::Global;
@@ -217,8 +216,8 @@ impl Journal {
         Ok(ticket)
     }
 
-    // Whether a transaction may open, memory aside.
-    fn can_open(&self, xid: Xid) -> Result<(), EngineFault>
+    /// Whether a transaction may open, memory aside. It takes none.
+    pub fn can_open(&self, xid: Xid) -> Result<(), EngineFault>
         ensures ok { OnOk result (CanOpen self.now xid) }
         ensures err { IfErr result (RefusesOpen self.now xid) }
     {
@@ -272,12 +271,9 @@ impl Journal {
     {
         tell_commit(&mut self.line, &mut line.token, xid, events, info);
         self.open_ones.remove(&xid);
-        self.entries.push_reserved(Entry {
-            xid,
-            changes: Changes::of_items(items),
-            commit: info.commit,
-            end: info.end,
-        });
+        let changes = Changes::of_items(items);
+        let entry = Entry::new(*self.entries.allocator(), xid, changes, info);
+        self.entries.push_reserved(entry);
     }
 
     // An open transaction is aborted. It takes no memory.

@@ -26,7 +26,6 @@
 //   truncating    a truncate of several tables, tried in the part of each
 //   back          a rollback of a subtransaction, part by part
 //   ends          a commit and an abort, part by part
-//   entry         a committed transaction as the journal has it
 //
 //   specs/Lent                    what a call is lent of a world
 //   specs/Acting, Touching, Back, Ends    what the calls do
@@ -42,7 +41,6 @@ mod boxed;
 mod clashing;
 mod coming;
 mod ends;
-mod entry;
 mod journal;
 mod marks;
 mod meeting;
@@ -58,9 +56,8 @@ pub use boxed::BoxedPart;
 pub use clashing::clash_in;
 pub use coming::come_to;
 pub use ends::{abort_in, commit_in};
-pub use entry::Entry;
 pub use journal::{Journal, Line, Seen};
-pub use meeting::{holder_in, holder_in_each, meet_each, meet_in, wants_in};
+pub use meeting::{holder_in, meet_each, meet_in, wants_in};
 pub use ticket::Ticket;
 pub use touching::touch_in;
 pub use truncating::truncate_in;

@@ -1,12 +1,9 @@
 // What a part and a ticket tell of one another, and whom a transaction waits for in a part.
 ghost use Rattle.std.specs.Prelude.{◌≡◌, ℕ, false, Some, None, IfSome, MatchOption, is_some, slice_get};
-ghost use Rattle.model.specs.Rows.{Schema};
-ghost use Rattle.world.specs.World.{World};
-ghost use Rattle.world.specs.Settled.{WaitsFor};
 ghost use Rattle.engine.specs.Events.{opened_by};
 ghost use Rattle.table_parts.specs.Part.{Part as AnyPart};
-ghost use Rattle.parted_store.specs.EachPart.{Covers, BelongEach, HasEach};
-ghost use Rattle.parted_store.specs.Lent.{HasTicket, Belongs, Stands, WaitsIn};
+ghost use Rattle.parted_store.specs.EachPart.{BelongEach};
+ghost use Rattle.parted_store.specs.Lent.{Belongs, Stands, WaitsIn};
 ghost use Rattle.parted_store.specs.Shares.{share_of};
 
 use crate::boxed::BoxedPart;
@@ -41,9 +38,7 @@ pub fn holder_in(part: &mut Part, ticket: &mut Ticket) -> Option<Xid>
     ensures held { IfSome result (WaitsIn part.old ticket.old.shares) }
     ensures free { result ≡ None → (holder : ℕ) → ¬ (WaitsIn part.old ticket.old.shares holder) }
     ensures part { part.new ≡ part.old }
-    ensures xid { ticket.new.number ≡ ticket.old.number }
-    ensures events { ticket.new.events ≡ ticket.old.events }
-    ensures shares { (table : ℕ) → share_of ticket.new.shares table ≡ share_of ticket.old.shares table }
+    ensures ticket { ticket.new ≡ ticket.old }
 {
     let table = part.number();
     let Some(mut share) = take_share(&mut ticket.shares, table) else {
@@ -66,45 +61,6 @@ pub fn meet_each(parts: &mut [BoxedPart], ticket: &mut Ticket)
     for i in 0..parts.len() {
         meet_boxed(&mut parts[i], ticket);
     }
-}
-
-/// Whom the ticket's transaction waits for, of the parts of all its tables, which are lent. In every
-/// world that has them and the ticket it waits for the one that is told, or for nobody. Nothing
-/// changes, and it takes no memory.
-pub fn holder_in_each(parts: &mut [BoxedPart], ticket: &mut Ticket) -> Option<Xid>
-    requires belong { BelongEach parts.old ticket.old.shares }
-    requires covers { Covers parts.old ticket.old.shares }
-    ensures held { IfSome result (λ holder. (schema : Schema) (w : World) → HasTicket w ticket.old → HasEach schema w parts.old
-        → WaitsFor schema w ticket.old.number (opened_by ticket.old.events) holder) }
-    ensures free { result ≡ None → (schema : Schema) (w : World) → HasTicket w ticket.old → HasEach schema w parts.old → (holder : ℕ)
-        → ¬ (WaitsFor schema w ticket.old.number (opened_by ticket.old.events) holder) }
-    ensures parts { parts.new ≡ parts.old }
-    ensures xid { ticket.new.number ≡ ticket.old.number }
-    ensures events { ticket.new.events ≡ ticket.old.events }
-    ensures shares { (table : ℕ) → share_of ticket.new.shares table ≡ share_of ticket.old.shares table }
-{
-    ticket.recall_invariant();
-    for i in 0..parts.len() {
-        let holder = holder_boxed(&mut parts[i], ticket);
-        if holder.is_some() {
-            return holder;
-        }
-    }
-    None
-}
-
-// Whom it waits for in a part in its box.
-fn holder_boxed(part: &mut BoxedPart, ticket: &mut Ticket) -> Option<Xid>
-    requires { Belongs part.old ticket.old.shares }
-    ensures stands { Stands part.old ticket.old.shares }
-    ensures held { IfSome result (WaitsIn part.old ticket.old.shares) }
-    ensures free { result ≡ None → (holder : ℕ) → ¬ (WaitsIn part.old ticket.old.shares holder) }
-    ensures part { part.new ≡ part.old }
-    ensures xid { ticket.new.number ≡ ticket.old.number }
-    ensures events { ticket.new.events ≡ ticket.old.events }
-    ensures shares { (table : ℕ) → share_of ticket.new.shares table ≡ share_of ticket.old.shares table }
-{
-    holder_in(part.part(), ticket)
 }
 
 // The same as `meet_in` of a part in its box.

@@ -3,7 +3,7 @@ ghost use Rattle.std.specs.Prelude.{◌≡◌, ◌++◌, ◌∷◌, [], ℕ, Som
 ghost use Rattle.model.specs.declared.item.Item.TheVariants.{Touch};
 ghost use Rattle.world.specs.World.{World};
 ghost use Rattle.world.specs.Steps.{Touches};
-ghost use Rattle.live_tables.specs.Answers.{told_call, after_touch, IsNoClash};
+ghost use Rattle.live_tables.specs.Answers.{told_call, after_touch};
 ghost use Rattle.engine.specs.declared.events.Event.TheVariants.{Done};
 ghost use Rattle.engine.specs.Events.{opened_by, touch_events};
 ghost use Rattle.table_parts.specs.Part.{Part as AnyPart, last_commit_end};
@@ -12,7 +12,7 @@ ghost use Rattle.parted_store.specs.EachPart.{AreApart, IsBeside, BelongEach, Wa
 ghost use Rattle.parted_store.specs.KeepsSound.{KeepsSound};
 ghost use Rattle.parted_store.specs.Lent.{HasTable, HasJournal, HasTicket, IsSamePart, Stands};
 ghost use Rattle.parted_store.specs.Shares.{share_of};
-ghost use Rattle.parted_store.specs.Touching.{IsTouched};
+ghost use Rattle.parted_store.specs.Touching.{IsTouched, IsRefusal};
 
 use crate::back::back_each;
 use crate::boxed::BoxedPart;
@@ -48,7 +48,7 @@ pub fn touch_in(
     ensures ticket { (w : World) → HasTicket w ticket.old → HasTicket (after_touch w ticket.old.number (opened_by ticket.old.events) sub (told_call result)) ticket.new }
     ensures beside { (w : World) (p : AnyPart) → HasTicket w ticket.old → HasTable w p → IsBeside parts.old p.number
         → HasTable (after_touch w ticket.old.number (opened_by ticket.old.events) sub (told_call result)) p }
-    ensures fault { IfErr result IsNoClash }
+    ensures fault { IfErr result IsRefusal }
     ensures events { ticket.new.events ≡ ticket.old.events ++ touch_events sub (told_call result) }
     ensures xid { ticket.new.number ≡ ticket.old.number }
     ensures shares { KeepsShares ticket.old.shares ticket.new.shares }

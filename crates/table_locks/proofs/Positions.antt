@@ -8,7 +8,7 @@ use Rattle.std.specs.Prelude.{slice_get, option_map}
 use Rattle.std.specs.List.{Contains}
 use Rattle.std.proofs.lemmas.Option.{slice_get-map, slice_get_read}
 use Rattle.std.proofs.lemmas.List.Elements.{Contains-push_cases, Contains-append_cases}
-use Rattle.parted_store.specs.declared.entry.Entry as entry_type
+use Rattle.engine.specs.declared.entry.Entry as entry_type
 use Rattle.table_locks.specs.Reading.{positions_of}
 
 module _ (e : entry_type.Entry) where

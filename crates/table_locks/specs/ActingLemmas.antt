@@ -4,8 +4,9 @@
 --     clash_steps      that its change clashes is a step of that world
 --     acted_fits      the part behind the call
 --     acted_is      the ticket behind it
+--     was_clash      a clash there, as it is told
 use Rattle.std.specs.Prelude.{◌≡◌, ◌≢◌, ◌⊎◌, ℕ, [], ◌++◌, Some, IsSome, Result, Ok, Err, refl}
-use Rattle.std.proofs.Common.{sym, ap, subst, inl, inr}
+use Rattle.std.proofs.Common.{sym, ◌∙◌, ap, subst, inl, inr}
 use Rattle.std.specs.FinMap.{get}
 use Rattle.model.specs.declared.change.Change as change_type
 use Rattle.model.specs.Rows.{Rows, Schema}
@@ -29,12 +30,13 @@ use Rattle.parted_store.specs.Back.{KeepsShares}
 use Rattle.parted_store.specs.KeepsSound.{ClashesHere}
 use Rattle.parted_store.specs.Lent.{OpenTicket, HasTable, HasTicket, IsSamePart, Stands}
 use Rattle.parted_store.specs.Shares.{Share, share_of}
+use Rattle.table_locks.specs.Clashing.{WasClash}
 use Rattle.table_locks.specs.CallLemmas.{the_world, has_witness, at_world}
 use Rattle.table_locks.specs.LendingLemmas.{some_there}
 use Rattle.table_locks.specs.StateLemmas.{tries_steps, stays_fit}
 use Rattle.table_locks.specs.TableStates.{IsKept, StaysFit}
 use Rattle.table_locks.specs.TicketLemmas.{acted_ticket}
-use Rattle.table_locks.specs.Tickets.{WaitsSo, IsTicket}
+use Rattle.table_locks.specs.Tickets.{WaitsSo, IsTicket, IsTicketOf}
 use Rattle.table_locks.specs.declared.ticket.Waits.{Waits}
 
 module _ (shares : ℕ → Name) (tables : Name) (schema : Schema) (start : Rows) (p : Part) (kept : IsKept shares schema start p)
@@ -101,3 +103,22 @@ module _ (shares : ℕ → Name) (tables : Name) (schema : Schema) (start : Rows
       acted_is u then_at number keeps events left elsewhere stood now so =
           acted_ticket shares schema waits t u is number keeps p.number sub c answer its events left elsewhere q same.number stood
           (after_act w t.number o sub c answer) then then_at now so
+
+-- a clash there, as it is told
+pub was_clash : (shares : ℕ → Name) (schema : Schema) (start : Rows) (p : Part) → IsKept shares schema start p → (t : OpenTicket) → IsTicketOf shares schema t
+    → IsSome (share_of t.shares p.number) → Stands p t.shares → (c : change_type.Change) (clash : Clash) → IsIn p.number c → ClashesHere p t.shares c clash
+    → WasClash schema start t.number c clash
+was_clash shares schema start p kept t is came stands c clash its clashes =
+    let (share, found) = some_there (share_of t.shares p.number) came in
+    let number = (is.tied p.number share found).number in
+    record {
+      table = p.number;
+      inside = its;
+      part = p.store.world;
+      reached = kept.reached;
+      its = opened_by share.list;
+      open_one = ap (get p.store.world.opened) (sym number) ∙ stands share found;
+      clashes =
+          subst (λ (s : Schema). HasClash s p.store.world t.number (opened_by share.list) c clash) kept.schema_is
+          (subst (λ n. HasClash p.store.schema p.store.world n (opened_by share.list) c clash) number (clashes share found));
+    }

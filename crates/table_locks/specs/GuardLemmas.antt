@@ -1,11 +1,11 @@
 -- What is learned under one lock after another, each guard taken out of its place and put back.
 --     same_states, same_put      the same lies under the locks, at first and once a guard is back in its place
---     state_there      what lies under the guard that is in a place
+--     state_there, there_put      what lies under the guard that is in a place; something does under each, once one is back
 --     none_met, one_met      what is met under the locks of the first so many tables, and of one more
 --     noted_before      a clash that is noted under these locks was noted there before
 --     none_noted, held_noted      none is to be where nothing stopped the store, nor where one that waits did
 --     noted_by      the table of a clash that stopped the store knows of it
-use Rattle.std.specs.Prelude.{◌≡◌, ℕ, ◌+◌, ◌<◌, List, Option, Some, None, IsSomeAnd, length, slice_index_or, slice_set, refl}
+use Rattle.std.specs.Prelude.{◌≡◌, ℕ, ◌+◌, ◌<◌, List, Option, Some, None, IsSome, IsSomeAnd, length, slice_index_or, slice_set, refl}
 use Rattle.std.proofs.Common.{sym, ◌∙◌, ap, subst, arith}
 use Rattle.std.proofs.lemmas.List.{get_or_default, length-set}
 use Rattle.std.proofs.lemmas.Option.{none-some}
@@ -44,6 +44,12 @@ same_put guards now place guard same room is = (
 pub state_there : (guards : Guards) (place : ℕ) (guard : Option (MutexGuard TableState)) → place < length guards
     → state_of (slice_index_or guards place guard) ≡ state_at guards place
 state_there guards place guard room = ap state_of (get_or_default guards place guard None room)
+
+pub there_put : (guards : Guards) (count place : ℕ) (guard : Option (MutexGuard TableState)) → ((table : ℕ) → table < count → IsSome (state_at guards table))
+    → place < length guards → IsSome (state_of guard) → (table : ℕ) → table < count → IsSome (state_at (slice_set guards place guard) table)
+there_put guards count place guard before room some table below = dite (ℕ_discrete table place)
+    (λ here. subst IsSome (sym (ap (state_at (slice_set guards place guard)) here ∙ state_here guards place guard room)) some)
+    (λ apart. subst IsSome (sym (state_beside guards place guard table apart)) (before table below))
 
 -- ---- tables
 

@@ -28,3 +28,7 @@ pub mod Whole
 pub mod WholeLemmas
 pub mod MeetingLemmas
 pub mod GuardLemmas
+pub mod Clashing
+pub mod Noted
+pub mod Stuck
+pub mod StuckLemmas

@@ -7,7 +7,10 @@
 --     closed_by      in a part no other is open, where as many are as have a share there
 --     wants_here, wants_nothing      what a transaction wants is something in the table
 --     known_by      a clash that a table knows
-use Rattle.std.specs.Prelude.{◌≡◌, ◌≢◌, ◌⊎◌, ℕ, ◌+◌, ◌<◌, ◌≤◌, Bool, true, false, cond, List, [], ◌∷◌, Option, Some, None, IfSome, MatchOption, All, Contains, is_some, filter, length, take, slice_get, refl}
+--     StillBelow, none_still, one_still, all_still      whether a transaction wants something, by the first so many tickets, and by all
+--     wants_some      it does, by its share
+--     still_told, none_told, held_told      the clash that is noted by the tickets, where one stopped the store; none, where none did
+use Rattle.std.specs.Prelude.{◌≡◌, ◌≢◌, ◌⊎◌, ℕ, ◌+◌, ◌<◌, ◌≤◌, Bool, true, false, cond, if◌then◌else◌, List, [], ◌∷◌, Option, Some, None, IfSome, MatchOption, All, Contains, IsSome, is_some, filter, length, take, slice_get, refl}
 use Rattle.std.proofs.Common.{zero, suc, sym, ◌∙◌, ap, subst, arith, inl, inr, append-nil}
 use Rattle.std.proofs.lemmas.Bool.{cases_Bool}
 use Rattle.std.proofs.lemmas.List.Elements.{All-from_recursion}
@@ -23,7 +26,7 @@ use Rattle.model.specs.Effect.{ClashCause}
 use Rattle.model.specs.Rows.{Schema}
 use Rattle.tokens.specs.Half.{Name}
 use Rattle.change.specs.declared.outcome.Clash.{Clash}
-use Rattle.world.specs.World.{is_xid, Opened, ByClash}
+use Rattle.world.specs.World.{is_xid, Opened, ByClash, ByHold}
 use Rattle.world_parts.specs.ByTable.{change_at, changes_at}
 use Rattle.world_parts.specs.Parts.{wanted_by}
 use Rattle.live_tables.specs.declared.live_tables.Stopped.{Stopped}
@@ -37,7 +40,8 @@ use Rattle.parted_store.specs.OpenLemmas.{open_all}
 use Rattle.parted_store.specs.Shares.{Share, share_of}
 use Rattle.table_locks.specs.LendingLemmas.{some_there}
 use Rattle.table_locks.specs.Tickets.{IsTicketOf}
-use Rattle.table_locks.specs.Whole.{AreDifferent, AreOpen, AreAllOpen, AreTickets, HasShareOf, WantsIn, numbers_of, numbers_at}
+use Rattle.table_locks.specs.Noted.{TellsStill}
+use Rattle.table_locks.specs.Whole.{AreDifferent, AreOpen, AreAllOpen, AreTickets, HasShareOf, WantsIn, WantsStill, numbers_of, numbers_at}
 
 -- ---- one ticket after another
 
@@ -240,3 +244,55 @@ known_by stopped noted xid c was clash is caused same_xid same =
       ap cause_of (sym same) ∙ found,
       ap told_stop is ∙ ap (stop_for noted c) found ∙ ap (λ (n : ℕ). Some (ByClash n c cause)) same_xid,
     )
+
+-- ---- whether a transaction wants something
+
+-- one of the tickets is of it and tells so, or none of the first so many does
+abbrev pub StillBelow : List OpenTicket → ℕ → ℕ → Bool → Type 0
+StillBelow tickets xid count true = WantsStill tickets xid true
+StillBelow tickets xid count false = EachBelow (λ t. t.number ≡ xid → (opened_by t.events).wants ≡ None) tickets count
+
+pub none_still : (tickets : List OpenTicket) (xid : ℕ) → StillBelow tickets xid 0 false
+none_still tickets xid = none_below (λ t. t.number ≡ xid → (opened_by t.events).wants ≡ None) tickets
+
+-- one more is of another transaction, or wants nothing
+pub one_still : (tickets : List OpenTicket) (xid count : ℕ) (u : OpenTicket) → slice_get tickets count ≡ Some u → (told : Bool)
+    → StillBelow tickets xid count told → (u.number ≡ xid → (opened_by u.events).wants ≡ None) → StillBelow tickets xid (count + 1) told
+one_still tickets xid count u at true still none = still
+one_still tickets xid count u at false still none =
+    one_below (λ t. t.number ≡ xid → (opened_by t.events).wants ≡ None) tickets count u at still none
+
+pub all_still : (tickets : List OpenTicket) (xid count : ℕ) → length tickets ≤ count → (told : Bool) → StillBelow tickets xid count told → WantsStill tickets xid told
+all_still tickets xid count over true still = still
+all_still tickets xid count over false still = each_of (λ t. t.number ≡ xid → (opened_by t.events).wants ≡ None) tickets count over still
+
+-- it wants something, by its share
+pub wants_some : (shares : ℕ → Name) (schema : Schema) (t : OpenTicket) → IsTicketOf shares schema t → (table : ℕ) (wants : Bool)
+    → MatchOption (share_of t.shares table) (wants ≡ false) (λ share. wants ≡ is_some (opened_by share.list).wants) → wants ≡ true
+    → IsSome (opened_by t.events).wants
+wants_some shares schema t is table wants told true_is = by_wish (opened_by t.events).wants refl
+  where
+    by_share : (opened_by t.events).wants ≡ None → (found : Option Share) → share_of t.shares table ≡ found
+        → MatchOption found (wants ≡ false) (λ share. wants ≡ is_some (opened_by share.list).wants) → ⊥
+    by_share none None missing tells = let no : false ≡ true = sym tells ∙ true_is in cc
+    by_share none (Some share) found tells =
+        no_wish (opened_by share.list).wants (sym tells ∙ true_is)
+        ((is.tied table share found).wants ∙ ap (λ w. changes_at table (wanted_by w)) none)
+
+    by_wish : (found : Option (ℕ × Change)) → (opened_by t.events).wants ≡ found → IsSome found
+    by_wish None none = absurd (by_share none (share_of t.shares table) refl told)
+    by_wish (Some wish) some = refl
+
+pub still_told : (tickets : List OpenTicket) (xid : ℕ) (c : Change) (cause : ClashCause) (clash : Clash) (wants : Bool) → WantsStill tickets xid wants
+    → cause_of clash ≡ Some cause → TellsStill tickets (Some (ByClash xid c cause)) (if wants then Some clash else None)
+still_told tickets xid c cause clash true told caused =
+    let (i, t, at, number, wants) = told in
+    (i, t, c, cause, at, caused, ap (λ n. Some (ByClash n c cause)) (sym number), wants)
+still_told tickets xid c cause clash false none caused = λ i t d why at is.
+    none i t at (let same : xid ≡ t.number = cc in sym same)
+
+pub none_told : (tickets : List OpenTicket) → TellsStill tickets None None
+none_told tickets i t c cause at is = absurd (none-some (ByClash t.number c cause) is)
+
+pub held_told : (tickets : List OpenTicket) (waiter holder : ℕ) → TellsStill tickets (Some (ByHold waiter holder)) None
+held_told tickets waiter holder i t c cause at is = absurd cc

@@ -18,10 +18,10 @@ use Rattle.model.specs.Rows.{Rows, Schema}
 use Rattle.tokens.specs.Half.{Name, Half}
 use Rattle.world.specs.Steps.{Fault, ReadsAfter}
 use Rattle.world.specs.World.{OpenOnes, World}
+use Rattle.engine.specs.declared.entry.Entry.{Entry}
 use Rattle.engine.specs.declared.events.LineEvent.{LineEvent}
 use Rattle.engine.specs.Events.{ends_in, world_of}
 use Rattle.table_parts.specs.Part.{Part}
-use Rattle.parted_store.specs.declared.entry.Entry.{Entry}
 use Rattle.parted_store.specs.Lent.{HasTable}
 use Rattle.table_locks.specs.Lending.{Guards, state_at}
 use Rattle.table_locks.specs.TableStates.{TableState}

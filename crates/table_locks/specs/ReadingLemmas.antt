@@ -20,11 +20,11 @@ use Rattle.world.specs.World.{Past, Entry, World, changes_in, entry_of}
 use Rattle.world_parts.specs.Lines.{HasLine, commits_until, line_at, rows_until}
 use Rattle.world_parts.specs.MadeLemmas.{made_of_part}
 use Rattle.world_parts.specs.Statements.{IsMadeOf}
+use Rattle.engine.specs.declared.entry.Entry as entry_type
 use Rattle.engine.specs.declared.events.LineEvent.{LineEvent}
+use Rattle.engine.specs.Engine.{entry_in}
 use Rattle.engine.specs.Events.{commits_in}
 use Rattle.table_parts.specs.Part.{Part}
-use Rattle.parted_store.specs.declared.entry.Entry as entry_type
-use Rattle.parted_store.specs.Journal.{entry_in}
 use Rattle.parted_store.specs.Lent.{HasTable}
 use Rattle.table_locks.specs.Journals.{JournalState, IsJournal}
 use Rattle.table_locks.specs.Reading.{seen_world, open_there, told_world, HasState, positions_of, positions_seen, ReadsAt}

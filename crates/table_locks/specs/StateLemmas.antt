@@ -7,6 +7,7 @@
 --     stays_on      two such steps are one
 --     fits_as, fits_on, fits_stopped      it fits as a world that something stopped; as before; and where it wasn't stopped
 --     fits_behind      the same of the part that was lent to a call
+--     fits_held      it fits as one that a hold stopped
 --     tied_by, tied_beside      a share tells what its transaction did, where the part was told of it, and where it wasn't
 use Rattle.std.specs.Prelude.{◌≡◌, ℕ, ◌≤◌, List, [], ◌∷◌, ◌++◌, Option, Some, None, Result, Ok, Err, refl}
 use Rattle.std.proofs.Common.{sym, ◌∙◌, ap, subst, append-nil}
@@ -20,7 +21,7 @@ use Rattle.tokens.specs.Half.{Name}
 use Rattle.world.specs.CallLemmas.{start_stays}
 use Rattle.world.specs.ListingLemmas.{got_same}
 use Rattle.world.specs.Steps.{Fault, Acted, IsDone, IsSkipped, Held, Clashed, Step, acts, tells_stop}
-use Rattle.world.specs.World.{Opened, Stop, World, starting}
+use Rattle.world.specs.World.{Opened, Stop, ByClash, ByHold, World, starting}
 use Rattle.world_parts.specs.ByTable.{rows_at, change_at, changes_at}
 use Rattle.world_parts.specs.Lines.{HasLine, line_at}
 use Rattle.world_parts.specs.MarkLemmas.{told_beside, nothing_told}
@@ -224,3 +225,31 @@ module _ (name : Name) (xid : ℕ) (events : List Event) (table : ℕ) (share : 
   tied_beside (Ok (Clashed cause)) =
       tied_as (record (opened_by events) { wants = Some (sub, c) }) tied.told (append-nil (change_at table c) ∙ not) _ (opened_acted xid sub events c (Ok (Clashed cause)))
   tied_beside (Err fault) = subst (λ (o : Opened). IsTied name xid o table share) (sym (opened_refused events fault)) tied
+
+-- ---- a hold that stopped the store
+
+-- a world is sound as one that a hold stopped
+sound_held : (schema : Schema) (w : World) (waiter holder : ℕ) → IsSound schema w → IsSound schema (record w { stopped = Some (ByHold waiter holder) })
+sound_held schema w waiter holder sound = record {
+  fine = record {
+    valid_start = sound.fine.valid_start;
+    serial_commits = sound.fine.serial_commits;
+    apart = sound.fine.apart;
+    accepted = sound.fine.accepted;
+    noted = λ xid c cause is. absurd (let same : Some (ByHold waiter holder) ≡ Some (ByClash xid c cause) = is in cc);
+  };
+  accepted = sound.accepted;
+  wanted = λ xid c cause is. absurd (let same : Some (ByHold waiter holder) ≡ Some (ByClash xid c cause) = is in cc);
+}
+
+-- the part may lie where the table knows of it
+pub fits_held : (shares : ℕ → Name) (tables : Name) (schema : Schema) (start : Rows) (s new : TableState) (p : Part) (waiter holder : ℕ)
+    → Fits shares tables schema start s p → new ≡ record s { part = None; stopped = Some (ByHold waiter holder) } → Fits shares tables schema start new p
+fits_held shares tables schema start s new p waiter holder fits is =
+    subst (λ (t : TableState). Fits shares tables schema start t p) (sym is) (record {
+      number = fits.number;
+      kept = fits.kept;
+      listed = fits.listed;
+      sound = sound_held schema (with_stop s.stopped p) waiter holder fits.sound;
+      last = fits.last;
+    })

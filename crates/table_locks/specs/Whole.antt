@@ -10,11 +10,12 @@
 --     IsMetIn, IsMetAt, AreMetIn      under the lock of a table lies its part, as line and tickets tell it; under that of a guard, if
 --         there is one; under each of these
 --     WantsIn      what a transaction waits with, if it waits, is something in a table
+--     WantsStill      whether a transaction that has a ticket wants something
 --     IsNotedIn, IsNotedBy      a clash stopped the store, as the table of its change knows; as one of these does
 --     IsMetWhole      what is learned under all locks
 --     AreSameStates      the same lies under the locks
 --     numbers_of, numbers_at      the numbers of the transactions; of those with a share of a table
-use Rattle.std.specs.Prelude.{◌≡◌, ◌≢◌, ℕ, ◌<◌, ◌≤◌, true, List, [], ◌∷◌, Option, Some, IsSome, is_some, filter, map, length, slice_get}
+use Rattle.std.specs.Prelude.{◌≡◌, ◌≢◌, ℕ, ◌<◌, ◌≤◌, Bool, true, false, List, [], ◌∷◌, Option, Some, None, IsSome, is_some, filter, map, length, slice_get}
 use Rattle.std.specs.Ordering.{nat_cmp}
 use Rattle.std.specs.FinMap as finite
 use Rattle.std.specs.FinMap.{FinMap, get, insert}
@@ -115,6 +116,13 @@ module _ (shares : ℕ → Name) (tables : Name) (schema : Schema) (start : Rows
 -- what the transaction waits with, if it waits, is something in the table
 abbrev pub WantsIn : ℕ → OpenTicket → Type 0
 WantsIn table t = (sub : ℕ) (e : Change) → (opened_by t.events).wants ≡ Some (sub, e) → change_at table e ≢ []
+
+-- one of the tickets is of this transaction, and tells that it wants something; or none does
+abbrev pub WantsStill : List OpenTicket → ℕ → Bool → Type 0
+WantsStill tickets xid true =
+    (i : ℕ) × (t : OpenTicket) × (slice_get tickets i ≡ Some t) × (t.number ≡ xid) × IsSome (opened_by t.events).wants
+WantsStill tickets xid false =
+    (i : ℕ) (t : OpenTicket) → slice_get tickets i ≡ Some t → t.number ≡ xid → (opened_by t.events).wants ≡ None
 
 -- The change is one of the table alone, which knows that it stopped the store so. Its transaction waits with nothing else.
 pub record IsNotedIn (tickets : List OpenTicket) (stopped : Option Stop) (xid : ℕ) (c : Change) (table : ℕ) (s : TableState) : Type 0 where

@@ -6,7 +6,7 @@ ghost use Rattle.world.specs.World.{World};
 ghost use Rattle.change.specs.declared.outcome.Clash.{Clash as AnyClash};
 ghost use Rattle.live_tables.specs.declared.answers.EngineFault.TheVariants.{Clash as ClashFault, OutOfMemory as NoMemory};
 ghost use Rattle.live_tables.specs.declared.answers.Verdict.TheVariants.{Clashes};
-ghost use Rattle.live_tables.specs.Answers.{cause_of, told, TellsCause, TellsVerdict};
+ghost use Rattle.live_tables.specs.Answers.{cause_of, told, TellsVerdict};
 ghost use Rattle.engine.specs.Events.{opened_by, events_of};
 ghost use Rattle.world_parts.specs.ByTable.{IsIn, change_at, changes_at};
 ghost use Rattle.world_parts.specs.Parts.{wanted_by};
@@ -16,6 +16,7 @@ ghost use Rattle.parted_store.specs.Lent.{HasTable, Stands};
 ghost use Rattle.parted_store.specs.Shares.{share_of};
 ghost use Rattle.table_locks.specs.TableStates.{Fits, IsKept, StaysFit};
 ghost use Rattle.table_locks.specs.Answers.{IsTold};
+ghost use Rattle.table_locks.specs.Clashing.{WasClash};
 ghost use Rattle.table_locks.specs.Tickets.{IsTicket, IsTicketOf, HasRoom, waits_acted, done_acted};
 ghost use Rattle.table_locks.specs.declared.ticket.Waits.{Waits as AnyWaits};
 
@@ -52,7 +53,8 @@ impl<N: StoreNames> Store<N> {
     ) -> Result<Acted, EngineFault>
         requires names { NamesTables (length N.schema) c.now }
         requires waits { (table : ℕ) → change_at table c.now ≡ [] → changes_at table (wanted_by (opened_by ticket.old.events).wants) ≡ [] }
-        ensures cause { TellsCause result }
+        ensures fault { IfErr result IsTold }
+        ensures clashes { (clash : AnyClash) → result ≡ Err (ClashFault clash) → WasClash N.schema N.start ticket.new.number c.now clash }
         ensures events { ticket.new.events ≡ ticket.old.events ++ events_of sub c.now (told result) }
         ensures xid { ticket.new.number ≡ ticket.old.number }
     {
@@ -80,7 +82,8 @@ impl<N: StoreNames> Store<N> {
         requires known { table < length N.schema }
         requires its { IsIn table c.now }
         requires waits { (other : ℕ) → other ≢ table → changes_at other (wanted_by (opened_by ticket.old.events).wants) ≡ [] }
-        ensures cause { TellsCause result }
+        ensures fault { IfErr result IsTold }
+        ensures clashes { (clash : AnyClash) → result ≡ Err (ClashFault clash) → WasClash N.schema N.start ticket.new.number c.now clash }
         ensures events { ticket.new.events ≡ ticket.old.events ++ events_of sub c.now (told result) }
         ensures xid { ticket.new.number ≡ ticket.old.number }
     {
@@ -109,7 +112,8 @@ impl<N: StoreNames> Store<N> {
         requires names { NamesTables (length N.schema) c.now }
         requires its { IsIn part.number c.now }
         requires waits { (other : ℕ) → other ≢ part.number → changes_at other (wanted_by (opened_by ticket.old.events).wants) ≡ [] }
-        ensures cause { TellsCause result }
+        ensures fault { IfErr result IsTold }
+        ensures clashes { (clash : AnyClash) → result ≡ Err (ClashFault clash) → WasClash N.schema N.start ticket.new.number c.now clash }
         ensures events { ticket.new.events ≡ ticket.old.events ++ events_of sub c.now (told result) }
         ensures xid { ticket.new.number ≡ ticket.old.number }
     {
@@ -149,9 +153,11 @@ impl<N: StoreNames> Store<N> {
         requires its { IsIn part.number c.now }
         requires waits { (other : ℕ) → other ≢ part.number → changes_at other (wanted_by (opened_by ticket.old.events).wants) ≡ [] }
         ensures cause { IsTold result }
+        ensures clashes { (why : AnyClash) → result ≡ ClashFault why → WasClash N.schema N.start ticket.new.number c.now why }
         ensures events { ticket.new.events ≡ ticket.old.events ++ events_of sub c.now (told (Err result)) }
         ensures xid { ticket.new.number ≡ ticket.old.number }
     {
+        ticket.recall_invariant();
         let Ok(noted) = c.copy() else {
             guard.put(part);
             return ticket.refuse(EngineFault::OutOfMemory);

@@ -1,13 +1,15 @@
 // A subtransaction is rolled back, or named.
 ghost use Rattle.std.specs.Prelude.{◌≡◌, ◌≤◌, ◌++◌, ◌∷◌, [], IfErr, length};
 ghost use Rattle.model.specs.declared.item.Item.TheVariants.{BackTo};
-ghost use Rattle.live_tables.specs.Answers.{told_call, IsNoClash};
+ghost use Rattle.live_tables.specs.Answers.{told_call};
 ghost use Rattle.engine.specs.declared.events.Event.TheVariants.{Done};
 ghost use Rattle.engine.specs.Events.{touch_events};
+ghost use Rattle.parted_store.specs.Touching.{IsRefusal};
 ghost use Rattle.table_locks.specs.Tickets.{waits_after as after};
 
 use crate::locks::{lend_its, no_guards, put_each};
 use crate::names::StoreNames;
+use crate::stopping::count_in;
 use crate::store::Store;
 use crate::table_part::TablePart;
 use crate::ticket::{Ticket, Waits, count_one, count_touched};
@@ -26,7 +28,6 @@ impl<N: StoreNames> Store<N> {
     {
         let mut guards = no_guards(self);
         self.back_with(rt, &mut guards, ticket, sub);
-        self.tell_move(rt);
     }
 
     // With the places in which its guards are to lie.
@@ -42,10 +43,21 @@ impl<N: StoreNames> Store<N> {
         ensures xid { ticket.new.number ≡ ticket.old.number }
     {
         lend_its(rt, self, &mut ticket.ticket, guards, &mut ticket.lent);
+        let xid = ticket.ticket.xid();
+        let before = count_in(&ticket.lent, xid);
         back_to_in(ticket.lent.as_mut_slice(), &mut ticket.ticket, sub);
+        self.tell_back(rt, xid, count_in(&ticket.lent, xid).wrapping_sub(before));
         put_each(guards, &mut ticket.lent);
         ticket.waits = Waits::Nowhere;
         ticket.done = count_one(ticket.done);
+    }
+
+    // A rollback is counted, of which the parts that are lent count so many more, and a move is.
+    fn tell_back<R: Wait>(&self, rt: &R, xid: Xid, counted: u64) {
+        let mut journal = self.journal.lock(rt);
+        journal.count_items(xid, 1, counted);
+        journal.count_move();
+        self.moved.notify_all();
     }
 
     /// A subtransaction of an open transaction is named by an item that changes no row. It takes
@@ -57,13 +69,14 @@ impl<N: StoreNames> Store<N> {
         ticket: &mut Ticket<N>,
         sub: Xid,
     ) -> Result<(), EngineFault>
-        ensures fault { IfErr result IsNoClash }
+        ensures fault { IfErr result IsRefusal }
         ensures events { ticket.new.events ≡ ticket.old.events ++ touch_events sub (told_call result) }
         ensures xid { ticket.new.number ≡ ticket.old.number }
     {
         if let Waits::Nowhere = ticket.waits {
-            let journal = self.journal.lock(rt);
+            let mut journal = self.journal.lock(rt);
             let touched = touch_in(&mut [], &journal.part, &mut ticket.ticket, sub);
+            journal.count_touched(ticket.ticket.xid(), &touched, 0);
             ticket.done = count_touched(ticket.done, &touched);
             return touched;
         }
@@ -80,19 +93,23 @@ impl<N: StoreNames> Store<N> {
         sub: Xid,
     ) -> Result<(), EngineFault>
         requires { length N.schema ≤ length guards.old }
-        ensures fault { IfErr result IsNoClash }
+        ensures fault { IfErr result IsRefusal }
         ensures events { ticket.new.events ≡ ticket.old.events ++ touch_events sub (told_call result) }
         ensures xid { ticket.new.number ≡ ticket.old.number }
     {
         lend_its(rt, self, &mut ticket.ticket, guards, &mut ticket.lent);
         ticket.ticket.recall_invariant();
-        let journal = self.journal.lock(rt);
+        let xid = ticket.ticket.xid();
+        let before = count_in(&ticket.lent, xid);
+        let mut journal = self.journal.lock(rt);
         let touched = touch_in(
             ticket.lent.as_mut_slice(),
             &journal.part,
             &mut ticket.ticket,
             sub,
         );
+        let counted = count_in(&ticket.lent, xid).wrapping_sub(before);
+        journal.count_touched(xid, &touched, counted);
         drop(journal);
         put_each(guards, &mut ticket.lent);
         ticket.waits = waits_after(ticket.waits, &touched);

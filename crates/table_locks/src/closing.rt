@@ -2,9 +2,9 @@
 ghost use Rattle.std.specs.Prelude.{◌≡◌, ◌<◌, List, length, map};
 ghost use Rattle.model.specs.Effect.{serial};
 ghost use Rattle.world.specs.World.{Past, changes_in, entry_of};
+ghost use Rattle.engine.specs.Engine.{entry_in};
 ghost use Rattle.engine.specs.Events.{commits_in};
 ghost use Rattle.world_parts.specs.ByTable.{rows_at};
-ghost use Rattle.parted_store.specs.Journal.{entry_in};
 ghost use Rattle.table_locks.specs.Closing.{AreLists, rows_after};
 ghost use Rattle.table_locks.specs.Moving.{SameBeside};
 ghost use Rattle.table_locks.specs.Starts.{AreKnown};
@@ -16,9 +16,10 @@ use crate::moving::put_in;
 use crate::names::StoreNames;
 use crate::store::Store;
 use crate::table_part::TablePart;
+use engine::Entry;
 use indexes::Tables;
 use model::TableId;
-use parted_store::{Entry, Line};
+use parted_store::Line;
 use std::sync::{Mutex, Wait};
 use tokens::Book;
 

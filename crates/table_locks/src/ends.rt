@@ -68,6 +68,7 @@ impl<N: StoreNames> Store<N> {
             wait_for_ever(rt);
         }
         let mut journal = self.journal.lock(rt);
+        journal.forget(ticket.xid());
         let count = journal.commit(rt, guards, lent.as_mut_slice(), line, ticket, info);
         journal.count_move();
         self.moved.notify_all();
@@ -107,6 +108,7 @@ impl<N: StoreNames> Store<N> {
         } = ticket;
         lend_its(rt, self, &mut ticket, guards, &mut lent);
         let mut journal = self.journal.lock(rt);
+        journal.forget(ticket.xid());
         journal.abort(rt, lent.as_mut_slice(), line, ticket);
         journal.count_move();
         self.moved.notify_all();

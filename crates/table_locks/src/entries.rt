@@ -3,8 +3,8 @@ ghost use Rattle.std.specs.Prelude.{◌≡◌, Some, MatchOption, slice_get};
 ghost use Rattle.std.specs.List.{Contains};
 ghost use Rattle.table_locks.specs.Reading.{positions_of};
 
+use engine::Entry;
 use model::Lsn;
-use parted_store::Entry;
 
 /// How many entries there are up to the one that ends at this position; for 0 none of them. It
 /// looks at those behind the position alone, from the newest on.

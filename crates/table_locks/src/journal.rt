@@ -20,9 +20,10 @@ use crate::names::StoreNames;
 use crate::ticket::Ticket;
 use change::Clash;
 use engine::{EngineFault, Stop};
-use model::{Change, Xid};
+use model::{Change, OutOfMemory, Xid};
 use parted_store::Line;
 use std::alloc::Global;
+use std::collections::BTreeMap;
 use std::marker::{Model, PhantomData};
 use table_parts::Part;
 use tokens::Book;
@@ -33,6 +34,10 @@ use tokens::Book;
 pub struct Journal<N: StoreNames> {
     pub(crate) part: parted_store::Journal,
     pub(crate) tables: Book<TableCommit>,
+    /// Of each open transaction how many items it has done beyond those that the parts count
+    /// (`Part::done_by`). One that changes no row counts in none of them; a rollback counts in each
+    /// part that goes back, and a truncate in each of its tables. So the number wraps.
+    pub(crate) uncounted: BTreeMap<Xid, u64>,
     moves: u64,
     of: PhantomData<N>,
 }
@@ -52,13 +57,18 @@ impl<N: StoreNames> Model for Journal<N> {
 
 impl<N: StoreNames> Journal<N> {
     /// The journal's part of a store to which nobody came, to be put under the journal's lock.
-    pub(crate) fn new(part: parted_store::Journal, tables: Book<TableCommit>) -> Journal<N>
+    pub(crate) fn new(
+        alloc: Global,
+        part: parted_store::Journal,
+        tables: Book<TableCommit>,
+    ) -> Journal<N>
         requires { IsJournal N.line N.tables N.schema (record { part = part; tables = tables }) }
         ensures { result ≡ record { part = part; tables = tables } }
     {
         Journal {
             part,
             tables,
+            uncounted: BTreeMap::new(alloc),
             moves: 0,
             of: PhantomData,
         }
@@ -105,8 +115,78 @@ impl<N: StoreNames> Journal<N> {
         ensures ok { OnOk result (line.new.list ≡ line.old.list ++ WasOpened xid ∷ []) }
         ensures err { OnErr result (line.new ≡ line.old) }
     {
+        self.part.can_open(xid)?;
+        self.admit(xid)?;
+        let opened = self.open_part(alloc, line, xid);
+        self.forget_refused(xid, &opened);
+        opened
+    }
+
+    // It opens in the journal's part.
+    fn open_part(
+        &mut self,
+        alloc: Global,
+        line: &mut Line,
+        xid: Xid,
+    ) -> Result<Ticket<N>, EngineFault>
+        requires { line.old.name ≡ N.line }
+        ensures fault { IfErr result IsNoClash }
+        ensures ticket { IfOk result (λ ticket. ticket ≡ record { number = xid; events = []; shares = [] }) }
+        ensures name { line.new.name ≡ N.line }
+        ensures ok { OnOk result (line.new.list ≡ line.old.list ++ WasOpened xid ∷ []) }
+        ensures err { OnErr result (line.new ≡ line.old) }
+    {
         let ticket = self.part.open(alloc, line, xid)?;
         Ok(Ticket::new(alloc, ticket))
+    }
+
+    // One that did not open is not counted.
+    fn forget_refused(&mut self, xid: Xid, opened: &Result<Ticket<N>, EngineFault>)
+        ensures { self.new ≡ self.old }
+    {
+        if opened.is_err() {
+            self.forget(xid);
+        }
+    }
+
+    // There is room for the count of a transaction's items.
+    fn admit(&mut self, xid: Xid) -> Result<(), OutOfMemory>
+        ensures { self.new ≡ self.old }
+    {
+        match self.uncounted.insert(xid, 0) {
+            Ok(_) => Ok(()),
+            Err(_) => Err(OutOfMemory),
+        }
+    }
+
+    /// A transaction has ended, and its items are counted no more.
+    pub(crate) fn forget(&mut self, xid: Xid)
+        ensures { self.new ≡ self.old }
+    {
+        self.uncounted.remove(&xid);
+    }
+
+    /// An open transaction has done so many items, and the parts count so many more of it.
+    pub(crate) fn count_items(&mut self, xid: Xid, items: u64, counted: u64)
+        ensures { self.new ≡ self.old }
+    {
+        if let Some(uncounted) = self.uncounted.get_mut(&xid) {
+            *uncounted = uncounted.wrapping_add(items).wrapping_sub(counted);
+        }
+    }
+
+    /// The same of an item that names a subtransaction, if that was not refused.
+    pub(crate) fn count_touched(
+        &mut self,
+        xid: Xid,
+        touched: &Result<(), EngineFault>,
+        counted: u64,
+    )
+        ensures { self.new ≡ self.old }
+    {
+        if touched.is_ok() {
+            self.count_items(xid, 1, counted);
+        }
     }
 
     /// A change that was tried, and clashes, stops the store, which nothing had stopped: its

@@ -25,6 +25,8 @@
 //   entries      positions among the journal's entries
 //   whole        the end, where all is one world again
 //   meeting      what a table's part and all tickets tell of one another
+//   stuck        who waits for whom, by all tickets
+//   stopping     a store in which all wait is stopped
 //   hidden       `wait_for_ever`, for what only a lock hides
 //   made         `Made`, what a store is made of before its names are chosen
 //   closing      the end of a store
@@ -49,17 +51,21 @@ mod moving;
 mod names;
 mod reading;
 mod several;
+mod stopping;
 mod store;
+mod stuck;
 mod table_part;
 mod ticket;
 mod truncating;
 mod whole;
 
 pub use commits::TableCommit;
+pub use engine::Entry;
 pub use journal::Journal;
 pub use made::Made;
 pub use names::StoreNames;
-pub use parted_store::{Entry, Line, Seen};
+pub use parted_store::{Line, Seen};
 pub use store::Store;
 pub use table_part::TablePart;
 pub use ticket::Ticket;
+pub use whole::Found;

@@ -1,6 +1,7 @@
 // What a store is made of before its names are chosen.
 ghost use Rattle.std.specs.Prelude.{◌≡◌, ◌<◌, ◌≤◌, ℕ, [], Some, None, IfOk, IfErr, OnOk, OnErr, length, slice_get};
 ghost use Rattle.std.specs.FinMap as finite;
+ghost use Rattle.model.specs.Rows.{Rows};
 ghost use Rattle.tokens.specs.Lists.{with_list};
 ghost use Rattle.world_parts.specs.ByTable.{rows_at};
 ghost use Rattle.table_locks.specs.Moving.{SameBeside};
@@ -94,6 +95,24 @@ impl Made {
             blank: start,
         };
         Ok((made, line))
+    }
+
+    /// The tables with all of their rows, where no store is made of it. It takes no memory.
+    pub fn into_tables(self) -> Tables
+        requires over { (starts : ℕ → Rows) × AreOver self.blank.schema starts self.tables }
+        requires long { length self.tables ≡ length self.blank.schema }
+        ensures schema { result.schema ≡ self.blank.schema }
+        ensures rows { (start : Rows) → AreOver self.blank.schema (λ number. rows_at number start) self.tables
+            → AreKnown self.blank.schema start → result.rows ≡ start }
+    {
+        let Made {
+            tables,
+            mut blank,
+            ..
+        } = self;
+        blank.recall_invariant();
+        give_back(&mut blank, tables);
+        blank
     }
 
     /// Tells a proof what its type keeps. It does nothing.

@@ -1,12 +1,13 @@
 // What a table's part and the tickets tell of one another, where one hand has all tickets.
-ghost use Rattle.std.specs.Prelude.{◌≡◌, ◌≢◌, ℕ, true, false, Some, length, slice_get};
+ghost use Rattle.std.specs.Prelude.{◌≡◌, ◌≢◌, ℕ, true, false, Some, None, IsSome, length, slice_get};
 ghost use Rattle.std.specs.FinMap.{get};
 ghost use Rattle.world.specs.World.{Opened};
+ghost use Rattle.engine.specs.Events.{opened_by};
 ghost use Rattle.table_parts.specs.Part.{Part as AnyPart};
 ghost use Rattle.parted_store.specs.Lent.{OpenTicket, HasShares, Stands};
 ghost use Rattle.table_locks.specs.TableStates.{IsKept, Fits};
 ghost use Rattle.table_locks.specs.Tickets.{IsTicketOf};
-ghost use Rattle.table_locks.specs.Whole.{AreTickets, AreDifferent, HasShareOf, HasAll, WantsIn, numbers_at};
+ghost use Rattle.table_locks.specs.Whole.{AreTickets, AreDifferent, HasShareOf, HasAll, WantsIn, WantsStill, numbers_at};
 
 use crate::hidden::wait_for_ever;
 use crate::names::StoreNames;
@@ -34,18 +35,23 @@ impl<N: StoreNames> TablePart<N> {
         self.put(part);
     }
 
-    // Learns that what this transaction waits with, if it has a ticket and waits, is something in
-    // the table. Nothing changes.
-    pub(crate) fn meet_waiting<R: Wait>(&mut self, rt: &R, tickets: &mut [Ticket<N>], xid: Xid)
+    // Whether this transaction has a ticket and wants something: a change of the table then, or it
+    // waits for ever. Nothing changes.
+    pub(crate) fn meet_waiting<R: Wait>(
+        &mut self,
+        rt: &R,
+        tickets: &mut [Ticket<N>],
+        xid: Xid,
+    ) -> bool
         ensures wants { (i : ℕ) (t : OpenTicket) → slice_get tickets.old i ≡ Some t → t.number ≡ xid → WantsIn self.old.number t }
+        ensures told { WantsStill tickets.old xid result }
         ensures same { self.new ≡ self.old }
         ensures tickets { tickets.new ≡ tickets.old }
     {
         let mut part = self.take(rt);
-        if !wait_in(part.part(), tickets, xid) {
-            wait_for_ever(rt);
-        }
+        let wants = wait_in(rt, part.part(), tickets, xid);
         self.put(part);
+        wants
     }
 }
 
@@ -95,35 +101,53 @@ fn count_sharers<N: StoreNames>(tickets: &[Ticket<N>], table: TableId) -> usize
     count
 }
 
-// Whether what this transaction waits with, if it has a ticket and waits, is something in the part.
-fn wait_in<N: StoreNames>(part: &mut Part, tickets: &mut [Ticket<N>], xid: Xid) -> bool
+// Whether this transaction has a ticket and wants something: a change of the part's table then.
+fn wait_in<N: StoreNames, R: Wait>(
+    rt: &R,
+    part: &mut Part,
+    tickets: &mut [Ticket<N>],
+    xid: Xid,
+) -> bool
     requires kept { IsKept N.shares N.schema N.start part.old }
-    ensures wants { result ≡ true → (i : ℕ) (t : OpenTicket) → slice_get tickets.old i ≡ Some t → t.number ≡ xid → WantsIn part.old.number t }
+    ensures wants { (i : ℕ) (t : OpenTicket) → slice_get tickets.old i ≡ Some t → t.number ≡ xid → WantsIn part.old.number t }
+    ensures told { WantsStill tickets.old xid result }
     ensures part { part.new ≡ part.old }
     ensures tickets { tickets.new ≡ tickets.old }
 {
+    let mut wants = false;
     for i in 0..tickets.len() {
-        if !waits_in(part, &mut tickets[i], xid) {
-            return false;
+        if waits_in(rt, part, &mut tickets[i], xid) {
+            wants = true;
         }
     }
-    true
+    wants
 }
 
-// Whether that is so, if the ticket is this transaction's.
-fn waits_in<N: StoreNames>(part: &mut Part, ticket: &mut Ticket<N>, xid: Xid) -> bool
+// Whether that is so of this ticket. Where its transaction waits with a change of another table, it
+// waits for ever.
+fn waits_in<N: StoreNames, R: Wait>(
+    rt: &R,
+    part: &mut Part,
+    ticket: &mut Ticket<N>,
+    xid: Xid,
+) -> bool
     requires kept { IsKept N.shares N.schema N.start part.old }
-    ensures wants { result ≡ true → ticket.old.number ≡ xid → WantsIn part.old.number ticket.old }
+    ensures wants { ticket.old.number ≡ xid → WantsIn part.old.number ticket.old }
+    ensures some { result ≡ true → (ticket.old.number ≡ xid) × IsSome (opened_by ticket.old.events).wants }
+    ensures none { result ≡ false → ticket.old.number ≡ xid → (opened_by ticket.old.events).wants ≡ None }
     ensures part { part.new ≡ part.old }
     ensures ticket { ticket.new ≡ ticket.old }
 {
     if ticket.xid() != xid {
-        return true;
+        return false;
     }
-    match ticket.waits {
-        Waits::Nowhere => true,
-        Waits::Somewhere => wants_in(part, &mut ticket.ticket),
+    if let Waits::Nowhere = ticket.waits {
+        return false;
     }
+    if !wants_in(part, &mut ticket.ticket) {
+        wait_for_ever(rt);
+    }
+    true
 }
 
 /// Whether the tickets are of different transactions.

@@ -6,10 +6,10 @@ ghost use Rattle.model.specs.TableRows.{rows_of_table};
 ghost use Rattle.world.specs.Steps.{ReadsCommitted, ReadsLive};
 ghost use Rattle.world.specs.World.{World, entry_of};
 ghost use Rattle.live_tables.specs.declared.answers.EngineFault.TheVariants.{OutOfMemory as NoMemory};
+ghost use Rattle.engine.specs.Engine.{entry_in};
 ghost use Rattle.engine.specs.Events.{commits_in, ends_in};
 ghost use Rattle.world_parts.specs.Lines.{line_at, rows_until};
 ghost use Rattle.table_parts.specs.Part.{Part as AnyPart};
-ghost use Rattle.parted_store.specs.Journal.{entry_in};
 ghost use Rattle.table_locks.specs.Journals.{IsJournal};
 ghost use Rattle.table_locks.specs.Reading.{seen_world, told_world, HasState, SeesMore, positions_seen, ReadsAt};
 
@@ -18,9 +18,9 @@ use crate::journal::Journal;
 use crate::names::StoreNames;
 use crate::store::Store;
 use crate::table_part::TablePart;
-use engine::EngineFault;
+use engine::{EngineFault, Entry};
 use model::{Key, Lsn, OutOfMemory, Row, TableId};
-use parted_store::{Entry, Line, Seen};
+use parted_store::{Line, Seen};
 use std::alloc::Global;
 use std::sync::Wait;
 

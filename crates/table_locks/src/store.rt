@@ -1,5 +1,5 @@
 // The store.
-ghost use Rattle.std.specs.Prelude.{◌≡◌, ◌++◌, ◌∷◌, [], ◌<◌, ◌≤◌, IfOk, IfErr, OnOk, OnErr, length};
+ghost use Rattle.std.specs.Prelude.{◌≡◌, ◌++◌, ◌∷◌, [], ◌<◌, ◌≤◌, IfOk, IfErr, OnOk, OnErr, length, vec_capacity};
 ghost use Rattle.std.specs.Sync.Mutex.{mutex_guard_value};
 ghost use Rattle.live_tables.specs.Answers.{IsNoClash};
 ghost use Rattle.engine.specs.declared.events.LineEvent.TheVariants.{Opened as WasOpened};
@@ -13,7 +13,7 @@ use crate::table_part::TablePart;
 use crate::ticket::Ticket;
 use engine::EngineFault;
 use indexes::Tables;
-use model::{OutOfMemory, TableId, Xid};
+use model::{TableId, Xid};
 use parted_store::Line;
 use std::alloc::Global;
 use std::marker::Model;
@@ -35,9 +35,23 @@ pub struct Store<N: StoreNames> {
 }
 
 impl<N: StoreNames> Store<N> {
-    /// A store in which nothing has happened. It can have any names that fit what it is made of.
-    pub fn new(alloc: Global, made: Made) -> Result<Store<N>, OutOfMemory>
+    /// A store in which nothing has happened. It can have any names that fit what it is made of,
+    /// which is handed back where memory is refused.
+    pub fn new(alloc: Global, made: Made) -> Result<Store<N>, Made>
         requires { AreNames N.shares N.line N.tables N.schema N.start made }
+        ensures { IfErr result (λ back. back ≡ made) }
+    {
+        match Vec::with_capacity(alloc, made.tables.len()) {
+            Ok(tables) => Ok(Store::lay(alloc, made, tables)),
+            Err(_) => Err(made),
+        }
+    }
+
+    // What it is made of is laid under its locks, for which there is room.
+    fn lay(alloc: Global, made: Made, mut tables: Vec<Mutex<TablePart<N>>>) -> Store<N>
+        requires names { AreNames N.shares N.line N.tables N.schema N.start made }
+        requires none { tables.items ≡ [] }
+        requires room { length made.tables ≤ vec_capacity tables }
     {
         let Made {
             tables: made_tables,
@@ -45,17 +59,16 @@ impl<N: StoreNames> Store<N> {
             book,
             blank,
         } = made;
-        let journal = Journal::new(journal, book);
-        let mut tables = Vec::new(alloc);
+        let journal = Journal::new(alloc, journal, book);
         for (part, commits) in made_tables {
-            tables.push(Mutex::new(TablePart::new(part, commits)))?;
+            tables.push_reserved(Mutex::new(TablePart::new(part, commits)));
         }
-        Ok(Store {
+        Store {
             tables,
             journal: Mutex::new(journal),
             moved: Condvar::new(),
             blank,
-        })
+        }
     }
 
     /// What lies under a table's lock, lent until the guard is dropped.

@@ -1,7 +1,7 @@
 // The right to work on an open transaction of a store with a lock for each table.
-ghost use Rattle.std.specs.Prelude.{◌≡◌, ◌++◌, []};
+ghost use Rattle.std.specs.Prelude.{◌≡◌, ◌++◌, [], false, None};
 ghost use Rattle.live_tables.specs.Answers.{told_call, told_fault};
-ghost use Rattle.engine.specs.Events.{refusal_events};
+ghost use Rattle.engine.specs.Events.{opened_by, refusal_events};
 ghost use Rattle.parted_store.specs.Lent.{HasShares};
 ghost use Rattle.table_locks.specs.Tickets.{IsTicketOf, counted, one_more, done_touched as touched_more};
 
@@ -74,6 +74,16 @@ impl<N: StoreNames> Ticket<N> {
         ensures shares { HasShares self.now }
     {
         self.ticket.recall_invariant();
+    }
+
+    /// Whether the transaction may wait with a change, or have one that clashed.
+    pub fn waits(&self) -> bool
+        ensures { result ≡ false → (opened_by self.now.events).wants ≡ None }
+    {
+        match self.waits {
+            Waits::Nowhere => false,
+            Waits::Somewhere => true,
+        }
     }
 
     /// How many items the transaction has done, rollbacks among them. Past the last number of a

@@ -1,7 +1,7 @@
 // A truncate of several tables.
 ghost use Rattle.std.specs.Prelude.{◌≡◌, ◌≢◌, ◌<◌, ◌≤◌, ◌++◌, ℕ, List, [], true, false, None, IsSome, IfErr, IfSome, OnOk, length, vec_capacity};
 ghost use Rattle.model.specs.Named.{NamesTables};
-ghost use Rattle.live_tables.specs.Answers.{told, TellsCause, IsNoClash};
+ghost use Rattle.live_tables.specs.Answers.{told};
 ghost use Rattle.engine.specs.Events.{opened_by, events_of};
 ghost use Rattle.world_parts.specs.ByTable.{changes_at};
 ghost use Rattle.world_parts.specs.Parts.{wanted_by};
@@ -11,6 +11,7 @@ ghost use Rattle.parted_store.specs.EachPart.{AreApart, IsBeside};
 ghost use Rattle.parted_store.specs.KeepsSound.{KeepsSoundRunning};
 ghost use Rattle.parted_store.specs.Lent.{Stands};
 ghost use Rattle.parted_store.specs.Shares.{share_of};
+ghost use Rattle.parted_store.specs.Touching.{IsRefusal};
 ghost use Rattle.parted_store.specs.Truncating.{CutsHere, TellsTruncate};
 ghost use Rattle.table_locks.specs.Lending.{state_of, KeptEach, CoversAlone};
 ghost use Rattle.table_locks.specs.TableStates.{IsKept, StaysFit};
@@ -21,6 +22,7 @@ ghost use Rattle.table_locks.specs.declared.ticket.Waits.{Waits as AnyWaits};
 use crate::acting::{come_here, done_by};
 use crate::locks::{Needs, lend_each, no_guards, put_each};
 use crate::names::StoreNames;
+use crate::stopping::count_in;
 use crate::store::Store;
 use crate::table_part::TablePart;
 use crate::ticket::{Ticket, Waits};
@@ -62,7 +64,7 @@ impl<N: StoreNames> Store<N> {
         requires names { NamesTables (length N.schema) c.now }
         requires truncate { IsTruncate c.now }
         requires waits { (table : ℕ) → wipes_table c.now table ≡ false → changes_at table (wanted_by (opened_by ticket.old.events).wants) ≡ [] }
-        ensures cause { TellsCause result }
+        ensures fault { IfErr result IsRefusal }
         ensures events { ticket.new.events ≡ ticket.old.events ++ events_of sub c.now (told result) }
         ensures xid { ticket.new.number ≡ ticket.old.number }
     {
@@ -84,7 +86,7 @@ impl<N: StoreNames> Store<N> {
         requires names { NamesTables (length N.schema) c.now }
         requires truncate { IsTruncate c.now }
         requires waits { (table : ℕ) → wipes_table c.now table ≡ false → changes_at table (wanted_by (opened_by ticket.old.events).wants) ≡ [] }
-        ensures cause { TellsCause result }
+        ensures fault { IfErr result IsRefusal }
         ensures events { ticket.new.events ≡ ticket.old.events ++ events_of sub c.now (told result) }
         ensures xid { ticket.new.number ≡ ticket.old.number }
     {
@@ -118,7 +120,7 @@ impl<N: StoreNames> Store<N> {
         requires waits { (table : ℕ) → wipes_table c.now table ≡ false → changes_at table (wanted_by (opened_by ticket.old.events).wants) ≡ [] }
         ensures none { lent.new.items ≡ [] }
         ensures capacity { vec_capacity lent.new ≡ vec_capacity lent.old }
-        ensures fault { IfErr result IsNoClash }
+        ensures fault { IfErr result IsRefusal }
         ensures is { (waits : AnyWaits) → IsTicket N.shares N.schema waits ticket.old → IsTicket N.shares N.schema (waits_acted waits (told result)) ticket.new }
         ensures events { ticket.new.events ≡ ticket.old.events ++ events_of sub c.now (told result) }
         ensures xid { ticket.new.number ≡ ticket.old.number }
@@ -128,9 +130,27 @@ impl<N: StoreNames> Store<N> {
             put_each(guards, lent);
             return Err(ticket.refuse(EngineFault::Stopped));
         }
+        let xid = ticket.xid();
+        let before = count_in(lent, xid);
         let answer = truncate_parts::<N, R>(rt, alloc, lent.as_mut_slice(), ticket, sub, c);
+        self.tell_truncate(rt, xid, &answer, count_in(lent, xid).wrapping_sub(before));
         put_each(guards, lent);
         answer
+    }
+
+    // A truncate is counted, if it was done, of which the parts that are lent count so many more.
+    fn tell_truncate<R: Wait>(
+        &self,
+        rt: &R,
+        xid: Xid,
+        answer: &Result<Acted, EngineFault>,
+        counted: u64,
+    ) {
+        let items = match answer {
+            Ok(Acted::Done | Acted::Skipped) => 1,
+            Ok(Acted::Held(_)) | Err(_) => 0,
+        };
+        self.journal.lock(rt).count_items(xid, items, counted);
     }
 
     // Whether none of the first so many tables knows that the store is stopped; where there are
@@ -191,7 +211,7 @@ fn truncate_parts<N: StoreNames, R: Wait>(
     requires cuts { (tables : List ℕ) × CutsHere c.now tables lent.old }
     requires waits { (table : ℕ) → IsBeside lent.old table → changes_at table (wanted_by (opened_by ticket.old.events).wants) ≡ [] }
     ensures still { StayRunning N.shares N.tables N.schema N.start lent.old lent.new }
-    ensures fault { IfErr result IsNoClash }
+    ensures fault { IfErr result IsRefusal }
     ensures is { (waits : AnyWaits) → IsTicket N.shares N.schema waits ticket.old → IsTicket N.shares N.schema (waits_acted waits (told result)) ticket.new }
     ensures events { ticket.new.events ≡ ticket.old.events ++ events_of sub c.now (told result) }
     ensures xid { ticket.new.number ≡ ticket.old.number }
@@ -277,7 +297,7 @@ fn truncate_tied<N: StoreNames>(
 fn acted_of(answer: Result<Verdict, EngineFault>) -> Result<Acted, EngineFault>
     requires { (parts : List AnyPart) × (xid : ℕ) × TellsTruncate parts xid answer }
     ensures told { told result ≡ as_told answer }
-    ensures fault { IfErr result IsNoClash }
+    ensures fault { IfErr result IsRefusal }
 {
     match answer {
         Ok(Verdict::Acted(acted)) => Ok(acted),
@@ -288,7 +308,7 @@ fn acted_of(answer: Result<Verdict, EngineFault>) -> Result<Acted, EngineFault>
 
 // Whether a transaction may wait somewhere once it tried a truncate, and waited in no other table.
 fn waits_cut(waits: Waits, answer: &Result<Acted, EngineFault>) -> Waits
-    requires { IfErr answer.now IsNoClash }
+    requires { IfErr answer.now IsRefusal }
     ensures { result ≡ waits_acted waits (told answer.now) }
 {
     match answer {
@@ -300,7 +320,7 @@ fn waits_cut(waits: Waits, answer: &Result<Acted, EngineFault>) -> Waits
 
 // How many items a transaction has done once it tried a truncate.
 fn done_cut(done: u64, answer: &Result<Acted, EngineFault>) -> u64
-    requires { IfErr answer.now IsNoClash }
+    requires { IfErr answer.now IsRefusal }
     ensures { result ≡ done_acted done (told answer.now) }
 {
     match answer {

@@ -1,6 +1,6 @@
 // All is one world again: one hand has the line and the ticket of each open transaction, and learns
 // under all locks what the store is.
-ghost use Rattle.std.specs.Prelude.{◌≡◌, ◌<◌, ◌≤◌, ℕ, true, Option, Some, IsSome, length};
+ghost use Rattle.std.specs.Prelude.{◌≡◌, ◌<◌, ◌≤◌, if◌then◌else◌, ℕ, true, Option, Some, None, IsSome, length};
 ghost use Rattle.model.specs.declared.change.Change.{Change as AnyChange};
 ghost use Rattle.model.specs.Effect.{ClashCause};
 ghost use Rattle.world.specs.World.{Stop as AnyStop, ByClash};
@@ -9,7 +9,8 @@ ghost use Rattle.table_parts.specs.Part.{Part as AnyPart};
 ghost use Rattle.table_locks.specs.Lending.{state_of};
 ghost use Rattle.table_locks.specs.Reading.{IsLockedAt};
 ghost use Rattle.table_locks.specs.TableStates.{TableState};
-ghost use Rattle.table_locks.specs.Whole.{AreTickets, AreDifferent, AreOpen, AreAllOpen, IsWhole, IsMetIn, AreMetIn, IsNotedIn, IsNotedBy, IsMetWhole, AreSameStates};
+ghost use Rattle.table_locks.specs.Noted.{TellsStill, IsFound};
+ghost use Rattle.table_locks.specs.Whole.{AreTickets, AreDifferent, AreOpen, AreAllOpen, IsMetIn, AreMetIn, WantsStill, IsNotedIn, IsNotedBy, IsMetWhole, AreSameStates};
 
 use crate::hidden::wait_for_ever;
 use crate::journal::Journal;
@@ -17,6 +18,7 @@ use crate::locks::no_guards;
 use crate::meeting::{are_different, recall_each};
 use crate::names::StoreNames;
 use crate::store::Store;
+use crate::stuck::find_stuck;
 use crate::table_part::TablePart;
 use crate::ticket::Ticket;
 use change::Clash;
@@ -25,11 +27,22 @@ use model::{TableId, Xid};
 use parted_store::Line;
 use std::sync::{MutexGuard, Wait};
 
+/// What is found of a store where all is one world: what stopped it, if anything did; the clash that
+/// did, if its transaction wants a change still; and whom the transaction waits for that was asked
+/// for, if nothing goes on.
+#[derive(Clone, Copy, Debug, PartialEq, Eq)]
+pub struct Found {
+    pub stop: Option<Stop>,
+    pub noted: Option<Clash>,
+    pub holder: Option<Xid>,
+}
+
 impl<N: StoreNames> Store<N> {
     /// Learns what the store is as one world, by whoever has its line and the ticket of each open
     /// transaction: a world that a run may have, in which just these are open, each as its ticket
-    /// tells. It answers what stopped the store. Neither line nor tickets change, and it takes no
-    /// memory.
+    /// tells. It answers what stopped the store, and, where a waiter is named, whom that waits for,
+    /// if each transaction has done as many items as were sent to it, or waits. Neither line nor
+    /// tickets change, and it takes no memory.
     ///
     /// It takes the locks of all tables, in the catalog's order, and the journal's, and holds them
     /// to its end, so all this is of one moment. Where a ticket is missing it waits for ever, and
@@ -39,14 +52,17 @@ impl<N: StoreNames> Store<N> {
         rt: &R,
         line: &mut Line,
         tickets: &mut [Ticket<N>],
-    ) -> Option<Stop>
+        waiter: Option<Xid>,
+        sent: &[(Xid, u64)],
+    ) -> Found
         requires { line.old.name ≡ N.line }
-        ensures whole { (stopped : Option AnyStop) × TellsWhatStopped result stopped × IsWhole N.schema N.start line.old.list tickets.old stopped }
+        ensures whole { (stopped : Option AnyStop) × TellsWhatStopped result.stop stopped
+            × IsFound N.schema N.start line.old.list tickets.old sent.now waiter stopped result.noted result.holder }
         ensures line { line.new ≡ line.old }
         ensures tickets { tickets.new ≡ tickets.old }
     {
         let mut guards = no_guards(self);
-        self.meet_with(rt, &mut guards, line, tickets)
+        self.meet_with(rt, &mut guards, line, tickets, waiter, sent)
     }
 
     // With the places in which its guards are to lie.
@@ -56,16 +72,26 @@ impl<N: StoreNames> Store<N> {
         guards: &mut [Option<MutexGuard<'a, TablePart<N>>>],
         line: &mut Line,
         tickets: &mut [Ticket<N>],
-    ) -> Option<Stop>
+        waiter: Option<Xid>,
+        sent: &[(Xid, u64)],
+    ) -> Found
         requires guards { length N.schema ≤ length guards.old }
         requires line { line.old.name ≡ N.line }
-        ensures whole { (stopped : Option AnyStop) × TellsWhatStopped result stopped × IsWhole N.schema N.start line.old.list tickets.old stopped }
+        ensures whole { (stopped : Option AnyStop) × TellsWhatStopped result.stop stopped
+            × IsFound N.schema N.start line.old.list tickets.old sent.now waiter stopped result.noted result.holder }
         ensures line { line.new ≡ line.old }
         ensures tickets { tickets.new ≡ tickets.old }
     {
         self.lock_all(rt, guards);
+        let tables = self.tables.len();
         let mut journal = self.journal.lock(rt);
-        journal.meet_whole(rt, guards, self.tables.len(), line, tickets)
+        let (stop, noted) = journal.meet_whole(rt, guards, tables, line, tickets);
+        let holder = find_stuck(rt, guards, tables, tickets, waiter, sent);
+        Found {
+            stop,
+            noted,
+            holder,
+        }
     }
 
     /// Locks all tables, in the catalog's order: the guard of each lies in the place of its number.
@@ -94,12 +120,13 @@ impl<N: StoreNames> Journal<N> {
         tables: usize,
         line: &mut Line,
         tickets: &mut [Ticket<N>],
-    ) -> Option<Stop>
+    ) -> (Option<Stop>, Option<Clash>)
         requires line { line.old.name ≡ N.line }
         requires tables { tables ≡ length N.schema }
         requires guards { tables ≤ length guards.old }
         requires locked { (table : ℕ) → table < tables → IsLockedAt guards.old table }
-        ensures whole { (stopped : Option AnyStop) × TellsWhatStopped result stopped × IsMetWhole N.shares N.tables N.schema N.start line.old.list tickets.old guards.old stopped }
+        ensures whole { (stopped : Option AnyStop) × TellsWhatStopped result.0 stopped
+            × IsMetWhole N.shares N.tables N.schema N.start line.old.list tickets.old guards.old stopped × TellsStill tickets.old stopped result.1 }
         ensures guards { AreSameStates guards.old guards.new }
         ensures line { line.new ≡ line.old }
         ensures tickets { tickets.new ≡ tickets.old }
@@ -111,8 +138,8 @@ impl<N: StoreNames> Journal<N> {
         }
         self.meet_tables(rt, guards, tables, tickets);
         let stop = self.part.stop();
-        meet_stop(rt, guards, tables, tickets, &stop);
-        stop
+        let noted = meet_stop(rt, guards, tables, tickets, &stop);
+        (stop, noted)
     }
 
     // Whether the tickets are those of the transactions that are open.
@@ -197,22 +224,23 @@ impl<N: StoreNames> Journal<N> {
 }
 
 // Where a clash stopped the store, the table of its change knows of it, and the clash's transaction
-// waits with nothing else. What isn't so waits for ever.
+// waits with nothing else. What isn't so waits for ever. It answers the clash, if its transaction
+// wants a change still.
 fn meet_stop<N: StoreNames, R: Wait>(
     rt: &R,
     guards: &mut [Option<MutexGuard<'_, TablePart<N>>>],
     tables: usize,
     tickets: &mut [Ticket<N>],
     stop: &Option<Stop>,
-)
+) -> Option<Clash>
     requires guards { tables ≤ length guards.old }
     requires locked { (table : ℕ) → table < tables → IsLockedAt guards.old table }
-    ensures noted { (stopped : Option AnyStop) × TellsWhatStopped stop.now stopped × IsNotedBy tables tickets.old guards.old stopped }
+    ensures noted { (stopped : Option AnyStop) × TellsWhatStopped stop.now stopped × IsNotedBy tables tickets.old guards.old stopped × TellsStill tickets.old stopped result }
     ensures guards { AreSameStates guards.old guards.new }
     ensures tickets { tickets.new ≡ tickets.old }
 {
     match stop {
-        None => {}
+        None => None,
         Some(stop) => meet_stopped(rt, guards, tables, tickets, stop),
     }
 }
@@ -224,23 +252,33 @@ fn meet_stopped<N: StoreNames, R: Wait>(
     tables: usize,
     tickets: &mut [Ticket<N>],
     stop: &Stop,
-)
+) -> Option<Clash>
     requires guards { tables ≤ length guards.old }
     requires locked { (table : ℕ) → table < tables → IsLockedAt guards.old table }
-    ensures noted { (stopped : Option AnyStop) × TellsWhatStopped (Some stop.now) stopped × IsNotedBy tables tickets.old guards.old stopped }
+    ensures noted { (stopped : Option AnyStop) × TellsWhatStopped (Some stop.now) stopped × IsNotedBy tables tickets.old guards.old stopped × TellsStill tickets.old stopped result }
     ensures guards { AreSameStates guards.old guards.new }
     ensures tickets { tickets.new ≡ tickets.old }
 {
     match stop {
-        Stop::Held(..) => {}
+        Stop::Held(..) => None,
         Stop::Clash(xid, clash) => {
             let table = table_of(rt, *clash);
             if table >= tables {
                 wait_for_ever(rt);
             }
-            meet_clash(rt, &mut guards[table], tickets, *xid, *clash);
+            still(
+                meet_clash(rt, &mut guards[table], tickets, *xid, *clash),
+                *clash,
+            )
         }
     }
+}
+
+// The clash, if its transaction wants a change still.
+fn still(wants: bool, clash: Clash) -> Option<Clash>
+    ensures { result ≡ (if wants then Some clash else None) }
+{
+    if wants { Some(clash) } else { None }
 }
 
 // The table of a clash. What has none waits for ever.
@@ -251,17 +289,19 @@ fn table_of<R: Wait>(rt: &R, clash: Clash) -> TableId {
     }
 }
 
-// The same of a clash, and the lock of its table.
+// The same of a clash, and the lock of its table. It answers whether the clash's transaction wants
+// a change still.
 fn meet_clash<N: StoreNames, R: Wait>(
     rt: &R,
     place: &mut Option<MutexGuard<'_, TablePart<N>>>,
     tickets: &mut [Ticket<N>],
     xid: Xid,
     clash: Clash,
-)
+) -> bool
     requires there { IsSome (state_of place.old) }
     ensures noted { (s : TableState) → state_of place.old ≡ Some s
         → (c : AnyChange) × (cause : ClashCause) × (cause_of clash ≡ Some cause) × (s.stopped ≡ Some (ByClash xid c cause)) × IsNotedIn tickets.old s.stopped xid c s.number s }
+    ensures told { WantsStill tickets.old xid result }
     ensures place { state_of place.new ≡ state_of place.old }
     ensures tickets { tickets.new ≡ tickets.old }
 {
@@ -271,6 +311,7 @@ fn meet_clash<N: StoreNames, R: Wait>(
     if !guard.knows(xid, clash) {
         wait_for_ever(rt);
     }
-    guard.meet_waiting(rt, tickets, xid);
+    let wants = guard.meet_waiting(rt, tickets, xid);
     *place = Some(guard);
+    wants
 }

@@ -1,12 +1,12 @@
 // The part of a table, and its calls.
-ghost use Rattle.std.specs.Prelude.{◌≡◌, ◌<◌, ℕ, ◌++◌, ◌∷◌, [], Some, None, IfOk, IfErr, IfSome, OnOk, OnErr, is_some, length};
+ghost use Rattle.std.specs.Prelude.{◌≡◌, ◌<◌, ◌-◌, ◌^◌, ℕ, ◌++◌, ◌∷◌, [], Some, None, IfOk, IfErr, IfSome, OnOk, OnErr, is_some, length, min};
 ghost use Rattle.std.specs.FinMap as finite;
 ghost use Rattle.model.specs.declared.item.Item.TheVariants.{BackTo};
 ghost use Rattle.model.specs.Effect.{serial};
 ghost use Rattle.model.specs.Named.{NamesTables};
 ghost use Rattle.model.specs.TableRows.{rows_of_table};
 ghost use Rattle.tokens.specs.Lists.{open_list};
-ghost use Rattle.world.specs.World.{World, starting, changes_in};
+ghost use Rattle.world.specs.World.{Opened, World, starting, changes_in};
 ghost use Rattle.world.specs.Settled.{WaitsFor};
 ghost use Rattle.world.specs.Steps as steps;
 ghost use Rattle.world.specs.Steps.{ReadsCommitted, ReadsLive};
@@ -125,6 +125,25 @@ impl Part {
         ensures same { self.new ≡ self.old }
     {
         self.store.holder_of(t)
+    }
+
+    /// Whom a transaction waits for in the part that has come to it under this number. It takes no memory.
+    pub fn waiting_for(&self, xid: Xid) -> Option<Xid>
+        ensures held { IfSome result (λ holder. (o : Opened) → finite.get self.now.store.world.opened xid ≡ Some o
+            → WaitsFor self.now.store.schema self.now.store.world xid o holder) }
+        ensures free { result ≡ None → (o : Opened) → finite.get self.now.store.world.opened xid ≡ Some o → (holder : ℕ)
+            → ¬ (WaitsFor self.now.store.schema self.now.store.world xid o holder) }
+    {
+        self.store.waiting_for(xid)
+    }
+
+    /// How many items were done in the part by a transaction that has come to it under this number,
+    /// rollbacks among them. Past the last number of a u64 the count stays there; of one that hasn't come
+    /// it is 0. It takes no memory.
+    pub fn done_by(&self, xid: Xid) -> u64
+        ensures { (o : Opened) → finite.get self.now.store.world.opened xid ≡ Some o → result ≡ min (length o.items) (2 ^ 64 - 1) }
+    {
+        self.store.done_by(xid)
     }
 
     /// How many transactions have come to the part and have not ended. It takes no memory.

@@ -6,7 +6,7 @@ use crate::tests::stage::{Stage, has_ids};
 use crate::tests::table::{FIRST, SECOND, empty_store, key, put, remove, wipe_both};
 use engine::Stop;
 use indexes::Tables;
-use model::TableId;
+use model::{OutOfMemory, TableId};
 use parted_store::Line;
 use std::alloc::Global;
 use std::marker::Brand;
@@ -170,7 +170,9 @@ fn play_named<N: StoreNames, R: Abort + Wait>(
     requires none { line.list ≡ [] }
     requires two { length N.schema ≡ 2 }
 {
-    let store = Store::<N>::new(alloc, made)?;
+    let Ok(store) = Store::<N>::new(alloc, made) else {
+        return Err(OutOfMemory)?;
+    };
     let stage = Stage::new(rt, alloc, &store, line);
     let line = match which {
         Scenario::Work => work(stage),

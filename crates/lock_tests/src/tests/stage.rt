@@ -89,6 +89,19 @@ impl<'a, N: StoreNames, R: Abort + Wait> Stage<'a, N, R> {
         }
     }
 
+    /// A change is done, whichever tables it names.
+    pub(super) fn acts(&self, ticket: &mut Ticket<N>, change: &Change)
+        requires names { NamesTables 2 change.now }
+        requires rests { Rests ticket.old.events }
+        ensures { Rests ticket.new.events }
+    {
+        let xid = ticket.xid();
+        match self.store.act(self.rt, self.alloc, ticket, xid, change) {
+            Ok(Acted::Done) => {}
+            other => panic!(self.rt; "not done: {other:?}"),
+        }
+    }
+
     /// A change of one table waits for this holder.
     pub(super) fn waits(&self, ticket: &mut Ticket<N>, table: TableId, change: &Change, holder: Xid)
         requires known { table < 2 }
@@ -174,7 +187,9 @@ impl<'a, N: StoreNames, R: Abort + Wait> Stage<'a, N, R> {
     pub(super) fn meets(&mut self, tickets: &mut [Ticket<N>]) -> Option<Stop>
         ensures { tickets.new ≡ tickets.old }
     {
-        self.store.meet_all(self.rt, &mut self.line, tickets)
+        self.store
+            .meet_all(self.rt, &mut self.line, tickets, None, &[])
+            .stop
     }
 
     /// The line, once nothing more is called.

@@ -4,7 +4,8 @@ ghost use Rattle.std.specs.Prelude.{◌≡◌, [], length};
 ghost use Rattle.table_locks.specs.Starts.{AreNames};
 
 use crate::tests::stage::Stage;
-use crate::tests::table::{BOTH, FIRST, SECOND, empty_store, put};
+use crate::tests::table::{BOTH, FIRST, SECOND, empty_store, key, put};
+use model::OutOfMemory;
 use parted_store::{Line, Seen};
 use std::alloc::Global;
 use std::marker::Brand;
@@ -49,7 +50,7 @@ fn hold<N: StoreNames, R: Abort + Wait + Clock>(
     drop(guard);
 }
 
-// Works on the second table while the lock of the first is held.
+// Changes, commits and reads a row of the second table while the lock of the first is held.
 fn work_beside<N: StoreNames, R: Abort + Wait + Clock>(
     mut stage: Stage<'_, N, R>,
     held: &AtomicBool,
@@ -58,9 +59,12 @@ fn work_beside<N: StoreNames, R: Abort + Wait + Clock>(
     await_flag(stage.rt, held);
     let mut seen = stage.watch();
     let five = stage.got(put(stage.alloc, SECOND, 5));
+    let at = stage.got(key(stage.alloc, 5));
     let mut ticket = stage.open(700);
-    stage.does(&mut ticket, 700, SECOND, &five);
+    stage.acts(&mut ticket, &five);
     stage.commits(ticket);
+    let found = stage.got(stage.store.get(stage.rt, &mut seen, SECOND, &at));
+    assert!(stage.rt; found.is_some());
     stage.has_in(&mut seen, SECOND, &[5]);
     done.store(true, Ordering::SeqCst);
 }
@@ -122,7 +126,9 @@ fn play_named<N: StoreNames + Send + Sync, R: Abort + Threads + Wait + Clock + S
     requires none { line.list ≡ [] }
     requires two { length N.schema ≡ 2 }
 {
-    let store = Store::<N>::new(alloc, made)?;
+    let Ok(store) = Store::<N>::new(alloc, made) else {
+        return Err(OutOfMemory)?;
+    };
     let stage = Stage::new(rt, alloc, &store, line);
     let (held, done) = (AtomicBool::new(false), AtomicBool::new(false));
     let store = &store;

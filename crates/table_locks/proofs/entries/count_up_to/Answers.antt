@@ -1,7 +1,7 @@
 use Rattle.std.proofs.Common.{◌≡◌, ◌+◌, ◌-◌, Some, ap, sym, subst, ◌∙◌, arith}
 use Rattle.std.specs.Prelude.{slice_get}
 use Rattle.std.specs.List.{Contains}
-use Rattle.parted_store.specs.declared.entry.Entry as entry_type
+use Rattle.engine.specs.declared.entry.Entry as entry_type
 use Rattle.table_locks.specs.Reading.{positions_of}
 use Rattle.table_locks.proofs.Positions.{ends_from, found_next, in_none}
 use Rattle.table_locks.proofs.entries.count_up_to.Goals as goal

@@ -25,5 +25,5 @@ returns-clause-noted g c s at =
     (c.deref.ensures ∙ value_is) (c.knows.ensures c.if-not-knows.false) in
     let wants =
     subst (λ (t : TableState). (i : ℕ) (u : OpenTicket) → slice_get c.args.tickets.now i ≡ Some u → u.number ≡ xid → WantsIn t.number u)
-    (c.deref_mut.ensures.value ∙ value_is) c.meet_waiting.ensures.wants in
+    (c.deref_mut.ensures.value ∙ value_is) c.meet_waiting-wants.ensures.wants in
     (told.0, told.1, told.2, told.3, record { inside = told.4; noted = refl; wants = wants })

@@ -5,6 +5,8 @@ use Rattle.live_tables.specs.declared.answers.Stop.{Stop}
 use Rattle.table_locks.specs.GuardLemmas.{held_noted, noted_by, state_there}
 use Rattle.table_locks.specs.Lending.{state_at}
 use Rattle.table_locks.specs.LendingLemmas.{holds_there}
+use Rattle.table_locks.specs.MeetingLemmas.{held_told, still_told}
+use Rattle.table_locks.specs.Noted.{TellsStill}
 use Rattle.table_locks.proofs.whole.meet_stopped.Goals as goal
 
 pub returns-in-Held-clause-noted : goal.returns-in-Held-clause-noted
@@ -13,6 +15,7 @@ returns-in-Held-clause-noted g c =
       Some (ByHold held.field-0 held.field-1),
       subst (λ (stop : Stop). TellsWhatStopped (Some stop) (Some (ByHold held.field-0 held.field-1))) (sym held.is) refl,
       held_noted c.args.tables c.args.tickets.now c.args.guards.now held.field-0 held.field-1,
+      held_told c.args.tickets.now held.field-0 held.field-1,
     )
 
 pub returns-else-table-tables-clause-noted : goal.returns-else-table-tables-clause-noted
@@ -29,4 +32,6 @@ returns-else-table-tables-clause-noted g c =
       Some (ByClash clash.xid d cause),
       subst (λ (stop : Stop). TellsWhatStopped (Some stop) (Some (ByClash clash.xid d cause))) (sym clash.is) (d, cause, caused, refl),
       noted_by c.args.tables tickets guards table s clash.xid d cause below at number stopped noted,
+      subst (TellsStill tickets (Some (ByClash clash.xid d cause))) (sym c.still.ensures)
+          (still_told tickets clash.xid d cause clash.clash c.meet_clash.result c.meet_clash.ensures.told caused),
     )

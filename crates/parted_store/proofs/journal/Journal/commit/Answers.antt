@@ -5,10 +5,11 @@ use Rattle.model.specs.Beginning.{last_end}
 use Rattle.model.specs.Survivors.{changes_of}
 use Rattle.tokens.specs.Half.{Half}
 use Rattle.world.specs.World.{Past, entry_of}
+use Rattle.engine.specs.declared.entry.Entry.{Entry}
 use Rattle.engine.specs.declared.events.LineEvent.{LineEvent}
+use Rattle.engine.specs.Engine.{entry_in}
 use Rattle.engine.specs.Events.{opened_by, ends_in}
-use Rattle.parted_store.specs.declared.entry.Entry.{Entry}
-use Rattle.parted_store.specs.Journal.{JournalPart, entry_in}
+use Rattle.parted_store.specs.Journal.{JournalPart}
 use Rattle.parted_store.specs.KeptLemmas.{keeps_committed, one_left, has_room}
 use Rattle.parted_store.proofs.journal.Journal.commit.Goals as goal
 
@@ -20,13 +21,14 @@ push_reserved-requires c =
 
 pub invariant_of-self : goal.invariant_of-self
 invariant_of-self c =
-    let entry : Entry = record { xid = c.args.xid; changes = c.of_items.result; commit = c.args.info.commit; end = c.args.info.end } in
+    let entry : Entry = c.new-entry.result in
+    let made = c.new-entry.ensures in
     let past : Past = record { xid = c.args.xid; items = (opened_by c.args.events.now).items; info = c.args.info } in
     let entry_tells : entry_in entry ≡ entry_of past = λ i. record {
-      xid = c.args.xid;
-      changes = (c.of_items.ensures ∙ ap (λ (items : List Item). changes_of items) c.requires.items) i;
-      commit = c.args.info.commit;
-      end = c.args.info.end;
+      xid = made.xid i;
+      changes = (made.changes ∙ c.of_items-changes.ensures ∙ ap (λ (items : List Item). changes_of items) c.requires.items) i;
+      commit = made.place.0 i;
+      end = made.place.1 i;
     } in
     let fewer : btree_set_len c.remove.new.self + 1 ≡ btree_set_len c.self.inside.open_ones =
     one_left c.self.inside c.self.invariant c.args.xid c.args.line.now c.requires.open (sym c.line.view_is ∙ c.tell_commit.ensures.met) c.remove.result

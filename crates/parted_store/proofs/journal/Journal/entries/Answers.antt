@@ -1,9 +1,10 @@
 use Rattle.std.proofs.Common.{List, ap, ◌∙◌}
 use Rattle.std.specs.Prelude.{map}
 use Rattle.world.specs.World.{entry_of}
+use Rattle.engine.specs.declared.entry.Entry.{Entry}
+use Rattle.engine.specs.Engine.{entry_in}
 use Rattle.engine.specs.Events.{commits_in}
-use Rattle.parted_store.specs.declared.entry.Entry.{Entry}
-use Rattle.parted_store.specs.Journal.{JournalPart, entry_in}
+use Rattle.parted_store.specs.Journal.{JournalPart}
 use Rattle.parted_store.proofs.journal.Journal.entries.Goals as goal
 
 pub returns : goal.returns

@@ -6,6 +6,7 @@ use Rattle.engine.specs.Events.{commits_in}
 use Rattle.parted_store.specs.Journal.{JournalPart}
 use Rattle.parted_store.specs.Lent.{OpenTicket}
 use Rattle.table_locks.specs.GuardLemmas.{noted_before}
+use Rattle.table_locks.specs.Noted.{TellsStill}
 use Rattle.table_locks.specs.Whole.{AreAllOpen, AreMetIn, IsNotedBy}
 use Rattle.table_locks.proofs.journal.Journal.meet_whole.Goals as goal
 
@@ -16,7 +17,7 @@ returns-clause-whole g c =
     let tickets = c.args.tickets.now in
     let line_is : c.meet.new.self.line.list ≡ c.args.line.now.list =
     ap (λ (j : JournalPart). j.line.list) c.meet.ensures.same ∙ ap (λ (h : Half LineEvent). h.list) (sym c.meet.ensures.met) in
-    let told = c.meet_stop.ensures.noted in (
+    let told = c.meet_stop-noted.ensures.noted in (
       told.0,
       told.1,
       record {
@@ -30,4 +31,5 @@ returns-clause-whole g c =
             (noted_before c.args.tables tickets guards c.meet_tables.new.guards told.0 c.meet_tables.ensures.guards
             (subst (λ (ts : List OpenTicket). IsNotedBy c.args.tables ts c.meet_tables.new.guards told.0) c.meet_tables.ensures.tickets told.2));
       },
+      subst (λ (ts : List OpenTicket). TellsStill ts told.0 c.meet_stop-noted.result) c.meet_tables.ensures.tickets told.3,
     )

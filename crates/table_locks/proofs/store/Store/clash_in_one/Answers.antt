@@ -6,6 +6,8 @@ use Rattle.live_tables.specs.declared.answers.EngineFault.TheVariants.{Clash as 
 use Rattle.live_tables.specs.Answers.{cause_of, stop_for}
 use Rattle.table_parts.specs.Part.{Part}
 use Rattle.parted_store.specs.KeepsSound.{ClashesHere, StopsSound}
+use Rattle.table_locks.specs.ActingLemmas.{was_clash}
+use Rattle.table_locks.specs.Clashing.{WasClash}
 use Rattle.table_locks.specs.StateLemmas.{fits_stopped}
 use Rattle.table_locks.specs.TableStates.{StaysFit}
 use Rattle.table_locks.proofs.store.Store.clash_in_one.Goals as goal
@@ -40,3 +42,14 @@ put-requires-in-Clash g c =
         let value = c.deref_mut-in-Clash.ensures.value in
         let same = c.in-Ok.ensures in
         let number = c.xid-xid.ensures in cc
+
+pub returns-in-Clash-clause-clashes : goal.returns-in-Clash-clause-clashes
+returns-in-Clash-clause-clashes g c why is =
+    let n = g.N.StoreNames in
+    let clash = c.args.clash in
+    let same : clash ≡ why =
+    (let e : ClashFault clash ≡ ClashFault why = sym (is_clash c.clash-fault.result clash why is c.clash-fault.ensures.fault) ∙ is in cc) in
+    subst (λ (it : Clash). WasClash n.schema n.start c.clash-fault.new.ticket.number c.args.c.now it) same
+    (subst (λ number. WasClash n.schema n.start number c.args.c.now clash) (sym c.clash-fault.ensures.xid)
+    (was_clash n.shares n.schema n.start c.args.part c.requires.fits.kept c.args.ticket.now c.recall_invariant.ensures.is c.requires.came.0 c.requires.came.1
+    c.args.c.now clash c.requires.its c.requires.clashes))

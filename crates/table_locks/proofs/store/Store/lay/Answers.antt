@@ -4,7 +4,7 @@ use Rattle.std.specs.Vec.Iter.{into_iter_items}
 use Rattle.tokens.specs.Half.{Name}
 use Rattle.table_locks.specs.StartLemmas.{here, taken_front, taken_count, fits_begun}
 use Rattle.table_locks.specs.Starts.{MadeTable, MadeStore, IsBegun, IsMade}
-use Rattle.table_locks.proofs.store.Store.new.Goals as goal
+use Rattle.table_locks.proofs.store.Store.lay.Goals as goal
 
 pub new-requires : goal.new-requires
 new-requires g c =
@@ -17,8 +17,8 @@ new-requires g c =
     let at : slice_get c.args.made.tables (length taken) ≡ Some t =
     ap (λ (ts : List MadeTable). slice_get ts (length taken)) split ∙ here taken t (into_iter_items c.next.new.self) in
     fits_begun g.N.StoreNames.shares g.N.StoreNames.tables g.N.StoreNames.schema g.N.StoreNames.start (length taken) t
-    (subst (λ (name : Name). IsBegun name (length taken) t) c.requires.book ((subst IsMade c.made.view_is c.made.invariant).begun.each (length taken) t at))
-    (c.requires.tickets (length taken) t at) (c.requires.over (length taken) t at)
+    (subst (λ (name : Name). IsBegun name (length taken) t) c.requires.names.book ((subst IsMade c.made.view_is c.made.invariant).begun.each (length taken) t at))
+    (c.requires.names.tickets (length taken) t at) (c.requires.names.over (length taken) t at)
 
 pub invariant_of-result : goal.invariant_of-result
 invariant_of-result g c =
@@ -30,8 +30,8 @@ invariant_of-result g c =
     let none = c.in-None.ensures.steps.0 in
     let count : length taken ≡ length c.made.inside.tables.items = omega (arith, whole, counted, left, none) in
     record {
-      all = c.loop-part.invariant ∙ count ∙ ap (λ (ts : List MadeTable). length ts) made ∙ c.requires.long;
-      few = subst (λ (n : ℕ). n ≤ 1024) c.requires.long (subst IsMade c.made.view_is c.made.invariant).few;
-      keys = ap (λ (m : MadeStore). m.blank.schema) c.made.view_is ∙ c.requires.keys;
-      known = c.requires.known;
+      all = c.loop-part.invariant.0 ∙ count ∙ ap (λ (ts : List MadeTable). length ts) made ∙ c.requires.names.long;
+      few = subst (λ (n : ℕ). n ≤ 1024) c.requires.names.long (subst IsMade c.made.view_is c.made.invariant).few;
+      keys = ap (λ (m : MadeStore). m.blank.schema) c.made.view_is ∙ c.requires.names.keys;
+      known = c.requires.names.known;
     }

@@ -6,7 +6,7 @@ use Rattle.world_parts.specs.Lines.{line_at}
 use Rattle.engine.specs.declared.events.LineEvent.{LineEvent}
 use Rattle.engine.specs.declared.events.LineEvent.TheVariants.{Opened as WasOpened}
 use Rattle.engine.specs.Events.{commits_in, past_of}
-use Rattle.table_locks.proofs.journal.Journal.open.Goals as goal
+use Rattle.table_locks.proofs.journal.Journal.open_part.Goals as goal
 
 -- an open is no commit
 pub invariant_of-self-2 : goal.invariant_of-self-2
